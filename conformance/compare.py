@@ -1,9 +1,10 @@
 """Compares what the program, the rules and the peer answer to one script."""
 
-from dataclasses import dataclass, field
+import re
+from dataclasses import dataclass, field, replace
 
 from rules import STOPS, Machine, classify
-from script import has_form, is_expected, without_clock
+from script import has_form, is_expected, stat_words, without_clock
 
 # calls that change nothing though they are answered with more than a refusal
 READS = ("load", "stat", "swapoff")
@@ -51,23 +52,25 @@ class Result:
         return "agree" if self.agree else "skipped"
 
 
-def against_rules(case, events):
+def against_rules(case, events, is_linux=False):
     """The commands whose reply is not the one that the case tells."""
-    wrong = [Difference(command, event.call, event.reply, command.expected)
-             for command, event in zip(case.commands, events) if not is_expected(command.expected, event.reply)]
+    told = [command.told(is_linux) for command in case.commands]
+    wrong = [Difference(command, event.call, event.reply, reply)
+             for command, reply, event in zip(case.commands, told, events) if not is_expected(reply, event.reply)]
     if len(events) != len(case.commands):
         last = case.commands[-1]
         wrong.append(Difference(last, last.text, f"{len(events)} events", f"{len(case.commands)} commands"))
     return wrong
 
 
-def against_peer(case, events, others, has_clock=False, has_system_limits=False):
-    """Each command of the program beside the peer's, till the two are in different states."""
+def against_peer(case, events, others, has_clock=False, has_system_limits=False, is_linux=False):
+    """Each command of the program beside the peer's, till the two are in different states. With Linux's rules a rule explains
+    only what they leave."""
     result = Result(whole=len(events))
     slots = [int(word.split(":")[1]) for word in case.swap]
     may_fail = any(word.startswith("fuse:") for word in case.swap)
     machine = Machine(case.limits, dict(case.users), has_clock, has_system_limits=has_system_limits, areas=slots,
-                      may_fail=may_fail)
+                      may_fail=may_fail, is_linux=is_linux)
     for index, (command, event, other) in enumerate(zip(case.commands, events, others)):
         is_alike = compare_one(result, machine, command, event, other)
         if not is_alike:
@@ -97,3 +100,17 @@ def compare_one(result, machine, command, event, other):
         return changes_nothing(event) and changes_nothing(other)
     result.name(known[0])
     return known[1]
+
+
+def told_events(case, others, is_linux, has_clock=False):
+    """What a program would print that gives each reply of the case; the words of stat that the case leaves out are the peer's."""
+    events = []
+    for command, other in zip(case.commands, others):
+        told = command.told(is_linux)
+        if not has_clock:
+            told = re.sub("time=[1-9][0-9]*", "time=set", told)
+        words = stat_words(other.reply)
+        if words and "=" in told:
+            told = " ".join(f"{name}={value}" for name, value in (words | stat_words("key=" + words["key"] + " " + told)).items())
+        events.append(replace(other, reply=told))
+    return events

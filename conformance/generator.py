@@ -12,17 +12,23 @@ LETTERS = "abc"
 
 class Generator:
     """Knows which processes live, and which segments were asked for; what the calls answer it does not know. With mappings it
-    makes the words unmap and protect too."""
+    makes the words unmap and protect too. With flags it makes those of the kit: exec where it makes no protect, since a piece
+    of exec has a right that protect takes, and hugetlb never with noreserve, since then Linux makes a segment of no page."""
 
-    def __init__(self, seed, has_mappings=False):
+    def __init__(self, seed, has_mappings=False, has_flags=False):
         self.random = random.Random(seed)
         self.has_mappings = has_mappings
+        self.has_flags = has_flags
+        self.has_exec = has_flags and self.one_in(2)
         count = self.random.randint(2, 5)
         self.live = list(range(1, count + 1))
         self.unborn = list(range(11, 11 + self.random.randint(0, 4)))
         self.lines = [self.limits()]
+        self.roots = set()
         for pid in self.live:
-            self.lines.append("process %d %d %d" % (pid, *self.random.choice(USERS)))
+            uid, gid = self.random.choice(USERS)
+            self.roots |= {pid} if uid == 0 else set()
+            self.lines.append(f"process {pid} {uid} {gid}")
         self.lines += [f"child {pid}" for pid in self.unborn]
         self.created = 0
         self.protected = {}
@@ -61,7 +67,8 @@ class Generator:
         return 4294967295 if self.one_in(40) else self.pick(0, 100, 200, 300)
 
     def mode(self):
-        return self.pick("700", "711", "755") if self.one_in(25) else self.random.choice(MODES)
+        odds = 4 if self.has_exec else 25
+        return self.pick("700", "711", "755") if self.one_in(odds) else self.random.choice(MODES)
 
     def make_shmget(self, pid):
         letter = self.random.choice("stu")
@@ -69,14 +76,23 @@ class Generator:
         size = self.pick(0, 16385, 2 ** 32, 2 ** 64 - 1) if self.one_in(15) else self.random.choice(SIZES)
         key = "private" if self.one_in(3) else self.random.choice(KEYS)
         flags = self.mode() + self.pick(",creat", ",creat", ",creat", "", ",creat,excl", ",excl")
+        if self.has_flags and self.one_in(12):
+            flags += self.pick(",hugetlb", ",noreserve", ",noreserve")
         return f"{letter} = shmget {key} {size} {flags}"
 
     def make_shmat(self, pid):
         flags = [name for name, odds in (("rnd", 5), ("remap", 3), ("rdonly", 3)) if self.one_in(odds)]
+        flags += ["exec"] * (self.has_exec and self.one_in(4))
         if self.one_in(6):
             flags = [flag for flag in flags if flag != "remap" or self.one_in(4)]
             return f"{self.random.choice(LETTERS)} = shmat {self.identifier(pid)} null {','.join(flags) or '-'}"
-        return f"shmat {self.identifier(pid)} {self.address()} {','.join(flags) or '-'}"
+        return f"shmat {self.identifier(pid)} {self.address_of_attach(pid)} {','.join(flags) or '-'}"
+
+    def address_of_attach(self, pid):
+        """Under Linux's rules user 0's attaches below the lowest address are the one common difference that is left: fewer."""
+        address = self.address()
+        is_left = self.has_flags and pid in self.roots and int(address, 16) < 0x10000
+        return hex(self.random.choice(BASES)) if is_left and not self.one_in(4) else address
 
     def make_shmdt(self, _pid):
         return f"shmdt {self.random.choice(LETTERS) if self.one_in(5) else self.address()}"
@@ -132,6 +148,7 @@ class Generator:
             child = self.unborn.pop(0)
             self.live.append(child)
             self.holds[child] = set()
+            self.roots |= {child} if pid in self.roots else set()
             return f"fork {child}"
         if len(self.live) > 2 and self.one_in(3):
             self.live.remove(pid)
@@ -142,7 +159,8 @@ class Generator:
         makes = ((self.make_shmget, 12), (self.make_shmat, 20), (self.make_shmdt, 12), (self.make_stat, 16),
                  (self.make_set, 5), (self.make_rmid, 5), (self.make_lock, 5), (self.make_load, 10),
                  (self.make_store, 10), (self.make_xadd, 3), (self.make_process_event, 2))
-        makes += ((self.make_unmap, 5), (self.make_protect, 40)) if self.has_mappings else ()
+        makes += ((self.make_unmap, 5),) if self.has_mappings else ()
+        makes += ((self.make_protect, 40),) if self.has_mappings and not self.has_exec else ()
         make = self.random.choices([m for m, _ in makes], [w for _, w in makes])[0]
         pid = self.random.choice(self.live)
         return f"{pid} {make(pid)}"
@@ -170,6 +188,6 @@ class Generator:
         return "\n".join(self.lines) + "\n"
 
 
-def make_script(seed, number, has_mappings=False):
+def make_script(seed, number, has_mappings=False, has_flags=False):
     """The script with this number of this seed: the same at each run."""
-    return Generator(f"{seed}/{number}", has_mappings).script()
+    return Generator(f"{seed}/{number}", has_mappings, has_flags).script()

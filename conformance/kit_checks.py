@@ -11,6 +11,7 @@ from dataclasses import replace
 
 import near_misses
 import running
+from generator import make_script
 from results import Outcome, Results, junit_of
 from running import HERE, TOP
 from script import BadInput, read_case
@@ -23,6 +24,9 @@ AREAS = "no swap area: ram:N, sparse:N, mirror:N, fuse:N:rK or fuse:N:wK, N from
 SWAP = "the line is #swap and 1 to 8 areas, as #swap ram:64 sparse:65536"
 NO_RULE = ("no comment above it names the rule and its source, as POSIX shmat(), POSIX.1-2017, page 1384, shmop(2) or profile")
 ALONE = "a call of the library alone, which ./shmsim has not: run the case with --library"
+FLAG_ALONE = ALONE.replace("a call", "a flag")
+NO_SOURCE = "no comment above it names the source of Linux's reply, as observed on Linux 6.18, or Linux: shmget(2)"
+LINUX = "# Under Linux's rules 1: observed on Linux 6.18\n"
 # what is wrong with a case, and all that is said of it
 MALFORMED = (
     ("limits 4096 x 1 2 0\n", "c.shm: line 1: 'x': bad line, allowed here: a number"),
@@ -39,6 +43,11 @@ MALFORMED = (
     (HEAD + "1 exit\n#= ok\n", "c.shm: line 3: '1 exit': " + NO_RULE),
     (HEAD + "# A rule. page 12\n1 exit\n#= ok\n", "c.shm: line 4: '1 exit': " + NO_RULE),
     (HEAD + "# A rule. POSIX.1-2017\n1 exit\n#= ok\n", "c.shm: line 4: '1 exit': " + NO_RULE),
+    (RIGHT + "#linux= 1\n", "c.shm: line 4: '1 shmget private 1 600': " + NO_SOURCE),
+    (HEAD + "#linux= 0\n", "c.shm: line 3: '#linux=': a reply without a command of its own above it"),
+    (HEAD + RULE + "1 exit\n#linux= ok\n", "c.shm: line 5: '#linux=': a reply of Linux without a line #= above it"),
+    (HEAD + LINUX + RIGHT[len(HEAD):] + 2 * "#linux= 1\n", "c.shm: line 8: '#linux=': a reply without a command of its own above it"),
+    (HEAD + LINUX + RIGHT[len(HEAD):] + "#linux=\n", "c.shm: line 7: '#linux=': no reply is told behind it"),
     (HEAD, "c.shm: no command"),
     ("#swap disk\n" + RIGHT, "c.shm: line 1: 'disk': " + AREAS),
     ("#swap ram:0\n" + RIGHT, "c.shm: line 1: 'ram:0': " + AREAS),
@@ -63,6 +72,19 @@ MAPPED = (
     (True, "x = unmap 0 1", "c.shm: line 4: 'x': bad line"),
     (True, "1 x = unmap 0 1", "c.shm: line 4: 'unmap': bad line, allowed here: shmget, shmat or xadd"),
     (True, "1 unmapp 0 1", "; nearest form: unmap"),
+    (True, "1 shmat 0 null exec", ""),
+    (True, "1 a = shmat 0 null rnd,exec,rdonly", ""),
+    (True, "1 shmget private 1 600,hugetlb,creat,noreserve", ""),
+    (True, "1 shmat 0 null -,exec", "c.shm: line 4: '-,exec': bad line, allowed here: -, or rnd, remap and rdonly with commas between "
+     "them, each at most once; with --library also exec"),
+    (True, "1 shmat 0 null exec,exec", "c.shm: line 4: 'exec,exec': bad line"),
+    (True, "1 shmat 0 null hugetlb", "c.shm: line 4: 'hugetlb': bad line"),
+    (True, "1 shmget private 1 600,exec", "c.shm: line 4: '600,exec': bad line"),
+    (True, "1 shmget private 1 hugetlb,600", "; with --library also hugetlb and noreserve"),
+    (True, "1 shmget private 1 hugetlb", "c.shm: line 4: 'hugetlb': bad line"),
+    (False, "1 shmat 0 null rnd,exec", "c.shm: line 4: 'exec': " + FLAG_ALONE),
+    (False, "1 s = shmget private 1 600,creat,noreserve", "c.shm: line 4: 'noreserve': " + FLAG_ALONE),
+    (False, "1 shmat 0 null hugetlb", "allowed here: -, or rnd, remap and rdonly with commas between them, each at most once"),
     (False, "1 unmap 0x50000000 8192", "c.shm: line 4: 'unmap': " + ALONE),
     (False, "1\tprotect null 4096 r", "c.shm: line 4: 'protect': " + ALONE),
     (False, "# unmap is no call. profile\n1 exit", ""),
@@ -71,6 +93,8 @@ MAPPED = (
 )
 CITED = ("POSIX.1-2017, page 1384", "POSIX.1-2017 page 1384", "POSIX shmget()", "POSIX.1-2017, shmget()", "POSIX <sys/shm.h>",
          "shmop(2), ERRORS", "profile")
+LINUX_CITED = ("observed on Linux 6.18", "observed on Linux 7.0", "Linux: shmctl(2), ERRORS")
+LINUX_UNCITED = ("observed on Linux", "as Linux has it", "shmctl(2)", "Linux 6.18", "profile")
 TAP = """TAP version 13
 1..5
 ok 1 - right: agree
@@ -120,6 +144,10 @@ def check_malformed(count):
     for source in CITED:
         said = said_of(RIGHT.replace("profile", source))
         count.take(said == "", f"the source {source!r} is not taken: {said}")
+    for source in LINUX_CITED + LINUX_UNCITED:
+        said = said_of(HEAD + f"# {source}\n" + RIGHT[len(HEAD):] + "#linux= 1\n")
+        is_right = NO_SOURCE in said if source in LINUX_UNCITED else said == ""
+        count.take(is_right, f"the source {source!r} of Linux's reply: {said!r}")
 
 
 def write_cases(folder):
@@ -223,6 +251,8 @@ def check_kit(count, folder, conform):
     check_said_once(count, folder, conform)
     check_list(count, folder, conform)
     check_mappings(count, folder, conform)
+    check_rules(count, folder, conform)
+    check_flags_of_random_scripts(count)
     check_odd_text(count, folder, conform)
     check_own_program(count, folder)
 
@@ -245,14 +275,58 @@ def check_mappings(count, folder, conform):
         count.take(status == wanted and said.startswith(line), f"a library that answers {reply}: status {status}, {said!r}")
 
 
-def over_library(folder, case, event):
-    """What ./conform says of a case over a library whose program prints one line."""
-    program = write_file(folder, "library.sh", f"#!/bin/sh\necho '{event}'\n", 0o755)
+def over_library(folder, case, event, *options, under_linux=None):
+    """What ./conform says of a case over a library whose program prints one line, and under Linux's rules another one."""
+    text = f"#!/bin/sh\nif [ \"$1 $2\" = '--rules linux' ]; then echo '{under_linux or event}'; else echo '{event}'; fi\n"
+    program = write_file(folder, "library.sh", text, 0o755)
     compiler = write_file(folder, "cc", f"#!/bin/sh\nwhile [ \"$1\" != -o ]; do shift; done\ncp {program} \"$2\"\n", 0o755)
-    words = [os.path.join(TOP, "conform"), "--library=" + folder, "--no-peer", case]
+    words = [os.path.join(TOP, "conform"), "--library=" + folder, *(options or ("--no-peer",)), case]
     environment = {**os.environ, "PATH": os.path.dirname(compiler) + os.pathsep + os.environ["PATH"]}
     done = subprocess.run(words, capture_output=True, env=environment, check=False)
     return done.returncode, (done.stdout + done.stderr).decode(errors="replace")
+
+
+def check_rules(count, folder, conform):
+    """Under Linux's rules the library is opened with them, the case's own replies of Linux are wanted, and a rule of the profile
+    explains nothing."""
+    for words, told in (["--rules", "nosuch"], "--rules takes profile or linux: nosuch"), (["--rules"], "a word is missing behind it: --rules"):
+        status, said = conform(*words)
+        count.take(status == 2 and told in said, f"{words}: status {status}, {said!r}")
+    hugetlb = "1 1 shmget 0x00000000 1 600,hugetlb = "
+    case = write_file(folder, "ruled.shm", HEAD + LINUX + RULE + "1 shmget private 1 600,hugetlb\n#= 0\n#linux= ENOMEM\n")
+    write_file(folder, "ruled.out", hugetlb + "EPERM\n")
+    write_file(folder, "nogcuvema.h", "#define NOG_LINUXES\n")
+    status, said = over_library(folder, case, hugetlb + "0", "--no-peer", "--rules", "linux")
+    wanted = f"conform: the library in {folder} has no rules: its header has no NOG_LINUX\n"
+    count.take(status == 3 and said == wanted, f"a library without rules: status {status}, {said!r}")
+    write_file(folder, "nogcuvema.h", "enum nog_rule { NOG_LINUX = 1023 };\n")
+    replies = ["--replies", folder]
+    for rules, ours, linux, options, wanted, line in (
+            ("profile", "0", "ENOMEM", ["--no-peer"], 0, "ruled: as told (1 commands)"),
+            ("linux", "0", "ENOMEM", ["--no-peer"], 0, "ruled: as told (1 commands)"),
+            ("profile", "ENOMEM", "ENOMEM", ["--no-peer"], 1, "ruled: FAILS: "),
+            ("linux", "0", "0", ["--no-peer"], 1, "ruled: FAILS: "),
+            ("profile", "0", "ENOMEM", replies, 0, "ruled: profile (huge pages 1)"),
+            ("linux", "0", "ENOMEM", replies, 1, "ruled: DIFFER")):
+        status, said = over_library(folder, case, hugetlb + ours, *options, "--rules", rules, under_linux=hugetlb + linux)
+        is_right = status == wanted and said.startswith(line)
+        count.take(is_right, f"under the rules {rules} {ours} and {linux}, {options}: status {status}, {said!r}")
+
+
+def check_flags_of_random_scripts(count):
+    """The kit's flags are in random scripts under Linux's rules alone; exec never beside a protect, hugetlb never with noreserve."""
+    seen = {name: 0 for name in ("exec", "hugetlb", "noreserve", "protect")}
+    for number in range(100):
+        text, plain = (make_script("flags", number, True, has_flags) for has_flags in (True, False))
+        lines = [(words, words[-1].split(",")) for words in map(str.split, text.splitlines()) if len(words) > 2]
+        found = {name for words, flags in lines for name in seen if name in (*flags, words[1])}
+        both = [words for words, flags in lines if "hugetlb" in flags and "noreserve" in flags]
+        for name in found:
+            seen[name] += 1
+        is_right = not both and not {"exec", "protect"} <= found and read_case("c", text, is_strict=False, has_mappings=True)
+        count.take(bool(is_right), f"random script {number} with flags has {found}, {both}")
+        count.take(not re.search("[, ](exec|hugetlb|noreserve)[,\n]", plain.replace(" exec\n", "")), f"random script {number} has flags")
+    count.take(all(20 <= it <= 100 for it in seen.values()), f"random scripts have flags so often: {seen}")
 
 
 def check_said_once(count, folder, conform):
@@ -281,9 +355,11 @@ def check_list(count, folder, conform):
     wanted = f"right: 1 commands: A segment. profile\nconform: {paths[1]}: line 3: '1 exit': {NO_RULE}\n"
     count.take(status == 2 and said == wanted, f"--list: status {status}, {said!r}")
     names = []
-    for given, folder in (["--list"], "cases"), (["--list", "--library"], os.path.join("cases", "mappings")):
+    for given, folders in ((["--list"], ["cases"]), (["--list", "--library"], ["cases/mappings", "cases/rules"]),
+                           (["--list", "--rules", "linux"], [])):
         status, said = conform(*given)
-        names += sorted(name[:-4] for name in os.listdir(os.path.join(HERE, folder)) if name.endswith(".shm"))
+        for folder in folders:
+            names += sorted(name[:-4] for name in os.listdir(os.path.join(HERE, folder)) if name.endswith(".shm"))
         listed = re.findall(r"^(\w+): \d+ commands: \S", said, re.M)
         count.take(status == 0 and listed == names, f"{given}: status {status}, {said[:500]}")
 

@@ -1,8 +1,9 @@
-/* library serial|pieces SWAP... < SCRIPT
+/* library [--rules profile|linux] serial|pieces SWAP... < SCRIPT
    makes the calls of a script through the C library, and prints what ./shmsim prints: the event lines, the listing of
-   segments and the usage. It knows `unmap` and `protect` too, the words of the kit that ./shmsim has not. With `pieces`
-   loads and stores are made by nog_read and nog_write. It ends with status 3, and says why, where a refused call wrote an
-   output, where the library counts other calls than the script makes, and at an unexpected code. */
+   segments and the usage. It knows the words of the kit too, which ./shmsim has not. With `--rules linux` the machine has
+   Linux's rules in place of the profile's. With `pieces` loads and stores within a page are made by nog_read and nog_write,
+   which make one call of each. It ends with status 3, and says why, where a refused call wrote an output, where the library counts other calls than the script makes,
+   and at an unexpected code. */
 #define _POSIX_C_SOURCE 200809L
 #include <nogcuvema.h>
 #include <stdarg.h>
@@ -21,7 +22,7 @@ struct outputs {
 };
 
 static struct script script;
-static int is_in_pieces, has_mapped;
+static int is_in_pieces, is_linux, has_mapped;
 
 static void fail(int status, const char *format, ...) {
     va_list rest;
@@ -64,10 +65,21 @@ static void read_swap(struct swap *swap, const char *word) {
     swap->area_count++;
 }
 
+/* a library of before the rules came has the profile's alone */
+static void choose_rules(nog_limits *limits) {
+#ifdef NOG_HAS_RULES
+    limits->rules = is_linux ? NOG_LINUX : 0;
+#else
+    (void)limits;
+    if (is_linux) fail(2, "this library has no rules: its header has no NOG_LINUX");
+#endif
+}
+
 static void open_machine(nog_machine *machine, const struct swap *swap) {
     const uint64_t *l = script.limits;
     nog_limits limits = {.shmmax = l[0], .shmmni = l[1], .shmall = l[2], .frames = l[3], .memlock = l[4]};
     nog_process processes[PROCESSES];
+    choose_rules(&limits);
     for (int i = 0; i < script.process_count; i++) {
         const struct declared *p = &script.processes[i];
         processes[i] = (nog_process){p->pid, !p->is_child, p->uid, p->gid};
@@ -85,9 +97,11 @@ enum { NO_SUCH_CALL = UINT16_MAX };
 #define nog_protect(machine, pid, address, length, writable) NO_SUCH_CALL
 #endif
 
+static int is_by_stretch(uint64_t addr, size_t len) { return is_in_pieces && addr % 4096 + len <= 4096; }
+
 static uint32_t load(nog_machine *m, uint32_t pid, uint64_t addr, uint8_t *bytes, size_t len) {
     uint64_t done = len;
-    if (!is_in_pieces) return nog_load(m, pid, addr, bytes, len);
+    if (!is_by_stretch(addr, len)) return nog_load(m, pid, addr, bytes, len);
     uint32_t code = nog_read(m, pid, addr, bytes, len, &done);
     if (done != (code == NOG_DONE ? len : 0)) fail(3, "%" PRIu64 " bytes were read", done);
     return code;
@@ -95,7 +109,7 @@ static uint32_t load(nog_machine *m, uint32_t pid, uint64_t addr, uint8_t *bytes
 
 static uint32_t store(nog_machine *m, uint32_t pid, uint64_t addr, const uint8_t *bytes, size_t len) {
     uint64_t done = len;
-    if (!is_in_pieces) return nog_store(m, pid, addr, bytes, len);
+    if (!is_by_stretch(addr, len)) return nog_store(m, pid, addr, bytes, len);
     uint32_t code = nog_write(m, pid, addr, bytes, len, &done);
     if (done != (code == NOG_DONE ? len : 0)) fail(3, "%" PRIu64 " bytes were written", done);
     return code;
@@ -107,7 +121,7 @@ static int32_t identifier_of(uint64_t number) { return number > INT32_MAX ? -1 :
 static uint32_t make_call(nog_machine *m, const struct command *c, const uint64_t v[OPERANDS], struct outputs *out) {
     uint32_t pid = script.processes[c->process].pid, first = (uint32_t)v[0];
     switch (c->call) {
-    case SHMGET: return nog_get(m, pid, first, v[1], v[2] & 0777, v[2] & (CREAT | EXCL), &out->id);
+    case SHMGET: return nog_get(m, pid, first, v[1], v[2] & 0777, (uint32_t)v[2] & ~0777u, &out->id);
     case SHMAT: return nog_attach(m, pid, identifier_of(v[0]), v[1], (uint32_t)v[2], &out->number);
     case SHMDT: return nog_detach(m, pid, v[0]);
     case ACCESS_LOAD: return load(m, pid, v[0], out->bytes, (size_t)v[1]);
@@ -231,13 +245,22 @@ static int run_flushes(nog_machine *machine, int next, int commands_above) {
     return next;
 }
 
+/* takes the words of the rules; where the others begin, the end where these are none */
+static int read_rules(int argc, char **argv) {
+    if (argc < 2 || strcmp(argv[1], "--rules") != 0) return 1;
+    is_linux = argc > 2 && strcmp(argv[2], "linux") == 0;
+    return is_linux || (argc > 2 && strcmp(argv[2], "profile") == 0) ? 3 : argc;
+}
+
 int main(int argc, char **argv) {
     nog_machine machine = NOG_MACHINE_INITIALIZER;
     struct swap swap = {.area_count = 0};
-    int flush = 0, is_serial = argc > 1 && strcmp(argv[1], "serial") == 0;
-    is_in_pieces = argc > 1 && strcmp(argv[1], "pieces") == 0;
-    if (!(is_serial || is_in_pieces) || argc < 3 || argc - 2 > AREAS) fail(2, "usage: library serial|pieces SWAP...");
-    for (int i = 2; i < argc; i++) read_swap(&swap, argv[i]);
+    const char *usage = "usage: library [--rules profile|linux] serial|pieces SWAP...";
+    int flush = 0, at = read_rules(argc, argv), is_serial = argc > at && strcmp(argv[at], "serial") == 0;
+    is_in_pieces = argc > at && strcmp(argv[at], "pieces") == 0;
+    int area_count = argc - at - 1;
+    if (!(is_serial || is_in_pieces) || area_count < 1 || area_count > AREAS) fail(2, "%s", usage);
+    for (int i = at + 1; i < argc; i++) read_swap(&swap, argv[i]);
     read_script(&script, stdin);
     script.line = 0;
     open_machine(&machine, &swap);

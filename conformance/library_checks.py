@@ -5,6 +5,7 @@ import re
 import subprocess
 
 from generator import make_script
+from rules import LEFT
 from running import TOP, Stopped, build_library, why_no_peer
 from script import read_case
 
@@ -15,7 +16,10 @@ RANDOM = 300
 SHORT = ["fuse:24:r9", "mirror:16", "fuse:8:w5", "sparse:24"]
 SKIPPED = "this library has no munmap and no mprotect"
 HEAD = b"limits 4096 1 1 2 0\nprocess 1 1 1\n"
-FAULTS = ((["serial"], HEAD, 2, b"usage: library serial|pieces SWAP..."), (["nosuch", "ram:1"], HEAD, 2, b"usage: "),
+FAULTS = ((["serial"], HEAD, 2, b"usage: library [--rules profile|linux] serial|pieces SWAP..."),
+          (["nosuch", "ram:1"], HEAD, 2, b"usage: "), (["--rules"], HEAD, 2, b"usage: "),
+          (["--rules", "nosuch", "serial", "ram:1"], HEAD, 2, b"usage: "), (["--rules", "linux", "serial"], HEAD, 2, b"usage: "),
+          (["--rules", "profile", "serial", "ram:0"], HEAD, 3, b"nog_open was answered 2022"),
           (["serial", "disk:1"], HEAD, 2, b"no swap area: disk:1"), (["serial", "ram:0"], HEAD, 3, b"nog_open was answered 2022"),
           (["serial", "ram:1"], HEAD + b"1 nosuch\n", 1, b"line 3: bad line"),
           (["serial", "ram:1"], HEAD + b"1 protect null 1 w\n", 1, b"line 3: bad rights: w"),
@@ -81,14 +85,14 @@ def check_words(count, program):
 def check_conform(count, library, has_mappings, conform):
     """./conform over the library: the replies that the rules give, and where there is a peer what this system answers."""
     words = ["--library=" + library]
-    mappings = names_of(os.path.join(CASES, "mappings"))
+    mappings, rules = (names_of(os.path.join(CASES, folder)) for folder in ("mappings", "rules"))
     for peer, good in (["--no-peer"], ("as told",)), ([], ("agree", "profile", "skipped")):
         if not peer and why_no_peer():
             count.skip(1, f"the library and this system: {why_no_peer()}")
             continue
         status, said = conform(*words, *peer)
         found = dict(re.findall(r"^([a-z0-9_]+): (.*)$", said, re.M))
-        for name in names_of(CASES) + mappings:
+        for name in names_of(CASES) + mappings + rules:
             wanted = good if has_mappings or name not in mappings else ("skipped: " + SKIPPED,)
             count.take(found.get(name, "").startswith(wanted), f"the library {peer}: {name}: {found.get(name, 'no line was printed')}")
         count.take(status == 0, f"./conform --library {peer}: status {status}, {said[-2000:]}")
@@ -97,13 +101,39 @@ def check_conform(count, library, has_mappings, conform):
         count.take(status == 0 and "scripts: " in said, f"random scripts over the library: status {status}, {said[:4000]}")
 
 
+def check_rules(count, library, program, has_rules, conform):
+    """Linux's rules: the replies that the cases tell, and what this system answers, as root, where a rule explains little."""
+    words = ["--library=" + library, "--rules", "linux"]
+    if not has_rules:
+        status, _printed, told = ran([program, "--rules", "linux", "serial", "ram:1"], HEAD)
+        is_told = status == 2 and told == b"library: this library has no rules: its header has no NOG_LINUX\n"
+        count.take(is_told, f"a library without rules: status {status}, {told!r}")
+        count.take(conform(*words)[0] == 3, "./conform --rules linux over a library without rules does not end with status 3")
+        return
+    status, said = conform(*words, "--no-peer")
+    found = dict(re.findall(r"^([a-z0-9_]+): (.*)$", said, re.M))
+    for name in [name for folder in ("", "mappings", "rules") for name in names_of(os.path.join(CASES, folder))]:
+        is_right = found.get(name, "").startswith("as told")
+        count.take(is_right, f"the library under Linux's rules: {name}: {found.get(name, 'no line was printed')}")
+    count.take(status == 0, f"./conform --rules linux --no-peer: status {status}, {said[-2000:]}")
+    if why_no_peer() or os.geteuid() != 0:
+        count.skip(2, "Linux's rules and this system: " + (why_no_peer() or "this is not root"))
+        return
+    for given in [], ["random", "60", "2"]:
+        status, said = conform(*words, *given)
+        named = {*re.findall(r"^  profile: (.*): \d+$", said, re.M)}
+        is_right = status == 0 and "DIFFER 0" in said and named <= {*LEFT}
+        count.take(is_right, f"./conform --rules linux {given}: status {status}, {said[-4000:]}")
+
+
 def check_library(count, library, folder, conform):
     """All of it, over the archive and the header in a folder; skipped where they are not there."""
     try:
-        program, has_mappings = build_library(folder, library)
+        program, has_mappings, has_rules = build_library(folder, library)
     except Stopped as error:
         count.skip(1, f"the library: {error}")
         return
     check_words(count, program)
     check_output(count, program)
     check_conform(count, library, has_mappings, conform)
+    check_rules(count, library, program, has_rules, conform)

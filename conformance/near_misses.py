@@ -23,6 +23,7 @@ class Table:
     case: Case
     has_clock: bool = False
     has_system_limits: bool = False
+    is_linux: bool = False
     lines: list = field(default_factory=list)
 
 
@@ -81,6 +82,8 @@ def read_tables():
             tables[-1].has_clock = True
         elif row == "system limits":
             tables[-1].has_system_limits = True
+        elif row == "linux":
+            tables[-1].is_linux = True
         elif not read_declaration(tables[-1].case, words):
             tables[-1].lines += read_lines(number, row)
     return tables
@@ -91,7 +94,7 @@ def compare(table, lines):
     case = Case("near_misses", "", [line.command for line in lines], table.case.swap, table.case.limits, table.case.users)
     sides = [[read_event(f"{place} {line.call} = {reply}") for place, (line, reply) in enumerate(zip(lines, replies), 1)]
              for replies in ([line.ours for line in lines], [line.theirs for line in lines])]
-    result = against_peer(case, *sides, table.has_clock, table.has_system_limits)
+    result = against_peer(case, *sides, table.has_clock, table.has_system_limits, table.is_linux)
     behind = result.skipped.get(AFTER, 0)
     return Counter(result.by_rule) + Counter({"agree": result.agree, "DIFFER": len(result.different), "ends": behind,
                                               "skipped": sum(result.skipped.values()) - behind})

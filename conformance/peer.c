@@ -1,4 +1,4 @@
-/* peer [--seconds] [--shared] [--limit S] [--exec WORDS] [SCRIPT]
+/* peer [--seconds] [--shared] [--limit S] [--at-once N] [--exec WORDS] [SCRIPT]
    makes the calls of a script on the running system and prints one event line for each.
 
    The guardian outlives the others and removes every segment that was made; the director tells one worker at a
@@ -7,7 +7,8 @@
 
    --seconds   a second for each command: times are printed as places in the script, else as 0 or `set`
    --shared    stays in the system's own IPC namespace, under the system's own limits
-   --limit S   gives each command at most S seconds (10)
+   --limit S   gives each command at most S seconds (10), and each run of --at-once
+   --at-once N makes N runs in which every process makes its calls alone, as at_once.h tells, and prints N logs
    --exec W    exec runs these words in place of this program: the emulator that the peer runs under */
 #define _GNU_SOURCE
 #include <errno.h>
@@ -38,8 +39,8 @@ enum { PAGE = 4096, PIECES = 1024, OWN_RANGES = 64 };
 #define END_OF_ADDRESSES UINT64_C(0x7ffffffff000)
 enum { RECORD_FD = 98, ALIVE_FD = 99, FIRST_FD = 100 };
 #define LOWEST_CHOSEN UINT64_C(0x40000000)
-_Static_assert(IPC_CREAT == CREAT && IPC_EXCL == EXCL && SHM_RDONLY == RDONLY && SHM_RND == RND && SHM_REMAP == REMAP,
-    "a script's flags are the system's");
+_Static_assert(IPC_CREAT == CREAT && IPC_EXCL == EXCL && SHM_HUGETLB == HUGETLB && SHM_NORESERVE == NORESERVE &&
+    SHM_RDONLY == RDONLY && SHM_RND == RND && SHM_REMAP == REMAP && SHM_EXEC == EXECUTE, "a script's flags are the system's");
 
 enum task { GET, ATTACH, DETACH, CONTROL, LOAD, STORE, ADD, FORK, EXEC, EXIT, MAPPED, UNMAPS, PROTECTS };
 
@@ -67,6 +68,7 @@ static int own_count;
 static sigjmp_buf escape;
 static volatile sig_atomic_t is_accessing;
 static char *exec_words[WORDS + 1];
+static int runs_at_once;  /* 0: the director tells one worker at a time */
 
 static void on_fault(int signal) {
     if (is_accessing) siglongjmp(escape, signal);
@@ -91,11 +93,12 @@ static int is_own(uint64_t begin, uint64_t length) {
 
 static void settle(struct answer *a, int64_t value) { a->error = (a->value = value) == -1 ? errno : 0; }
 
-/* the record is written by the one who made the segment: it outlives this process and the director */
+/* the record is written by the one who made the segment: it outlives this process and the director. At once it would put the
+   calls into an order; their namespace ends with them. */
 static void get(const struct request *q, struct answer *a) {
     int id = shmget((key_t)q->key, (size_t)q->size, q->flags);
     settle(a, id);
-    if (id != -1 && write(RECORD_FD, &id, sizeof id) != sizeof id) _exit(98);
+    if (id != -1 && !runs_at_once && write(RECORD_FD, &id, sizeof id) != sizeof id) _exit(98);
 }
 
 static void attach(const struct request *q, struct answer *a) {
@@ -137,12 +140,29 @@ static void access_bytes(const struct request *q, struct answer *a) {
         *byte_at(q, i) = q->task == STORE ? q->bytes[i] : (unsigned char)(number >> 8 * i);
 }
 
+/* one access of the processor, in one order with those of all processes: plain stores of x86 are in none */
+#define ACCESS_AS(type) { \
+    type number, *at = (type *)(uintptr_t)q->at[0]; \
+    memcpy(&number, q->bytes, sizeof number); \
+    if (q->task == STORE) __atomic_store_n(at, number, __ATOMIC_SEQ_CST); \
+    else number = __atomic_load_n(at, __ATOMIC_SEQ_CST); \
+    memcpy(a->bytes, &number, sizeof number); }
+static void access_whole(const struct request *q, struct answer *a) {
+    if (q->length == 1) ACCESS_AS(uint8_t)
+    else if (q->length == 2) ACCESS_AS(uint16_t)
+    else if (q->length == 4) ACCESS_AS(uint32_t)
+#ifdef __LP64__
+    else if (q->task == ADD) a->value = (int64_t)__atomic_fetch_add((uint64_t *)q->at[0], q->number, __ATOMIC_SEQ_CST);
+    else ACCESS_AS(uint64_t)
+#endif
+}
+
 static void access_memory(const struct request *q, struct answer *a) {
     for (unsigned i = 0; i < q->length; i++) a->is_refused_here |= is_own(q->at[i], 1);
     if (a->is_refused_here) return;
     a->signal = sigsetjmp(escape, 1);
     is_accessing = a->signal == 0;
-    if (is_accessing) access_bytes(q, a);
+    if (is_accessing) (runs_at_once ? access_whole : access_bytes)(q, a);
     is_accessing = 0;
 }
 
@@ -496,12 +516,8 @@ static void run_range(struct process *p, int call, const uint64_t *v, char *repl
     if (reply_plain(&a, reply) && call == UNMAP) cut_pieces(p, page, page + size);
 }
 
-static void run_stat(struct process *p, const uint64_t *v, char *reply, int place) {
-    struct request q = {.task = CONTROL, .flags = IPC_STAT, .id = real_identifier(v[0])};
-    struct answer a = ask(p, &q);
+static void print_segment(char *reply, const struct shmid_ds *s, int place) {
     char times[3][16];
-    struct shmid_ds *s = &a.segment;
-    if (!reply_plain(&a, reply)) return;
     for (int i = 0; i < 3; i++) print_time(times[i], (time_t[]){s->shm_atime, s->shm_dtime, s->shm_ctime}[i], place);
     int is_dest = s->shm_perm.mode & SHM_DEST, is_locked = s->shm_perm.mode & SHM_LOCKED;
     sprintf(reply, "key=0x%08x uid=%u gid=%u cuid=%u cgid=%u mode=%03o status=%s size=%zu cpid=%u lpid=%u nattch=%lu "
@@ -511,12 +527,22 @@ static void run_stat(struct process *p, const uint64_t *v, char *reply, int plac
         script_pid(s->shm_cpid), script_pid(s->shm_lpid), (unsigned long)s->shm_nattch, times[0], times[1], times[2]);
 }
 
+static void run_stat(struct process *p, const uint64_t *v, char *reply, int place) {
+    struct request q = {.task = CONTROL, .flags = IPC_STAT, .id = real_identifier(v[0])};
+    struct answer a = ask(p, &q);
+    if (reply_plain(&a, reply)) print_segment(reply, &a.segment, place);
+}
+
 static void run_control(struct process *p, int call, const uint64_t *v, char *reply) {
     struct request q = {.task = CONTROL, .id = real_identifier(v[0]), .uid = (unsigned)v[1], .gid = (unsigned)v[2]};
     q.mode = (unsigned)v[3];
     q.flags = call == SHMSET ? IPC_SET : call == RMID ? IPC_RMID : call == LOCK ? SHM_LOCK : SHM_UNLOCK;
     struct answer a = ask(p, &q);
     reply_plain(&a, reply);
+}
+
+static void print_bytes(char *to, const unsigned char *bytes, unsigned length) {
+    for (unsigned i = 0; i < length; i++) sprintf(to + 2 * i, "%02x", bytes[i]);
 }
 
 /* each byte is looked up for itself: attaches that the script has side by side may lie apart in the system */
@@ -532,7 +558,7 @@ static void run_access(struct process *p, const struct command *c, const uint64_
     if (!reply_plain(&a, reply) || q.task == STORE) return;
     *result = (uint64_t)a.value;
     if (q.task == ADD) sprintf(reply, "%" PRIu64, *result);
-    for (unsigned i = 0; i < q.length && q.task == LOAD; i++) sprintf(reply + 2 * i, "%02x", a.bytes[i]);
+    else print_bytes(reply, a.bytes, q.length);
 }
 
 static void run_fork(struct process *p, const uint64_t *v, char *reply) {
@@ -617,6 +643,8 @@ static void start_worker(int index) {
     prepare_worker();
     serve(index);
 }
+
+#include "at_once.h"
 
 __attribute__((noreturn)) static void direct(int *life) {
     close(life[1]);
@@ -722,6 +750,7 @@ static int guard(void) {
     director = fork();
     if (director == 0) {
         sigprocmask(SIG_UNBLOCK, &interrupts, NULL);
+        if (runs_at_once) direct_at_once(life, runs_at_once);
         direct(life);
     }
     if (director == -1) fail(3, "fork: %s", strerror(errno));
@@ -734,7 +763,7 @@ static int guard(void) {
 }
 
 int main(int argc, char **argv) {
-    const char *usage = "usage: peer [--seconds] [--shared] [--limit S] [--exec WORDS] [SCRIPT]";
+    const char *usage = "usage: peer [--seconds] [--shared] [--limit S] [--at-once N] [--exec WORDS] [SCRIPT]";
     FILE *from = stdin;
     int i = 1;
     choose_exec_words();
@@ -743,6 +772,7 @@ int main(int argc, char **argv) {
         if (strcmp(argv[i], "--seconds") == 0) has_seconds = 1;
         else if (strcmp(argv[i], "--shared") == 0) is_shared = 1;
         else if (strcmp(argv[i], "--limit") == 0 && i + 1 < argc) limit_seconds = atoi(argv[++i]);
+        else if (strcmp(argv[i], "--at-once") == 0 && i + 1 < argc && atoi(argv[i + 1]) > 0) runs_at_once = atoi(argv[++i]);
         else if (strcmp(argv[i], "--exec") == 0 && i + 1 < argc) setenv("PEER_EXEC", argv[++i], 1);
         else fail(2, "%s", usage);
     }

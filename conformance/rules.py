@@ -1,7 +1,8 @@
 """This project's own rules: where its answer and Linux's differ, and what Linux answers there.
 
 The machine's events are followed, so that each rule names one answer of Linux; any other one is a difference of its
-own. The names stand in docs/CONFORMANCE.md, with what each side answers and why.
+own. The names stand in docs/CONFORMANCE.md, with what each side answers and why. Under Linux's rules those that are LEFT
+explain a reply, and no other.
 """
 
 from __future__ import annotations
@@ -22,7 +23,10 @@ STOPS = ("ENOMEM", "EACCES")
 
 RULES = ("removed identifier", "locked pages", "lowest address", "end of addresses", "execute bits", "whole access",
          "reserved swap", "largest user", "time of fork", "time of remap", "rest is attached", "number of pieces",
-         "failing pager", "limits of the system")
+         "failing pager", "limits of the system", "execute flag", "huge pages")
+
+# what Linux's rules leave: of the lowest address user 0's, of locked pages the frames, and of the system's limits some more
+LEFT = ("lowest address", "locked pages", "whole access", "reserved swap", "failing pager", "limits of the system")
 
 
 @dataclass
@@ -75,6 +79,7 @@ class Machine:
     has_system_limits: bool = False
     areas: list = field(default_factory=list)       # for each area its slots, 0 where it is gone
     may_fail: bool = False                          # whether an area fails
+    is_linux: bool = False                          # whether the machine has Linux's rules
 
     def time(self, place):
         return str(place) if self.has_clock else "set"
@@ -299,6 +304,11 @@ def number_of(word):
 
 def classify(machine, event, other, command):
     """The rule that Linux's other reply to an event is by, and whether the two are alike from there on."""
+    found = rule_of(machine, event, other, command)
+    return None if machine.is_linux and found and found[0] not in LEFT else found
+
+
+def rule_of(machine, event, other, command):
     ours, theirs = event.reply, other.reply
     if ours == "EIDRM" and theirs == "EINVAL" and is_removed(machine, event):
         return "removed identifier", True
@@ -317,23 +327,37 @@ def is_removed(machine, event):
 
 
 def of_creation(machine, event, other, command):
+    if is_by_huge_pages(machine, event, other):
+        return "huge pages", event.is_refused
     if event.is_refused:
         is_made = not other.is_refused and machine.segment(other.reply) is None
         return of_refused_creation(machine, event) if is_made else None
-    if other.reply != "EACCES":
+    segment, wanted = machine.segment(event.reply), int(event.operands[2][:3], 8)
+    if other.reply != "EACCES" or segment is None or may_execute(machine, event.pid, segment):
         return None
-    uid, gid = machine.users[event.pid]
-    segment = machine.segment(event.reply)
-    if segment is None or uid == 0:
-        return None
-    wanted = int(event.operands[2][:3], 8)
+    return ("execute bits", not command.has_variable) if (wanted >> 6 | wanted >> 3 | wanted) & 1 else None
+
+
+def may_execute(machine, pid, segment):
+    """Whether the mode has the execute bit of the caller's class."""
+    uid, gid = machine.users[pid]
     shift = 6 if uid in (segment.uid, segment.cuid) else 3 if gid in (segment.gid, segment.cgid) else 0
-    is_wanted = (wanted >> 6 | wanted >> 3 | wanted) & 1
-    return ("execute bits", not command.has_variable) if is_wanted and not segment.mode >> shift & 1 else None
+    return uid == 0 or segment.mode >> shift & 1 == 1
+
+
+def is_by_huge_pages(machine, event, other):
+    """Whether Linux refuses a new segment of huge pages: user 0 and group 0 may have some and there is none, others may not. It
+    does so before it counts the segments."""
+    is_full = event.reply == "ENOSPC" and len(machine.live) >= machine.limits[1]
+    is_new = is_full or event.reply == "ENOMEM" or not event.is_refused and machine.segment(event.reply) is None
+    wanted = "ENOMEM" if 0 in machine.users[event.pid] else "EPERM"
+    return "hugetlb" in event.operands[2] and is_new and other.reply == wanted != event.reply
 
 
 def of_refused_creation(machine, event):
-    """Linux made a segment: by more pages than slots, or under limits of its own that are wider."""
+    """Linux made a segment: by more pages than slots, or under limits of its own that are wider; huge pages are one."""
+    if machine.is_linux and event.reply == "ENOMEM" and "hugetlb" in event.operands[2]:
+        return "limits of the system", False
     size, held = int(event.operands[1]), sum(segment.pages for segment in machine.live)
     pages = -(-size // PAGE)
     if event.reply == "ENOMEM":
@@ -353,15 +377,44 @@ def of_attach(machine, event, other, _command):
     at = None if other.is_refused else number_of(other.reply)
     if at is not None and is_placed and at != base:
         return None
+    if machine.is_linux:
+        return of_attach_left(machine, event, other, base if is_placed else None, at)
+    is_invalid = base == 0 and "remap" in flags
+    is_asked = "exec" in flags and not is_invalid and not may_execute(machine, event.pid, segment)
+    if is_asked and other.reply == "EACCES" != event.reply:
+        return "execute flag", event.is_refused
+    if event.reply == "EACCES" and other.reply == "EINVAL" and is_placed and is_invalid:
+        return "lowest address", True
     if event.reply == "EMFILE" and at is not None:
-        kept, _lost = cut(machine.pieces.get(event.pid, []), at, at + segment.pages * PAGE)
-        return ("number of pieces", False) if len(kept) >= PIECES else None
+        return ("number of pieces", False) if has_most_pieces(machine, event, segment, at) else None
     if event.reply != "EINVAL" or not is_placed:
         return None
     if base < LOWEST and (other.reply == "EPERM" or at is not None):
         return "lowest address", other.is_refused
     is_beyond = base + segment.pages * PAGE > END and not is_invalid_there(machine, event, base, segment)
     return ("end of addresses", True) if is_beyond and other.reply == "ENOMEM" else None
+
+
+def has_most_pieces(machine, event, segment, at):
+    """Whether an attach there makes one piece too many."""
+    kept, _lost = cut(machine.pieces.get(event.pid, []), at, at + segment.pages * PAGE)
+    return len(kept) >= PIECES
+
+
+def of_attach_left(machine, event, other, base, at):
+    """Under Linux's rules: the machine has fewer pieces than the system, user 0 may attach below the lowest address there, and
+    the system's lowest address is a setting."""
+    is_low, is_user_0 = base is not None and base < LOWEST, machine.users[event.pid][0] == 0
+    begin, segment = base if at is None else at, machine.segment(event.operands[0])
+    is_made = at is not None or is_low and other.reply == "EPERM" and not is_user_0
+    is_full = len(machine.pieces.get(event.pid, [])) >= PIECES
+    if event.reply == "ENOMEM" and is_made and (is_full or has_most_pieces(machine, event, segment, begin)):
+        return "limits of the system", at is None
+    if not is_low or at is None:
+        return None
+    if event.reply == "EINVAL" and is_user_0:
+        return "lowest address", False
+    return ("limits of the system", False) if event.reply == "EPERM" and not is_user_0 else None
 
 
 def is_invalid_there(machine, event, base, segment):
@@ -381,7 +434,8 @@ def of_range(machine, event, other, _command):
         pieces, _lost = cut(pieces, begin, begin + size)
     else:
         protect(pieces, begin, begin + size, event.operands[2] == "rw")
-    return ("number of pieces", False) if len(pieces) > PIECES else None
+    rule = "limits of the system" if machine.is_linux else "number of pieces"
+    return (rule, False) if len(pieces) > PIECES else None
 
 
 def of_stat(machine, event, other, _command):
@@ -410,6 +464,8 @@ def of_set(_machine, event, other, _command):
 def of_lock(machine, event, other, _command):
     """Linux counts for each user, not user 0, and refuses all with EPERM where the limit is 0."""
     segment = machine.segment(event.operands[0])
+    if machine.is_linux:
+        return of_lock_left(machine, event, other, segment)
     if event.reply != "ENOMEM" or segment is None or not exceeds_limit(machine, segment):
         return None
     name, (uid, _gid) = number_of(event.operands[0]), machine.users[event.pid]
@@ -421,10 +477,21 @@ def of_lock(machine, event, other, _command):
     return ("locked pages", True) if other.reply == "EPERM" and uid != 0 and machine.limits[4] == 0 else None
 
 
+def of_lock_left(machine, event, other, segment):
+    """Under Linux's rules the machine still keeps two frames."""
+    if segment is None or segment.locked_by is not None or event.reply != "ENOMEM" or other.reply != "ok":
+        return None
+    is_full = locked_pages(machine) + segment.pages > machine.limits[3] - 2
+    return ("locked pages", False) if is_full else None
+
+
+def locked_pages(machine):
+    return sum(it.pages for it in machine.live if it.locked_by is not None)
+
+
 def exceeds_limit(machine, segment):
     """Whether the one limit of this project refuses the lock."""
-    held = sum(it.pages for it in machine.live if it.locked_by is not None)
-    return segment.locked_by is None and held + segment.pages > machine.limits[4]
+    return segment.locked_by is None and locked_pages(machine) + segment.pages > machine.limits[4]
 
 
 def fits_limit(machine, segment, uid):

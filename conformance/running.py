@@ -3,6 +3,7 @@
 import contextlib
 import fcntl
 import os
+import re
 import selectors
 import shutil
 import signal
@@ -71,15 +72,17 @@ def compile_program(path, words, whose):
 
 
 def build_library(folder, library):
-    """The program over the C library whose archive and header are in a folder, and whether it has unmap and protect."""
+    """The program over the C library whose archive and header are in a folder, and whether it has unmap and protect, and rules."""
     archive, header = (os.path.join(library, name) for name in ("libnogcuvema.a", "nogcuvema.h"))
     missing = next((path for path in (archive, header) if not os.path.isfile(path)), None)
     if missing:
         raise Stopped(f"the library was not built: there is no {missing}; ./lib makes it, and --library=FOLDER names another folder")
     with open(header, encoding="utf-8") as file:
-        has_mappings = "nog_unmap(" in file.read()
-    words = ["-I", library] + ["-DNOG_HAS_UNMAP"] * has_mappings
-    return compile_program(os.path.join(folder, "library"), [*words, LIBRARY_SOURCE, archive], "the library's program"), has_mappings
+        text = file.read()
+    has_mappings, has_rules = "nog_unmap(" in text, re.search(r"\bNOG_LINUX\b", text) is not None
+    words = ["-I", library] + ["-DNOG_HAS_UNMAP"] * has_mappings + ["-DNOG_HAS_RULES"] * has_rules
+    path = compile_program(os.path.join(folder, "library"), [*words, LIBRARY_SOURCE, archive], "the library's program")
+    return path, has_mappings, has_rules
 
 
 def open_folder():

@@ -1,6 +1,7 @@
 /* A script of docs/SCRIPT.md, read and printed by programs in C that make its calls. The file that includes this one
    defines `fail`, which says what is wrong and ends the program. Not each fault of the language is found. `unmap` and
-   `protect` are words of the kit alone: a file that reads them too defines HAS_MAPPINGS above. */
+   `protect`, and the flags `exec`, `hugetlb` and `noreserve`, are words of the kit alone: a file that reads them too defines
+   HAS_MAPPINGS above. */
 #ifndef SCRIPT_H
 #define SCRIPT_H
 #include <errno.h>
@@ -31,10 +32,20 @@ static const struct { const char *name, *operands; } calls[CALLS] = {
 #endif
 };
 
-/* as Linux numbers them */
-enum { CREAT = 01000, EXCL = 02000, RDONLY = 010000, RND = 020000, REMAP = 040000, FLAGS = 5, GET_FLAGS = 2 };
-static const struct { const char *name; unsigned flag; } flag_names[FLAGS] = {
-    {"creat", CREAT}, {"excl", EXCL}, {"rnd", RND}, {"remap", REMAP}, {"rdonly", RDONLY} };
+/* as Linux numbers them: one of shmget may have the number of one of shmat */
+enum { CREAT = 01000, EXCL = 02000, HUGETLB = 04000, NORESERVE = 010000 };
+enum { RDONLY = 010000, RND = 020000, REMAP = 040000, EXECUTE = 0100000 };
+static const struct { const char *name; unsigned flag; int is_of_get; } flag_names[] = {
+    {"creat", CREAT, 1}, {"excl", EXCL, 1},
+#ifdef HAS_MAPPINGS
+    {"hugetlb", HUGETLB, 1}, {"noreserve", NORESERVE, 1},
+#endif
+    {"rnd", RND, 0}, {"remap", REMAP, 0}, {"rdonly", RDONLY, 0},
+#ifdef HAS_MAPPINGS
+    {"exec", EXECUTE, 0},
+#endif
+};
+enum { FLAGS = sizeof flag_names / sizeof *flag_names };
 
 struct operand { int variable; uint64_t number; };
 struct command {
@@ -70,13 +81,19 @@ static struct operand operand_of(const char *word) {
     return (struct operand){word[0] - 'a', word[1] ? number_of(word + 2) : 0};
 }
 
+/* whether a word, up to its comma, is this name */
+static int is_named(const char *name, const char *word) {
+    size_t length = strcspn(word, ",");
+    return strlen(name) == length && memcmp(name, word, length) == 0;
+}
+
 /* the flags behind a mode, or those of an attach */
 static uint64_t flags_of(const char *word, int has_mode) {
     uint64_t flags = has_mode ? strtoul(word, NULL, 8) & 0777 : 0;
     for (const char *at = has_mode ? strchr(word, ',') : word; at && *at && *at != '-'; at = strchr(at, ',')) {
         if (*at == ',') at++;
-        size_t length = strcspn(at, ","), i = 0;
-        while (i < FLAGS && (strlen(flag_names[i].name) != length || memcmp(flag_names[i].name, at, length) != 0)) i++;
+        int i = 0;
+        while (i < FLAGS && (flag_names[i].is_of_get != has_mode || !is_named(flag_names[i].name, at))) i++;
         if (i == FLAGS) fail(1, "bad flags: %s", word);
         flags |= flag_names[i].flag;
     }
@@ -171,8 +188,9 @@ static void print_flags(uint64_t flags, int has_mode) {
     const char *before = has_mode ? "," : "";
     if (has_mode) printf("%03o", (unsigned)flags & 0777);
     else if (!flags) printf("-");
-    for (int i = has_mode ? 0 : GET_FLAGS; i < (has_mode ? GET_FLAGS : FLAGS); i++)
-        if (flags & flag_names[i].flag) before = printf("%s%s", before, flag_names[i].name) ? "," : before;
+    for (int i = 0; i < FLAGS; i++)
+        if (flag_names[i].is_of_get == has_mode && flags & flag_names[i].flag)
+            before = printf("%s%s", before, flag_names[i].name) ? "," : before;
 }
 
 static void print_operand(const struct command *c, char letter, uint64_t value) {
@@ -187,14 +205,17 @@ static void print_operand(const struct command *c, char letter, uint64_t value) 
     else printf("%" PRIu64, value);
 }
 
+static uint64_t operand_value(const struct declared *p, struct operand o) {
+    return o.number + (o.variable < 0 ? 0 : p->variables[o.variable]);
+}
+
 /* prints the call at a place, with the values that its operands have now */
 static void print_call(const struct script *s, int place, uint64_t values[OPERANDS]) {
     const struct command *c = &s->commands[place - 1];
     const struct declared *p = &s->processes[c->process];
     printf("%d %u %s", place, p->pid, calls[c->call].name);
     for (int i = 0; calls[c->call].operands[i]; i++) {
-        struct operand o = c->operands[i];
-        values[i] = o.number + (o.variable < 0 ? 0 : p->variables[o.variable]);
+        values[i] = operand_value(p, c->operands[i]);
         print_operand(c, calls[c->call].operands[i], values[i]);
     }
 }

@@ -1,9 +1,11 @@
 """Scripts, cases and event lines.
 
 A case is a script in which each command has a comment above it, with the rule and its source, and behind it a line
-`#= REPLY`: the reply that the rule gives, of `stat` any of its words. A line `#swap WORDS` names other swap areas.
+`#= REPLY`: the reply that the rule gives, of `stat` any of its words. A line `#linux= REPLY` behind that tells the reply under
+Linux's rules where it is another one. A line `#swap WORDS` names other swap areas.
 
-The kit has two words that the language of docs/SCRIPT.md has not: `unmap ADDRESS LENGTH` and `protect ADDRESS LENGTH r|rw`.
+The kit has words that the language of docs/SCRIPT.md has not: `unmap ADDRESS LENGTH` and `protect ADDRESS LENGTH r|rw`, the
+flag `exec` of shmat, and the flags `hugetlb` and `noreserve` of shmget.
 """
 
 from __future__ import annotations
@@ -17,14 +19,16 @@ from dataclasses import dataclass, field
 sys.path.append(os.path.join(os.path.dirname(os.path.dirname(os.path.abspath(__file__))), "bindings", "python"))
 
 from nogcuvema.explain import nearest  # noqa: E402
-from nogcuvema.script import (ADDRESS, CALLS, SIZE, NoForm, OperandKind, ScriptFault, number_of, read_script,  # noqa: E402
-                              words_of)
+from nogcuvema.script import (ADDRESS, ATTACH_FLAGS, CALLS, GET_FLAGS, SIZE, NoForm, OperandKind, ScriptFault,  # noqa: E402
+                              number_of, read_script, words_of)
 
 ERRORS = ("EPERM ENOENT ESRCH EIO EAGAIN ENOMEM EACCES EEXIST EINVAL EMFILE ENOSPC EIDRM SIGBUS SIGSEGV "
           "ENFILE ENOSYS EFAULT EOVERFLOW").split()
 DECLARATIONS = ("limits", "process", "child")
 EVENT = re.compile(r"(\d+) (\d+) (\S+)((?: \S+)*) = (\S.*)")
 SOURCE = re.compile(r"POSIX(\.1-\d{4})?,? [\w<]|\(\d\)|profile")
+LINUX_SOURCE = re.compile(r"observed on Linux \d+\.\d+|Linux: \w+\(\d\)")
+LINUX_SOURCES = "observed on Linux 6.18, or Linux: shmget(2)"
 SOURCES = "POSIX shmat(), POSIX.1-2017, page 1384, shmop(2) or profile"
 SWAP = ["sparse:65536"]
 AREA = re.compile(r"(ram|sparse|mirror):(\d{1,9})|fuse:(\d{1,9}):[rw][1-9]\d*")
@@ -43,9 +47,24 @@ def rights_of(text):
     return text == "rw"
 
 
+def flags_of_kit(kind, names):
+    """Flags as the language has them, with other names among them, each at most once."""
+    def flags_of(text):
+        words = text.split(",")
+        rest = [word for word in words if word not in names]
+        is_behind_nothing = words[0] in ("-", *names) and (kind is GET_FLAGS or rest == ["-"])
+        if len(set(words)) != len(words) or is_behind_nothing and len(words) > 1:
+            raise NoForm
+        return kind.form(",".join(rest) or "-")
+    return kind._replace(allowed=f"{kind.allowed}; with --library also {' and '.join(names)}", form=flags_of)
+
+
 RIGHTS = OperandKind("r, or rw", rights_of, 0, 1, lambda value: "rw" if value else "r")
 RANGE = (("address", ADDRESS), ("length", SIZE))
 MAPPINGS = {"unmap": RANGE, "protect": RANGE + (("rights", RIGHTS),)}
+FLAGS = {"shmget": ("hugetlb", "noreserve"), "shmat": ("exec",)}
+FLAGGED = {"shmget": CALLS["shmget"][:-1] + (("flags", flags_of_kit(GET_FLAGS, FLAGS["shmget"])),),
+           "shmat": CALLS["shmat"][:-1] + (("flags", flags_of_kit(ATTACH_FLAGS, FLAGS["shmat"])),)}
 
 
 class BadInput(Exception):
@@ -66,10 +85,15 @@ class Command:
     text: str
     rule: str = ""
     expected: str | None = None
+    linux: str | None = None    # where it is another one
 
     @property
     def has_variable(self):
         return " = " in self.text
+
+    def told(self, is_linux):
+        """The reply under Linux's rules, or under the profile's."""
+        return self.linux if is_linux and self.linux else self.expected
 
 
 @dataclass
@@ -130,12 +154,12 @@ def read_case(path, text, is_strict=True, has_mappings=False):
     """A case; a strict one has a rule and a reply for each command. Without mappings it has none of the kit's own words."""
     case = Case(os.path.splitext(os.path.basename(path))[0], text)
     if not has_mappings:
-        require_no_mappings(path, text)
+        require_own_words(path, text)
     require_language(path, text, has_mappings)
     comment = []
     for number, line in enumerate(text.split("\n"), 1):
         words = line.split()
-        if line.startswith("#="):
+        if line.startswith(("#=", "#linux=")):
             take_reply(path, case, number, line)
             comment = []
         elif line.startswith("#swap"):
@@ -154,12 +178,13 @@ def read_case(path, text, is_strict=True, has_mappings=False):
 @contextlib.contextmanager
 def language_of_the_kit():
     """The reader of scripts knows the kit's own words too."""
-    CALLS.update(MAPPINGS)
+    before = dict(CALLS)
+    CALLS.update(MAPPINGS | FLAGGED)
     try:
         yield
     finally:
-        for word in MAPPINGS:
-            del CALLS[word]
+        CALLS.clear()
+        CALLS.update(before)
 
 
 def require_language(path, text, has_mappings):
@@ -174,19 +199,29 @@ def require_language(path, text, has_mappings):
             raise BadCase(path, fault.line, fault.word, cause) from None
 
 
-def require_no_mappings(path, text):
+def require_own_words(path, text):
+    """Where the program is ./shmsim, no word is the kit's alone."""
     for number, line in enumerate(text.split("\n"), 1):
-        word = next((word.text for word in words_of(line)[1:2] if word.text in MAPPINGS), "")
-        if word and not line.lstrip().startswith("#"):
-            raise BadCase(path, number, word, "a call of the library alone, which ./shmsim has not: run the case with --library")
+        words = [] if line.lstrip().startswith("#") else [word.text for word in words_of(line)]
+        call = next((word for word in words[1:2] if word in MAPPINGS), "")
+        if call:
+            raise BadCase(path, number, call, "a call of the library alone, which ./shmsim has not: run the case with --library")
+        name = next((name for word in words if word in FLAGS for name in words[-1].split(",") if name in FLAGS[word]), "")
+        if name:
+            raise BadCase(path, number, name, "a flag of the library alone, which ./shmsim has not: run the case with --library")
 
 
 def take_reply(path, case, number, line):
-    if not case.commands or case.commands[-1].expected is not None:
-        raise BadCase(path, number, "#=", "a reply without a command of its own above it")
-    case.commands[-1].expected = line[2:].strip()
-    if not case.commands[-1].expected:
-        raise BadCase(path, number, "#=", "no reply is told behind it")
+    first, _, reply = line.partition("=")
+    mark, field_name = first + "=", "linux" if first == "#linux" else "expected"
+    last = case.commands[-1] if case.commands else None
+    if last is None or getattr(last, field_name) is not None:
+        raise BadCase(path, number, mark, "a reply without a command of its own above it")
+    if field_name == "linux" and last.expected is None:
+        raise BadCase(path, number, mark, "a reply of Linux without a line #= above it")
+    if not reply.strip():
+        raise BadCase(path, number, mark, "no reply is told behind it")
+    setattr(last, field_name, reply.strip())
 
 
 def read_swap(path, number, line):
@@ -207,6 +242,8 @@ def require_rules(path, case):
             raise BadCase(path, command.line, command.text, f"no comment above it names the rule and its source, as {SOURCES}")
         if not command.expected:
             raise BadCase(path, command.line, command.text, "no reply is told below it, as #= ok")
+        if command.linux and not LINUX_SOURCE.search(command.rule):
+            raise BadCase(path, command.line, command.text, f"no comment above it names the source of Linux's reply, as {LINUX_SOURCES}")
     if not case.commands:
         raise BadCase(path, 0, "", "no command")
 

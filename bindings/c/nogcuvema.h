@@ -3,16 +3,16 @@
    A machine has limits, swap areas and processes. Its calls are those of shmget(2), shmop(2) and shmctl(2), accesses to
    attached memory, fork, exec, exit and swapoff, each made for a process of the machine, by its pid. No memory, signal or
    process of the system that the program runs on is behind them: an address is a number, and the bytes at it are read
-   and written by nog_load, nog_store and nog_add. A piece is a range of addresses of a process with pages of a segment:
+   and written by nog_load, nog_store and their like. A piece is a range of addresses of a process with pages of a segment:
    an attach makes one, and a later attach in its range may cut it. docs/MACHINE.md has the rules, docs/EMBEDDING.md the
    way to use this.
 
    ANSWERS. Each function but nog_version answers 0 or a code. Outputs are written where the answer is 0, and else they
-   are left as they were; nog_read and nog_write say below what they leave. A call that is refused by an error of errno(3)
-   other than NOG_EIO, or by NOG_SIGSEGV, changed nothing but the count of calls; nog_protect says what it has
-   changed by then. NOG_SIGBUS and NOG_EIO name a swap area's failure: no byte of a segment changed, nor a process, a segment or an attach, but pages may have come into frames or left
-   them, and the counts of the memory may have risen. At a code from 2001 on the call changed nothing at all, but for what
-   nog_read and nog_write had done before NOG_SPENT.
+   are left as they were; nog_read, nog_write and nog_copy say below what they leave. A call that is refused by an error of
+   errno(3) other than NOG_EIO, or by NOG_SIGSEGV, changed nothing but the count of calls; nog_protect says what it has
+   changed by then. NOG_SIGBUS and NOG_EIO name a swap area's failure: no byte of a segment changed, nor a process, a segment
+   or an attach, but pages may have come into frames or left them, and the counts of the memory may have risen. At a code
+   from 2001 on the call changed nothing at all, but for what nog_read, nog_write and nog_copy had done before NOG_SPENT.
 
    Each function that takes a machine answers NOG_CLOSED for a closed one (but nog_open, which opens it). Each call of a
    process, nog_get to nog_swapoff, answers NOG_SPENT where 2^64 - 1 calls were answered, and else NOG_ESRCH where no
@@ -21,7 +21,8 @@
    those of errno(3), of which the first that holds comes, last NOG_NO_MEMORY, which comes in place of 0.
 
    POINTERS point to as much as the types and the counts or lengths beside them say. A pointer may be null where its count
-   or length is 0, and nowhere else. No two of a call overlap. Nothing that is handed in is kept: arrays, buffers and outputs are the caller's.
+   or length is 0, and nowhere else. No two of a call overlap. Nothing that is handed in is kept: arrays, buffers and
+   outputs are the caller's.
 
    THREADS. One thread at a time calls for a machine; two machines may be used by two threads at once. */
 #ifndef NOGCUVEMA_H
@@ -68,7 +69,7 @@ enum nog_code {
     NOG_CLOSED = 2002,         /* there is no machine in the handle */
     NOG_OUT_OF_RANGE = 2003,   /* a number that no call can carry */
     NOG_SPENT = 2004,          /* 2^64 - 1 calls were answered */
-    NOG_BAD_LIMITS = 2010,     /* never answered itself; 2011 to 2018: limit 1 to 8 of nog_limits is out of its range */
+    NOG_BAD_LIMITS = 2010,     /* never answered itself; 2011 to 2019: limit 1 to 9 of nog_limits is out of its range */
     NOG_BAD_SHMMAX = 2011,
     NOG_BAD_SHMMNI = 2012,
     NOG_BAD_SHMALL = 2013,
@@ -77,6 +78,7 @@ enum nog_code {
     NOG_BAD_MOST_PIECES = 2016,
     NOG_BAD_MOST_PROCESSES = 2017,
     NOG_BAD_MOST_SLOTS = 2018,
+    NOG_BAD_RULES = 2019,
     NOG_START_REFUSED = 2020,  /* never answered itself */
     NOG_BAD_AREAS = 2021,      /* there are not 1 to 8 swap areas */
     NOG_BAD_AREA_SIZE = 2022,  /* an area has no slot, or more than the limits allow */
@@ -89,8 +91,8 @@ enum nog_code {
     NOG_DISMISS_LIVE = 2042    /* the process is live */
 };
 
-/* The limits of a machine. A page has 4096 bytes. Where the last three are 0, the machine is of the profile: they stand
-   for 256, 64 and 65536, and the first five have the narrower of the ranges below. Else each has the wider one. */
+/* The limits of a machine. A page has 4096 bytes. Where the three beginning with `most_` are 0, they stand for 256, 64 and
+   65536, and the first five have the narrower of the ranges below. Else each has the wider one. */
 typedef struct nog_limits {
     uint64_t shmmax;          /* the most bytes of a segment, 1 to 2^24, or to 2^40 */
     uint64_t shmmni;          /* the most segments, 1 to 4096, or to 32768 */
@@ -100,7 +102,25 @@ typedef struct nog_limits {
     uint64_t most_pieces;     /* the most pieces of a process, 1 to 65530 */
     uint64_t most_processes;  /* the most processes, 1 to 32768 */
     uint64_t most_slots;      /* the most slots of a swap area, 1 to 2^28 */
+    uint64_t rules;           /* the rules of Linux that hold, a sum of nog_rule; 0: none, this project's profile */
 } nog_limits;
+
+/* Rules of Linux where it answers otherwise than this project's profile. The functions below say what the profile answers,
+   and docs/MACHINE.md each rule beside it. */
+enum nog_rule {
+    NOG_REMOVED_IS_INVALID = 1,    /* NOG_EINVAL in place of NOG_EIDRM */
+    NOG_EXECUTE_IS_ASKED = 2,      /* nog_get of a segment that is there: an execute bit of the mode asks for one, NOG_EACCES */
+    NOG_FORK_MARKS = 4,            /* nog_fork: each segment that the child inherits gets an attach time, and the parent as last pid */
+    NOG_REST_IS_ATTACHED = 8,      /* what is left of a piece that is cut, and a part with another protection, is attached anew */
+    NOG_END_IS_ENOMEM = 16,        /* nog_attach: NOG_ENOMEM for a range that ends above 0x7ffffffff000, if nothing is there */
+    NOG_LOW_IS_EPERM = 32,         /* nog_attach: NOG_EPERM below 0x10000 for all but user 0, if nothing is there */
+    NOG_NO_LAST_USER = 64,         /* nog_set: NOG_EINVAL for user or group 2^32 - 1 */
+    NOG_PIECES_ARE_ENOMEM = 128,   /* nog_attach: NOG_ENOMEM in place of NOG_EMFILE, and wherever as many pieces are there as may be */
+    NOG_LOCKS_BY_USER = 256,       /* nog_lock: MEMLOCK is a limit of each user but 0, NOG_EPERM where it is 0 */
+    NOG_EXEC_IS_ASKED = 512,       /* nog_attach: NOG_EXEC asks for an execute bit, NOG_EACCES */
+    NOG_HUGE_IS_REFUSED = 1024,    /* nog_get: NOG_HUGETLB is NOG_EPERM, or NOG_ENOMEM for user 0 and group 0 without NOG_NORESERVE */
+    NOG_LINUX = 2047               /* all of them */
+};
 
 /* A swap area: its kind and how many pages it takes, 1 to what the limits allow. */
 enum nog_kind {
@@ -201,11 +221,14 @@ typedef struct nog_piece {
 
 /* Flags, by Linux's numbers; other bits of the 16 count for nothing. */
 enum nog_flag {
-    NOG_CREAT = 512,     /* nog_get: IPC_CREAT */
-    NOG_EXCL = 1024,     /* nog_get: IPC_EXCL */
-    NOG_RDONLY = 4096,   /* nog_attach: SHM_RDONLY */
-    NOG_RND = 8192,      /* nog_attach: SHM_RND */
-    NOG_REMAP = 16384    /* nog_attach: SHM_REMAP */
+    NOG_CREAT = 512,       /* nog_get: IPC_CREAT */
+    NOG_EXCL = 1024,       /* nog_get: IPC_EXCL */
+    NOG_HUGETLB = 2048,    /* nog_get: SHM_HUGETLB, which counts by NOG_HUGE_IS_REFUSED alone */
+    NOG_NORESERVE = 4096,  /* nog_get: SHM_NORESERVE, which counts beside NOG_HUGETLB alone */
+    NOG_RDONLY = 4096,     /* nog_attach: SHM_RDONLY */
+    NOG_RND = 8192,        /* nog_attach: SHM_RND */
+    NOG_REMAP = 16384,     /* nog_attach: SHM_REMAP */
+    NOG_EXEC = 32768       /* nog_attach: SHM_EXEC, which counts by NOG_EXEC_IS_ASKED alone */
 };
 enum nog_key { NOG_PRIVATE = 0 };
 
@@ -285,6 +308,18 @@ uint32_t nog_store(nog_machine *machine, uint32_t pid, uint64_t addr, const uint
    stood there is put into `before`. `addr` needs no alignment. NOG_SIGSEGV, NOG_SIGBUS: as nog_store. */
 uint32_t nog_add(nog_machine *machine, uint32_t pid, uint64_t addr, uint64_t add, uint64_t *before);
 
+/* Puts `len` bytes in the place of those from `addr` on, and the bytes that were there into `before`, in one step (the
+   exchange of a guest's locked instruction). There are 1 to 64 of them. `before_len` is `len`.
+   NOG_OUT_OF_RANGE: a length is another than that. NOG_SIGSEGV, NOG_SIGBUS: as nog_store. */
+uint32_t nog_exchange(nog_machine *machine, uint32_t pid, uint64_t addr, const uint8_t *bytes, size_t len,
+                      uint8_t *before, size_t before_len);
+
+/* As nog_exchange, but only if the bytes that are there are the expected ones. `before` shows them in both cases: they were
+   exchanged where `before` and `expected` are the same. The three lengths are the same, 1 to 64.
+   NOG_OUT_OF_RANGE, NOG_SIGSEGV, NOG_SIGBUS: as nog_exchange; bytes that are not for writing are NOG_SIGSEGV in both cases. */
+uint32_t nog_compare_exchange(nog_machine *machine, uint32_t pid, uint64_t addr, const uint8_t *expected,
+                              size_t expected_len, const uint8_t *bytes, size_t len, uint8_t *before, size_t before_len);
+
 /* fork(2): a declared child is born, with the caller's user, group and pieces.
    NOG_EAGAIN: no unborn child has the pid `child`. */
 uint32_t nog_fork(nog_machine *machine, uint32_t pid, uint32_t child);
@@ -324,7 +359,8 @@ uint32_t nog_set_time(nog_machine *machine, uint64_t time);
 
 /* munmap(2): unmaps `len` bytes from `addr` on, rounded up to whole pages, of a live process. Pieces in the range go, and those
    that reach beyond it are cut. Each segment that lost pages gets a detach time, which is that of the next call, and the
-   process as its last one; a marked segment goes with its last piece. Where nothing is attached, nothing changes.
+   process as its last one; a marked segment goes with its last piece. By NOG_REST_IS_ATTACHED one of which a part is left gets
+   an attach time too. Where nothing is attached, nothing changes.
    NOG_SPENT: as for calls. NOG_ESRCH: there is no such live process. NOG_EINVAL: the address is no multiple of 4096, the
    length is 0, or the range reaches beyond 0x7ffffffff000. NOG_ENOMEM: the process would have more pieces than the limits allow. */
 uint32_t nog_unmap(nog_machine *machine, uint32_t pid, uint64_t addr, uint64_t len);
@@ -332,7 +368,8 @@ uint32_t nog_unmap(nog_machine *machine, uint32_t pid, uint64_t addr, uint64_t l
 /* mprotect(2): makes a range of a live process, rounded up to whole pages, writable, or read-only where `is_writable` is 0.
    A part of a piece becomes a piece of its own, which counts in nattch, unless it joins a neighbour of the same attach that
    has the protection already. A whole piece stays one of its own, and one that has the protection stays as it is. No time
-   changes. From below, the first of these stops it, and what lies below has been changed by then:
+   changes, but by NOG_REST_IS_ATTACHED: then a segment that has a piece more gets an attach time, that of the next call, and
+   the process as its last one. NOG_SPENT: as for calls. From below, the first of these stops it, and what lies below has been changed by then:
    NOG_ENOMEM: a page is not attached, or the process would have more pieces than the limits allow. NOG_EACCES: a piece is to
    become writable that was attached with NOG_RDONLY. And before anything changes: NOG_ESRCH, there is no such live process;
    NOG_EINVAL, the address is no multiple of 4096; NOG_ENOMEM, the range passes 2^64. A length of 0 changes nothing. */
@@ -345,8 +382,8 @@ uint32_t nog_snapshot(nog_machine *machine, nog_machine *copy);
 
 /* ---- accesses of any length ---- */
 
-/* Reads `len` bytes by loads of 64 bytes from `addr` on, the last one of what is left: each is a call of its own and is
-   counted, and a length of 0 makes none. It ends at the first load that is refused, with its answer; the bytes of the loads
+/* Reads `len` bytes from `addr` on by one load for each page of addresses: each is a call of its own and is counted, and a
+   length of 0 makes none. It ends at the first load that is refused, with its answer; the bytes of the loads
    before it are in `bytes` then. How many bytes were read is put into `done`, whatever the answer, but where that is
    NOG_CLOSED. The codes are those of nog_load, without NOG_OUT_OF_RANGE. An address past 2^64 - 1 is NOG_SIGSEGV, and that
    load is not counted. */
@@ -355,6 +392,13 @@ uint32_t nog_read(nog_machine *machine, uint32_t pid, uint64_t addr, uint8_t *by
 /* Writes `len` bytes by stores, as nog_read reads them, with the same codes. The first `done` bytes were stored, and stay
    stored, whatever the answer: also where it is NOG_SPENT. */
 uint32_t nog_write(nog_machine *machine, uint32_t pid, uint64_t addr, const uint8_t *bytes, size_t len, uint64_t *done);
+
+/* Copies `len` bytes of a process to a process, which may be the same, as nog_read of all of them and then nog_write of
+   those that were read: the ranges may overlap. How many were written is put into `done`, but at NOG_CLOSED and
+   NOG_NO_MEMORY. The answer is that of the write if it was refused, else that of the read.
+   NOG_NO_MEMORY: the heap gave no room for the bytes between the two, and nothing changed. */
+uint32_t nog_copy(nog_machine *machine, uint32_t from, uint64_t from_addr, uint32_t to, uint64_t to_addr, uint64_t len,
+                  uint64_t *done);
 
 /* ---- the machine's memory, and its state ---- */
 
@@ -392,6 +436,11 @@ uint32_t nog_process_at(nog_machine *machine, uint32_t index, nog_process *proce
    `is_write` is not 0, not for writing. Of a process that is not live no byte is attached.
    NOG_OUT_OF_RANGE: each byte is attached as the access asks, or there is none. */
 uint32_t nog_failed_at(nog_machine *machine, uint32_t pid, uint64_t addr, uint64_t len, uint32_t is_write, uint64_t *at);
+
+/* Where an access of `len` bytes from `addr` on was NOG_SIGBUS, asked right after it: the address of its first byte whose
+   page is in no frame, if each byte before it is attached. It is the one whose page did not come in.
+   NOG_OUT_OF_RANGE: there is none. */
+uint32_t nog_absent_at(nog_machine *machine, uint32_t pid, uint64_t addr, uint64_t len, uint64_t *at);
 
 /* How many calls of processes were answered; one that was refused counts, and none that found no memory. */
 uint32_t nog_calls(nog_machine *machine, uint64_t *calls);

@@ -18,7 +18,7 @@ class Machine(Structure):
 
 class Limits(Structure):
     _fields_ = [(name, c_uint64) for name in ("shmmax", "shmmni", "shmall", "frames", "memlock",
-                                              "most_pieces", "most_processes", "most_slots")]
+                                              "most_pieces", "most_processes", "most_slots", "rules")]
 
 
 class Area(Structure):

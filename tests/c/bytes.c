@@ -9,6 +9,7 @@ enum {
     OWNER = 12,       /* of a slot: a flag, a segment and a page */
     RETURNED = 4,     /* of a slot: its number, once it is given back */
     FRAME = 16,       /* an owner, its referenced bit and its dirty bit, up to the next multiple of 4 */
+    MARK = 1,         /* of a block of 64 frames: whether one of them may be dirty */
     PAGE_PLACE = 20,  /* of a page of a segment: a flag and a frame; a flag, an area and a slot */
     TRANSLATION = 8,  /* of an attached page: a flag and a frame */
     PIECE = 32,       /* an address and a key of 8 bytes, a segment, its first page, its pages, and whether it is writable */
@@ -56,7 +57,7 @@ static void openings(void) {
     static const uint64_t a_slot[] = {PAGE + OWNER, ROOM + OWNER, 2 * PAGE + GOOD + OWNER};
     nog_limits frames = small;
     frames.frames = 4096;
-    TEST(opening(frames, ram) - opening(small, ram) == 4094 * (uint64_t)(PAGE + FRAME));
+    TEST(opening(frames, ram) - opening(small, ram) == 4094 * (uint64_t)(PAGE + FRAME) + 4096 / 64 * MARK);
     /* a list for one number has room for four */
     for (int i = 0; i < 3; i++)
         TEST(opening(small, all_slots[i]) - opening(small, one_slot[i]) == 65535 * a_slot[i] + 65532 * (uint64_t)RETURNED);
@@ -93,7 +94,7 @@ static void segments(void) {
 
 /* behind the first attach of the largest segment */
 static void nothing(void) {
-    static const uint8_t bytes[64];
+    static const uint8_t bytes[64], others[64];
     uint8_t loaded[64];
     uint64_t at, number, done;
     int32_t id;
@@ -106,6 +107,8 @@ static void nothing(void) {
     ANSWER(nog_store(&machine, CHILD, LOWEST, bytes, 64), NOG_DONE);
     ANSWER(nog_load(&machine, USER, LOWEST, loaded, 64), NOG_DONE);
     ANSWER(nog_add(&machine, USER, LOWEST, 5, &number), NOG_DONE);
+    ANSWER(nog_exchange(&machine, USER, LOWEST, bytes, 64, loaded, 64), NOG_DONE);
+    ANSWER(nog_compare_exchange(&machine, USER, LOWEST, bytes, 64, others, 64, loaded, 64), NOG_DONE);
     ANSWER(nog_read(&machine, USER, LOWEST, loaded, 64, &done), NOG_DONE);
     ANSWER(nog_write(&machine, USER, LOWEST, bytes, 64, &done), NOG_DONE);
     ANSWER(nog_flush(&machine, 1, &flushed), NOG_DONE);
@@ -115,6 +118,21 @@ static void nothing(void) {
     ANSWER(nog_remove(&machine, USER, id), NOG_DONE);
     ANSWER(nog_exit(&machine, USER), NOG_DONE);
     ANSWER(nog_swapoff(&machine, ROOT, 0), NOG_DONE);
+    TEST(asked == 0);
+}
+
+/* a copy asks for its bytes, and for no others */
+static void copied(void) {
+    uint64_t at, done;
+    int32_t id;
+    ANSWER(open_usual(&machine), NOG_DONE);
+    ANSWER(nog_get(&machine, USER, NOG_PRIVATE, 2 * PAGE, 0600, 0, &id), NOG_DONE);
+    ANSWER(nog_attach(&machine, USER, id, 0, 0, &at), NOG_DONE);
+    asked = 0;
+    ANSWER(nog_copy(&machine, USER, at, USER, at + 9, 5000, &done), NOG_DONE);
+    TEST(asked == 5000);
+    asked = 0;
+    ANSWER(nog_copy(&machine, USER, at, USER, at, 0, &done), NOG_DONE);
     TEST(asked == 0);
 }
 
@@ -134,6 +152,7 @@ int main(void) {
     openings();
     segments();
     nothing();
+    copied();
     ANSWER(nog_close(&machine), NOG_DONE);
     return finish("bytes");
 }

@@ -3,7 +3,7 @@
    docs/MACHINE.md; that each call of a process gives them is the driver's matter. */
 #include "testing.h"
 
-enum { CALLS = 15, UNTOUCHED = 0xa5 };
+enum { CALLS = 17, UNTOUCHED = 0xa5 };
 
 /* all outputs of the calls, so that what was not written is seen */
 struct outputs {
@@ -41,6 +41,8 @@ static void test_each_call(nog_machine *m, uint32_t pid, uint32_t code) {
     ANSWER(nog_load(m, pid, LOWEST, out.bytes, 4), code);
     ANSWER(nog_store(m, pid, LOWEST, out.bytes, 4), code);
     ANSWER(nog_add(m, pid, LOWEST, 1, &out.number), code);
+    ANSWER(nog_exchange(m, pid, LOWEST, (const uint8_t *)"abcd", 4, out.bytes, 4), code);
+    ANSWER(nog_compare_exchange(m, pid, LOWEST, (const uint8_t *)"abcd", 4, (const uint8_t *)"wxyz", 4, out.bytes, 4), code);
     ANSWER(nog_fork(m, pid, CHILD), code);
     ANSWER(nog_exec(m, pid), code);
     ANSWER(nog_exit(m, pid), code);
@@ -53,6 +55,8 @@ static void test_closed(nog_machine *m) {
     test_each_call(m, ROOT, NOG_CLOSED);
     ANSWER(nog_read(m, ROOT, LOWEST, out.bytes, 100, &out.number), NOG_CLOSED);
     ANSWER(nog_write(m, ROOT, LOWEST, out.bytes, 100, &out.number), NOG_CLOSED);
+    ANSWER(nog_copy(m, ROOT, LOWEST, USER, LOWEST, 100, &out.number), NOG_CLOSED);
+    ANSWER(nog_absent_at(m, ROOT, LOWEST, 1, &out.number), NOG_CLOSED);
     ANSWER(nog_flush(m, 1, &out.flushed), NOG_CLOSED);
     ANSWER(nog_tally_of(m, &out.tally), NOG_CLOSED);
     ANSWER(nog_indexes(m, &out.indexes), NOG_CLOSED);
@@ -74,41 +78,46 @@ static void test_no_such_process(nog_machine *m) {
     TEST(out.number == 0);
     ANSWER(nog_write(m, UNDECLARED, LOWEST, out.bytes, 100, &out.number), NOG_ESRCH);
     TEST(out.number == 0);
+    out.number = 9;
+    ANSWER(nog_copy(m, UNDECLARED, LOWEST, USER, LOWEST, 100, &out.number), NOG_ESRCH);
+    TEST(out.number == 0);
 }
 
 /* ---- how a machine is opened ---- */
 
 static void test_limits(nog_machine *m) {
     static const struct { nog_limits limits; uint32_t code; } table[] = {
-        {{1, 1, 1, 2, 0, 0, 0, 0}, NOG_DONE}, {{16777216, 4096, 65536, 4096, 4094, 0, 0, 0}, NOG_DONE},
-        {{0, 0, 0, 0, 9, 0, 0, 0}, NOG_BAD_SHMMAX}, {{16777217, 1, 1, 2, 0, 0, 0, 0}, NOG_BAD_SHMMAX},
-        {{1, 0, 0, 0, 9, 0, 0, 0}, NOG_BAD_SHMMNI}, {{1, 4097, 1, 2, 0, 0, 0, 0}, NOG_BAD_SHMMNI},
-        {{1, 1, 0, 0, 9, 0, 0, 0}, NOG_BAD_SHMALL}, {{1, 1, 65537, 2, 0, 0, 0, 0}, NOG_BAD_SHMALL},
-        {{1, 1, 1, 1, 9, 0, 0, 0}, NOG_BAD_FRAMES}, {{1, 1, 1, 4097, 0, 0, 0, 0}, NOG_BAD_FRAMES},
-        {{1, 1, 1, 2, 1, 0, 0, 0}, NOG_BAD_MEMLOCK}, {{1, 1, 1, 4096, UINT64_MAX, 0, 0, 0}, NOG_BAD_MEMLOCK},
-        {{1, 1, 1, 2, 0, 1, 3, 64}, NOG_DONE}, {{0, 0, 0, 0, 9, 0, 0, 1}, NOG_BAD_SHMMAX},
-        {{1, 0, 0, 0, 9, 0, 0, 1}, NOG_BAD_SHMMNI}, {{1, 1, 0, 0, 9, 0, 0, 1}, NOG_BAD_SHMALL},
-        {{1, 1, 1, 1, 9, 0, 0, 1}, NOG_BAD_FRAMES}, {{1, 1, 1, 2, 1, 0, 0, 1}, NOG_BAD_MEMLOCK},
-        {{1, 1, 1, 2, 0, 0, 0, 1}, NOG_BAD_MOST_PIECES}, {{1, 1, 1, 2, 0, 1, 0, 0}, NOG_BAD_MOST_PROCESSES},
-        {{1, 1, 1, 2, 0, 1, 1, 0}, NOG_BAD_MOST_SLOTS} };
+        {{1, 1, 1, 2, 0, 0, 0, 0, 0}, NOG_DONE}, {{16777216, 4096, 65536, 4096, 4094, 0, 0, 0, 0}, NOG_DONE},
+        {{0, 0, 0, 0, 9, 0, 0, 0, 0}, NOG_BAD_SHMMAX}, {{16777217, 1, 1, 2, 0, 0, 0, 0, 0}, NOG_BAD_SHMMAX},
+        {{1, 0, 0, 0, 9, 0, 0, 0, 0}, NOG_BAD_SHMMNI}, {{1, 4097, 1, 2, 0, 0, 0, 0, 0}, NOG_BAD_SHMMNI},
+        {{1, 1, 0, 0, 9, 0, 0, 0, 0}, NOG_BAD_SHMALL}, {{1, 1, 65537, 2, 0, 0, 0, 0, 0}, NOG_BAD_SHMALL},
+        {{1, 1, 1, 1, 9, 0, 0, 0, 0}, NOG_BAD_FRAMES}, {{1, 1, 1, 4097, 0, 0, 0, 0, 0}, NOG_BAD_FRAMES},
+        {{1, 1, 1, 2, 1, 0, 0, 0, 0}, NOG_BAD_MEMLOCK}, {{1, 1, 1, 4096, UINT64_MAX, 0, 0, 0, 0}, NOG_BAD_MEMLOCK},
+        {{1, 1, 1, 2, 0, 1, 3, 64, 0}, NOG_DONE}, {{0, 0, 0, 0, 9, 0, 0, 1, 0}, NOG_BAD_SHMMAX},
+        {{1, 0, 0, 0, 9, 0, 0, 1, 0}, NOG_BAD_SHMMNI}, {{1, 1, 0, 0, 9, 0, 0, 1, 0}, NOG_BAD_SHMALL},
+        {{1, 1, 1, 1, 9, 0, 0, 1, 0}, NOG_BAD_FRAMES}, {{1, 1, 1, 2, 1, 0, 0, 1, 0}, NOG_BAD_MEMLOCK},
+        {{1, 1, 1, 2, 0, 0, 0, 1, 0}, NOG_BAD_MOST_PIECES}, {{1, 1, 1, 2, 0, 1, 0, 0, 0}, NOG_BAD_MOST_PROCESSES},
+        {{1, 1, 1, 2, 0, 1, 1, 0, 0}, NOG_BAD_MOST_SLOTS},
+        {{1, 1, 1, 2, 0, 0, 0, 0, NOG_LINUX}, NOG_DONE}, {{1, 1, 1, 2, 0, 0, 0, 0, NOG_LINUX + 1}, NOG_BAD_RULES},
+        {{1, 1, 1, 2, 0, 1, 1, 1, NOG_LINUX + 1}, NOG_BAD_RULES}, {{1, 1, 1, 2, 0, 1, 1, 0, NOG_LINUX + 1}, NOG_BAD_MOST_SLOTS} };
     for (size_t i = 0; i < sizeof table / sizeof *table; i++)
         ANSWER(nog_open(m, &table[i].limits, &ram, 1, &none, 0, processes, 3), table[i].code);
 }
 
 /* the largest limits, and one more of each */
 static void test_largest(nog_machine *m) {
-    static const nog_limits largest = {(uint64_t)1 << 40, 32768, 1 << 28, 1 << 24, (1 << 24) - 2, 65530, 32768, 1 << 28};
+    static const nog_limits largest = {(uint64_t)1 << 40, 32768, 1 << 28, 1 << 24, (1 << 24) - 2, 65530, 32768, 1 << 28, NOG_LINUX};
     static const uint32_t codes[] = {NOG_BAD_SHMMAX, NOG_BAD_SHMMNI, NOG_BAD_SHMALL, NOG_BAD_FRAMES, NOG_BAD_MEMLOCK,
-                                     NOG_BAD_MOST_PIECES, NOG_BAD_MOST_PROCESSES, NOG_BAD_MOST_SLOTS};
+                                     NOG_BAD_MOST_PIECES, NOG_BAD_MOST_PROCESSES, NOG_BAD_MOST_SLOTS, NOG_BAD_RULES};
     nog_limits mine = largest;
     /* 2^24 frames have 2^36 bytes, which a host may not lend */
     mine.frames = 1024;
     mine.memlock = 1022;
     ANSWER(nog_open(m, &mine, &ram, 1, &none, 0, processes, 3), NOG_DONE);
-    for (int i = 0; i < 8; i++) {
+    for (int i = 0; i < 9; i++) {
         mine = largest;
         uint64_t *numbers[] = {&mine.shmmax, &mine.shmmni, &mine.shmall, &mine.frames,
-                               &mine.memlock, &mine.most_pieces, &mine.most_processes, &mine.most_slots};
+                               &mine.memlock, &mine.most_pieces, &mine.most_processes, &mine.most_slots, &mine.rules};
         *numbers[i] += 1;
         ANSWER(nog_open(m, &mine, &ram, 1, &none, 0, processes, 3), codes[i]);
     }
@@ -116,7 +125,7 @@ static void test_largest(nog_machine *m) {
 
 /* the limits of slots and of processes are the machine's own */
 static void test_own_limits(nog_machine *m) {
-    static const nog_limits mine = {65536, 16, 64, 8, 1, 4, 3, 70000};
+    static const nog_limits mine = {65536, 16, 64, 8, 1, 4, 3, 70000, 0};
     static const nog_area slots = {NOG_SPARSE, 70000}, more = {NOG_SPARSE, 70001};
     nog_process four[4];
     for (uint32_t i = 0; i < 4; i++) four[i] = (nog_process){i + 1, i == 0, 0, 0};
@@ -165,7 +174,7 @@ static void test_processes(nog_machine *m) {
 
 /* of several faults the first is answered: limits, what is out of range, then areas and processes */
 static void test_first_fault(nog_machine *m) {
-    static const nog_limits no_frames = {1, 1, 1, 1, 0, 0, 0, 0};
+    static const nog_limits no_frames = {1, 1, 1, 1, 0, 0, 0, 0, 0};
     static const nog_area strange = {4, 8}, large = {NOG_RAM, 65537};
     static const nog_failure far = {.area = 2, .call = 1};
     nog_process many[65];
@@ -310,7 +319,7 @@ static void test_out_of_range(nog_machine *m) {
     TEST(memcmp(&before, &after, sizeof before) == 0);
 }
 
-/* an access of 200 bytes is one of 64, 64, 64 and 8 */
+/* an access of any length is a call for each page of addresses */
 static void test_long_accesses(nog_machine *m) {
     uint64_t at = 0, done = 1, calls = 0;
     uint8_t given[200], taken[200] = {0};
@@ -324,20 +333,20 @@ static void test_long_accesses(nog_machine *m) {
     ANSWER(nog_read(m, USER, at + PAGE - 100, taken, 200, &done), NOG_DONE);
     TEST(done == 200 && memcmp(given, taken, 200) == 0);
     ANSWER(nog_calls(m, &calls), NOG_DONE);
-    TEST(calls == 2 + 4 + 4);
+    TEST(calls == 2 + 2 + 2);
     ANSWER(nog_read(m, USER, 0, taken, 0, &done), NOG_DONE);
     ANSWER(nog_write(m, USER, 0, taken, 0, &done), NOG_DONE);
     TEST(done == 0);
-    /* 150 bytes are left of the segment: two stores are done, the third has no whole range */
+    /* 150 bytes are left of the segment: their store is done, and that of the next page has no piece */
     ANSWER(nog_write(m, USER, at + 2 * PAGE - 150, given, 200, &done), NOG_SIGSEGV);
-    TEST(done == 128);
+    TEST(done == 150);
     memset(taken, 0, sizeof taken);
     ANSWER(nog_read(m, USER, at + 2 * PAGE - 150, taken, 200, &done), NOG_SIGSEGV);
-    TEST(done == 128 && memcmp(given, taken, 128) == 0);
+    TEST(done == 150 && memcmp(given, taken, 150) == 0 && taken[150] == 0);
     ANSWER(nog_read(m, USER, at + 2 * PAGE - 150, taken, 150, &done), NOG_DONE);
-    TEST(done == 150 && memcmp(given, taken, 128) == 0 && taken[128] == 0 && taken[149] == 0);
+    TEST(done == 150 && memcmp(given, taken, 150) == 0);
     ANSWER(nog_calls(m, &calls), NOG_DONE);
-    TEST(calls == 10 + 3 + 3 + 3);
+    TEST(calls == 6 + 2 + 2 + 1);
 }
 
 /* three dirty pages, of which the second write fails: it stays dirty, and a later round writes it */
@@ -369,7 +378,7 @@ static void test_flushes(nog_machine *m) {
 /* stores in three pages over two frames, so that the first goes out; then loads the first two, each of which comes in: what
    the third store and both loads answered, and a byte that was loaded is the one that was stored */
 static void test_paging(nog_machine *m, const nog_area *area, const nog_failure *failures, size_t count, const uint32_t codes[3]) {
-    static const nog_limits two_frames = {65536, 1, 3, 2, 0, 0, 0, 0};
+    static const nog_limits two_frames = {65536, 1, 3, 2, 0, 0, 0, 0, 0};
     uint64_t at = 0;
     int32_t id = -1;
     ANSWER(nog_open(m, &two_frames, area, 1, failures, count, processes, 3), NOG_DONE);
@@ -431,8 +440,8 @@ static void test_table(nog_machine *m) {
 
 static void test_texts(void) {
     static const uint32_t codes[] = {0, 1, 2, 3, 5, 11, 12, 13, 17, 22, 24, 28, 43, 1007, 1011, 2001, 2002, 2003, 2004,
-        2011, 2012, 2013, 2014, 2015, 2016, 2017, 2018, 2021, 2022, 2023, 2024, 2031, 2032, 2033, 2041, 2042};
-    static const uint32_t no_codes[] = {4, 44, 1008, 2000, 2005, 2010, 2019, 2020, 2025, 2030, 2034, 2040, 2043, UINT32_MAX};
+        2011, 2012, 2013, 2014, 2015, 2016, 2017, 2018, 2019, 2021, 2022, 2023, 2024, 2031, 2032, 2033, 2041, 2042};
+    static const uint32_t no_codes[] = {4, 44, 1008, 2000, 2005, 2010, 2020, 2025, 2030, 2034, 2040, 2043, UINT32_MAX};
     uint8_t text[64], cut[3];
     size_t len, again;
     for (size_t i = 0; i < sizeof codes / sizeof *codes; i++) {

@@ -1,7 +1,8 @@
 /* driver serial|pieces SWAP... < SCRIPT
    makes the calls of a script through the C library, and prints what ./shmsim prints: the event lines, the listing of
-   segments and the usage. With `pieces` loads and stores go by nog_read and nog_write. Its own, told on standard error
-   with status 3: an output that a refused call wrote, a count of calls that is not the place, an unexpected code. */
+   segments and the usage. With `pieces` loads and stores within a page go by nog_read and nog_write, which make one call of
+   each; over a border they would make two. Its own, told on standard error with status 3: an output that a refused call
+   wrote, a count of calls that is not the place, an unexpected code. */
 #define _POSIX_C_SOURCE 200809L
 #include <stdarg.h>
 #include "../../conformance/script.h"
@@ -63,7 +64,7 @@ static void read_swap(struct swap *swap, const char *word) {
 
 static void open_machine(nog_machine *machine, const struct swap *swap) {
     const uint64_t *l = script.limits;
-    nog_limits limits = {l[0], l[1], l[2], l[3], l[4], 0, 0, 0};
+    nog_limits limits = {.shmmax = l[0], .shmmni = l[1], .shmall = l[2], .frames = l[3], .memlock = l[4]};
     nog_process processes[PROCESSES];
     for (int i = 0; i < script.process_count; i++) {
         const struct declared *p = &script.processes[i];
@@ -75,9 +76,11 @@ static void open_machine(nog_machine *machine, const struct swap *swap) {
 
 /* ---- calls ---- */
 
+static int is_by_stretch(uint64_t addr, size_t len) { return is_in_pieces && addr % 4096 + len <= 4096; }
+
 static uint32_t load(nog_machine *m, uint32_t pid, uint64_t addr, uint8_t *bytes, size_t len) {
     uint64_t done = len;
-    if (!is_in_pieces) return nog_load(m, pid, addr, bytes, len);
+    if (!is_by_stretch(addr, len)) return nog_load(m, pid, addr, bytes, len);
     uint32_t code = nog_read(m, pid, addr, bytes, len, &done);
     if (done != (code == NOG_DONE ? len : 0)) fail(3, "%" PRIu64 " bytes were read", done);
     return code;
@@ -85,7 +88,7 @@ static uint32_t load(nog_machine *m, uint32_t pid, uint64_t addr, uint8_t *bytes
 
 static uint32_t store(nog_machine *m, uint32_t pid, uint64_t addr, const uint8_t *bytes, size_t len) {
     uint64_t done = len;
-    if (!is_in_pieces) return nog_store(m, pid, addr, bytes, len);
+    if (!is_by_stretch(addr, len)) return nog_store(m, pid, addr, bytes, len);
     uint32_t code = nog_write(m, pid, addr, bytes, len, &done);
     if (done != (code == NOG_DONE ? len : 0)) fail(3, "%" PRIu64 " bytes were written", done);
     return code;

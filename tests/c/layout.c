@@ -13,6 +13,7 @@ static const struct place places[] = {
     SIZE(1, nog_limits), FIELD(1, 1, nog_limits, shmmax), FIELD(1, 2, nog_limits, shmmni),
     FIELD(1, 3, nog_limits, shmall), FIELD(1, 4, nog_limits, frames), FIELD(1, 5, nog_limits, memlock),
     FIELD(1, 6, nog_limits, most_pieces), FIELD(1, 7, nog_limits, most_processes), FIELD(1, 8, nog_limits, most_slots),
+    FIELD(1, 9, nog_limits, rules),
     SIZE(2, nog_area), FIELD(2, 1, nog_area, kind), FIELD(2, 2, nog_area, slots),
     SIZE(3, nog_failure), FIELD(3, 1, nog_failure, area), FIELD(3, 2, nog_failure, side),
     FIELD(3, 3, nog_failure, is_write), FIELD(3, 4, nog_failure, unused), FIELD(3, 5, nog_failure, call),

@@ -139,7 +139,7 @@ static void test_stops(void) {
 
 /* with two pieces at most, the middle of one is neither unmapped nor protected */
 static void test_few_pieces(void) {
-    static const nog_limits few = {65536, 4, 64, 4, 1, 2, 64, 64};
+    static const nog_limits few = {65536, 4, 64, 4, 1, 2, 64, 64, 0};
     ANSWER(nog_open(&machine, &few, &ram, 1, NULL, 0, processes, 3), NOG_DONE);
     int32_t id = make(USER, PAGES, 0600);
     attach(USER, id, BASE, 0);

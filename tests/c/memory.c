@@ -1,6 +1,6 @@
 /* memory: each allocation of a call fails in turn: the answer is NOG_NO_MEMORY, nothing is changed, and the call made
    again is done. A twin of the machine, which never lacks memory, makes the same calls: both show the same afterwards, and
-   read the same bytes. Calls but nog_open, nog_get and nog_attach take no memory. A sparse area gives a page's memory back,
+   read the same bytes. Functions but nog_open, nog_get, nog_attach, nog_snapshot, nog_copy and nog_admit take no memory. A sparse area gives a page's memory back,
    with nothing but zeros in it, once nobody needs the page. It is linked with --wrap for malloc, realloc and free, so that the
    library's own allocations come here. */
 #include <stdlib.h>
@@ -159,6 +159,21 @@ static uint32_t add(nog_machine *m) {
     uint64_t before;
     return nog_add(m, CHILD, LOWEST, 5, &before);
 }
+static uint32_t exchange(nog_machine *m) {
+    uint8_t before[4];
+    return nog_exchange(m, USER, LOWEST + PAGE - 1, (const uint8_t *)"wxyz", 4, before, 4);
+}
+static uint32_t compare(nog_machine *m) {
+    uint8_t before[4];
+    return nog_compare_exchange(m, USER, LOWEST + PAGE - 1, (const uint8_t *)"wxyz", 4, (const uint8_t *)"abcd", 4, before, 4);
+}
+/* its bytes wait in memory between the read and the write; without it nothing is read, and no call is counted */
+static uint32_t copy_bytes(nog_machine *m) {
+    uint64_t done = 99;
+    uint32_t code = nog_copy(m, USER, LOWEST + PAGE - 3, CHILD, LOWEST + 5, 300, &done);
+    TEST(done == (code == NOG_DONE ? 300 : 99));
+    return code;
+}
 static uint32_t set(nog_machine *m) { return nog_set(m, USER, 0, 200, 200, 0644); }
 static uint32_t detach(nog_machine *m) { return nog_detach(m, USER, LOWEST); }
 static uint32_t exec(nog_machine *m) { return nog_exec(m, CHILD); }
@@ -190,9 +205,20 @@ static uint32_t snapshot(nog_machine *m) {
     return code;
 }
 
+/* a copy of more bytes than a heap has */
+static void copy_too_much(nog_machine *m) {
+    uint64_t done = 99, counted = 0, calls = 1;
+    ANSWER(nog_calls(m, &counted), NOG_DONE);
+    left = 0;
+    ANSWER(nog_copy(m, USER, LOWEST, USER, LOWEST, UINT64_MAX / 2, &done), NOG_NO_MEMORY);
+    left = NEVER;
+    ANSWER(nog_calls(m, &calls), NOG_DONE);
+    TEST(done == 99 && calls == counted);
+}
+
 /* three pages in two frames: the third needs one, whose page a sparse area has no memory to take */
 static void fail_write(nog_machine *m) {
-    static const nog_limits two_frames = {65536, 1, 3, 2, 0, 0, 0, 0};
+    static const nog_limits two_frames = {65536, 1, 3, 2, 0, 0, 0, 0, 0};
     static const nog_area sparse = {NOG_SPARSE, 3};
     nog_tally t;
     uint8_t byte = 0;
@@ -214,7 +240,7 @@ static void fail_write(nog_machine *m) {
 
 /* a sparse area has memory for the pages that it holds, and none once their segment is destroyed */
 static void give_back(nog_machine *m) {
-    static const nog_limits two_frames = {65536, 1, 6, 2, 0, 0, 0, 0};
+    static const nog_limits two_frames = {65536, 1, 6, 2, 0, 0, 0, 0, 0};
     static const nog_area sparse = {NOG_SPARSE, 6};
     nog_tally t;
     int32_t id;
@@ -233,14 +259,15 @@ static void give_back(nog_machine *m) {
 
 int main(void) {
     static const struct { step make; int takes_memory; } steps[] = {
-        {get, 1}, {attach, 1}, {fork_child, 0}, {store, 0}, {add, 0}, {snapshot, 1}, {set, 0},
-        {flush, 0}, {protect, 0}, {unprotect, 0}, {unmap, 0}, {snapshot, 1}, {detach, 0}, {exec, 0},
-        {remove_it, 0}, {get, 1}, {attach_next, 1}, {store, 0}, {detach, 0}, {remove_next, 0}, {swapoff, 0}, {end, 0} };
+        {get, 1}, {attach, 1}, {fork_child, 0}, {store, 0}, {add, 0}, {snapshot, 1}, {exchange, 0},
+        {compare, 0}, {copy_bytes, 1}, {set, 0}, {flush, 0}, {protect, 0}, {unprotect, 0}, {unmap, 0},
+        {snapshot, 1}, {detach, 0}, {exec, 0}, {remove_it, 0}, {get, 1}, {attach_next, 1}, {store, 0}, {detach, 0}, {remove_next, 0}, {swapoff, 0}, {end, 0} };
     nog_machine machine = NOG_MACHINE_INITIALIZER;
     fail_each_open(&machine, open_mirror);
     fail_each(&machine, open_usual, 1);
     for (size_t i = 0; i < sizeof steps / sizeof *steps; i++) fail_each(&machine, steps[i].make, steps[i].takes_memory);
     ANSWER(nog_close(&twin), NOG_DONE);
+    copy_too_much(&machine);
     fail_write(&machine);
     give_back(&machine);
     ANSWER(nog_close(&machine), NOG_DONE);

@@ -15,11 +15,11 @@ from ._library import LibraryMissing, library_version
 from ._version import VERSION as __version__
 from .errors import (BadOpening, BusError, ClosedMachine, Fault, Incomplete, MachineError, NoMemory, NotAdmitted, NotDismissed, OutOfRange,
                      Refused, SegmentationFault, Spent)
-from .machine import (PRIVATE, Area, Failure, Flag, Flushed, Limits, Machine, Piece, Process, ProcessEntry, Segment, State, Tally,
-                      Usage, child)
+from .machine import (PRIVATE, Area, Failure, Flag, Flushed, Limits, Machine, Piece, Process, ProcessEntry, Rules, Segment, State,
+                      Tally, Usage, child)
 from .script import Script, ScriptFault, areas_of, read_script
 
 __all__ = ["PRIVATE", "Area", "BadOpening", "BusError", "ClosedMachine", "Failure", "Fault", "Flag", "Flushed", "Incomplete",
            "LibraryMissing", "Limits", "Machine", "MachineError", "NoMemory", "NotAdmitted", "NotDismissed", "OutOfRange", "Piece",
-           "Process", "ProcessEntry", "Refused", "Script", "ScriptFault", "SegmentationFault", "Segment", "Spent", "State", "Tally", "Usage",
-           "__version__", "areas_of", "child", "library_version", "read_script"]
+           "Process", "ProcessEntry", "Refused", "Rules", "Script", "ScriptFault", "SegmentationFault", "Segment", "Spent", "State", "Tally",
+           "Usage", "__version__", "areas_of", "child", "library_version", "read_script"]

@@ -20,7 +20,7 @@ class MachineStruct(Structure):
 
 class LimitsStruct(Structure):
     _fields_ = [(name, c_uint64) for name in ("shmmax", "shmmni", "shmall", "frames", "memlock", "most_pieces",
-                                               "most_processes", "most_slots")]
+                                               "most_processes", "most_slots", "rules")]
 
 
 class AreaStruct(Structure):
@@ -78,6 +78,8 @@ FUNCTIONS: Dict[str, List[type]] = {
     "nog_load": [c_uint32, c_uint64, BYTES, c_size_t],
     "nog_store": [c_uint32, c_uint64, BYTES, c_size_t],
     "nog_add": [c_uint32, c_uint64, c_uint64, POINTER(c_uint64)],
+    "nog_exchange": [c_uint32, c_uint64, BYTES, c_size_t, BYTES, c_size_t],
+    "nog_compare_exchange": [c_uint32, c_uint64, BYTES, c_size_t, BYTES, c_size_t, BYTES, c_size_t],
     "nog_fork": [c_uint32, c_uint32],
     "nog_exec": [c_uint32],
     "nog_exit": [c_uint32],
@@ -91,6 +93,7 @@ FUNCTIONS: Dict[str, List[type]] = {
     "nog_snapshot": [POINTER(MachineStruct)],
     "nog_read": [c_uint32, c_uint64, BYTES, c_size_t, POINTER(c_uint64)],
     "nog_write": [c_uint32, c_uint64, BYTES, c_size_t, POINTER(c_uint64)],
+    "nog_copy": [c_uint32, c_uint64, c_uint32, c_uint64, c_uint64, POINTER(c_uint64)],
     "nog_flush": [c_uint64, POINTER(FlushedStruct)],
     "nog_tally_of": [POINTER(TallyStruct)],
     "nog_indexes": [POINTER(c_uint32)],
@@ -100,6 +103,7 @@ FUNCTIONS: Dict[str, List[type]] = {
     "nog_piece_at": [c_uint32, c_uint32, POINTER(PieceStruct)],
     "nog_process_at": [c_uint32, POINTER(ProcessStruct)],
     "nog_failed_at": [c_uint32, c_uint64, c_uint64, c_uint32, POINTER(c_uint64)],
+    "nog_absent_at": [c_uint32, c_uint64, c_uint64, POINTER(c_uint64)],
     "nog_calls": [POINTER(c_uint64)],
 }
 # those that take no machine

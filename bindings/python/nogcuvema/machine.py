@@ -4,7 +4,7 @@ import operator
 from ctypes import byref, c_int32, c_uint8, c_uint32, c_uint64
 from dataclasses import dataclass
 from types import TracebackType
-from typing import Any, Dict, Iterable, List, Optional, Sequence, Type, Union
+from typing import Any, Dict, Iterable, List, Optional, Sequence, Tuple, Type, Union
 
 from . import _library as low
 from .errors import Incomplete, OUT_OF_RANGE, OutOfRange
@@ -16,12 +16,34 @@ DEST, LOCKED = 512, 1024
 
 
 class Flag(enum.IntFlag):
-    """Flags, by Linux's numbers: CREAT and EXCL for `get`, the others for `attach`."""
+    """Flags, by Linux's numbers: CREAT, EXCL, HUGETLB and NORESERVE for `get`, the others for `attach`.
+
+    HUGETLB counts by Rules.HUGE_IS_REFUSED alone, NORESERVE only with HUGETLB, and EXEC by Rules.EXEC_IS_ASKED alone. RDONLY and
+    NORESERVE are one number."""
     CREAT = 512
     EXCL = 1024
+    HUGETLB = 2048
     RDONLY = 4096
+    NORESERVE = 4096
     RND = 8192
     REMAP = 16384
+    EXEC = 32768
+
+
+class Rules(enum.IntFlag):
+    """Rules of Linux where it answers otherwise than this project's profile, by the header's numbers. docs/MACHINE.md has each."""
+    REMOVED_IS_INVALID = 1   # EINVAL in place of EIDRM
+    EXECUTE_IS_ASKED = 2     # `get` of a segment that exists: an execute bit of the mode asks for one, EACCES
+    FORK_MARKS = 4           # a fork sets the attach time and the last pid of what the child inherits
+    REST_IS_ATTACHED = 8     # what is left of a piece that is cut, and a part with another protection, is attached anew
+    END_IS_ENOMEM = 16       # ENOMEM for a range that ends above 0x7ffffffff000
+    LOW_IS_EPERM = 32        # EPERM below 0x10000 for all but user 0
+    NO_LAST_USER = 64        # `set`: EINVAL for user or group 2^32 - 1
+    PIECES_ARE_ENOMEM = 128  # ENOMEM in place of EMFILE, and wherever as many pieces exist as are allowed
+    LOCKS_BY_USER = 256      # `memlock` is a limit of each user but 0, EPERM where it is 0
+    EXEC_IS_ASKED = 512      # `attach`: Flag.EXEC asks for an execute bit, EACCES
+    HUGE_IS_REFUSED = 1024   # `get`: Flag.HUGETLB is EPERM, or ENOMEM for user 0 and group 0
+    LINUX = 2047             # all of them
 
 
 @dataclass(frozen=True)
@@ -38,6 +60,7 @@ class Limits:
     most_pieces: int = 0     # the most pieces of a process, 1 to 65530
     most_processes: int = 0  # the most processes, 1 to 32768
     most_slots: int = 0      # the most slots of a swap area, 1 to 2^28
+    rules: int = 0           # the rules of Linux that hold, a sum of Rules; 0: none, the profile's
 
 
 @dataclass(frozen=True)
@@ -176,6 +199,12 @@ def _number(value: Any, most: int, what: str, least: int = 0) -> int:
     return int(value)
 
 
+def _room(data: Buffer) -> Tuple[Any, int]:
+    """A copy of the bytes for C, and how many there are."""
+    held = bytes(data)
+    return (c_uint8 * max(1, len(held))).from_buffer_copy(held or b"\0"), len(held)
+
+
 def _segment(struct: low.SegmentStruct) -> Segment:
     values = {name: getattr(struct, name) for name, _ in struct._fields_ if name != "status"}
     return Segment(is_marked=bool(struct.status & DEST), is_locked=bool(struct.status & LOCKED), **values)
@@ -293,15 +322,31 @@ class Machine:
 
     def store(self, pid: int, addr: int, data: Buffer) -> None:
         """Writes 1 to 64 bytes in one step."""
-        held = bytes(data)
-        room = (c_uint8 * max(1, len(held))).from_buffer_copy(held or b"\0")
-        self._call("nog_store", _number(pid, U32, "pid"), _number(addr, U64, "addr"), room, len(held))
+        room, length = _room(data)
+        self._call("nog_store", _number(pid, U32, "pid"), _number(addr, U64, "addr"), room, length)
 
     def add(self, pid: int, addr: int, number: int) -> int:
         """Adds to eight bytes, lowest first, modulo 2^64, in one step. Returns the number that was there before."""
         before = c_uint64()
         self._call("nog_add", _number(pid, U32, "pid"), _number(addr, U64, "addr"), _number(number, U64, "number"), byref(before))
         return before.value
+
+    def exchange(self, pid: int, addr: int, data: Buffer) -> bytes:
+        """Puts 1 to 64 bytes in the place of others in one step (a guest's locked exchange). Returns those."""
+        before = (c_uint8 * max(1, len(bytes(data))))()
+        room, length = _room(data)
+        self._call("nog_exchange", _number(pid, U32, "pid"), _number(addr, U64, "addr"), room, length, before, length)
+        return bytes(before)
+
+    def compare_exchange(self, pid: int, addr: int, expected: Buffer, data: Buffer) -> bytes:
+        """As `exchange`, but only if the bytes that are there are the expected ones. Returns those that were there: they were
+        exchanged where they are the expected ones."""
+        before = (c_uint8 * max(1, len(bytes(data))))()
+        room, length = _room(data)
+        wanted, size = _room(expected)
+        self._call("nog_compare_exchange", _number(pid, U32, "pid"), _number(addr, U64, "addr"), wanted, size, room, length,
+                   before, length)
+        return bytes(before)
 
     def fork(self, pid: int, new: int) -> None:
         """fork: a declared child is born with the caller's user, group and attachments."""
@@ -345,7 +390,7 @@ class Machine:
 
     def protect(self, pid: int, addr: int, length: int, is_writable: bool) -> None:
         """mprotect: makes a range of a process, rounded up to whole pages, writable or read-only. Where it is refused with
-        ENOMEM or EACCES, pages below the one that it names may have changed, as on Linux."""
+        ENOMEM or EACCES, pages below the one that it names may have changed, as on Linux. Raises `Spent` after 2^64 - 1 calls."""
         self._call("nog_protect", _number(pid, U32, "pid"), _number(addr, U64, "addr"), _number(length, U64, "length"),
                    int(bool(is_writable)))
 
@@ -365,22 +410,35 @@ class Machine:
     # ---- accesses of any length ----
 
     def read(self, pid: int, addr: int, length: int) -> bytes:
-        """Reads bytes by loads of 64. Raises `Incomplete` where a load after the first is refused."""
+        """Reads bytes by a load for each page. Raises `Incomplete` where a load after the first is refused."""
         data = bytearray(_number(length, U64, "length"))
         self.read_into(pid, addr, data)
         return bytes(data)
 
     def read_into(self, pid: int, addr: int, buffer: Union[bytearray, memoryview]) -> int:
-        """Fills a writable buffer by loads of 64 bytes. Returns its length in bytes."""
+        """Fills a writable buffer by a load for each page. Returns its length in bytes."""
         view = memoryview(buffer).cast("B")
         room = (c_uint8 * len(view)).from_buffer(view) if len(view) else (c_uint8 * 1)()
         return self._access("nog_read", pid, addr, room, len(view))
 
     def write(self, pid: int, addr: int, data: Buffer) -> int:
-        """Writes bytes by stores of 64. Raises `Incomplete` where a store after the first is refused; those before it stay."""
-        held = bytes(data)
-        room = (c_uint8 * max(1, len(held))).from_buffer_copy(held or b"\0")
-        return self._access("nog_write", pid, addr, room, len(held))
+        """Writes bytes by a store for each page. Raises `Incomplete` where a store after the first is refused; those before
+        it stay."""
+        room, length = _room(data)
+        return self._access("nog_write", pid, addr, room, length)
+
+    def copy(self, pid: int, addr: int, to: int, to_addr: int, length: int) -> int:
+        """Copies bytes of a process to a process, which may be the same; the ranges may overlap. Returns their number. Raises
+        `Incomplete` where some were copied before it was refused."""
+        done = c_uint64()
+        try:
+            self._call("nog_copy", _number(pid, U32, "pid"), _number(addr, U64, "addr"), _number(to, U32, "to"),
+                       _number(to_addr, U64, "to_addr"), _number(length, U64, "length"), byref(done))
+        except Exception as error:
+            if not done.value:
+                raise
+            raise Incomplete(done.value, b"", error) from error
+        return done.value
 
     def _access(self, name: str, pid: int, addr: int, room: Any, length: int) -> int:
         done = c_uint64()
@@ -449,6 +507,13 @@ class Machine:
         at = c_uint64()
         operands = (_number(pid, U32, "pid"), _number(addr, U64, "addr"), _number(length, U64, "length"), int(bool(is_write)))
         return at.value if self._has("nog_failed_at", *operands, byref(at)) else None
+
+    def absent_at(self, pid: int, addr: int, length: int) -> Optional[int]:
+        """Where an access was a BusError, asked right after it: the address of its first byte whose page is in no frame, if each
+        byte before it is attached. None where there is no such byte."""
+        at = c_uint64()
+        operands = (_number(pid, U32, "pid"), _number(addr, U64, "addr"), _number(length, U64, "length"))
+        return at.value if self._has("nog_absent_at", *operands, byref(at)) else None
 
     def _has(self, name: str, *operands: Any) -> bool:
         """Whether there is what a reader asks for."""

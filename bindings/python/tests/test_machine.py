@@ -10,7 +10,7 @@ import unittest
 
 import nogcuvema
 from nogcuvema import (PRIVATE, Area, BadOpening, BusError, ClosedMachine, Failure, Flag, Flushed, Incomplete, Limits, Machine,
-                       NotAdmitted, NotDismissed, OutOfRange, Piece, Process, ProcessEntry, Refused, SegmentationFault, State, Usage, child)
+                       NotAdmitted, NotDismissed, OutOfRange, Piece, Process, ProcessEntry, Refused, Rules, SegmentationFault, State, Usage, child)
 from nogcuvema import _library as low
 
 FIRST = 0x40000000
@@ -134,8 +134,11 @@ class Calls(unittest.TestCase):
             self.machine.write(1, at + PAGE - 64, b"w" * 100)
         self.assertEqual(caught.exception.done, 64)
         self.assertEqual(self.machine.load(1, at + PAGE - 64, 64), b"w" * 64)
-        with self.assertRaises(SegmentationFault):
+        with self.assertRaises(Incomplete) as caught:
             self.machine.read(1, at + PAGE - 1, 2)
+        self.assertEqual((caught.exception.done, caught.exception.data), (1, b"w"))
+        with self.assertRaises(SegmentationFault):
+            self.machine.read(1, at + PAGE, 2)
 
     def test_numbers_that_no_call_carries(self):
         at = self.machine.attach(1, self.machine.get(1, PRIVATE, PAGE))
@@ -322,6 +325,37 @@ class Mappings(unittest.TestCase):
         self.assertEqual(self.machine.failed_at(3, 12, 1), 12)
         self.assertIsNone(self.machine.failed_at(1, 0, 0))
 
+    def test_where_a_page_is_in_no_frame(self):
+        self.assertEqual(self.machine.absent_at(1, self.at + 5, 2), self.at + 5)
+        self.machine.store(1, self.at + 5, b"x")
+        self.assertIsNone(self.machine.absent_at(1, self.at + 5, 2))
+        self.assertEqual(self.machine.absent_at(1, self.at + 5, PAGE), self.at + PAGE)
+        self.assertIsNone(self.machine.absent_at(3, 12, 1))
+
+    def test_exchanges(self):
+        self.machine.store(1, self.at, b"abcdefgh")
+        self.assertEqual(self.machine.exchange(1, self.at + 2, b"wxyz"), b"cdef")
+        self.assertEqual(self.machine.compare_exchange(1, self.at, b"abwx", b"0123"), b"abwx")
+        self.assertEqual(self.machine.compare_exchange(1, self.at, b"abwx", b"4567"), b"0123")
+        self.assertEqual(self.machine.load(1, self.at, 8), b"0123yzgh")
+        for call, operands in ((self.machine.exchange, (b"x" * 65,)), (self.machine.exchange, (b"",)),
+                               (self.machine.compare_exchange, (b"ab", b"abc"))):
+            with self.assertRaises(OutOfRange):
+                call(1, self.at, *operands)
+        with self.assertRaises(SegmentationFault):
+            self.machine.exchange(1, self.at + 8 * PAGE, b"x")
+
+    def test_copies(self):
+        self.machine.write(1, self.at, b"abcdefgh")
+        self.assertEqual(self.machine.copy(1, self.at, 1, self.at + 2, 6), 6)
+        self.assertEqual(self.machine.load(1, self.at, 8), b"ababcdef")
+        with self.assertRaises(Incomplete) as raised:
+            self.machine.copy(1, self.at, 1, self.at + 8 * PAGE - 3, 8)
+        self.assertEqual(raised.exception.done, 3)
+        self.assertIsInstance(raised.exception.__cause__, SegmentationFault)
+        with self.assertRaises(SegmentationFault):
+            self.machine.copy(1, self.at + 8 * PAGE, 1, self.at, 1)
+
     def test_numbers_that_nothing_carries(self):
         for call, operands in ((self.machine.unmap, (1, -1, 1)), (self.machine.unmap, (1, 0, 2 ** 64)), (self.machine.protect, (2 ** 32, 0, 1, True)),
                                (self.machine.stat_at, (1, 2 ** 32)), (self.machine.pieces, (-1,)), (self.machine.failed_at, (1, 2 ** 64, 1))):
@@ -392,6 +426,15 @@ class Opening(unittest.TestCase):
                        Limits(2 ** 40 + 1, 1, 1, 2, 0, 1, 1, 1)):
             self.assertRaises(BadOpening, Machine, limits, [Area.ram(1)], [Process(1)])
 
+    def test_numbers_that_are_no_rules(self):
+        for rules in (2048, 2 ** 63):
+            with self.assertRaises(BadOpening) as caught:
+                machine(limits=Limits(rules=rules))
+            self.assertEqual(caught.exception.code, 2019)
+        self.assertRaises(OutOfRange, machine, limits=Limits(rules=2 ** 64))
+        # with rules too, a machine without the last three sizes has those of the profile
+        self.assertRaises(BadOpening, machine, limits=Limits(shmmax=2 ** 24 + 1, rules=Rules.LINUX))
+
     def test_a_machine_without_processes(self):
         with machine(processes=[]) as it:
             self.assertRaises(ProcessLookupError, it.exec, 1)
@@ -419,6 +462,75 @@ class Opening(unittest.TestCase):
         for thread in threads:
             thread.join()
         self.assertEqual(sorted(found), sorted((1000 * number).to_bytes(8, "little") for number in (1, 2)))
+
+
+class RulesOfLinux(unittest.TestCase):
+    """What a call answers in the profile, and by the rules of Linux."""
+
+    def answers(self, rules, calls):
+        with machine(limits=Limits(rules=rules)) as it:
+            found = []
+            for name, *operands in calls:
+                try:
+                    found.append(getattr(it, name)(*operands))
+                except Refused as error:
+                    found.append(error.name)
+            return found
+
+    def assert_answers(self, rule, calls, profile, by_rule):
+        self.assertEqual(self.answers(0, calls), profile, rule)
+        self.assertEqual(self.answers(rule, calls), by_rule, rule)
+        self.assertEqual(self.answers(Rules.LINUX, calls), by_rule, rule)
+
+    def test_a_destroyed_segment(self):
+        calls = [("get", 1, PRIVATE, 1), ("remove", 1, 0), ("detach", 1, FIRST), ("attach", 1, 0)]
+        self.assert_answers(Rules.REMOVED_IS_INVALID, calls, [0, None, "EINVAL", "EIDRM"], [0, None, "EINVAL", "EINVAL"])
+
+    def test_an_execute_bit_that_is_asked_for(self):
+        calls = [("get", 1, 7, 1, 0o600, Flag.CREAT), ("get", 1, 7, 1, 0o100)]
+        self.assert_answers(Rules.EXECUTE_IS_ASKED, calls, [0, 0], [0, "EACCES"])
+
+    def test_an_attach_for_execution(self):
+        calls = [("get", 1, PRIVATE, 1), ("attach", 1, 0, None, Flag.EXEC), ("attach", 4, 0, None, Flag.EXEC)]
+        self.assert_answers(Rules.EXEC_IS_ASKED, calls, [0, FIRST, FIRST], [0, "EACCES", FIRST])
+
+    def test_huge_pages(self):
+        calls = [("get", 1, PRIVATE, 1, 0o600, Flag.HUGETLB), ("get", 4, PRIVATE, 1, 0o600, Flag.HUGETLB),
+                 ("get", 4, PRIVATE, 1, 0o600, Flag.HUGETLB | Flag.NORESERVE)]
+        self.assert_answers(Rules.HUGE_IS_REFUSED, calls, [0, 1, 2], ["EPERM", "ENOMEM", 0])
+
+    def test_addresses(self):
+        calls = [("get", 1, PRIVATE, 1), ("attach", 1, 0, 0x1000), ("attach", 1, 0, 0x7ffffffff000)]
+        self.assert_answers(Rules.LOW_IS_EPERM | Rules.END_IS_ENOMEM, calls, [0, "EINVAL", "EINVAL"], [0, "EPERM", "ENOMEM"])
+
+    def test_a_user_who_locks(self):
+        calls = [("get", 1, PRIVATE, 1), ("get", 2, PRIVATE, 1), ("lock", 1, 0), ("lock", 2, 1)]
+        self.assert_answers(Rules.LOCKS_BY_USER, calls, [0, 1, None, "ENOMEM"], [0, 1, None, None])
+
+    def test_the_last_user(self):
+        calls = [("get", 1, PRIVATE, 1), ("set", 1, 0, 2 ** 32 - 1, 100, 0o600)]
+        self.assert_answers(Rules.NO_LAST_USER, calls, [0, None], [0, "EINVAL"])
+
+    def test_times_that_a_fork_and_a_protect_set(self):
+        for rules, wanted in ((0, [2, 2]), (Rules.LINUX, [3, 5])):
+            with machine(limits=Limits(rules=rules)) as it:
+                segment = it.get(1, PRIVATE, 2 * PAGE)
+                at = it.attach(1, segment)
+                it.fork(1, 3)
+                found = [it.stat(1, segment).atime]
+                it.protect(1, at, PAGE, False)
+                found.append(it.stat(1, segment).atime)
+                self.assertEqual(found, wanted, rules)
+
+    def test_too_many_pieces(self):
+        for rules, wanted in ((0, "EMFILE"), (Rules.LINUX, "ENOMEM")):
+            with machine(limits=Limits(rules=rules)) as it:
+                segment = it.get(1, PRIVATE, 1)
+                for _ in range(256):
+                    it.attach(1, segment)
+                with self.assertRaises(Refused) as caught:
+                    it.attach(1, segment)
+                self.assertEqual(caught.exception.name, wanted)
 
 
 class Binding(unittest.TestCase):
@@ -449,6 +561,12 @@ class Binding(unittest.TestCase):
                     wanted.append(ctypes.POINTER(kinds[found[1]]) if found[2] else kinds[found[1]])
             told = low.OTHERS[name] if name in low.OTHERS else [ctypes.POINTER(low.MachineStruct), *low.FUNCTIONS[name]]
             self.assertEqual(told, wanted, name)
+
+    def test_rules_and_flags_are_those_of_the_header(self):
+        for kind, enum in ((Rules, "rule"), (Flag, "flag")):
+            [text] = re.findall(rf"enum nog_{enum} \{{(.*?)\}}", self.header, re.S)
+            wanted = {name: int(number) for name, number in re.findall(r"NOG_(\w+) = (\d+)", text)}
+            self.assertEqual({name: int(it) for name, it in kind.__members__.items()}, wanted)
 
     def test_versions_are_the_header_s(self):
         [text] = re.findall('NOG_VERSION_TEXT "(.*)"', self.header)

@@ -1,6 +1,11 @@
 -- A refusal is answered by its code.
 use Rattle.nogcuvema.proofs.Names.{ℕ, List, Err, inr, subst, Call, Reply, Machine, Refusal, Answered, Progress, ReadTo, WrittenTo, stop_code, ReadBy, WrittenBy, refusal_code, AnswersFor}
-use Rattle.std.proofs.Common.{◌≡◌}
+use Rattle.std.proofs.Common.{◌≡◌, Ok, inl, refl}
+use Rattle.shm_base.specs.State.{Machine as Flat}
+use Rattle.shm_base.specs.Step.{Outcome}
+use Rattle.shm_machine.specs.Stretched.{CopiedTo}
+use Rattle.nogcuvema.specs.Through.{CopiedBy}
+use Rattle.nogcuvema.specs.Exchanges.{ExchangesAs, ExchangesFor}
 
 pub refused : (before after : Machine) (pid code : ℕ) (call : Call) (reply : Reply) (refusal : Refusal) → code ≡ refusal_code refusal → Answered before.system pid call (Err refusal) after.system
     → AnswersFor before pid call reply code after
@@ -12,6 +17,15 @@ pub refused_alike : (before after : Machine) (pid code : ℕ) (asked call : Call
 refused_alike before after pid code asked call reply refusal same is answered =
     inr (refusal, is, subst (λ (c : Call). Answered before.system pid c (Err refusal) after.system) same answered)
 
+-- a reply to a call that is written in another way
+pub done_alike : (before after : Machine) (pid : ℕ) (asked call : Call) (reply : Reply) → asked ≡ call → Answered before.system pid asked (Ok reply) after.system → AnswersFor before pid call reply 0 after
+done_alike before after pid asked call reply same answered = inl (refl, subst (λ (c : Call). Answered before.system pid c (Ok reply) after.system) same answered)
+
+-- an exchange that is refused
+pub not_exchanged : (outcome : Flat → Outcome) (before after : Machine) (there : List ℕ) (code : ℕ) (refusal : Refusal) → code ≡ refusal_code refusal → ExchangesAs (outcome before.system.machine) before there (Err refusal) after
+    → ExchangesFor outcome before there code after
+not_exchanged outcome before after there code refusal is answered = inr (refusal, is, answered)
+
 -- AS FAR AS IT CAME
 
 pub read_by : (before after : Machine) (pid addr code : ℕ) (old new : List ℕ) (p : Progress) → code ≡ stop_code p.stopped → ReadTo before.system pid addr old p new after.system
@@ -21,3 +35,7 @@ read_by before after pid addr code old new p is read = (p.stopped, is, read)
 pub written_by : (before after : Machine) (pid addr code : ℕ) (bytes : List ℕ) (p : Progress) → code ≡ stop_code p.stopped → WrittenTo before.system pid addr bytes p after.system
     → WrittenBy before pid addr bytes code p.done after
 written_by before after pid addr code bytes p is written = (p.stopped, is, written)
+
+pub copied_by : (before after : Machine) (from to : ℕ × ℕ) (size done_old code : ℕ) (p : Progress) → code ≡ stop_code p.stopped → CopiedTo before.system from to size p after.system
+    → CopiedBy before from to size done_old code p.done after
+copied_by before after from to size done_old code p is copied = inl (p.stopped, is, copied)

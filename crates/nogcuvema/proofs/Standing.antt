@@ -1,12 +1,14 @@
 -- A machine that stands was refused nothing.
-use Rattle.nogcuvema.proofs.Names.{ℕ, ◌+◌, Bool, false, not, nat_lt, if◌then◌else◌, List, [], map, ap, Result, Ok, refl, sym, Bounds, bad, limits_of, BadLimits, Process, start_error, Machine, AreaConfig, IsOpened, sizes_of, NogLimits, NogArea, NogFailure, NogProcess, area_of, process_of, are_kinds, are_there, bounds_of, Opens}
+use Rattle.nogcuvema.proofs.Names.{ℕ, ◌+◌, Bool, false, not, nat_lt, if◌then◌else◌, List, [], map, ap, Result, Ok, Err, ◌∙◌, refl, sym, Bounds, bad, limits_of, BadLimits, Process, start_error, Machine, AreaConfig, IsOpened, sizes_of, NogLimits, NogArea, NogFailure, NogProcess, area_of, process_of, are_kinds, are_there, bounds_of, Opens}
 use Rattle.std.proofs.Common.{◌≡◌, ◌∷◌, true, None, Some, arith}
 use Rattle.std.proofs.lemmas.Bool.Decides.{nat_tests}
 use Rattle.std.proofs.lemmas.Grind.{common_steps}
 use Rattle.shm_life.specs.declared.start.StartError.{StartError}
 use Rattle.shm_life.specs.Start.{error_number}
-use Rattle.nogcuvema.specs.Opens.{start_code, may_want_memory, opening_code, is_of_profile, numbers_of, limits_by}
-use Rattle.shm_base.specs.Bounds.{within, limits_within, machine_limits_of, largest, largest_profile, profile}
+use Rattle.nogcuvema.specs.Opens.{start_code, may_want_memory, opening_code, is_of_profile, numbers_of, profile_of, rules_of, with_rules, limits_by}
+use Rattle.shm_base.specs.declared.flags.Rules.{Rules}
+use Rattle.shm_base.specs.Rules.{are_rules}
+use Rattle.shm_base.specs.Bounds.{within, ruled, limits_within, machine_limits_of, largest, largest_profile, profile}
 
 past : (b : Bool) (n : ℕ) (r : Result Bounds BadLimits) (x : Bounds) → (if b then bad n else r) ≡ Ok x → r ≡ Ok x
 past true n r x h = absurd (cc h)
@@ -16,23 +18,38 @@ past false n r x h = h
 granted : (most b x : Bounds) → limits_within most b ≡ Ok x → x ≡ b
 granted most b x h =
     let ok : Ok b ≡ Ok x =
-    past (not (within 1 most.most_slots b.most_slots)) 8 _ x
+    past (not (are_rules b.rules)) 9 _ x
+    (past (not (within 1 most.most_slots b.most_slots)) 8 _ x
     (past (not (within 1 most.most_processes b.most_processes)) 7 _ x
     (past (not (within 1 most.most_pieces b.most_pieces)) 6 _ x
     (past (nat_lt b.frames (b.memlock + 2)) 5 _ x
     (past (not (within 2 most.frames b.frames)) 4 _ x
     (past (not (within 1 most.shmall b.shmall)) 3 _ x
-    (past (not (within 1 most.shmmni b.shmmni)) 2 _ x (past (not (within 1 most.shmmax b.shmmax)) 1 _ x h)))))))
+    (past (not (within 1 most.shmmni b.shmmni)) 2 _ x (past (not (within 1 most.shmmax b.shmmax)) 1 _ x h))))))))
     in
     let same : b ≡ x = cc ok in
     sym same
 
+met : (b : Bool) (y x : Bounds) → (if b then Ok y else bad 9) ≡ Ok x → y ≡ x
+met true y x h = cc h
+met false y x h = absurd (cc h)
+
+ruled-as : (rules : Rules) (p x : Bounds) → ruled rules p ≡ Ok x → record p { rules = rules } ≡ x
+ruled-as rules p x h = met (are_rules rules) (record p { rules = rules }) x h
+
+of-profile : (l : NogLimits) (x : Bounds) (r : Result Bounds BadLimits) → profile_of l ≡ r → with_rules (rules_of l.rules) r ≡ Ok x
+    → x ≡ record (profile l.shmmax l.shmmni l.shmall l.frames l.memlock) { rules = rules_of l.rules }
+of-profile l x (Err bad) is h = absurd (cc h)
+of-profile l x (Ok p) is h =
+    let own = granted largest_profile (profile l.shmmax l.shmmni l.shmall l.frames l.memlock) p is in
+    sym (ruled-as (rules_of l.rules) p x h) ∙ ap (λ (b : Bounds). record b { rules = rules_of l.rules }) own
+
 bounds-are : (l : NogLimits) (x : Bounds) → limits_by l ≡ Ok x → x ≡ bounds_of l
 bounds-are l x h = by (is_of_profile l) refl h
   where
-    by : (b : Bool) → is_of_profile l ≡ b → (if b then limits_of l.shmmax l.shmmni l.shmall l.frames l.memlock else machine_limits_of (numbers_of l)) ≡ Ok x
-        → x ≡ (if b then profile l.shmmax l.shmmni l.shmall l.frames l.memlock else numbers_of l)
-    by true is h = granted largest_profile (profile l.shmmax l.shmmni l.shmall l.frames l.memlock) x h
+    by : (b : Bool) → is_of_profile l ≡ b → (if b then with_rules (rules_of l.rules) (profile_of l) else machine_limits_of (numbers_of l)) ≡ Ok x
+        → x ≡ (if b then record (profile l.shmmax l.shmmni l.shmall l.frames l.memlock) { rules = rules_of l.rules } else numbers_of l)
+    by true is h = of-profile l x (profile_of l) refl h
     by false is h = granted largest (numbers_of l) x h
 
 pub opens : (l : NogLimits) (areas : List NogArea) (failures : List NogFailure) (processes : List NogProcess) (x : Bounds) (given : List AreaConfig) (ps : List Process) (m : Machine)

@@ -30,6 +30,7 @@ own_texts =
     ∷ record { code = 2016; text = codes "bad limits: the most pieces of a process" }
     ∷ record { code = 2017; text = codes "bad limits: the most processes" }
     ∷ record { code = 2018; text = codes "bad limits: the most slots of a swap area" }
+    ∷ record { code = 2019; text = codes "bad limits: the rules" }
     ∷ record { code = 2021; text = codes "start refused: not 1 to 8 swap areas" }
     ∷ record { code = 2022; text = codes "start refused: a swap area without slots, or with too many" }
     ∷ record { code = 2023; text = codes "start refused: too many processes" }
@@ -76,7 +77,7 @@ struct_of wide narrow = (8 * wide + 4 * narrow) ∷ offsets 0 8 wide ++ offsets 
 abbrev pub layout_by : ℕ → List ℕ
 layout_by which =
     if which == 0 then 16 ∷ 0 ∷ 8 ∷ [] else
-    if which == 1 then struct_of 8 0 else
+    if which == 1 then struct_of 9 0 else
     if which == 2 then struct_of 0 2 else
     if which == 3 then 24 ∷ offsets 0 4 5 else
     if which == 4 then struct_of 0 4 else

@@ -2,9 +2,10 @@
 use Rattle.std.specs.Prelude.{ℕ, ℤ, ◌≡◌, Bool, Option, Some, None, Result, Ok, Err, slice_get}
 use Rattle.shm_base.specs.Codes.{code_of}
 use Rattle.shm_base.specs.State.{Piece, Runner, Machine as Flat}
-use Rattle.shm_attach.specs.Failing.{first_failed}
+use Rattle.shm_attach.specs.Failing.{first_absent, first_failed}
 use Rattle.shm_attach.specs.Spans.{pieces_by}
 use Rattle.shm_base.specs.Step.{Caller, caller_of}
+use Rattle.shm_fault.specs.Store.{frame_of}
 use Rattle.shm_base.specs.declared.call.ShmidDs.{ShmidDs}
 use Rattle.shm_base.specs.declared.errno.Errno.{Errno}
 use Rattle.shm_base.specs.declared.errno.Errno.TheVariants.{Esrch}
@@ -65,3 +66,8 @@ FailedBy at code (Some a) = (code ≡ 0) × (at ≡ a)
 abbrev pub AnswersFailed : Option Machine → ℕ → ℕ → ℕ → Bool → ℕ → ℕ → Option Machine → Type 0
 AnswersFailed None pid addr len write at code after = Unchanged closed None code after
 AnswersFailed (Some m) pid addr len write at code after = FailedBy at code (first_failed write (pieces_by pid m.system.machine.runners) addr len) × (after ≡ Some m)
+
+abbrev pub AnswersAbsent : Option Machine → ℕ → ℕ → ℕ → ℕ → ℕ → Option Machine → Type 0
+AnswersAbsent None pid addr len at code after = Unchanged closed None code after
+AnswersAbsent (Some m) pid addr len at code after =
+    FailedBy at code (first_absent (frame_of m.system.memory) (pieces_by pid m.system.machine.runners) addr len) × (after ≡ Some m)

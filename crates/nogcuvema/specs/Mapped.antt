@@ -19,3 +19,4 @@ abbrev pub ProtectsBy : ℕ → ℕ → ℕ → Bool → Machine → ℕ → Mac
 ProtectsBy pid addr len w before code after =
     ((code ≡ 0) × IsProtected before.system pid addr len w (Ok tt) after.system)
     ⊎ ((errno : Errno) × (code ≡ code_of errno) × IsProtected before.system pid addr len w (Err errno) after.system)
+    ⊎ ((code ≡ spent) × (before.system.calls ≡ most_calls) × (after ≡ before))

@@ -1,7 +1,8 @@
 -- What nog_open answers, and which machine it opens.
-use Rattle.std.specs.Prelude.{ℕ, ◌≡◌, ◌≢◌, ◌+◌, ◌⊎◌, Bool, true, false, not, ◌&&◌, ◌||◌, ◌==◌, nat_le, nat_lt, if◌then◌else◌, List, map, Option, Some, None, Result, Ok, Err, slice_get, IsSomeAnd}
+use Rattle.std.specs.Prelude.{ℕ, ◌≡◌, ◌≢◌, ◌+◌, ◌⊎◌, Bool, true, false, not, ◌&&◌, ◌||◌, ◌==◌, nat_le, nat_lt, if◌then◌else◌, List, map, min, Option, Some, None, Result, Ok, Err, slice_get, IsSomeAnd}
 use Rattle.std.specs.List.{list_all}
-use Rattle.shm_base.specs.Bounds.{Bounds, within, limits_of, machine_limits_of, profile}
+use Rattle.shm_base.specs.Bounds.{Bounds, within, limits_of, machine_limits_of, profile, ruled}
+use Rattle.shm_base.specs.declared.flags.Rules.{Rules}
 use Rattle.shm_base.specs.declared.limits.BadLimits.{BadLimits}
 use Rattle.shm_base.specs.declared.call.Process.{Process}
 use Rattle.shm_life.specs.Start.{start_error, error_number}
@@ -60,7 +61,11 @@ code_by (Ok limits) areas failures processes =
 abbrev pub is_of_profile : NogLimits → Bool
 is_of_profile l = (l.most_pieces == 0) && (l.most_processes == 0) && (l.most_slots == 0)
 
--- all eight numbers as they are given
+-- a number as rules: one with more bits than rules have is none of theirs
+abbrev pub rules_of : ℕ → Rules
+rules_of n = record { 0 = min n 65535 }
+
+-- all numbers as they are given
 abbrev pub numbers_of : NogLimits → Bounds
 numbers_of l =
     record {
@@ -72,13 +77,25 @@ numbers_of l =
       most_pieces = l.most_pieces;
       most_processes = l.most_processes;
       most_slots = l.most_slots;
+      rules = rules_of l.rules;
     }
 
+-- the profile's numbers
+abbrev pub profile_of : NogLimits → Result Bounds BadLimits
+profile_of l = limits_of l.shmmax l.shmmni l.shmall l.frames l.memlock
+
+abbrev pub with_rules : Rules → Result Bounds BadLimits → Result Bounds BadLimits
+with_rules rules (Ok b) = ruled rules b
+with_rules rules (Err bad) = Err bad
+
 abbrev pub limits_by : NogLimits → Result Bounds BadLimits
-limits_by l = if is_of_profile l then limits_of l.shmmax l.shmmni l.shmall l.frames l.memlock else machine_limits_of (numbers_of l)
+limits_by l = if is_of_profile l then with_rules (rules_of l.rules) (profile_of l) else machine_limits_of (numbers_of l)
 
 abbrev pub bounds_of : NogLimits → Bounds
-bounds_of l = if is_of_profile l then profile l.shmmax l.shmmni l.shmall l.frames l.memlock else numbers_of l
+bounds_of l =
+    if is_of_profile l
+    then record (profile l.shmmax l.shmmni l.shmall l.frames l.memlock) { rules = rules_of l.rules }
+    else numbers_of l
 
 -- the first refusal that holds, 0 where none does: a limit, a number that nothing can carry, a start error
 abbrev pub opening_code : NogLimits → List NogArea → List NogFailure → List NogProcess → ℕ

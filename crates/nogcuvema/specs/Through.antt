@@ -1,10 +1,10 @@
 -- Reads and writes of any length through a handle.
-use Rattle.std.specs.Prelude.{ℕ, ◌≡◌, List, Option, Some, None}
+use Rattle.std.specs.Prelude.{ℕ, ◌≡◌, ◌⊎◌, List, Option, Some, None}
 use Rattle.shm_machine.specs.declared.machine.Machine.{Machine}
 use Rattle.shm_machine.specs.declared.refusal.Refusal.{Refusal}
 use Rattle.shm_machine.specs.declared.stretch.Progress.{Progress}
-use Rattle.shm_machine.specs.Stretched.{ReadTo, WrittenTo}
-use Rattle.nogcuvema.specs.Answers.{closed, refusal_code, Unchanged}
+use Rattle.shm_machine.specs.Stretched.{CopiedTo, ReadTo, WrittenTo}
+use Rattle.nogcuvema.specs.Answers.{closed, no_memory, refusal_code, Unchanged}
 
 -- 0 where all was done, or the code of the refusal that stopped it
 abbrev pub stop_code : Option Refusal → ℕ
@@ -33,3 +33,14 @@ abbrev pub WrittenThrough : Option Machine → ℕ → ℕ → List ℕ → ℕ 
 WrittenThrough None pid addr bytes done_old code done_new after = Unchanged closed None code after × (done_new ≡ done_old)
 WrittenThrough (Some before) pid addr bytes done_old code done_new None = ⊥
 WrittenThrough (Some before) pid addr bytes done_old code done_new (Some after) = WrittenBy before pid addr bytes code done_new after
+
+-- so many bytes were copied, and the code says why no more; or there was no memory for them, and nothing changed
+abbrev pub CopiedBy : Machine → ℕ × ℕ → ℕ × ℕ → ℕ → ℕ → ℕ → ℕ → Machine → Type 0
+CopiedBy before from to size done_old code done after =
+    ((stopped : Option Refusal) × (code ≡ stop_code stopped) × CopiedTo before.system from to size (progress done stopped) after.system)
+    ⊎ ((code ≡ no_memory) × (done ≡ done_old) × (after ≡ before))
+
+abbrev pub CopiedThrough : Option Machine → ℕ × ℕ → ℕ × ℕ → ℕ → ℕ → ℕ → ℕ → Option Machine → Type 0
+CopiedThrough None from to size done_old code done after = Unchanged closed None code after × (done ≡ done_old)
+CopiedThrough (Some before) from to size done_old code done None = ⊥
+CopiedThrough (Some before) from to size done_old code done (Some after) = CopiedBy before from to size done_old code done after

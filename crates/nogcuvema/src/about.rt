@@ -40,6 +40,7 @@ fn text_of(code: u32) -> Option<&'static str>
         2016 => Some("bad limits: the most pieces of a process"),
         2017 => Some("bad limits: the most processes"),
         2018 => Some("bad limits: the most slots of a swap area"),
+        2019 => Some("bad limits: the rules"),
         2021 => Some("start refused: not 1 to 8 swap areas"),
         2022 => Some("start refused: a swap area without slots, or with too many"),
         2023 => Some("start refused: too many processes"),
@@ -53,7 +54,7 @@ fn text_of(code: u32) -> Option<&'static str>
     }
 }
 
-// The text with a zero behind it, cut where it is long.
+// The text with a zero after it, cut where it is long.
 fn put_text(text: &[u8], buffer: &mut [u8])
     ensures { buffer.new ≡ with_text text.now buffer.old }
 {
@@ -89,7 +90,7 @@ pub extern "C" fn nog_version() -> u32
 
 const MACHINE: [usize; 3] = [size_of::<Handle>(), 0, 8];
 
-const LIMITS: [usize; 9] = [size_of::<NogLimits>(), 0, 8, 16, 24, 32, 40, 48, 56];
+const LIMITS: [usize; 10] = [size_of::<NogLimits>(), 0, 8, 16, 24, 32, 40, 48, 56, 64];
 
 const AREA: [usize; 3] = [size_of::<NogArea>(), 0, 4];
 

@@ -1,5 +1,5 @@
-//! Loads and additions.
-ghost use Rattle.std.specs.Prelude.{◌≡◌, ◌≢◌, length};
+//! Loads, stores and additions.
+ghost use Rattle.std.specs.Prelude.{◌≡◌, ◌≢◌, ◌≤◌, length};
 ghost use Rattle.shm_base.specs.Bounds.{within};
 ghost use Rattle.shm_base.specs.declared.call.Call.TheVariants as call;
 ghost use Rattle.shm_base.specs.declared.call.Reply.TheVariants as reply;
@@ -7,21 +7,27 @@ ghost use Rattle.nogcuvema.specs.Answers.{AnswersThrough, AnswersFor, AnswersWhe
 
 use crate::code::{CLOSED, DONE, OUT_OF_RANGE, refusal_code};
 use crate::handle::Handle;
-use shm_base::AccessLen;
+use shm_base::LONGEST_ACCESS;
 use shm_machine::Machine;
 use std::alloc::Global;
 
+// Whether an access in one step can have this many bytes.
+#[inline(always)]
+pub(crate) fn is_size(len: usize) -> bool
+    ensures { result ≡ within 1 64 len }
+{
+    len >= 1 && len <= LONGEST_ACCESS
+}
+
 #[tactic(auto, using(crate::proofs::Answering::refused))]
-fn load(machine: &mut Machine, pid: u32, addr: u64, len: AccessLen, bytes: &mut [u8]) -> u32
-    requires { length bytes.old ≡ len }
-    ensures answers { AnswersFor machine.old pid (call.Load addr len) (reply.Bytes bytes.new) result machine.new }
+fn load(machine: &mut Machine, pid: u32, addr: u64, bytes: &mut [u8]) -> u32
+    requires { (1 ≤ length bytes.old) × (length bytes.old ≤ 64) }
+    ensures answers { let load = call.Load addr (length bytes.old) in
+        AnswersFor machine.old pid load (reply.Bytes bytes.new) result machine.new }
     ensures bytes { result ≢ 0 → bytes.new ≡ bytes.old }
 {
-    match machine.load(pid, addr, len) {
-        Ok(chunk) => {
-            bytes.copy_from_slice(chunk.as_slice());
-            DONE
-        }
+    match machine.load_into(pid, addr, bytes) {
+        Ok(()) => DONE,
         Err(refusal) => refusal_code(refusal),
     }
 }
@@ -35,16 +41,50 @@ pub extern "C" fn nog_load(
     addr: u64,
     bytes: &mut [u8],
 ) -> u32
-    ensures answers { AnswersWhere (within 1 64 (length bytes.old)) handle.old.kept.value pid (call.Load addr (length bytes.old)) (reply.Bytes bytes.new) result handle.new.kept.value }
+    ensures answers { let load = call.Load addr (length bytes.old) in
+        AnswersWhere (within 1 64 (length bytes.old)) handle.old.kept.value pid load (reply.Bytes bytes.new) result handle.new.kept.value }
     ensures bytes { result ≢ 0 → bytes.new ≡ bytes.old }
 {
-    let Some(len) = AccessLen::new(bytes.len() as u64) else {
+    if !is_size(bytes.len()) {
         return OUT_OF_RANGE;
-    };
+    }
     let Some(mut machine) = handle.take(alloc) else {
         return CLOSED;
     };
-    let code = load(&mut machine, pid, addr, len, bytes);
+    let code = load(&mut machine, pid, addr, bytes);
+    handle.put(machine);
+    code
+}
+
+#[tactic(auto, using(crate::proofs::Answering::refused))]
+fn store(machine: &mut Machine, pid: u32, addr: u64, bytes: &[u8]) -> u32
+    requires { (1 ≤ length bytes.now) × (length bytes.now ≤ 64) }
+    ensures { AnswersFor machine.old pid (call.Store addr bytes.now) reply.Done result machine.new }
+{
+    match machine.store(pid, addr, bytes) {
+        Ok(()) => DONE,
+        Err(refusal) => refusal_code(refusal),
+    }
+}
+
+/// Replaces 1 to 64 bytes of attached memory, in one step.
+#[unsafe(no_mangle)]
+pub extern "C" fn nog_store(
+    alloc: Global,
+    handle: &mut Handle,
+    pid: u32,
+    addr: u64,
+    bytes: &[u8],
+) -> u32
+    ensures { AnswersWhere (within 1 64 (length bytes.now)) handle.old.kept.value pid (call.Store addr bytes.now) reply.Done result handle.new.kept.value }
+{
+    if !is_size(bytes.len()) {
+        return OUT_OF_RANGE;
+    }
+    let Some(mut machine) = handle.take(alloc) else {
+        return CLOSED;
+    };
+    let code = store(&mut machine, pid, addr, bytes);
     handle.put(machine);
     code
 }

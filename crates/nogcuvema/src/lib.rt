@@ -4,6 +4,7 @@
 mod about;
 mod access;
 mod code;
+mod exchange;
 mod handle;
 mod hosting;
 mod inspect;
@@ -19,21 +20,24 @@ mod stretch;
 mod structs;
 
 pub use about::{nog_layout, nog_text, nog_version};
-pub use access::{nog_add, nog_load};
+pub use access::{nog_add, nog_load, nog_store};
+pub use exchange::{nog_compare_exchange, nog_exchange};
 pub use handle::Handle;
 pub use hosting::{nog_admit, nog_dismiss, nog_set_time, nog_set_user};
 pub use inspect::{nog_calls, nog_flush, nog_indexes, nog_segment_at, nog_tally_of};
-pub use listing::{nog_failed_at, nog_info, nog_piece_at, nog_process_at, nog_stat_at};
+pub use listing::{
+    nog_absent_at, nog_failed_at, nog_info, nog_piece_at, nog_process_at, nog_stat_at,
+};
 pub use mapping::{nog_protect, nog_unmap};
 pub use open::{nog_close, nog_open};
 pub use owned::Kept;
 pub use perform::{
-    nog_detach, nog_exec, nog_exit, nog_fork, nog_lock, nog_remove, nog_set, nog_store,
-    nog_swapoff, nog_unlock,
+    nog_detach, nog_exec, nog_exit, nog_fork, nog_lock, nog_remove, nog_set, nog_swapoff,
+    nog_unlock,
 };
 pub use segments::{nog_attach, nog_get, nog_stat};
 pub use snapshot::nog_snapshot;
-pub use stretch::{nog_read, nog_write};
+pub use stretch::{nog_copy, nog_read, nog_write};
 pub use structs::{
     NogArea, NogFailure, NogFlushed, NogLimits, NogPiece, NogProcess, NogSegment, NogTally,
     NogUsage,

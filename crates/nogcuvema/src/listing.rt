@@ -2,7 +2,7 @@
 ghost use Rattle.std.specs.Prelude.{◌≡◌, ◌≢◌, ◌==◌, not, slice_get};
 ghost use Rattle.shm_life.specs.Listed.{stat_at};
 ghost use Rattle.nogcuvema.specs.Shown.{piece_by};
-ghost use Rattle.nogcuvema.specs.Listed.{Uses, AnswersStat, StatOf, AnswersPiece, PieceOf, AnswersProcess, ProcessOf, AnswersFailed};
+ghost use Rattle.nogcuvema.specs.Listed.{Uses, AnswersStat, StatOf, AnswersPiece, PieceOf, AnswersProcess, ProcessOf, AnswersAbsent, AnswersFailed};
 ghost use Rattle.nogcuvema.specs.Reads.{Reads};
 
 use crate::code::{CLOSED, DONE, OUT_OF_RANGE};
@@ -76,7 +76,7 @@ fn piece_at(machine: &Machine, pid: u32, index: u32, piece: &mut NogPiece) -> u3
     }
 }
 
-/// A piece of a live process, by its place among the pieces by rising base; out of range behind the last.
+/// A piece of a live process, by its place among the pieces by rising base; out of range after the last.
 #[unsafe(no_mangle)]
 pub extern "C" fn nog_piece_at(
     alloc: Global,
@@ -109,7 +109,7 @@ fn process_at(machine: &Machine, index: u32, process: &mut NogProcess) -> u32
     }
 }
 
-/// A process, by its place among the processes, live or not; out of range behind the last.
+/// A process, by its place among the processes, live or not; out of range after the last.
 #[unsafe(no_mangle)]
 pub extern "C" fn nog_process_at(
     alloc: Global,
@@ -150,6 +150,34 @@ pub extern "C" fn nog_failed_at(
     let failed = spaces.failed_at(pid, addr, len, is_write != 0);
     handle.put(machine);
     match failed {
+        Some(found) => {
+            *at = found;
+            DONE
+        }
+        None => OUT_OF_RANGE,
+    }
+}
+
+/// The first byte of an access whose page is in no frame, if all bytes before it have pieces; out of range where there is
+/// none.
+#[unsafe(no_mangle)]
+pub extern "C" fn nog_absent_at(
+    alloc: Global,
+    handle: &mut Handle,
+    pid: u32,
+    addr: u64,
+    len: u64,
+    at: &mut u64,
+) -> u32
+    ensures machine { AnswersAbsent handle.old.kept.value pid addr len at.new result handle.new.kept.value }
+    ensures at { result ≢ 0 → at.new ≡ at.old }
+{
+    let Some(machine) = handle.take(alloc) else {
+        return CLOSED;
+    };
+    let absent = machine.system.absent_at(pid, addr, len);
+    handle.put(machine);
+    match absent {
         Some(found) => {
             *at = found;
             DONE

@@ -23,9 +23,13 @@ fn unmapped(machine: &mut Machine, pid: u32, addr: u64, len: u64) -> u32
 fn protected(machine: &mut Machine, pid: u32, addr: u64, len: u64, writable: bool) -> u32
     ensures { ProtectsBy pid addr len writable machine.old result machine.new }
 {
-    match machine.system.protect(pid, addr, len, writable) {
-        Ok(()) => DONE,
-        Err(errno) => errno.code(),
+    if machine.system.calls() == u64::MAX {
+        SPENT
+    } else {
+        match machine.system.protect(pid, addr, len, writable) {
+            Ok(()) => DONE,
+            Err(errno) => errno.code(),
+        }
     }
 }
 

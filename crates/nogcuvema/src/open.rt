@@ -3,12 +3,13 @@ ghost use Rattle.std.specs.Prelude.{◌≡◌, ◌≢◌, [], map, IfOk, IfErr, 
 ghost use Rattle.shm_life.specs.Start.{start_error};
 ghost use Rattle.shm_machine.specs.Opened.{sizes_of};
 ghost use Rattle.nogcuvema.specs.Answers.{closed};
-ghost use Rattle.nogcuvema.specs.Opens.{kind_of, area_of, failure_of, limits_by, process_of, are_kinds, is_there, are_there, Opens, OpenedTo, IsRefusedBy};
+ghost use Rattle.nogcuvema.specs.Opens.{kind_of, area_of, failure_of, limits_by, process_of, rules_of, are_kinds, is_there, are_there, Opens, OpenedTo, IsRefusedBy};
 
 use crate::code::{CLOSED, DONE, NO_MEMORY, OUT_OF_RANGE};
 use crate::handle::Handle;
 use crate::structs::{NogArea, NogFailure, NogLimits, NogProcess};
-use shm_base::{BadLimits, Cred, Limits, Process, Sizes};
+use bitflags::Flags;
+use shm_base::{BadLimits, Cred, Limits, Process, Rules, Sizes};
 use shm_life::{StartError, first_area_error};
 use shm_machine::{AreaConfig, AreaKind, Failure, Machine, Side};
 use std::alloc::{AllocError, Global};
@@ -115,7 +116,14 @@ fn are_there(areas: &[NogArea], failures: &[NogFailure]) -> bool
     true
 }
 
-// The limits, or which is the first that is out of its range: the profile's where the last three numbers are 0.
+// A number as rules. Where it has more than their bits, the rules have bits without a name too.
+fn rules_of(number: u64) -> Rules
+    ensures { result ≡ rules_of number }
+{
+    Rules::from_bits_retain(number.min(65535) as u16)
+}
+
+// The limits, or which is the first that is out of its range: the profile's where the three last numbers are 0.
 fn limits_by(limits: &NogLimits) -> Result<Limits, BadLimits>
     ensures { result ≡ limits_by limits.now }
 {
@@ -128,9 +136,11 @@ fn limits_by(limits: &NogLimits) -> Result<Limits, BadLimits>
         most_pieces,
         most_processes,
         most_slots,
+        rules,
     } = *limits;
+    let rules = rules_of(rules);
     if most_pieces == 0 && most_processes == 0 && most_slots == 0 {
-        return Limits::new(shmmax, shmmni, shmall, frames, memlock);
+        return Limits::new(shmmax, shmmni, shmall, frames, memlock)?.with_rules(rules);
     }
     Limits::of(&Sizes {
         shmmax,
@@ -141,6 +151,7 @@ fn limits_by(limits: &NogLimits) -> Result<Limits, BadLimits>
         most_pieces,
         most_processes,
         most_slots,
+        rules,
     })
 }
 

@@ -1,6 +1,5 @@
 //! The calls that have nothing to tell but that they were done.
-ghost use Rattle.std.specs.Prelude.{◌≡◌, true, nat_lt, length};
-ghost use Rattle.shm_base.specs.Bounds.{within};
+ghost use Rattle.std.specs.Prelude.{◌≡◌, true, nat_lt};
 ghost use Rattle.shm_base.specs.declared.call.Call.TheVariants as call;
 ghost use Rattle.shm_base.specs.declared.call.Reply.TheVariants as reply;
 ghost use Rattle.shm_machine.specs.Answered.{fits};
@@ -8,7 +7,7 @@ ghost use Rattle.nogcuvema.specs.Answers.{AnswersThrough, AnswersFor, AnswersWhe
 
 use crate::code::{CLOSED, DONE, OUT_OF_RANGE, refusal_code};
 use crate::handle::Handle;
-use shm_base::{Call, Chunk};
+use shm_base::Call;
 use shm_machine::Machine;
 use std::alloc::Global;
 
@@ -85,23 +84,6 @@ pub extern "C" fn nog_unlock(alloc: Global, handle: &mut Handle, pid: u32, id: i
     ensures { AnswersThrough handle.old.kept.value pid (call.Unlock id) reply.Done result handle.new.kept.value }
 {
     perform(alloc, handle, pid, &Call::Unlock { id })
-}
-
-/// Replaces 1 to 64 bytes of attached memory, in one step.
-#[unsafe(no_mangle)]
-pub extern "C" fn nog_store(
-    alloc: Global,
-    handle: &mut Handle,
-    pid: u32,
-    addr: u64,
-    bytes: &[u8],
-) -> u32
-    ensures { AnswersWhere (within 1 64 (length bytes.now)) handle.old.kept.value pid (call.Store addr bytes.now) reply.Done result handle.new.kept.value }
-{
-    let Some(chunk) = Chunk::new(bytes) else {
-        return OUT_OF_RANGE;
-    };
-    perform(alloc, handle, pid, &Call::Store { addr, chunk })
 }
 
 /// fork(2): a declared child begins, with the pieces and the ids of the process.

@@ -1,8 +1,8 @@
-//! Reads and writes of any length.
+//! Reads, writes and copies of any length.
 ghost use Rattle.std.specs.Prelude.{◌≡◌};
-ghost use Rattle.nogcuvema.specs.Through.{stop_code, ReadBy, ReadThrough, WrittenBy, WrittenThrough};
+ghost use Rattle.nogcuvema.specs.Through.{stop_code, CopiedBy, CopiedThrough, ReadBy, ReadThrough, WrittenBy, WrittenThrough};
 
-use crate::code::{CLOSED, DONE, refusal_code};
+use crate::code::{CLOSED, DONE, NO_MEMORY, refusal_code};
 use crate::handle::Handle;
 use shm_machine::{Machine, Refusal};
 use std::alloc::Global;
@@ -26,8 +26,8 @@ fn read(machine: &mut Machine, pid: u32, addr: u64, bytes: &mut [u8], done: &mut
     stop_code(progress.stopped)
 }
 
-/// Reads attached memory into the buffer, by loads of 64 bytes and a last one of the rest, until one is refused; `done`
-/// is how many bytes were read.
+/// Reads attached memory into the buffer, by a load for each page, until one is refused; `done` is how many bytes were
+/// read.
 #[unsafe(no_mangle)]
 pub extern "C" fn nog_read(
     alloc: Global,
@@ -56,8 +56,8 @@ fn write(machine: &mut Machine, pid: u32, addr: u64, bytes: &[u8], done: &mut u6
     stop_code(progress.stopped)
 }
 
-/// Replaces attached memory by the bytes, by stores of 64 bytes and a last one of the rest, until one is refused; `done`
-/// is how many bytes were written.
+/// Replaces attached memory by the bytes, by a store for each page, until one is refused; `done` is how many bytes were
+/// written.
 #[unsafe(no_mangle)]
 pub extern "C" fn nog_write(
     alloc: Global,
@@ -73,6 +73,54 @@ pub extern "C" fn nog_write(
         return CLOSED;
     };
     let code = write(&mut machine, pid, addr, bytes, done);
+    handle.put(machine);
+    code
+}
+
+#[tactic(auto, using(crate::proofs::Answering::copied_by))]
+fn copy(
+    alloc: Global,
+    machine: &mut Machine,
+    from: (u32, u64),
+    to: (u32, u64),
+    len: usize,
+    done: &mut u64,
+) -> u32
+    ensures { CopiedBy machine.old from to len done.old result done.new machine.new }
+{
+    let Ok(progress) = machine.copy(alloc, from, to, len) else {
+        return NO_MEMORY;
+    };
+    *done = progress.done as u64;
+    stop_code(progress.stopped)
+}
+
+/// Copies attached memory of a process to that of another, or of the same one, as one load and then one store of the bytes
+/// that can be read; `done` is how many were written.
+#[unsafe(no_mangle)]
+pub extern "C" fn nog_copy(
+    alloc: Global,
+    handle: &mut Handle,
+    from: u32,
+    from_addr: u64,
+    to: u32,
+    to_addr: u64,
+    len: u64,
+    done: &mut u64,
+) -> u32
+    ensures { CopiedThrough handle.old.kept.value (from, from_addr) (to, to_addr) len done.old result done.new handle.new.kept.value }
+{
+    let Some(mut machine) = handle.take(alloc) else {
+        return CLOSED;
+    };
+    let code = copy(
+        alloc,
+        &mut machine,
+        (from, from_addr),
+        (to, to_addr),
+        len as usize,
+        done,
+    );
     handle.put(machine);
     code
 }

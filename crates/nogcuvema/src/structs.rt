@@ -10,8 +10,9 @@ use shm_attach::Life;
 use shm_base::{Cred, FlushReport, ShmidDs, Tally};
 use shm_life::ShmInfo;
 
-/// The limits of a machine. Where the last three are 0 they are the profile's (256 pieces, 64 processes, 65536 slots),
-/// and the first five have the profile's ranges; else all eight have the ranges of [`Limits::of`](shm_base::Limits::of).
+/// The limits of a machine. Where the three last numbers are 0 they are the profile's (256 pieces, 64 processes, 65536 slots),
+/// and the first five have the profile's ranges; else all eight
+/// have the ranges of [`Limits::of`](shm_base::Limits::of). Rules are the bits of [`Rules`](shm_base::Rules).
 #[repr(C)]
 #[derive(Clone, Copy)]
 pub struct NogLimits {
@@ -23,6 +24,7 @@ pub struct NogLimits {
     pub most_pieces: u64,
     pub most_processes: u64,
     pub most_slots: u64,
+    pub rules: u64,
 }
 
 /// A swap area: its kind, 1 ram, 2 sparse, 3 a mirror, and how many slots it has, or each side of a mirror.

@@ -4,3 +4,7 @@ pub mod Gaps
 pub mod Edits
 pub mod Cuts
 pub mod Origins
+pub mod Leaving
+pub mod Reaching
+pub mod Passing
+pub mod Filled

@@ -1,5 +1,5 @@
 -- Pieces in order: which one an address lies in.
-use Rattle.shm_areas.proofs.Names.{◌≡◌, ℕ, zero, suc, ◌+◌, ◌<◌, ◌≤◌, true, false, nat_le, nat_lt, if◌then◌else◌, List, [], ◌∷◌, length, get_or, Option, Some, None, option_map, IfSome, refl, sym, arith, common_steps, le-leb, and_right, none-some, place, place_by, end_of, Piece, bare, bare_all, IsFit, Arranged, covering}
+use Rattle.shm_areas.proofs.Names.{◌≡◌, ℕ, zero, suc, ◌+◌, ◌<◌, ◌≤◌, true, false, nat_le, nat_lt, if◌then◌else◌, List, [], ◌∷◌, length, get_or, Option, Some, None, option_map, IfSome, refl, sym, arith, common_steps, le-leb, and_right, none-some, place, place_by, end_of, Piece, bare, bare_all, IsFit, Arranged, covering, occupied, end_address}
 use Rattle.std.specs.List.Sorted.{IsNonDecreasingBy}
 use Rattle.shm_base.specs.State as flat
 
@@ -57,6 +57,13 @@ pub fit_at : (low : ℕ) (ps : List Piece) (j : ℕ) (d : Piece) → Arranged lo
 fit_at low [] j d ar lt = absurd (omega arith)
 fit_at low (p ∷ ps) zero d ar lt = ar.1.0
 fit_at low (p ∷ ps) (suc j) d ar lt = fit_at (end_of (bare p)) ps j d ar.1.1 (omega arith)
+
+-- no piece reaches beyond the last address
+pub free_beyond : (low from to : ℕ) (ps : List Piece) → Arranged low (bare_all ps) → end_address ≤ from → occupied (bare_all ps) from to ≡ false
+free_beyond low from to [] ar beyond = refl
+free_beyond low from to (p ∷ ps) ar beyond =
+    let within = ar.1.0.within in
+    grind (arith, common_steps, and_right, within, free_beyond (end_of (bare p)) from to ps ar.1.1)
 
 -- ALONE: an address lies in one piece at most
 

@@ -1,5 +1,5 @@
 -- What the stored pieces of a process show, and how they lie.
-use Rattle.std.specs.Prelude.{◌≡◌, ℕ, ◌+◌, ◌%◌, ◌≤◌, ◌<◌, List, [], ◌∷◌, length, map, ⊤}
+use Rattle.std.specs.Prelude.{◌≡◌, ℕ, ◌+◌, ◌%◌, ◌≤◌, ◌<◌, List, [], ◌∷◌, length, map, All, ⊤}
 use Rattle.shm_base.specs.State as flat
 use Rattle.shm_base.specs.Access.{end_of}
 use Rattle.shm_base.specs.Space.{lowest_address, end_address}
@@ -28,6 +28,10 @@ pub record IsFit (p : flat.Piece) : Type 0 where
   pub some : 1 ≤ p.pages
   pub few : p.first_page + p.pages ≤ MOST_SHMALL
   pub within : end_of p ≤ end_address
+
+-- no piece has a higher first page
+abbrev pub AreWithin : ℕ → List Piece → Type 0
+AreWithin reach ps = All (λ (p : Piece). p.first_page ≤ reach) ps
 
 -- fit pieces by rising base, the first not below an address, that never overlap
 abbrev pub Arranged : ℕ → List flat.Piece → Type 0

@@ -1,5 +1,5 @@
 -- What an attach, a cut and a detach leave of the stored pieces, with their keys.
-use Rattle.std.specs.Prelude.{◌≡◌, ◌≤◌, length, option_to_list, ℕ, ◌+◌, ◌-◌, ◌/◌, Bool, not, nat_lt, if◌then◌else◌, List, [], ◌∷◌, ◌++◌, filter}
+use Rattle.std.specs.Prelude.{◌≡◌, ◌≤◌, length, option_to_list, ℕ, ◌+◌, ◌-◌, ◌/◌, Bool, not, nat_lt, if◌then◌else◌, List, [], ◌∷◌, ◌++◌, filter, take, drop}
 use Rattle.std.specs.List.{flat_map, splice}
 use Rattle.shm_base.specs.Access.{end_of}
 use Rattle.shm_base.specs.Space.{meets, is_named}
@@ -41,6 +41,10 @@ stored_named addr seg p = is_named addr seg (bare p)
 
 abbrev pub stored_without : ℕ → ℕ → List Piece → List Piece
 stored_without addr seg ps = filter (λ p. not (stored_named addr seg p)) ps
+
+-- the pieces once those between two places went that are of the segment and have the origin
+abbrev pub taken_between : ℕ → ℕ → List Piece → ℕ → ℕ → List Piece
+taken_between addr seg ps first last = take first ps ++ (stored_without addr seg (take (last - first) (drop first ps)) ++ drop last ps)
 
 -- the pieces once those of a cut's run have given way to its parts
 abbrev pub left_by : List Piece → Cut → List Piece

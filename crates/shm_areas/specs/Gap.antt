@@ -1,8 +1,12 @@
 -- The least gap, in the subject's words, and the way it is looked for.
-use Rattle.std.specs.Prelude.{◌≡◌, ℕ, ◌+◌, ◌*◌, ◌%◌, ◌≤◌, true, false, nat_le, if◌then◌else◌, List, [], ◌∷◌, Option, Some, None, max}
+use Rattle.std.specs.Prelude.{◌≡◌, ℕ, ◌+◌, ◌*◌, ◌%◌, ◌≤◌, ◌<◌, true, false, nat_le, if◌then◌else◌, List, [], ◌∷◌, Option, Some, None, max}
 use Rattle.shm_base.specs.State.{Piece}
 use Rattle.shm_base.specs.Access.{end_of}
-use Rattle.shm_base.specs.Space.{end_address, is_gap}
+use Rattle.shm_base.specs.Space.{first_chosen, end_address, occupied, is_gap}
+use Rattle.shm_areas.specs.Arranged.{bare_all}
+use Rattle.shm_areas.specs.declared.piece.Piece.{Piece as Stored}
+use Rattle.shm_areas.specs.declared.filling.Passed.{Passed}
+use Rattle.shm_base.specs.declared.bounds.TheConstants.{MOST_SHMALL}
 use Rattle.shm_base.specs.declared.paging.TheConstants.{PAGE_SIZE}
 
 -- a range at or above 0x40000000 and inside the addresses that no piece meets, and none below it is one
@@ -18,3 +22,21 @@ HasNoGap ps pages = (b : ℕ) → is_gap ps pages b ≡ false
 abbrev pub gap_from : ℕ → ℕ → List Piece → Option ℕ
 gap_from pages base [] = if nat_le (base + PAGE_SIZE * pages) end_address then Some base else None
 gap_from pages base (p ∷ ps) = if nat_le (base + PAGE_SIZE * pages) p.base then Some base else gap_from pages (max base (end_of p)) ps
+
+-- each address from the first that may be chosen up to this one lies in a piece
+pub record IsFilled (filled : ℕ) (ps : List Stored) : Type 0 where
+  pub first : first_chosen ≤ filled
+  pub high : filled ≤ end_address
+  pub full : (a : ℕ) → first_chosen ≤ a → a < filled → occupied (bare_all ps) a (a + 1) ≡ true
+
+-- no range of so many pages is free that begins below this address, from the first that may be chosen on
+pub record IsPassed (pages to : ℕ) (ps : List Stored) : Type 0 where
+  pub first : first_chosen ≤ to
+  pub high : to ≤ end_address
+  pub none : (a : ℕ) → first_chosen ≤ a → a < to → occupied (bare_all ps) a (a + PAGE_SIZE * pages) ≡ true
+
+-- so it is with what a space remembers, for pages that a segment may have
+pub record IsHint (h : Passed) (ps : List Stored) : Type 0 where
+  pub some : 1 ≤ h.pages
+  pub few : h.pages ≤ MOST_SHMALL
+  pub passed : IsPassed h.pages h.to ps

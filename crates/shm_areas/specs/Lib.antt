@@ -1,5 +1,4 @@
 pub mod Arranged
 pub mod Gap
 pub mod Edit
-pub mod Fixed
 pub mod Met

@@ -2,9 +2,13 @@
 #![tactic(auto)]
 
 mod cut;
+mod filling;
 mod piece;
+mod rests;
 mod search;
 mod space;
+mod taking;
 
 pub use piece::{Piece, Place};
+pub use rests::Rests;
 pub use space::Space;

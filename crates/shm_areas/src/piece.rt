@@ -35,8 +35,8 @@ impl Model for Place {
 impl Piece {
     ghost use Rattle.std.specs.Prelude.{◌≡◌, ◌<◌};
     ghost use Rattle.shm_base.specs.Access as flat;
-    ghost use Rattle.std.specs.Prelude.{length, true};
-    ghost use Rattle.shm_base.specs.Space.{has_origin, meets, parts};
+    ghost use Rattle.std.specs.Prelude.{length, true, [], ◌∷◌, option_to_list};
+    ghost use Rattle.shm_base.specs.Space.{has_origin, is_named, meets, parts, rest_segments};
     ghost use Rattle.shm_areas.specs.Arranged.{bare, IsFit, IsCovering};
 
     /// Where the piece ends.
@@ -65,10 +65,29 @@ impl Piece {
         (self.base < from) as u32 + (to < self.end()) as u32
     }
 
+    /// The piece's segment, if a part of the piece lies outside a range with a page of it.
+    pub(crate) fn rest(&self, from: u64, to: u64) -> Option<u32>
+        requires fit { IsFit (bare self.now) }
+        requires meets { meets from to (bare self.now) ≡ true }
+        ensures { option_to_list result ≡ rest_segments from to (bare self.now ∷ []) }
+    {
+        if self.base < from || to < self.end() {
+            Some(self.seg)
+        } else {
+            None
+        }
+    }
+
     /// Whether the piece's segment would begin at the address.
     pub(crate) fn has_origin(&self, addr: u64) -> bool
         ensures { result ≡ has_origin addr (bare self.now) }
     {
         self.base as u128 == addr as u128 + PAGE_SIZE as u128 * self.first_page as u128
+    }
+    /// Whether the piece is one of a segment that would begin at the address.
+    pub(crate) fn is_named(&self, addr: u64, seg: u32) -> bool
+        ensures { result ≡ is_named addr seg (bare self.now) }
+    {
+        self.has_origin(addr) && self.seg == seg
     }
 }

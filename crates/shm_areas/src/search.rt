@@ -4,13 +4,13 @@ ghost use Rattle.shm_base.specs.Space as flat;
 ghost use Rattle.shm_base.specs.declared.bounds.TheConstants.{MOST_SHMALL};
 ghost use Rattle.shm_areas.specs.Arranged.{bare_all, Arranged};
 ghost use Rattle.shm_areas.specs.Gap.{gap_from};
-ghost use Rattle.shm_areas.specs.Met.{IsPieceRange};
+ghost use Rattle.shm_areas.specs.Met.{IsPieceRange, IsOriginRange};
 ghost use Rattle.shm_areas.specs.declared.piece.Piece.{Piece as Stored};
 
 use crate::piece::Piece;
-use shm_base::{END_ADDRESS, FIRST_GAP, PAGE_SIZE};
+use shm_base::{END_ADDRESS, PAGE_SIZE};
 
-/// Pieces side by side: the place of the first, and the place behind the last.
+/// Pieces side by side: the place of the first, and the place after the last.
 #[derive(Clone, Copy)]
 pub(crate) struct PieceRange {
     pub(crate) first: usize,
@@ -22,7 +22,8 @@ pub(crate) fn count_to(pieces: &[Piece], addr: u64) -> usize
     requires { Arranged flat.lowest_address (bare_all pieces.now) }
     ensures bound { result ≤ length pieces.now }
     ensures below { (k : ℕ) (d : Stored) → k < result → (slice_index_or pieces.now k d).base ≤ addr }
-    ensures above { (k : ℕ) (d : Stored) → result ≤ k → k < length pieces.now → addr < (slice_index_or pieces.now k d).base }
+    ensures above { (k : ℕ) (d : Stored) → result ≤ k → k < length pieces.now
+        → addr < (slice_index_or pieces.now k d).base }
 {
     // Behind the last one, where a new piece often goes, nothing is searched.
     let Some(last) = pieces.last() else {
@@ -63,14 +64,27 @@ pub(crate) fn run_in(pieces: &[Piece], from: u64, to: u64) -> PieceRange
     PieceRange { first: count, last }
 }
 
-/// The least gap for this many pages at or above 0x40000000, walking up the pieces.
-pub(crate) fn least_gap(pieces: &[Piece], pages: u32) -> Option<u64>
+/// The pieces whose segment may begin at an address, where no piece has a higher first page than `reach`.
+pub(crate) fn run_of_origin(pieces: &[Piece], addr: u64, reach: u32) -> PieceRange
+    requires { Arranged flat.lowest_address (bare_all pieces.now) }
+    ensures { IsOriginRange addr reach pieces.now result.first result.last }
+{
+    let to = addr.saturating_add(PAGE_SIZE * reach as u64);
+    PieceRange {
+        first: count_below(pieces, addr),
+        last: count_to(pieces, to),
+    }
+}
+
+/// The least gap for this many pages at or above an address, walking up the pieces that end above it.
+pub(crate) fn least_gap(pieces: &[Piece], from: u64, pages: u32) -> Option<u64>
     requires pages { (1 ≤ pages) × (pages ≤ MOST_SHMALL) }
     requires arranged { Arranged flat.lowest_address (bare_all pieces.now) }
-    ensures { result ≡ gap_from pages flat.first_chosen (bare_all pieces.now) }
+    requires from { from ≤ flat.end_address }
+    ensures { result ≡ gap_from pages from (bare_all pieces.now) }
 {
     let size = PAGE_SIZE * pages as u64;
-    let mut base = FIRST_GAP;
+    let mut base = from;
     for piece in pieces {
         if base + size <= piece.base {
             return Some(base);

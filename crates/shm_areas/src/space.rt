@@ -4,17 +4,19 @@ ghost use Rattle.shm_base.specs.Access as access;
 ghost use Rattle.shm_base.specs.Space as flat;
 ghost use Rattle.shm_areas.specs.Arranged.{bare, bare_all, Arranged, IsFit, IsCovering};
 ghost use Rattle.shm_areas.specs.Edit.{stored_inserted, stored_cut, stored_without};
-ghost use Rattle.shm_areas.specs.Fixed.{fixed};
-ghost use Rattle.shm_areas.specs.Gap.{HasNoGap, IsLeastGap};
+ghost use Rattle.shm_areas.specs.Gap.{HasNoGap, IsHint, IsLeastGap};
 ghost use Rattle.shm_areas.specs.Met.{met};
 ghost use Rattle.shm_areas.specs.declared.piece.Piece.{Piece as Stored};
 ghost use Rattle.shm_base.specs.declared.bounds.TheConstants.{MOST_PIECES, MOST_SHMALL};
+ghost use Rattle.shm_base.specs.declared.paging.TheConstants.{PAGE_SIZE};
 
 use crate::cut::{count_left, cut_of, replace};
+use crate::filling::{Passed, lowered, raised, start_of};
 use crate::piece::{Piece, Place};
-use crate::search::{count_below, count_to, least_gap, run_in};
-use bitflags::Flags;
-use shm_base::{AtFlags, END_ADDRESS, Errno, HostMemory, LOWEST_ADDRESS, PAGE_SIZE};
+use crate::rests::{Rests, rests_of};
+use crate::search::{count_below, count_to, least_gap, run_in, run_of_origin};
+use crate::taking::take_named;
+use shm_base::{END_ADDRESS, FIRST_GAP, HostMemory, PAGE_SIZE};
 use std::alloc::{AllocError, Global};
 use std::marker::Model;
 
@@ -23,23 +25,39 @@ use std::marker::Model;
 pub struct Space {
     pieces: Vec<Piece>,
     most: u32,
+    // No piece has a higher first page: so no piece lies further above the address where its segment would begin.
+    reach: u32,
+    // Each address from 0x40000000 up to this one lies in a piece: so no gap begins below.
+    filled: u64,
+    // No gap of this many pages begins below this address. It is noted when a piece comes right after another, as one does
+    // where the machine chooses.
+    passed: Passed,
 }
 
 impl Drop for Space {
     fn drop(self) {
-        let Space { pieces: _, most: _ } = self;
+        let Space {
+            pieces: _,
+            most: _,
+            reach: _,
+            filled: _,
+            passed: _,
+        } = self;
     }
 }
 
 impl Model for Space {
     ghost use Rattle.std.specs.Prelude.{◌≤◌, vec_capacity};
-    ghost use Rattle.shm_areas.specs.Arranged.{SpaceView, IsSpace};
+    ghost use Rattle.shm_areas.specs.Arranged.{SpaceView, IsSpace, AreWithin};
+    ghost use Rattle.shm_areas.specs.Gap.{IsFilled, IsHint};
 
     ghost Value = { SpaceView };
 
     ghost view = { λ s. record { pieces = s.pieces.items; most = s.most } };
 
-    ghost invariant = { λ s. IsSpace (record { pieces = s.pieces.items; most = s.most }) × (s.most ≤ vec_capacity s.pieces) };
+    ghost invariant = { λ s. IsSpace (record { pieces = s.pieces.items; most = s.most })
+        × (s.most ≤ vec_capacity s.pieces) × AreWithin s.reach s.pieces.items
+        × IsFilled s.filled s.pieces.items × IsHint s.passed s.pieces.items };
 }
 
 impl Clone for Space {
@@ -52,6 +70,9 @@ impl Clone for Space {
         Ok(Space {
             pieces,
             most: self.most,
+            reach: self.reach,
+            filled: self.filled,
+            passed: self.passed,
         })
     }
 }
@@ -65,7 +86,13 @@ impl Space {
         ensures { IfOk result (λ s. s ≡ record { pieces = []; most = most }) }
     {
         let pieces = Vec::with_capacity(alloc, most as usize)?;
-        Ok(Space { pieces, most })
+        Ok(Space {
+            pieces,
+            most,
+            reach: 0,
+            filled: FIRST_GAP,
+            passed: Passed::new(),
+        })
     }
 
     /// The most pieces that it may have.
@@ -90,8 +117,10 @@ impl Space {
     pub fn piece_at(&self, addr: u64) -> Option<Piece>
         ensures value { option_map bare result ≡ flat.covering addr (bare_all self.now.pieces) }
         ensures within { IfSome result (λ p. IsCovering addr p) }
-        ensures whole { IfSome result (λ p. (b : ℕ) → p.base ≤ b → b < access.end_of (bare p) → flat.covering b (bare_all self.now.pieces) ≡ Some (bare p)) }
-        ensures among { (test : Stored → Bool) → All (λ (p : Stored). test p ≡ true) self.now.pieces → IfSome result (λ p. test p ≡ true) }
+        ensures whole { IfSome result (λ p. (b : ℕ) → p.base ≤ b → b < access.end_of (bare p)
+            → flat.covering b (bare_all self.now.pieces) ≡ Some (bare p)) }
+        ensures among { (test : Stored → Bool) → All (λ (p : Stored). test p ≡ true) self.now.pieces
+            → IfSome result (λ p. test p ≡ true) }
     {
         let count = count_to(&self.pieces, addr);
         if count == 0 {
@@ -126,30 +155,44 @@ impl Space {
     pub fn choose(&self, pages: u32) -> Option<u64>
         requires { (1 ≤ pages) × (pages ≤ MOST_SHMALL) }
         ensures value { result ≡ flat.choose (bare_all self.now.pieces) pages }
-        ensures least { MatchOption result (HasNoGap (bare_all self.now.pieces) pages) (λ base. IsLeastGap (bare_all self.now.pieces) pages base) }
+        ensures least { MatchOption result (HasNoGap (bare_all self.now.pieces) pages)
+            (λ base. IsLeastGap (bare_all self.now.pieces) pages base) }
     {
-        least_gap(&self.pieces, pages)
+        let start = start_of(self.filled, self.passed, pages);
+        let run = run_in(&self.pieces, start, start + 1);
+        least_gap(&self.pieces[run.first..], start, pages)
     }
 
-    /// Where a mapping at an address that the caller gives would begin: the address rounded down to a
-    /// multiple of 4096 (SHM_RND). Einval where the range does not lie within the addresses, 0x10000 up
-    /// to 0x7ffffffff000, and where a piece lies there that is not to be replaced (SHM_REMAP).
-    pub fn check_fixed(&self, addr: u64, pages: u32, flags: AtFlags) -> Result<u64, Errno>
-        requires { (1 ≤ pages) × (pages ≤ MOST_SHMALL) }
-        ensures { result ≡ fixed (bare_all self.now.pieces) addr pages flags }
+    // What is known of the gaps once a piece comes, after this many others. A piece that comes right after one is often
+    // at the least gap for its pages: so this walks as `choose` did, and the next choice need not.
+    fn passed_with(&self, piece: &Piece, count: usize) -> Passed
+        requires fit { IsFit (bare piece.now) }
+        requires count { count ≤ length self.now.pieces }
+        ensures { IsHint result self.now.pieces }
     {
-        let base = addr - addr % PAGE_SIZE;
-        if base < LOWEST_ADDRESS || base > END_ADDRESS {
-            return Err(Errno::Einval);
+        if piece.base <= self.filled || count == 0 || self.pieces[count - 1].end() != piece.base {
+            return self.passed;
         }
-        let end = base + PAGE_SIZE * pages as u64;
-        if end > END_ADDRESS {
-            return Err(Errno::Einval);
+        match self.choose(piece.pages) {
+            Some(base) => Passed {
+                pages: piece.pages,
+                to: base,
+            },
+            None => self.passed,
         }
-        if !flags.contains(AtFlags::REMAP) && self.is_occupied(base, end) {
-            return Err(Errno::Einval);
+    }
+
+    /// Whether a piece has a page among this many from an address on. The range may reach beyond the last address.
+    pub fn is_occupied(&self, base: u64, pages: u32) -> bool
+        requires { (1 ≤ pages) × (pages ≤ MOST_SHMALL) }
+        ensures { result ≡ flat.occupied (bare_all self.now.pieces) base (base + PAGE_SIZE * pages) }
+    {
+        let pieces = self.pieces();
+        if base >= END_ADDRESS {
+            return false;
         }
-        Ok(base)
+        let run = run_in(pieces, base, base + PAGE_SIZE * pages as u64);
+        run.first < run.last
     }
 
     /// The pieces with a page in a range.
@@ -165,15 +208,6 @@ impl Space {
         &self.pieces[run.first..run.last]
     }
 
-    // Whether a piece has a page in a range.
-    fn is_occupied(&self, from: u64, to: u64) -> bool
-        requires order { from < to }
-        ensures { result ≡ flat.occupied (bare_all self.now.pieces) from to }
-    {
-        let run = run_in(&self.pieces, from, to);
-        run.first < run.last
-    }
-
     /// How many pieces there would be once a range is taken out.
     pub fn count_outside(&self, from: u64, to: u64) -> usize
         requires order { from < to }
@@ -182,16 +216,28 @@ impl Space {
         count_left(&self.pieces, cut_of(&self.pieces, from, to))
     }
 
+    /// The segments of which a cut of a range would leave a part of a piece.
+    pub fn rests(&self, from: u64, to: u64) -> Rests
+        requires order { from < to }
+        ensures { result ≡ flat.rest_segments from to (bare_all self.now.pieces) }
+    {
+        rests_of(self.met(from, to), from, to)
+    }
+
     /// Puts a piece where no other piece lies.
     pub fn insert(&mut self, piece: Piece)
         requires room { length self.old.pieces < self.old.most }
         requires low { flat.lowest_address ≤ piece.base }
         requires fit { IsFit (bare piece) }
-        requires free { flat.occupied (bare_all self.old.pieces) piece.base (access.end_of (bare piece)) ≡ false }
+        requires free { let end = access.end_of (bare piece) in
+            flat.occupied (bare_all self.old.pieces) piece.base end ≡ false }
         ensures kept { self.new ≡ record self.old { pieces = stored_inserted piece self.old.pieces } }
         ensures flat { bare_all self.new.pieces ≡ flat.inserted (bare piece) (bare_all self.old.pieces) }
     {
         let at = count_to(&self.pieces, piece.base);
+        self.passed = self.passed_with(&piece, at);
+        self.reach = self.reach.max(piece.first_page);
+        self.filled = raised(self.filled, &piece);
         let put = self.pieces.insert(at, piece);
         prove!(put.is_ok());
     }
@@ -207,6 +253,9 @@ impl Space {
         ensures flat { bare_all self.new.pieces ≡ flat.cut from to (bare_all self.old.pieces) }
     {
         let cut = cut_of(&self.pieces, from, to);
+        self.reach = self.reach.max(cut.reach());
+        self.filled = lowered(self.filled, from);
+        self.passed = self.passed.lowered(from);
         replace(&mut self.pieces, cut);
     }
 
@@ -216,7 +265,11 @@ impl Space {
         ensures flat { option_map bare result ≡ flat.origin_of addr (bare_all self.now.pieces) }
     {
         let start = count_below(&self.pieces, addr);
+        let to = addr.saturating_add(PAGE_SIZE * self.reach as u64);
         for piece in &self.pieces[start..] {
+            if piece.base > to {
+                return None;
+            }
             if piece.has_origin(addr) {
                 return Some(*piece);
             }
@@ -229,7 +282,9 @@ impl Space {
         ensures kept { self.new ≡ record self.old { pieces = stored_without addr seg self.old.pieces } }
         ensures flat { bare_all self.new.pieces ≡ flat.without_named addr seg (bare_all self.old.pieces) }
     {
-        self.pieces
-            .retain(|p| !(p.has_origin(addr) && p.seg == seg));
+        let run = run_of_origin(&self.pieces, addr, self.reach);
+        self.filled = lowered(self.filled, addr);
+        self.passed = self.passed.lowered(addr);
+        take_named(&mut self.pieces, run, addr, seg);
     }
 }

@@ -31,7 +31,7 @@ pub record AreAsked (asked : Option (List Place)) (wanted : List Place) : Type 0
   pub there : asked ≡ Some ps
   pub same : map unmarked ps ≡ wanted
 
-are_asked : (o : Option (List Place)) (wanted : List Place) → option_map (map unmarked) o ≡ Some wanted → AreAsked o wanted
+pub are_asked : (o : Option (List Place)) (wanted : List Place) → option_map (map unmarked) o ≡ Some wanted → AreAsked o wanted
 are_asked None wanted is = absurd (none-some wanted is)
 are_asked (Some ps) wanted is = record { ps = ps; there = refl; same = cc is }
 

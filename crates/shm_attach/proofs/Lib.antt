@@ -13,6 +13,8 @@ pub mod Starts
 pub mod FlatSteps
 pub mod Joining
 pub mod Renewed
+pub mod Growing
 pub mod Protecting
 pub mod Copies
 pub mod Served
+pub mod Absent

@@ -11,7 +11,7 @@ pub use Rattle.std.proofs.lemmas.Result.{IfOk-weaker}
 pub use Rattle.std.proofs.lemmas.Simd.{map-map}
 pub use Rattle.std.specs.List.{flat_map, position_or_len}
 pub use Rattle.std.specs.Map.{keys_of, values_of}
-pub use Rattle.std.specs.Prelude.{◌^◌, nat_le, All, position, vec_capacity, ⊤}
+pub use Rattle.std.specs.Prelude.{◌^◌, nat_le, All, option_to_list, position, vec_capacity, ⊤}
 pub use Rattle.indexmap.specs.IndexMap.{insert_entry, set_value_at}
 pub use Rattle.indexmap.specs.Layout.{length-set_value_at}
 pub use Rattle.shm_areas.proofs.Edits.{arranged_cut, arranged_filter, arranged_inserted, bare_filter, lower}

@@ -1,10 +1,10 @@
 -- A part of an attach takes another protection: where it begins and ends, and why it may stand there.
-use Rattle.shm_attach.proofs.Names.{most_at, ◌≡◌, ◌≢◌, ◌==◌, ◌^◌, eq-eqb, ne_eqb, nat_le, ℕ, ◌+◌, ◌-◌, ◌*◌, ◌/◌, ◌%◌, ◌<◌, ◌≤◌, zero, suc, Bool, true, false, not, ◌&&◌, nat_lt, lt-ltb, le-ltb, lt-leb, le-leb, List, [], ◌∷◌, length, Option, Some, None, refl, ap, ◌∙◌, arith, common_steps, none-some, All, All-nil, All-cons, All-head, All-tail, length-map, get, is_live, end_of, covering, cut, inserted, lowest_address, end_address, bare, bare_all, IsFit, Arranged, Tables, runner_view, runners_view, with_pieces_at, pieces_at, life_at, size_in, HasTable, OneTableEach, AreTablesSound, no_reservations, Piece, Runner, MOST_PIECES, MOST_SHMALL}
+use Rattle.shm_attach.proofs.Names.{most_at, ◌≡◌, ◌≢◌, ◌==◌, ◌^◌, eq-eqb, ne_eqb, nat_le, ℕ, ◌+◌, ◌-◌, ◌*◌, ◌/◌, ◌%◌, ◌<◌, ◌≤◌, zero, suc, Bool, true, false, not, ◌&&◌, nat_lt, lt-ltb, le-ltb, lt-leb, le-leb, List, [], ◌∷◌, length, Option, Some, None, cases_Bool, inl, inr, refl, ap, ◌∙◌, arith, common_steps, none-some, All, All-nil, All-cons, All-head, All-tail, length-map, get, is_live, end_of, covering, cut, inserted, lowest_address, end_address, bare, bare_all, IsFit, Arranged, Tables, runner_view, runners_view, with_pieces_at, pieces_at, life_at, size_in, HasTable, OneTableEach, AreTablesSound, no_reservations, Piece, Runner, MOST_PIECES, MOST_SHMALL}
 use Rattle.shm_base.specs.State as flat
 use Rattle.shm_base.specs.State.{pages_of}
-use Rattle.shm_base.specs.Mapping.{has_protection, low_end, high_end, part_between, turned, replaced, Protected, stopped, protects_piece, protects_from, protects_pieces, rounded}
+use Rattle.shm_base.specs.Mapping.{has_protection, low_end, high_end, part_between, turned, replaced, Protected, stopped, ended, with_split, protects_piece, protects_from, protects_pieces, rounded}
 use Rattle.shm_base.specs.declared.errno.Errno.TheVariants.{Enomem}
-use Rattle.shm_attach.specs.Mapping.{IsStretch, CanReplace, AreNow}
+use Rattle.shm_attach.specs.Mapping.{IsStretch, CanReplace, AreNow, noted, split_in}
 use Rattle.shm_attach.proofs.Accesses.{covering-passes}
 use Rattle.shm_attach.proofs.Processes.{length-inserted}
 use Rattle.shm_attach.proofs.Keeping.{life_at-changed, pieces_at-changed, with_pieces_at-same, with_pieces_at-twice}
@@ -139,12 +139,16 @@ protects-refused most w at to p ps next t many =
     let over : nat_lt most (length (turned w at to p ps)) ≡ true = lt-ltb most (length (turned w at to p ps)) (omega (arith, long, many)) in
     rw (t.found, t.lacks, over, may-test w p t.may) refl
 
+-- the segment of a piece that was split comes before those behind it
+split-noted : (id : ℕ) (before after : List flat.Piece) (x : Protected) → with_split id before after x ≡ noted (split_in id (length before) (length after)) x
+split-noted id before after x = elim (cases_Bool (nat_lt (length before) (length after))) [ inl h ↦ rw h refl | inr h ↦ rw h refl ]
+
 pub protects-turned : (most : ℕ) (w : Bool) (at to : ℕ) (p : flat.Piece) (ps : List flat.Piece) (next : ℕ → List flat.Piece → Protected) → IsTurnable w at p ps
-    → length (cut (low_end w at to p ps) (high_end w at to p ps) ps) < most → protects_piece most w at to ps next (covering at ps) ≡ next (end_of p) (turned w at to p ps)
+    → length (cut (low_end w at to p ps) (high_end w at to p ps) ps) < most → protects_piece most w at to ps next (covering at ps) ≡ noted (split_in p.seg (length ps) (length (turned w at to p ps))) (next (end_of p) (turned w at to p ps))
 protects-turned most w at to p ps next t room =
     let long = length-inserted (part_between w (low_end w at to p ps) (high_end w at to p ps) p) (cut (low_end w at to p ps) (high_end w at to p ps) ps) in
     let fits : nat_lt most (length (turned w at to p ps)) ≡ false = le-ltb most (length (turned w at to p ps)) (omega (arith, long, room)) in
-    rw (t.found, t.lacks, fits, may-test w p t.may) refl
+    rw (t.found, t.lacks, fits, may-test w p t.may) (split-noted p.seg ps (turned w at to p ps) (next (end_of p) (turned w at to p ps)))
 
 -- what the part leaves
 pub replaced_by : (p q : flat.Piece) (w : Bool) (size at low high : ℕ) (ps : List flat.Piece) → q ≡ part_between w low high p → IsLow p at low → IsHigh p size at high
@@ -182,7 +186,7 @@ protects-next zero most w to at ps lt enough = absurd (omega (arith, lt, enough)
 protects-next (suc left) most w to at ps lt enough = let less : suc left - 1 ≡ left = omega arith in rw (lt-leb to at lt, less) refl
 
 -- no page is left
-pub protects-done : (left most : ℕ) (w : Bool) (to at : ℕ) (ps : List flat.Piece) → to ≤ at → protects_from left most w to at ps ≡ record { pieces = ps; refusal = None }
+pub protects-done : (left most : ℕ) (w : Bool) (to at : ℕ) (ps : List flat.Piece) → to ≤ at → protects_from left most w to at ps ≡ ended ps
 protects-done zero most w to at ps le = refl
 protects-done (suc left) most w to at ps le = rw (le-leb to at le) refl
 

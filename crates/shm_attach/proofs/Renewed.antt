@@ -9,7 +9,7 @@ use Rattle.shm_areas.proofs.Placing.{covering_whole}
 use Rattle.shm_attach.specs.Spans.{HasPages}
 use Rattle.shm_attach.specs.Mapping.{KeepsOwn}
 use Rattle.shm_attach.proofs.Accesses.{covering-passes}
-use Rattle.std.proofs.lemmas.List.Concat.{flat_map-cons}
+use Rattle.shm_areas.proofs.Passing.{all-cut, all-inserted}
 use Rattle.shm_attach.proofs.Processes.{one_more, pieces_of-inserted, pieces_of-cut_met}
 
 -- A PIECE THAT A RANGE MEETS IS THAT OF AN ADDRESS IN IT
@@ -28,7 +28,7 @@ all-fit low (p ∷ ps) ar = All-cons IsFit p ps ar.1.0 (all-fit (end_of p) ps ar
 IsCovered : ℕ → ℕ → List Piece → Piece → Type 0
 IsCovered low high ps q = meets low high q ≡ true → covering (max low q.base) ps ≡ Some q
 
-not-here : (p : Piece) (ps : List Piece) (a : ℕ) → end_of p ≤ a → covering a (p ∷ ps) ≡ covering a ps
+pub not-here : (p : Piece) (ps : List Piece) (a : ℕ) → end_of p ≤ a → covering a (p ∷ ps) ≡ covering a ps
 not-here p ps a le = grind arith
 
 here : (p : Piece) (ps : List Piece) (a : ℕ) → p.base ≤ a → a < end_of p → covering a (p ∷ ps) ≡ Some p
@@ -46,7 +46,7 @@ all-covered l low high (p ∷ ps) ar =
 
 -- THE PIECES THAT A PART TAKES THE PLACE OF
 
-covers-found : (a : ℕ) (ps : List Piece) (p : Piece) → covering a ps ≡ Some p → (p.base ≤ a) × (a < end_of p)
+pub covers-found : (a : ℕ) (ps : List Piece) (p : Piece) → covering a ps ≡ Some p → (p.base ≤ a) × (a < end_of p)
 covers-found a [] p found = absurd (none-some p found)
 covers-found a (q ∷ ps) p found = elim (cases_Bool (covers q a)) [
   | inl h ↦ let same : q ≡ p = cc (rw h at found) in subst (λ (x : Piece). (x.base ≤ a) × (a < end_of x)) same (grind (arith, common_steps, h))
@@ -155,16 +155,6 @@ module _ (seg : ℕ → Bool) (page : ℕ → ℕ → Bool) where
       by false e = All-cons (HasPages seg page) p [] h (All-nil (HasPages seg page))
       by true e = All-append (HasPages seg page) (part_below from p) (part_above to p) (below-has from to p e h) (above-has from to p e h)
 
-  pub cut-has : (from to : ℕ) (ps : List Piece) → All (HasPages seg page) ps → All (HasPages seg page) (cut from to ps)
-  cut-has from to [] h = h
-  cut-has from to (p ∷ ps) h =
-      let rest = cut-has from to ps (All-tail (HasPages seg page) p ps h) in
-      rw (flat_map-cons (parts from to) p ps) (All-append (HasPages seg page) (parts from to p) (cut from to ps) (parts-have from to p (All-head (HasPages seg page) p ps h)) rest)
-
-  pub inserted-has : (p : Piece) (ps : List Piece) → HasPages seg page p → All (HasPages seg page) ps → All (HasPages seg page) (inserted p ps)
-  inserted-has p [] h hs = All-cons (HasPages seg page) p [] h hs
-  inserted-has p (q ∷ qs) h hs = grind (arith, All-cons (HasPages seg page), All-head (HasPages seg page) q qs hs, inserted-has p qs h (All-tail (HasPages seg page) q qs hs))
-
   module _ (w : Bool) (at to : ℕ) (p : Piece) (ps : List Piece) (ar : Arranged lowest_address ps) (found : covering at ps ≡ Some p) (order : at < to) (at-page : at % 4096 ≡ 0)
       (to-page : to % 4096 ≡ 0) (all : All (HasPages seg page) ps) where
     abbrev from : ℕ
@@ -249,7 +239,9 @@ module _ (seg : ℕ → Bool) (page : ℕ → ℕ → Bool) where
         ]
 
     pub turned-has : All (HasPages seg page) (inserted (part_between w from end p) (cut from end ps))
-    turned-has = inserted-has (part_between w from end p) (cut from end ps) part-has (cut-has from end ps all)
+    turned-has =
+        all-inserted (HasPages seg page) (part_between w from end p) (cut from end ps) part-has
+        (all-cut (HasPages seg page) from end (parts-have from end) ps all)
 
 -- a segment that has a piece has one still
 pub turned-named : (w : Bool) (at to : ℕ) (p : Piece) (ps : List Piece) → Arranged lowest_address ps → covering at ps ≡ Some p → at < to → (id : ℕ) → 0 < pieces_of id ps

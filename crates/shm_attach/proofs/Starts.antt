@@ -1,5 +1,5 @@
 -- The processes as they are declared.
-use Rattle.shm_attach.proofs.Names.{most_at, ◌≡◌, ◌≢◌, ℕ, zero, suc, ◌+◌, ◌<◌, ◌≤◌, nat_eq, List, [], ◌∷◌, ◌++◌, length, map, get_or, take, refl, ap, sym, ◌∙◌, arith, ne_eqb, length-take, common_steps, length-map, get_or-take, take_more, map-append, sum_by-cons, insert_entry, runner_at_start, pieces_of, attach_count, Process, Tables, runner_view, runners_view, pieces_at, AreCountsExact, no_reservations, Slab, bare, bare_all, counted, stored_at, AllHaveTables, Runner, TableView, MOST_PROCESSES}
+use Rattle.shm_attach.proofs.Names.{life_view, most_at, ◌≡◌, ◌≢◌, ℕ, zero, suc, ◌+◌, ◌<◌, ◌≤◌, nat_eq, List, [], ◌∷◌, ◌++◌, length, map, get_or, take, refl, ap, sym, ◌∙◌, arith, ne_eqb, length-take, common_steps, length-map, get_or-take, take_more, map-append, sum_by-cons, insert_entry, runner_at_start, pieces_of, attach_count, Process, Tables, runner_view, runners_view, pieces_at, AreCountsExact, no_reservations, Slab, bare, bare_all, counted, stored_at, AllHaveTables, Runner, TableView, MOST_PROCESSES}
 use Rattle.shm_base.specs.State as flat
 use Rattle.shm_attach.proofs.HavingTables.{pieces_at-bare}
 use Rattle.shm_attach.proofs.Callers.{nobody}
@@ -58,3 +58,17 @@ room-more most [] k r each own zero lt = own
 room-more most [] k r each own (suc i) lt = absurd (omega (arith, lt))
 room-more most (e ∷ es) k r each own zero lt = grind (arith, common_steps, each 0)
 room-more most (e ∷ es) k r each own (suc i) lt = grind (arith, common_steps, each (suc i), (room-more most es k r (λ j within. each (suc j) (omega (arith, within))) own i))
+
+-- a process that is put in behind the others begins with no piece
+pub started : (es fs : List (ℕ × Runner)) (ps : List Process) (i : ℕ) (d : Process) (r : Runner) → fs ≡ insert_entry nat_eq es (get_or ps i d).pid r
+    → runners_view es ≡ map runner_at_start (take i ps) → i < length ps
+    → ((a b : ℕ) (e : Process) → a < b → b < length ps → (get_or ps a e).pid ≢ (get_or ps b e).pid)
+    → life_view r.life ≡ flat.life_at_start (get_or ps i d).born → r.space.pieces ≡ []
+    → runners_view fs ≡ map runner_at_start (take (i + 1) ps)
+started es fs ps i d r is same lt apart life none =
+    let new : runner_view ((get_or ps i d).pid, r) ≡ runner_at_start (get_or ps i d) = grind (arith, common_steps, life, none) in
+    ap runners_view is ∙ view-more es ps i d r same lt apart new
+
+pub started-room : (most : ℕ) (es fs : List (ℕ × Runner)) (k : ℕ) (r : Runner) → fs ≡ insert_entry nat_eq es k r → ((i : ℕ) → i < length es → most_at es i ≡ most) → r.space.most ≡ most
+    → (i : ℕ) → i < length fs → most_at fs i ≡ most
+started-room most es fs k r is each own = rw is (room-more most es k r each own)

@@ -11,3 +11,4 @@ pub mod Lost
 pub mod Guest
 pub mod Mapping
 pub mod Failing
+pub mod Changes

@@ -1,10 +1,10 @@
 -- What an unmap and a protection answer, and what they leave of the pieces of one process.
-use Rattle.std.specs.Prelude.{◌≡◌, ℕ, ◌+◌, ◌*◌, ◌/◌, ◌-◌, ◌%◌, ◌<◌, ◌≤◌, Bool, nat_lt, if◌then◌else◌, List, length, Option, Some, None, Result, Ok, Err, true, All}
+use Rattle.std.specs.Prelude.{◌≡◌, ℕ, ◌+◌, ◌*◌, ◌/◌, ◌-◌, ◌%◌, ◌<◌, ◌≤◌, Bool, nat_lt, if◌then◌else◌, List, [], ◌∷◌, ◌++◌, length, Option, Some, None, option_to_list, IfSome, Result, Ok, Err, true, All}
 use Rattle.shm_base.specs.State as flat
 use Rattle.shm_base.specs.State.{Piece}
 use Rattle.shm_base.specs.Step.{with_pieces}
 use Rattle.shm_base.specs.Access.{end_of}
-use Rattle.shm_base.specs.Space.{lowest_address, end_address, covering, inserted, cut, pieces_of}
+use Rattle.shm_base.specs.Space.{lowest_address, end_address, covering, inserted, cut, new_piece, pieces_of}
 use Rattle.shm_attach.specs.Spans.{HasPages}
 use Rattle.shm_base.specs.Guest.{is_live}
 use Rattle.shm_base.specs.Mapping.{Protected, stopped, protects_piece, protects_from, protects_pieces}
@@ -20,6 +20,7 @@ use Rattle.shm_attach.specs.Spaces.{SpacesView, pieces_at, life_at, caller_seen}
 use Rattle.shm_attach.specs.Table.{AllTrue}
 use Rattle.shm_attach.specs.Tables.{HasTable}
 use Rattle.shm_attach.specs.Views.{runners_view, with_pieces_at, most_at}
+use Rattle.shm_attach.specs.declared.mapping.Passed.{Passed}
 use Rattle.shm_attach.specs.declared.process.Caller.{Caller}
 use Rattle.shm_attach.specs.declared.process.Runner.{Runner}
 use Rattle.shm_attach.specs.declared.tables.Tables.{Tables}
@@ -47,6 +48,13 @@ own_pieces s c = pieces_at s.runners c.index
 abbrev pub with_own_pieces : SpacesView → Caller → List Piece → List flat.Runner
 with_own_pieces s c ps = with_pieces s.runners (caller_seen c s.runners) ps
 
+-- the pieces of a caller without those in a range of so many pages, and the processes once a segment is attached there
+abbrev pub left_beside : SpacesView → Caller → ℕ → ℕ → List Piece
+left_beside s c base pages = cut base (base + PAGE_SIZE * pages) (own_pieces s c)
+
+abbrev pub attached : SpacesView → Caller → ℕ → ℕ → ℕ → Bool → List flat.Runner
+attached s c seg base pages w = with_own_pieces s c (inserted (new_piece seg base pages w) (left_beside s c base pages))
+
 -- an unmap leaves these processes, and is refused just where its rest would be too many pieces
 abbrev pub unmapped : SpacesView → Caller → ℕ → ℕ → List flat.Runner
 unmapped s c from to = with_own_pieces s c (cut from to (own_pieces s c))
@@ -69,16 +77,39 @@ held es i = pieces_at (runners_view es) i
 abbrev pub protected_between : List (ℕ × Runner) → ℕ → Bool → ℕ → ℕ → Protected
 protected_between es i w from to = protects_from ((to - from) / PAGE_SIZE) (most_at es i) w to from (held es i)
 
+-- with these segments noted before
+abbrev pub noted : List ℕ → Protected → Protected
+noted ids x = record x { split = ids ++ x.split }
+
+-- a segment is named where a change leaves more pieces than there were
+abbrev pub split_in : ℕ → ℕ → ℕ → List ℕ
+split_in id before after = if nat_lt before after then id ∷ [] else []
+
+-- the parts of that
+abbrev pub pieces_between : List (ℕ × Runner) → ℕ → Bool → ℕ → ℕ → List Piece
+pieces_between es i w from to = (protected_between es i w from to).pieces
+
+abbrev pub split_between : List (ℕ × Runner) → ℕ → Bool → ℕ → ℕ → List ℕ
+split_between es i w from to = (protected_between es i w from to).split
+
+abbrev pub refusal_between : List (ℕ × Runner) → ℕ → Bool → ℕ → ℕ → Option Errno
+refusal_between es i w from to = (protected_between es i w from to).refusal
+
 -- how a protection goes on behind a piece, or where it stopped
-abbrev pub continued : Result ℕ Errno → (ℕ → List Piece → Protected) → List Piece → Protected
-continued (Ok at) next ps = next at ps
+abbrev pub continued : Result Passed Errno → (ℕ → List Piece → Protected) → List Piece → Protected
+continued (Ok passed) next ps = noted (option_to_list passed.split) (next passed.end ps)
 continued (Err e) next ps = stopped ps e
 
 -- a process has what a protection makes of its pieces at the one that an address lies in
-abbrev pub IsProtectedAt : List (ℕ × Runner) → List (ℕ × Runner) → ℕ → Bool → ℕ → ℕ → Result ℕ Errno → Type 0
+abbrev pub IsProtectedAt : List (ℕ × Runner) → List (ℕ × Runner) → ℕ → Bool → ℕ → ℕ → Result Passed Errno → Type 0
 IsProtectedAt es fs i w at to r =
     (next : ℕ → List Piece → Protected)
     → protects_piece (most_at es i) w at to (held es i) next (covering at (held es i)) ≡ continued r next (held fs i)
+
+-- a process does not have fewer pieces now, and has one more, for which there is room, where a segment is named
+pub record Grows (es fs : List (ℕ × Runner)) (i : ℕ) (split : Option ℕ) : Type 0 where
+  pub more : length (held es i) + length (option_to_list split) ≤ length (held fs i)
+  pub room : IfSome split (λ _. length (held fs i) ≤ most_at es i)
 
 -- a range of the attach of a piece: whole pages of the addresses, and of the segment
 pub record IsStretch (p : Piece) (low high : ℕ) : Type 0 where
@@ -110,3 +141,7 @@ pub record AreNow (es fs : List (ℕ × Runner)) (t u : Tables) (i : ℕ) (ps : 
   pub most : (j : ℕ) → most_at fs j ≡ most_at es j
   pub sound : AreTablesSound no_reservations fs u
   pub translated : (at : ℕ → ℕ → Option ℕ) → AllTrue at t.slab → AllTrue at u.slab
+
+-- a process has what a piece makes of its pieces
+abbrev pub Exchanged : List (ℕ × Runner) → List (ℕ × Runner) → Tables → Tables → ℕ → Stored → Type 0
+Exchanged es fs t u i p = AreNow es fs t u i (exchanged p (held es i))

@@ -11,7 +11,7 @@ pub record Translation : Type 0 where
   pub page : ℕ
   pub frame : Option ℕ
 
--- `most` are the most pieces of a process, `lost` the segments that lost pieces in the last call that took some
+-- `most` are the most pieces of a process, `lost` the segments that the last change of pieces concerns
 pub record SpacesView : Type 0 where
   pub runners : List Runner
   pub translations : List Translation
@@ -21,6 +21,10 @@ pub record SpacesView : Type 0 where
 -- each translation is what the residency says
 abbrev pub AreTrue : List Translation → StoreView → Type 0
 AreTrue ts m = All (λ (t : Translation). t.frame ≡ frame_of m t.seg t.page) ts
+
+-- translations that were true of a store are true of it still
+abbrev pub KeepTrue : SpacesView → SpacesView → Type 0
+KeepTrue s t = (m : StoreView) → AreTrue s.translations m → AreTrue t.translations m
 
 abbrev pub pieces_in : Option Runner → List Piece
 pieces_in None = []

@@ -1,11 +1,13 @@
 -- Spans of bytes of segments, as the places that an access asks for.
-use Rattle.std.specs.Prelude.{ℕ, ◌≡◌, ◌+◌, ◌<◌, Bool, true, false, List, Option, Some, option_map, map, All, sum_by}
+use Rattle.std.specs.Prelude.{ℕ, ◌≡◌, ◌+◌, ◌<◌, ◌^◌, Bool, true, false, List, Option, Some, option_map, map, All, sum_by}
 use Rattle.shm_base.specs.State.{Piece, Runner}
 use Rattle.shm_base.specs.Access.{Place, places, writable_places}
 use Rattle.shm_base.specs.Processes.{pieces_of_caller}
 use Rattle.shm_base.specs.Step.{caller_from}
-use Rattle.shm_base.specs.Spans.{span_places, InPage, page_of}
+use Rattle.shm_base.specs.Spans.{run, span_places, InPage, page_of}
 use Rattle.shm_base.specs.declared.paging.Span.{Span}
+use Rattle.slab.specs.Slab.{Slab}
+use Rattle.shm_attach.specs.Table.{AllTrue, TableView}
 
 -- a place without its mark
 abbrev pub unmarked : Place → Place
@@ -39,6 +41,15 @@ pub record AreSpans (write : Bool) (ps : List Piece) (addr len : ℕ) (s : List 
   pub within : All InPage s
   pub sum : sum_by (λ (p : Span). p.len) s ≡ len
   pub pages : (test : ℕ → ℕ → Bool) → PassPages test ps → All (λ (p : Span). test p.seg (page_of p) ≡ true) s
+
+-- the span of an access to addresses of one page, with the frame that its table keeps for the page
+pub record IsSpan (write : Bool) (ps : List Piece) (addr len : ℕ) (t : Slab TableView) (s : Span) : Type 0 where
+  pub places : wanted_in write ps addr len ≡ Some (run s.seg s.at s.len false)
+  pub within : InPage s
+  pub size : s.len ≡ len
+  pub low : addr < 2 ^ 48
+  pub pages : (test : ℕ → ℕ → Bool) → PassPages test ps → test s.seg (page_of s) ≡ true
+  pub frames : (at : ℕ → ℕ → Option ℕ) → AllTrue at t → s.frame ≡ at s.seg (page_of s)
 
 -- a piece whose segment passes one test, and each of whose pages another
 abbrev pub HasPages : (ℕ → Bool) → (ℕ → ℕ → Bool) → Piece → Type 0

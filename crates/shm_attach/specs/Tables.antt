@@ -1,11 +1,11 @@
 -- How the tables of the attached segments are tied to the pieces.
-use Rattle.std.specs.Prelude.{◌≡◌, ℕ, ◌+◌, ◌≤◌, List, [], slice_get, Option, Some, None, nat_eq, All}
+use Rattle.std.specs.Prelude.{◌≡◌, ℕ, ◌+◌, ◌<◌, ◌≤◌, List, [], slice_get, Option, Some, None, nat_eq, All}
 use Rattle.std.specs.HashMap as hash
 use Rattle.slab.specs.Slab.{Slab, get}
 use Rattle.shm_areas.specs.declared.piece.Piece.{Piece}
 use Rattle.shm_attach.specs.declared.process.Runner.{Runner}
 use Rattle.shm_attach.specs.declared.tables.Tables.{Tables}
-use Rattle.shm_attach.specs.Table.{TableView, seg_in, count_in, size_in}
+use Rattle.shm_attach.specs.Table.{AllTrue, TableView, seg_in, count_in, size_in}
 
 abbrev pub counted_under : Slab TableView → Option ℕ → ℕ
 counted_under s None = 0
@@ -46,3 +46,20 @@ stored_at es i = stored_in (slice_get es i)
 -- so it is with every piece
 abbrev pub AllHaveTables : List (ℕ × Runner) → Slab TableView → Type 0
 AllHaveTables es t = (i : ℕ) → All (HasTable t) (stored_at es i)
+
+-- THROUGH A CHANGE
+
+-- the counts stay
+abbrev pub KeepCounts : Tables → Tables → Type 0
+KeepCounts t u = (id : ℕ) → counted u id ≡ counted t id
+
+-- each piece that had its table has it still, or does if its segment is still counted
+abbrev pub KeepTables : Slab TableView → Slab TableView → Type 0
+KeepTables t u = (p : Piece) → HasTable t p → HasTable u p
+
+abbrev pub KeepCounted : Tables → Tables → Type 0
+KeepCounted t u = (p : Piece) → HasTable t.slab p → 0 < counted u p.seg → HasTable u.slab p
+
+-- frames that were true are true of the same residency
+abbrev pub KeepFrames : Slab TableView → Slab TableView → Type 0
+KeepFrames t u = (at : ℕ → ℕ → Option ℕ) → AllTrue at t → AllTrue at u

@@ -1,8 +1,8 @@
 //! Attaching pages of a segment.
 ghost use Rattle.std.specs.Prelude.{◌≡◌, ◌+◌, ◌*◌, ◌≤◌, length, OnOk, OnErr};
-ghost use Rattle.shm_base.specs.Space.{new_piece, inserted, cut, cut_segments};
-ghost use Rattle.shm_base.specs.Step.{with_pieces};
-ghost use Rattle.shm_attach.specs.Spaces.{pieces_at, caller_seen, IsCaller, AreTrue};
+ghost use Rattle.shm_base.specs.Space.{cut_segments};
+ghost use Rattle.shm_attach.specs.Mapping.{own_pieces, left_beside, attached};
+ghost use Rattle.shm_attach.specs.Spaces.{IsCaller, AreTrue};
 ghost use Rattle.shm_attach.specs.Place.{IsRange};
 ghost use Rattle.shm_base.specs.declared.bounds.TheConstants.{MOST_SHMALL};
 ghost use Rattle.shm_base.specs.declared.paging.TheConstants.{PAGE_SIZE};
@@ -32,11 +32,14 @@ impl Spaces {
         requires live { IsCaller caller.now self.old.runners }
         requires pages { (1 ≤ pages) × (pages ≤ MOST_SHMALL) }
         requires range { IsRange pages base }
-        requires room { length (cut base (base + PAGE_SIZE * pages) (pieces_at self.old.runners caller.now.index)) + 1 ≤ self.old.most }
-        ensures lost { OnOk result (self.new.lost ≡ cut_segments base (base + PAGE_SIZE * pages) (pieces_at self.old.runners caller.now.index)) }
-        ensures runners { OnOk result (self.new.runners ≡ with_pieces self.old.runners (caller_seen caller.now self.old.runners) (inserted (new_piece seg base pages writable) (cut base (base + PAGE_SIZE * pages) (pieces_at self.old.runners caller.now.index)))) }
+        requires room { length (left_beside self.old caller.now base pages) + 1 ≤ self.old.most }
+        ensures lost { OnOk result (self.new.lost
+            ≡ cut_segments base (base + PAGE_SIZE * pages) (own_pieces self.old caller.now)) }
+        ensures runners { OnOk result (self.new.runners
+            ≡ attached self.old caller.now seg base pages writable) }
         ensures most { self.new.most ≡ self.old.most }
-        ensures translated { AreTrue self.old.translations store.now → AreTrue self.new.translations store.now }
+        ensures translated { AreTrue self.old.translations store.now
+            → AreTrue self.new.translations store.now }
         ensures err { OnErr result (self.new ≡ self.old) }
     {
         let end = base + PAGE_SIZE * pages as u64;

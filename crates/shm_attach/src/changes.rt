@@ -2,21 +2,21 @@
 //! `take`, whatever the cause: shmat, a remap, shmdt, fork, exec and exit. The pieces, the counts and the
 //! translations change together, so that the counts stay exact and each piece has its segment's table. A shmat reserves
 //! that table by one count more until its piece stands.
-ghost use Rattle.std.specs.Prelude.{◌≡◌, ◌≢◌, ℕ, Option, ◌<◌, ◌≤◌, ◌+◌, length, true, All};
+ghost use Rattle.std.specs.Prelude.{◌≡◌, ℕ, ◌<◌, ◌≤◌, ◌+◌, length, true, All};
 ghost use Rattle.shm_base.specs.Guest.{is_live};
-ghost use Rattle.shm_base.specs.Space.{lowest_address, inserted, cut, meets, pieces_of};
+ghost use Rattle.shm_base.specs.Space.{lowest_address, inserted, meets, pieces_of};
 ghost use Rattle.shm_areas.specs.declared.piece.Piece.{Piece as Stored};
 ghost use Rattle.shm_base.specs.declared.bounds.TheConstants.{MOST_PIECES};
 ghost use Rattle.shm_attach.specs.Exact.{most_of_segment};
 ghost use Rattle.shm_areas.specs.Arranged.{bare, bare_all, Arranged};
-ghost use Rattle.shm_attach.specs.Views.{life_view, with_pieces_at, with_life_at, runners_view, most_at};
-ghost use Rattle.shm_attach.specs.Spaces.{pieces_at, life_at};
-ghost use Rattle.shm_attach.specs.Table.{AllTrue};
-ghost use Rattle.shm_attach.specs.Tables.{counted, stored_at, HasTable, OneTableEach};
+ghost use Rattle.shm_attach.specs.Views.{life_view, with_life_at, runners_view, most_at};
+ghost use Rattle.shm_attach.specs.Spaces.{life_at};
+ghost use Rattle.shm_attach.specs.Tables.{counted, stored_at, HasTable, OneTableEach, KeepCounted, KeepTables};
 ghost use Rattle.shm_attach.specs.Place.{IsPlaceFor};
 ghost use Rattle.shm_attach.specs.Part.{left, CanGo, LeavesRoom};
 ghost use Rattle.shm_attach.specs.Exact.{AreTablesSound, HasReservations, one_reserved};
-ghost use Rattle.shm_attach.specs.Mapping.{held, exchanged, AreNow, CanReplace};
+ghost use Rattle.shm_attach.specs.Changes.{IsChanged, AreRecounted};
+ghost use Rattle.shm_attach.specs.Mapping.{held, Exchanged, CanReplace};
 
 use crate::process::{Life, Runner};
 use crate::tables::Tables;
@@ -36,7 +36,7 @@ pub(crate) enum Part {
 #[inline(always)]
 pub(crate) fn space_at(processes: &IndexMap<u32, Runner>, index: usize) -> &Space
     requires { index < length processes.now.entries }
-    ensures flat { bare_all result.now.pieces ≡ pieces_at (runners_view processes.now.entries) index }
+    ensures flat { bare_all result.now.pieces ≡ held processes.now.entries index }
     ensures stored { result.now.pieces ≡ stored_at processes.now.entries index }
     ensures most { result.now.most ≡ most_at processes.now.entries index }
 {
@@ -52,17 +52,13 @@ pub(crate) fn put(
 )
     requires there { index < length processes.old.entries }
     requires live { is_live (life_at (runners_view processes.old.entries) index) ≡ true }
-    requires place { IsPlaceFor (bare piece) (pieces_at (runners_view processes.old.entries) index) }
-    requires room { length (pieces_at (runners_view processes.old.entries) index) < most_at processes.old.entries index }
+    requires place { IsPlaceFor (bare piece) (held processes.old.entries index) }
+    requires room { length (held processes.old.entries index) < most_at processes.old.entries index }
     requires table { HasTable tables.old.slab piece }
     requires reservations { HasReservations processes.old.entries tables.old }
-    ensures runners { runners_view processes.new.entries ≡ with_pieces_at (runners_view processes.old.entries) index (inserted (bare piece)) }
-    ensures count { length processes.new.entries ≡ length processes.old.entries }
-    ensures others { (j : ℕ) → j ≢ index → stored_at processes.new.entries j ≡ stored_at processes.old.entries j }
-    ensures most { (j : ℕ) → most_at processes.new.entries j ≡ most_at processes.old.entries j }
-    ensures sound { (extra : ℕ → ℕ) → AreTablesSound extra processes.old.entries tables.old → AreTablesSound extra processes.new.entries tables.new }
-    ensures tables { (p : Stored) → HasTable tables.old.slab p → HasTable tables.new.slab p }
-    ensures translated { (at : ℕ → ℕ → Option ℕ) → AllTrue at tables.old.slab → AllTrue at tables.new.slab }
+    ensures { let kept = KeepTables tables.old.slab tables.new.slab in
+        let es = processes.old.entries in
+        IsChanged kept es processes.new.entries tables.old tables.new index (inserted (bare piece)) }
 {
     tables.replace(piece.seg, piece.key, 0, 1);
     processes[index].space.insert(piece);
@@ -77,10 +73,7 @@ fn recount(tables: &mut Tables, met: &[Piece], from: u64, to: u64)
     requires small { (id : ℕ) → counted tables.old id ≤ most_of_segment + 1 }
     requires few { length met.now ≤ MOST_PIECES }
     requires tied { OneTableEach tables.old }
-    ensures counts { (id : ℕ) → counted tables.new id + pieces_of id (bare_all met.now) ≡ counted tables.old id + pieces_of id (cut from to (bare_all met.now)) }
-    ensures tables { (p : Stored) → HasTable tables.old.slab p → 0 < counted tables.new p.seg → HasTable tables.new.slab p }
-    ensures translated { (at : ℕ → ℕ → Option ℕ) → AllTrue at tables.old.slab → AllTrue at tables.new.slab }
-    ensures tied { OneTableEach tables.new }
+    ensures { AreRecounted met.now from to tables.old tables.new }
 {
     for piece in met {
         let parts = piece.parts_outside(from, to);
@@ -96,15 +89,13 @@ pub(crate) fn take(
     part: Part,
 )
     requires there { index < length processes.old.entries }
-    requires part { CanGo part (pieces_at (runners_view processes.old.entries) index) }
-    requires room { LeavesRoom (most_at processes.old.entries index) part (pieces_at (runners_view processes.old.entries) index) }
+    requires part { CanGo part (held processes.old.entries index) }
+    requires room { let es = processes.old.entries in
+        LeavesRoom (most_at es index) part (held es index) }
     requires reservations { HasReservations processes.old.entries tables.old }
-    ensures runners { runners_view processes.new.entries ≡ with_pieces_at (runners_view processes.old.entries) index (left part) }
-    ensures count { length processes.new.entries ≡ length processes.old.entries }
-    ensures most { (j : ℕ) → most_at processes.new.entries j ≡ most_at processes.old.entries j }
-    ensures sound { (extra : ℕ → ℕ) → AreTablesSound extra processes.old.entries tables.old → AreTablesSound extra processes.new.entries tables.new }
-    ensures tables { (p : Stored) → HasTable tables.old.slab p → 0 < counted tables.new p.seg → HasTable tables.new.slab p }
-    ensures translated { (at : ℕ → ℕ → Option ℕ) → AllTrue at tables.old.slab → AllTrue at tables.new.slab }
+    ensures { let kept = KeepCounted tables.old tables.new in
+        let es = processes.old.entries in
+        IsChanged kept es processes.new.entries tables.old tables.new index (left part) }
 {
     let space = &mut processes[index].space;
     match part {
@@ -131,7 +122,7 @@ pub(crate) fn exchange(
 )
     requires can { CanReplace processes.old.entries tables.old index piece }
     requires reserved { AreTablesSound (one_reserved piece.seg) processes.old.entries tables.old }
-    ensures { AreNow processes.old.entries processes.new.entries tables.old tables.new index (exchanged piece (held processes.old.entries index)) }
+    ensures { Exchanged processes.old.entries processes.new.entries tables.old tables.new index piece }
 {
     let range = Part::Range {
         from: piece.base,
@@ -145,7 +136,8 @@ pub(crate) fn exchange(
 /// Another state for the process at a place.
 pub(crate) fn set_life_at(processes: &mut IndexMap<u32, Runner>, index: usize, life: Life)
     requires { index < length processes.old.entries }
-    ensures runners { runners_view processes.new.entries ≡ with_life_at (runners_view processes.old.entries) index (life_view life) }
+    ensures runners { let rs = runners_view processes.old.entries in
+        runners_view processes.new.entries ≡ with_life_at rs index (life_view life) }
     ensures count { length processes.new.entries ≡ length processes.old.entries }
     ensures stored { (j : ℕ) → stored_at processes.new.entries j ≡ stored_at processes.old.entries j }
     ensures most { (j : ℕ) → most_at processes.new.entries j ≡ most_at processes.old.entries j }

@@ -1,9 +1,9 @@
 //! Detaching pieces: those of one attach by shmdt, and all of them by exec and exit.
 ghost use Rattle.std.specs.Prelude.{◌≡◌, []};
 ghost use Rattle.shm_base.specs.Space.{without_named};
-ghost use Rattle.shm_base.specs.Step.{with_pieces, with_end, segments_of};
-ghost use Rattle.shm_fault.specs.Store.{StoreView};
-ghost use Rattle.shm_attach.specs.Spaces.{pieces_at, caller_seen, IsCaller, AreTrue};
+ghost use Rattle.shm_base.specs.Step.{with_end, segments_of};
+ghost use Rattle.shm_attach.specs.Mapping.{own_pieces, with_own_pieces};
+ghost use Rattle.shm_attach.specs.Spaces.{caller_seen, IsCaller, KeepTrue};
 
 use crate::changes::{Part, set_life_at, space_at, take};
 use crate::process::{Caller, Life};
@@ -15,9 +15,10 @@ impl Spaces {
     /// takes no memory.
     pub fn detach(&mut self, caller: &Caller, addr: u64, seg: u32)
         requires { IsCaller caller.now self.old.runners }
-        ensures gone { self.new.runners ≡ with_pieces self.old.runners (caller_seen caller.now self.old.runners) (without_named addr seg (pieces_at self.old.runners caller.now.index)) }
+        ensures gone { self.new.runners
+            ≡ with_own_pieces self.old caller.now (without_named addr seg (own_pieces self.old caller.now)) }
         ensures most { self.new.most ≡ self.old.most }
-        ensures translated { (m : StoreView) → AreTrue self.old.translations m → AreTrue self.new.translations m }
+        ensures translated { KeepTrue self.old self.new }
     {
         take(
             &mut self.processes,
@@ -31,9 +32,9 @@ impl Spaces {
     pub fn exec(&mut self, caller: &Caller)
         requires { IsCaller caller.now self.old.runners }
         ensures lost { self.new.lost ≡ segments_of (caller_seen caller.now self.old.runners) }
-        ensures runners { self.new.runners ≡ with_pieces self.old.runners (caller_seen caller.now self.old.runners) [] }
+        ensures runners { self.new.runners ≡ with_own_pieces self.old caller.now [] }
         ensures most { self.new.most ≡ self.old.most }
-        ensures translated { (m : StoreView) → AreTrue self.old.translations m → AreTrue self.new.translations m }
+        ensures translated { KeepTrue self.old self.new }
     {
         self.lost
             .note(space_at(&self.processes, caller.index).pieces());
@@ -52,9 +53,10 @@ impl Spaces {
     pub fn exit(&mut self, caller: &Caller)
         requires { IsCaller caller.now self.old.runners }
         ensures lost { self.new.lost ≡ segments_of (caller_seen caller.now self.old.runners) }
-        ensures runners { self.new.runners ≡ with_end self.old.runners (caller_seen caller.now self.old.runners) }
+        ensures runners { self.new.runners
+            ≡ with_end self.old.runners (caller_seen caller.now self.old.runners) }
         ensures most { self.new.most ≡ self.old.most }
-        ensures translated { (m : StoreView) → AreTrue self.old.translations m → AreTrue self.new.translations m }
+        ensures translated { KeepTrue self.old self.new }
     {
         self.exec(caller);
         set_life_at(&mut self.processes, caller.index, Life::Ended);

@@ -22,7 +22,8 @@ pub(crate) struct Found {
 impl Spaces {
     // The process with a pid.
     fn find(&self, pid: u32) -> Option<Found>
-        ensures some { IfSome result (λ f. standing pid self.now.runners ≡ Some (found_as pid f self.now.runners)) }
+        ensures some { IfSome result (λ f. standing pid self.now.runners
+            ≡ Some (found_as pid f self.now.runners)) }
         ensures none { IfNone result (standing pid self.now.runners ≡ None) }
     {
         let (index, _, runner) = self.processes.get_full(&pid)?;
@@ -33,7 +34,7 @@ impl Spaces {
     }
 
     /// A process joins, with no piece: the new one takes the place of an ended one that has its pid, and no memory
-    /// then; else it comes behind the others, of which there may be `most`, and takes its room. Out of memory
+    /// then; else it comes after the others, of which there may be `most`, and takes its room. Out of memory
     /// changes nothing, and comes only where nothing is refused.
     pub fn admit(
         &mut self,
@@ -42,7 +43,8 @@ impl Spaces {
         most: u32,
     ) -> Result<Result<(), AdmitRefusal>, HostMemory>
         requires most { most ≤ MOST_PROCESSES }
-        ensures joins { IfOk result (λ r. joins most process.now self.old.runners ≡ left_by r self.new.runners) }
+        ensures joins { IfOk result (λ r. joins most process.now self.old.runners
+            ≡ left_by r self.new.runners) }
         ensures refused { IfOk result (λ r. OnErr r (self.new ≡ self.old)) }
         ensures err { OnErr result (self.new ≡ self.old) }
         ensures memory { OnErr result (is_ok (joins most process.now self.old.runners) ≡ true) }
@@ -69,8 +71,10 @@ impl Spaces {
 
     // A process joins in the place of one that ended.
     fn admit_again(&mut self, process: &Process, found: &Found) -> Result<(), AdmitRefusal>
-        requires { standing process.now.pid self.old.runners ≡ Some (found_as process.now.pid found.now self.old.runners) }
-        ensures joins { joins_beside 0 process.now self.old.runners (Some (found_as process.now.pid found.now self.old.runners)) ≡ left_by result self.new.runners }
+        requires { standing process.now.pid self.old.runners
+            ≡ Some (found_as process.now.pid found.now self.old.runners) }
+        ensures joins { let own = found_as process.now.pid found.now self.old.runners in
+            joins_beside 0 process.now self.old.runners (Some own) ≡ left_by result self.new.runners }
         ensures refused { OnErr result (self.new ≡ self.old) }
         ensures rest { self.new ≡ record self.old { runners = self.new.runners } }
         ensures counts { (id : ℕ) → attach_count self.new.runners id ≡ attach_count self.old.runners id }

@@ -1,5 +1,5 @@
-//! The segments that lost pieces.
-ghost use Rattle.std.specs.Prelude.{◌≡◌, ◌≤◌, [], length, map, IfOk};
+//! The segments that a change of pieces concerns: those that lost pieces, or those of pieces that were split.
+ghost use Rattle.std.specs.Prelude.{◌≡◌, ◌+◌, ◌++◌, ◌≤◌, [], length, map, option_to_list, IfOk};
 ghost use Rattle.shm_areas.specs.declared.piece.Piece.{Piece as Stored};
 
 use shm_areas::Piece;
@@ -7,8 +7,8 @@ use shm_base::HostMemory;
 use std::alloc::{AllocError, Global};
 use std::marker::Model;
 
-/// The segments that lost pieces in a call, by rising base: a segment is here once for each piece that went or
-/// was cut. There is room for the most pieces of a process, so noting them takes no memory.
+/// The segments that a call concerns, by rising base: a segment is here once for each piece that went or was cut, or
+/// that a protection split. There is room for the most pieces of a process, so noting them takes no memory.
 pub(crate) struct Lost {
     segments: Vec<u32>,
     most: u32,
@@ -63,6 +63,23 @@ impl Lost {
         self.segments.clear();
         for piece in pieces {
             self.segments.push_reserved(piece.seg);
+        }
+    }
+
+    /// Forgets those of an earlier call.
+    pub(crate) fn clear(&mut self)
+        ensures { self.new ≡ record self.old { segments = [] } }
+    {
+        self.segments.clear();
+    }
+
+    /// Notes one more segment, if there is one.
+    pub(crate) fn add(&mut self, segment: Option<u32>)
+        requires { length self.old.segments + length (option_to_list segment) ≤ self.old.most }
+        ensures { self.new ≡ record self.old { segments = self.old.segments ++ option_to_list segment } }
+    {
+        if let Some(segment) = segment {
+            self.segments.push_reserved(segment);
         }
     }
 

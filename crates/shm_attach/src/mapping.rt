@@ -1,22 +1,20 @@
 //! What a process does to its attached memory beside the calls: it unmaps a range (munmap(2)), or protects one
 //! (mprotect(2)). Neither takes memory.
-ghost use Rattle.std.specs.Prelude.{◌≡◌, ◌+◌, ◌%◌, ◌^◌, ◌<◌, ◌≤◌, Some, true, length, SomeIff, IfOk, OnOk, OnErr};
+ghost use Rattle.std.specs.Prelude.{◌≡◌, ◌+◌, ◌%◌, ◌^◌, ◌<◌, ◌≤◌, [], Some, true, length, option_to_list, SomeIff, IfOk, OnOk, OnErr};
 ghost use Rattle.shm_base.specs.Access as access;
 ghost use Rattle.shm_base.specs.Guest.{is_live};
 ghost use Rattle.shm_base.specs.Mapping as flat;
-ghost use Rattle.shm_base.specs.Space.{lowest_address, covering, inserted, cut, cut_segments};
-ghost use Rattle.shm_base.specs.Step.{with_pieces};
+ghost use Rattle.shm_base.specs.Space.{lowest_address, covering, cut, cut_segments};
 ghost use Rattle.shm_base.specs.declared.bounds.TheConstants.{MOST_PIECES};
 ghost use Rattle.shm_areas.specs.Arranged.{bare, bare_all, Arranged, IsFit, IsCovering};
-ghost use Rattle.shm_fault.specs.Store.{StoreView};
 ghost use Rattle.shm_attach.specs.Exact.{AreTablesSound, no_reservations};
 ghost use Rattle.shm_attach.specs.Mapping.{refusal_in, IsPageRange, held, own_pieces, unmapped, unmap_refusal, protected, protected_by};
-ghost use Rattle.shm_attach.specs.Mapping.{protected_between, IsProtectedAt, IsStretch, KeepsOwn, exchanged, CanReplace, AreNow};
-ghost use Rattle.shm_attach.specs.Place.{IsRange};
-ghost use Rattle.shm_attach.specs.Spaces.{pieces_at, life_at, caller_seen, IsCaller, AreTrue};
+ghost use Rattle.shm_attach.specs.Mapping.{pieces_between, split_between, refusal_between, split_in, IsProtectedAt, Grows, IsStretch, KeepsOwn, Exchanged, CanReplace, AreNow};
+ghost use Rattle.shm_attach.specs.Spaces.{life_at, IsCaller, KeepTrue};
 ghost use Rattle.shm_attach.specs.Views.{runners_view, most_at};
 
 use crate::changes::{Part, exchange, space_at, take};
+use crate::lost::Lost;
 use crate::process::{Caller, Runner};
 use crate::spaces::Spaces;
 use crate::tables::Tables;
@@ -94,14 +92,31 @@ fn part_between(piece: &Piece, low: u64, high: u64, writable: bool) -> Piece
 fn renew(processes: &mut IndexMap<u32, Runner>, tables: &mut Tables, index: usize, part: Piece)
     requires can { CanReplace processes.old.entries tables.old index part }
     requires sound { AreTablesSound no_reservations processes.old.entries tables.old }
-    ensures { AreNow processes.old.entries processes.new.entries tables.old tables.new index (exchanged part (held processes.old.entries index)) }
+    ensures { Exchanged processes.old.entries processes.new.entries tables.old tables.new index part }
 {
     tables.replace(part.seg, part.key, 0, 1);
     exchange(processes, tables, index, part);
 }
 
-/// Protects the piece that an address lies in, from the address on as far as the range reaches into it, and tells
-/// where the piece ends.
+/// Where a protection goes on after a piece, and the piece's segment where the piece was split.
+#[derive(Clone, Copy)]
+pub(crate) struct Passed {
+    pub(crate) end: u64,
+    pub(crate) split: Option<u32>,
+}
+
+/// The segment, where a piece that is put in place of a range would be one more. So many are left without the range.
+fn split_by(space: &Space, left: usize, seg: u32) -> Option<u32>
+    ensures { option_to_list result ≡ split_in seg (length space.now.pieces) (left + 1) }
+{
+    if space.pieces().len() <= left {
+        Some(seg)
+    } else {
+        None
+    }
+}
+
+/// Protects the piece that an address lies in, from the address on as far as the range reaches into it.
 fn protect_piece(
     processes: &mut IndexMap<u32, Runner>,
     tables: &mut Tables,
@@ -109,16 +124,18 @@ fn protect_piece(
     at: u64,
     to: u64,
     writable: bool,
-) -> Result<u64, Errno>
+) -> Result<Passed, Errno>
     requires there { index < length processes.old.entries }
     requires live { is_live (life_at (runners_view processes.old.entries) index) ≡ true }
     requires most { most_at processes.old.entries index ≤ MOST_PIECES }
     requires range { IsPageRange at to }
     requires sound { AreTablesSound no_reservations processes.old.entries tables.old }
     ensures protects { IsProtectedAt processes.old.entries processes.new.entries index writable at to result }
-    ensures now { AreNow processes.old.entries processes.new.entries tables.old tables.new index (held processes.new.entries index) }
+    ensures now { let fs = processes.new.entries in
+        AreNow processes.old.entries fs tables.old tables.new index (held fs index) }
     ensures own { KeepsOwn (held processes.old.entries index) (held processes.new.entries index) }
-    ensures further { IfOk result (λ end. (at + 4096 ≤ end) × (end % 4096 ≡ 0)) }
+    ensures grows { IfOk result (λ p. Grows processes.old.entries processes.new.entries index p.split) }
+    ensures further { IfOk result (λ passed. (at + 4096 ≤ passed.end) × (passed.end % 4096 ≡ 0)) }
 {
     let space = space_at(processes, index);
     let Some(piece) = space.piece_at(at) else {
@@ -128,22 +145,31 @@ fn protect_piece(
         return Err(Errno::Eacces);
     }
     if piece.writable == writable {
-        return Ok(piece.end());
+        return Ok(Passed {
+            end: piece.end(),
+            split: None,
+        });
     }
     let low = low_end(space, &piece, at, to, writable);
     let high = high_end(space, &piece, at, to, writable);
-    if space.count_outside(low, high) >= space.most() as usize {
+    let left = space.count_outside(low, high);
+    if left >= space.most() as usize {
         return Err(Errno::Enomem);
     }
+    let split = split_by(space, left, piece.seg);
     let part = part_between(&piece, low, high, writable);
     renew(processes, tables, index, part);
-    Ok(piece.end())
+    Ok(Passed {
+        end: piece.end(),
+        split,
+    })
 }
 
-/// Protects whole pages, piece by piece.
+/// Protects whole pages, piece by piece, and notes the segments of pieces that were split.
 fn protect_range(
     processes: &mut IndexMap<u32, Runner>,
     tables: &mut Tables,
+    lost: &mut Lost,
     index: usize,
     from: u64,
     to: u64,
@@ -154,13 +180,21 @@ fn protect_range(
     requires most { most_at processes.old.entries index ≤ MOST_PIECES }
     requires range { IsPageRange from to }
     requires sound { AreTablesSound no_reservations processes.old.entries tables.old }
-    ensures refusal { refusal_in result ≡ (protected_between processes.old.entries index writable from to).refusal }
-    ensures now { AreNow processes.old.entries processes.new.entries tables.old tables.new index (protected_between processes.old.entries index writable from to).pieces }
-    ensures own { KeepsOwn (held processes.old.entries index) (protected_between processes.old.entries index writable from to).pieces }
+    requires none { lost.old.segments ≡ [] }
+    requires reserved { lost.old.most ≡ most_at processes.old.entries index }
+    ensures refusal { refusal_in result ≡ refusal_between processes.old.entries index writable from to }
+    ensures now { let ps = pieces_between processes.old.entries index writable from to in
+        AreNow processes.old.entries processes.new.entries tables.old tables.new index ps }
+    ensures own { let es = processes.old.entries in
+        KeepsOwn (held es index) (pieces_between es index writable from to) }
+    ensures split { lost.new.segments ≡ split_between processes.old.entries index writable from to }
+    ensures reserved { lost.new.most ≡ lost.old.most }
 {
     let mut at = from;
     while at < to {
-        at = protect_piece(processes, tables, index, at, to, writable)?;
+        let passed = protect_piece(processes, tables, index, at, to, writable)?;
+        lost.add(passed.split);
+        at = passed.end;
     }
     Ok(())
 }
@@ -177,7 +211,7 @@ impl Spaces {
         ensures lost { OnOk result (self.new.lost ≡ cut_segments from to (own_pieces self.old caller.now)) }
         ensures runners { OnOk result (self.new.runners ≡ unmapped self.old caller.now from to) }
         ensures most { self.new.most ≡ self.old.most }
-        ensures translated { (m : StoreView) → AreTrue self.old.translations m → AreTrue self.new.translations m }
+        ensures translated { KeepTrue self.old self.new }
     {
         let space = space_at(&self.processes, caller.index);
         if space.count_outside(from, to) > self.most as usize {
@@ -195,7 +229,7 @@ impl Spaces {
 
     /// A range of a process becomes writable, or read-only, up to the first refusal: Einval where it does not begin
     /// with a page, Enomem at an address without a piece, Eacces at a piece that may not become writable, Enomem
-    /// where there would be too many pieces.
+    /// where there would be too many pieces. The segments of pieces that were split are noted, up to the refusal too.
     pub fn protect(
         &mut self,
         caller: &Caller,
@@ -206,11 +240,13 @@ impl Spaces {
         requires live { IsCaller caller.now self.old.runners }
         ensures refusal { refusal_in result ≡ (protected_by self.old caller.now writable addr len).refusal }
         ensures runners { self.new.runners ≡ protected self.old caller.now writable addr len }
-        ensures own { KeepsOwn (own_pieces self.old caller.now) (protected_by self.old caller.now writable addr len).pieces }
+        ensures own { KeepsOwn (own_pieces self.old caller.now)
+            (protected_by self.old caller.now writable addr len).pieces }
         ensures most { self.new.most ≡ self.old.most }
-        ensures lost { self.new.lost ≡ self.old.lost }
-        ensures translated { (m : StoreView) → AreTrue self.old.translations m → AreTrue self.new.translations m }
+        ensures lost { self.new.lost ≡ (protected_by self.old caller.now writable addr len).split }
+        ensures translated { KeepTrue self.old self.new }
     {
+        self.lost.clear();
         if addr % PAGE_SIZE != 0 {
             return Err(Errno::Einval);
         }
@@ -223,6 +259,7 @@ impl Spaces {
         protect_range(
             &mut self.processes,
             &mut self.tables,
+            &mut self.lost,
             caller.index,
             addr,
             to,

@@ -1,5 +1,5 @@
 //! The pieces of all processes.
-ghost use Rattle.std.specs.Prelude.{◌≡◌, ◌≢◌, ℕ, ◌≤◌, length, map, [], None, Some, IfSome, IfNone, IfOk, OnErr, All, AllPairs};
+ghost use Rattle.std.specs.Prelude.{◌≡◌, ◌≢◌, ◌≤◌, length, map, [], None, Some, IfSome, IfNone, IfOk, OnErr, All, AllPairs};
 ghost use Rattle.shm_base.specs.State.{life_at_start, runner_at_start};
 ghost use Rattle.shm_base.specs.Segments.{attach_count};
 ghost use Rattle.shm_base.specs.Step.{caller_from, unborn_from};
@@ -55,9 +55,15 @@ impl Model for Spaces {
 
     ghost Value = { SpacesView };
 
-    ghost view = { λ s. record { runners = runners_view s.processes.entries; translations = translations_of s.tables.slab; most = s.most; lost = s.lost.segments } };
+    ghost view = { λ s. record {
+      runners = runners_view s.processes.entries;
+      translations = translations_of s.tables.slab;
+      most = s.most;
+      lost = s.lost.segments;
+    } };
 
-    ghost invariant = { λ s. AreTablesSound no_reservations s.processes.entries s.tables × HaveRoom s.most s.processes.entries × (s.lost.most ≡ s.most) };
+    ghost invariant = { λ s. AreTablesSound no_reservations s.processes.entries s.tables
+        × HaveRoom s.most s.processes.entries × (s.lost.most ≡ s.most) };
 }
 
 /// The state in which a process begins.
@@ -143,10 +149,11 @@ impl Spaces {
     /// Segv where the process is not live, where an address has no piece, and for a write where one lies in a
     /// piece that is read-only.
     pub fn spans(&self, pid: u32, addr: u64, len: u64, write: bool) -> Result<Spans, Segv>
-        requires size { (1 ≤ len) × (len ≤ 64) }
+        requires size { (1 ≤ len) × (len ≤ 4096) }
         ensures spans { IfOk result (λ s. AreSpans write (pieces_by pid self.now.runners) addr len s) }
         ensures none { OnErr result (wanted write pid addr len self.now.runners ≡ None) }
-        ensures frames { IfOk result (λ s. (m : StoreView) → AreTrue self.now.translations m → NameFrames m s) }
+        ensures frames { IfOk result (λ s. (m : StoreView) → AreTrue self.now.translations m
+            → NameFrames m s) }
     {
         match self.caller(pid) {
             Some(caller) => self.spans_of(&caller, addr, len, write),
@@ -158,17 +165,21 @@ impl Spaces {
     #[inline(always)]
     pub fn spans_of(&self, caller: &Caller, addr: u64, len: u64, write: bool) -> Result<Spans, Segv>
         requires live { IsCaller caller.now self.now.runners }
-        requires size { (1 ≤ len) × (len ≤ 64) }
-        ensures spans { IfOk result (λ s. AreSpans write (pieces_by caller.now.pid self.now.runners) addr len s) }
+        requires size { (1 ≤ len) × (len ≤ 4096) }
+        ensures spans { IfOk result (λ s.
+            AreSpans write (pieces_by caller.now.pid self.now.runners) addr len s) }
         ensures none { OnErr result (wanted write caller.now.pid addr len self.now.runners ≡ None) }
-        ensures frames { IfOk result (λ s. (m : StoreView) → AreTrue self.now.translations m → NameFrames m s) }
+        ensures frames { IfOk result (λ s. (m : StoreView) → AreTrue self.now.translations m
+            → NameFrames m s) }
     {
         let space = space_at(&self.processes, caller.index);
         spans_in(space, &self.tables, addr, len, write)
     }
 
-    /// The segments that lost pieces in the last call that took some, by rising base: a segment is here once for
-    /// each piece that went or was cut.
+    /// The segments that the last change of pieces concerns, by rising base. After an attach, an unmap, an exec or an
+    /// exit: those that lost pages, once for each piece that went or was cut. After a protection, refused or not: those
+    /// of pieces that were split, once for each piece more. Other calls leave them, and an attach or an unmap that
+    /// fails does too.
     pub fn lost(&self) -> &[u32]
         ensures value { result.now ≡ self.now.lost }
         ensures few { length result.now ≤ MOST_PIECES }
@@ -181,7 +192,8 @@ impl Spaces {
     pub fn note(&mut self, moved: &[PageMove])
         ensures runners { self.new.runners ≡ self.old.runners }
         ensures most { self.new.most ≡ self.old.most }
-        ensures translated { (m n : StoreView) → AreTrue self.old.translations m → MovesLead moved.now m n → AreTrue self.new.translations n }
+        ensures translated { (m n : StoreView) → AreTrue self.old.translations m → MovesLead moved.now m n
+            → AreTrue self.new.translations n }
     {
         self.tables.note(moved);
     }

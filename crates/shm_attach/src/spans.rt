@@ -1,11 +1,11 @@
 //! The spans of an access.
-ghost use Rattle.std.specs.Prelude.{◌≡◌, ◌+◌, ◌%◌, ◌<◌, ◌≤◌, ◌^◌, ℕ, Bool, Option, true, false, length, [], ◌∷◌, None, Some, IfSome, IfNone, IfOk, OnErr, All, sum_by};
+ghost use Rattle.std.specs.Prelude.{◌≡◌, ◌+◌, ◌%◌, ◌≤◌, ℕ, Option, length, [], ◌∷◌, None, IfSome, IfNone, IfOk, OnErr, All};
 ghost use Rattle.shm_base.specs.declared.paging.Span.{Span as SpanValue};
 ghost use Rattle.shm_areas.specs.Arranged.{bare_all};
 ghost use Rattle.shm_attach.specs.Table.{AllTrue};
 ghost use Rattle.shm_attach.specs.Tables.{HasTable};
-ghost use Rattle.shm_base.specs.Spans.{run, span_places, InPage, page_of};
-ghost use Rattle.shm_attach.specs.Spans.{wanted_in, PassPages, AreSpans};
+ghost use Rattle.shm_base.specs.Spans.{page_of};
+ghost use Rattle.shm_attach.specs.Spans.{wanted_in, AreSpans, IsSpan};
 
 use crate::tables::Tables;
 use shm_areas::Space;
@@ -18,7 +18,7 @@ use thiserror::Error;
 #[error("address not mapped, or not writable")]
 pub struct Segv;
 
-// What stands behind a single span.
+// What follows a single span.
 const NO_SPAN: Span = Span {
     seg: 0,
     at: 0,
@@ -81,13 +81,8 @@ fn span_in(space: &Space, tables: &Tables, addr: u64, len: u64, write: bool) -> 
     requires some { 1 ≤ len }
     requires tables { All (HasTable tables.now.slab) space.now.pieces }
     requires page { addr % 4096 + len ≤ 4096 }
-    ensures places { IfSome result (λ s. wanted_in write (bare_all space.now.pieces) addr len ≡ Some (run s.seg s.at s.len false)) }
+    ensures some { IfSome result (IsSpan write (bare_all space.now.pieces) addr len tables.now.slab) }
     ensures none { IfNone result (wanted_in write (bare_all space.now.pieces) addr len ≡ None) }
-    ensures within { IfSome result InPage }
-    ensures size { IfSome result (λ s. s.len ≡ len) }
-    ensures low { IfSome result (λ _. addr < 2 ^ 48) }
-    ensures pages { IfSome result (λ s. (test : ℕ → ℕ → Bool) → PassPages test (bare_all space.now.pieces) → test s.seg (page_of s) ≡ true) }
-    ensures frames { IfSome result (λ s. (at : ℕ → ℕ → Option ℕ) → AllTrue at tables.now.slab → s.frame ≡ at s.seg (page_of s)) }
 {
     let piece = space.piece_at(addr)?;
     if write && !piece.writable {
@@ -102,7 +97,7 @@ fn span_in(space: &Space, tables: &Tables, addr: u64, len: u64, write: bool) -> 
     })
 }
 
-/// The spans of an access to addresses of a process. An access of at most 64 bytes has at most two pages.
+/// The spans of an access to addresses of a process. An access of at most 4,096 bytes has at most two pages.
 #[inline(always)]
 pub(crate) fn spans_in(
     space: &Space,
@@ -111,11 +106,12 @@ pub(crate) fn spans_in(
     len: u64,
     write: bool,
 ) -> Result<Spans, Segv>
-    requires size { (1 ≤ len) × (len ≤ 64) }
+    requires size { (1 ≤ len) × (len ≤ 4096) }
     requires tables { All (HasTable tables.now.slab) space.now.pieces }
     ensures spans { IfOk result (λ s. AreSpans write (bare_all space.now.pieces) addr len s) }
     ensures none { OnErr result (wanted_in write (bare_all space.now.pieces) addr len ≡ None) }
-    ensures frames { IfOk result (λ s. (at : ℕ → ℕ → Option ℕ) → AllTrue at tables.now.slab → All (λ (p : SpanValue). p.frame ≡ at p.seg (page_of p)) s) }
+    ensures frames { IfOk result (λ s. (at : ℕ → ℕ → Option ℕ) → AllTrue at tables.now.slab
+        → All (λ (p : SpanValue). p.frame ≡ at p.seg (page_of p)) s) }
 {
     let room = PAGE_SIZE - addr % PAGE_SIZE;
     let Some(first) = span_in(space, tables, addr, len.min(room), write) else {

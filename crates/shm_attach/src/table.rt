@@ -87,7 +87,8 @@ impl Table {
         ensures more { length self.old.frames ≤ length self.new.frames }
         ensures pages { OnOk result (pages ≤ length self.new.frames) }
         ensures err { OnErr result (self.new ≡ self.old) }
-        ensures translated { TrueTable (frame_of store.now) self.old → TrueTable (frame_of store.now) self.new }
+        ensures translated { let at = frame_of store.now in
+            TrueTable at self.old → TrueTable at self.new }
     {
         let known = self.frames.len();
         let pages = pages as usize;
@@ -111,7 +112,8 @@ impl Table {
         requires { page.seg ≡ self.old.seg }
         ensures rest { self.new ≡ record self.old { frames = self.new.frames } }
         ensures pages { length self.new.frames ≡ length self.old.frames }
-        ensures translated { (at : ℕ → ℕ → Option ℕ) → TrueTable at self.old → TrueTable (with_frame page frame at) self.new }
+        ensures translated { (at : ℕ → ℕ → Option ℕ) → TrueTable at self.old
+            → TrueTable (with_frame page frame at) self.new }
     {
         let k = page.page as usize;
         if k < self.frames.len() {

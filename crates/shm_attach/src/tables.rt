@@ -2,12 +2,12 @@
 //! table, whose key each of them has, so that a move is noted in one place. A segment without pieces has none.
 ghost use Rattle.std.specs.Prelude.{◌≡◌, ℕ, ◌+◌, ◌^◌, ◌<◌, ◌≤◌, [], ◌∷◌, Option, Some, IfOk, OnOk, OnErr};
 ghost use Rattle.slab.specs.Slab.{get};
-ghost use Rattle.shm_areas.specs.declared.piece.Piece.{Piece as Stored};
 ghost use Rattle.shm_fault.specs.Steps.{moved};
 ghost use Rattle.shm_fault.specs.Store.{frame_of};
 ghost use Rattle.shm_attach.specs.Views.{some_if};
 ghost use Rattle.shm_attach.specs.Table.{frame_in, seg_in, size_in, AllTrue, with_frame};
-ghost use Rattle.shm_attach.specs.Tables.{counted, key_of, AreSameTables, HasTable, OneTableEach};
+ghost use Rattle.shm_attach.specs.Tables.{counted, key_of, AreSameTables, OneTableEach};
+ghost use Rattle.shm_attach.specs.Tables.{KeepCounts, KeepCounted, KeepTables, KeepFrames};
 
 use crate::table::Table;
 use shm_base::{FrameNo, HostMemory, PageRef};
@@ -100,11 +100,13 @@ impl Tables {
         pages: u32,
     ) -> Result<(), HostMemory>
         requires tied { OneTableEach self.old }
-        ensures counts { (id : ℕ) → counted self.new id ≡ counted self.old id }
+        ensures counts { KeepCounts self.old self.new }
         ensures seg { (k : ℕ) → seg_in (get self.new.slab k) ≡ seg_in (get self.old.slab k) }
-        ensures pages { (id : ℕ) → seg_in (get self.old.slab key) ≡ Some id → OnOk result (pages ≤ size_in (get self.new.slab key)) }
-        ensures tables { (p : Stored) → HasTable self.old.slab p → HasTable self.new.slab p }
-        ensures translated { AllTrue (frame_of store.now) self.old.slab → AllTrue (frame_of store.now) self.new.slab }
+        ensures pages { (id : ℕ) → seg_in (get self.old.slab key) ≡ Some id
+            → OnOk result (pages ≤ size_in (get self.new.slab key)) }
+        ensures tables { KeepTables self.old.slab self.new.slab }
+        ensures translated { let at = frame_of store.now in
+            AllTrue at self.old.slab → AllTrue at self.new.slab }
         ensures tied { OneTableEach self.new }
         ensures err { OnErr result (self.new.slab.slots ≡ self.old.slab.slots) }
     {
@@ -124,14 +126,16 @@ impl Tables {
     ) -> Result<usize, HostMemory>
         requires fits { counted self.old seg + 1 < 2 ^ 32 }
         requires tied { OneTableEach self.old }
-        ensures counts { OnOk result ((id : ℕ) → counted self.new id ≡ counted self.old id + some_if id seg 1) }
+        ensures counts { let more = λ (id : ℕ). some_if id seg 1 in
+            OnOk result ((id : ℕ) → counted self.new id ≡ counted self.old id + more id) }
         ensures seg { IfOk result (λ key. seg_in (get self.new.slab key) ≡ Some seg) }
         ensures pages { IfOk result (λ key. pages ≤ size_in (get self.new.slab key)) }
-        ensures tables { (p : Stored) → HasTable self.old.slab p → HasTable self.new.slab p }
-        ensures translated { AllTrue (frame_of store.now) self.old.slab → AllTrue (frame_of store.now) self.new.slab }
+        ensures tables { KeepTables self.old.slab self.new.slab }
+        ensures translated { let at = frame_of store.now in
+            AllTrue at self.old.slab → AllTrue at self.new.slab }
         ensures tied { OneTableEach self.new }
         ensures slots { OnErr result (self.new.slab.slots ≡ self.old.slab.slots) }
-        ensures err { OnErr result ((id : ℕ) → counted self.new id ≡ counted self.old id) }
+        ensures err { OnErr result (KeepCounts self.old self.new) }
     {
         if let Some(key) = self.key(seg) {
             self.extend(store, key, pages)?;
@@ -154,9 +158,10 @@ impl Tables {
         requires gone { gone ≤ counted self.old seg }
         requires fits { counted self.old seg + parts < 2 ^ 32 }
         requires tied { OneTableEach self.old }
-        ensures counts { (id : ℕ) → counted self.new id + some_if id seg gone ≡ counted self.old id + some_if id seg parts }
-        ensures tables { (p : Stored) → HasTable self.old.slab p → 0 < counted self.new p.seg → HasTable self.new.slab p }
-        ensures translated { (at : ℕ → ℕ → Option ℕ) → AllTrue at self.old.slab → AllTrue at self.new.slab }
+        ensures counts { (id : ℕ) → counted self.new id + some_if id seg gone
+            ≡ counted self.old id + some_if id seg parts }
+        ensures tables { KeepCounted self.old self.new }
+        ensures translated { KeepFrames self.old.slab self.new.slab }
         ensures tied { OneTableEach self.new }
     {
         let Some(table) = self.slab.get_mut(key) else {
@@ -174,8 +179,8 @@ impl Tables {
         requires fits { counted self.old seg < 2 ^ 32 }
         requires tied { OneTableEach self.old }
         ensures counts { (id : ℕ) → counted self.new id + some_if id seg gone ≡ counted self.old id }
-        ensures tables { (p : Stored) → HasTable self.old.slab p → 0 < counted self.new p.seg → HasTable self.new.slab p }
-        ensures translated { (at : ℕ → ℕ → Option ℕ) → AllTrue at self.old.slab → AllTrue at self.new.slab }
+        ensures tables { KeepCounted self.old self.new }
+        ensures translated { KeepFrames self.old.slab self.new.slab }
         ensures tied { OneTableEach self.new }
     {
         if let Some(key) = self.key(seg) {
@@ -186,9 +191,10 @@ impl Tables {
     // Notes where a page is now.
     fn set(&mut self, page: PageRef, frame: Option<FrameNo>)
         requires { OneTableEach self.old }
-        ensures counts { (id : ℕ) → counted self.new id ≡ counted self.old id }
-        ensures tables { (p : Stored) → HasTable self.old.slab p → HasTable self.new.slab p }
-        ensures translated { (at : ℕ → ℕ → Option ℕ) → AllTrue at self.old.slab → AllTrue (with_frame page frame at) self.new.slab }
+        ensures counts { KeepCounts self.old self.new }
+        ensures tables { KeepTables self.old.slab self.new.slab }
+        ensures translated { (at : ℕ → ℕ → Option ℕ) → AllTrue at self.old.slab
+            → AllTrue (with_frame page frame at) self.new.slab }
         ensures tied { OneTableEach self.new }
     {
         let Some(key) = self.key(page.seg) else {
@@ -202,9 +208,10 @@ impl Tables {
     /// Notes which pages moved, one after another, each in the table of its segment. It takes no memory.
     pub(crate) fn note(&mut self, moves: &[PageMove])
         requires { OneTableEach self.old }
-        ensures counts { (id : ℕ) → counted self.new id ≡ counted self.old id }
-        ensures tables { (p : Stored) → HasTable self.old.slab p → HasTable self.new.slab p }
-        ensures translated { (at : ℕ → ℕ → Option ℕ) → AllTrue at self.old.slab → AllTrue (λ seg page. moved moves.now seg page (at seg page)) self.new.slab }
+        ensures counts { KeepCounts self.old self.new }
+        ensures tables { KeepTables self.old.slab self.new.slab }
+        ensures translated { (at : ℕ → ℕ → Option ℕ) → AllTrue at self.old.slab
+            → AllTrue (λ seg page. moved moves.now seg page (at seg page)) self.new.slab }
         ensures tied { OneTableEach self.new }
     {
         for entry in moves {

@@ -1,5 +1,5 @@
 -- Worked rows: what a host changes between calls, and what the calls answer then.
-use Rattle.std.specs.Prelude.{ℤ, pos, ◌≡◌, ℕ, ◌*◌, ◌+◌, ◌-◌, ◌^◌, Bool, true, false, List, [], ◌∷◌, Option, Some, None, Result, Ok, Err}
+use Rattle.std.specs.Prelude.{pos, ◌≡◌, ℕ, ◌*◌, ◌-◌, ◌^◌, Bool, true, false, List, [], ◌∷◌, Option, Some, None, Result, Ok, Err}
 use Rattle.shm_base.specs.declared.owner.Cred.{Cred}
 use Rattle.shm_base.specs.declared.errno.Errno.{Errno}
 use Rattle.shm_base.specs.declared.errno.Errno.TheVariants.{Esrch, Eacces, Eagain, Einval, Enomem, Eidrm, Sigsegv}
@@ -25,7 +25,7 @@ pub data Deed : Type 0 where
   Dismisses : (pid : ℕ) → (refusal : Option DismissRefusal) → Deed
   Becomes : (pid : ℕ) → (cred : Cred) → (refusal : Option Errno) → Deed
   Unmaps : (n : ℕ) → (pid : ℕ) → (addr : ℕ) → (len : ℕ) → (refusal : Option Errno) → Deed
-  Protects : (pid : ℕ) → (addr : ℕ) → (len : ℕ) → (w : Bool) → (refusal : Option Errno) → Deed
+  Protects : (n : ℕ) → (pid : ℕ) → (addr : ℕ) → (len : ℕ) → (w : Bool) → (refusal : Option Errno) → Deed
 
 abbrev pub refusal_of : {E : Type 0} → Result Machine E → Option E
 refusal_of (Ok s) = None
@@ -42,7 +42,7 @@ answered s (Admits p refusal) = Admits p (refusal_of (admits s p))
 answered s (Dismisses pid refusal) = Dismisses pid (refusal_of (dismisses s pid))
 answered s (Becomes pid cred refusal) = Becomes pid cred (refusal_of (recredits s pid cred))
 answered s (Unmaps n pid addr len refusal) = Unmaps n pid addr len (refusal_of (unmaps s n pid addr len))
-answered s (Protects pid addr len w refusal) = Protects pid addr len w (protects s pid addr len w).refusal
+answered s (Protects n pid addr len w refusal) = Protects n pid addr len w (protects s n pid addr len w).refusal
 
 abbrev pub after : Machine → Deed → Machine
 after s (At n e) = (step s n e.pid e.call).state
@@ -50,7 +50,7 @@ after s (Admits p refusal) = state_of s (admits s p)
 after s (Dismisses pid refusal) = state_of s (dismisses s pid)
 after s (Becomes pid cred refusal) = state_of s (recredits s pid cred)
 after s (Unmaps n pid addr len refusal) = state_of s (unmaps s n pid addr len)
-after s (Protects pid addr len w refusal) = (protects s pid addr len w).state
+after s (Protects n pid addr len w refusal) = (protects s n pid addr len w).state
 
 abbrev pub all_answered : Machine → List Deed → List Deed
 all_answered s [] = []
@@ -165,24 +165,24 @@ eight_pages most =
 abbrev pub ProtectRow : Type 0
 ProtectRow =
     Go (eight_pages 256)
-    (Protects 1 0x50001000 (bytes_in 2) false None
+    (Protects 1 1 0x50001000 (bytes_in 2) false None
     ∷ At 3 (does 1 (stat 0) (shows 0 32768 1 3 2 0))
     ∷ At 4 (does 1 (Store 0x50001000 (7 ∷ [])) (Refused Sigsegv))
     ∷ At 5 (does 1 (Load 0x50001000 1) (Bytes (0 ∷ [])))
-    ∷ Protects 1 0x50001000 (bytes_in 1) true None
+    ∷ Protects 1 1 0x50001000 (bytes_in 1) true None
     ∷ At 6 (does 1 (stat 0) (shows 0 32768 1 3 2 0))
     ∷ At 7 (does 1 (Store 0x50001FFF (7 ∷ [])) Done)
     ∷ At 8 (does 1 (Store 0x50002000 (7 ∷ [])) (Refused Sigsegv))
-    ∷ Protects 1 0x50001000 (bytes_in 2) true None
+    ∷ Protects 1 1 0x50001000 (bytes_in 2) true None
     ∷ At 9 (does 1 (stat 0) (shows 0 32768 1 3 2 0))
     ∷ At 10 (does 1 (Store 0x50002000 (7 ∷ [])) Done)
-    ∷ Protects 1 0x50000000 (bytes_in 8) false None
+    ∷ Protects 1 1 0x50000000 (bytes_in 8) false None
     ∷ At 11 (does 1 (stat 0) (shows 0 32768 1 3 2 0))
-    ∷ Protects 1 0x50006000 1 true None
+    ∷ Protects 1 1 0x50006000 1 true None
     ∷ At 12 (does 1 (stat 0) (shows 0 32768 1 5 2 0))
-    ∷ Protects 1 0x50005000 (bytes_in 1) true None
+    ∷ Protects 1 1 0x50005000 (bytes_in 1) true None
     ∷ At 13 (does 1 (stat 0) (shows 0 32768 1 5 2 0))
-    ∷ Protects 1 0x50007000 (bytes_in 1) false None
+    ∷ Protects 1 1 0x50007000 (bytes_in 1) false None
     ∷ At 14 (does 1 (Shmdt 0x50000000) Done)
     ∷ At 15 (does 1 (stat 0) (shows 0 32768 1 0 2 14))
     ∷ [])
@@ -191,19 +191,19 @@ ProtectRow =
 abbrev pub StoppedRow : Type 0
 StoppedRow =
     Go (eight_pages 256)
-    (Protects 1 0x50000800 0 false (Some Einval)
-    ∷ Protects 1 0x50000000 0 false None
-    ∷ Protects 1 0x60000000 1 false (Some Enomem)
-    ∷ Protects 1 0x50000000 (2 ^ 64 - 1) false (Some Enomem)
-    ∷ Protects 2 0x50000000 1 false (Some Esrch)
+    (Protects 1 1 0x50000800 0 false (Some Einval)
+    ∷ Protects 1 1 0x50000000 0 false None
+    ∷ Protects 1 1 0x60000000 1 false (Some Enomem)
+    ∷ Protects 1 1 0x50000000 (2 ^ 64 - 1) false (Some Enomem)
+    ∷ Protects 1 2 0x50000000 1 false (Some Esrch)
     ∷ At 3 (does 1 (stat 0) (shows 0 32768 1 1 2 0))
-    ∷ Protects 1 0x50000000 (bytes_in 9) false (Some Enomem)
+    ∷ Protects 1 1 0x50000000 (bytes_in 9) false (Some Enomem)
     ∷ At 4 (does 1 (Store 0x50007000 (7 ∷ [])) (Refused Sigsegv))
-    ∷ Protects 1 0x50000000 (bytes_in 8) true None
-    ∷ Protects 1 0x50004000 (bytes_in 4) false None
+    ∷ Protects 1 1 0x50000000 (bytes_in 8) true None
+    ∷ Protects 1 1 0x50004000 (bytes_in 4) false None
     ∷ At 5 (does 1 (shmat 0 0x50008000 rdonly) (Addr 0x50008000))
     ∷ At 6 (does 1 (stat 0) (shows 0 32768 1 3 5 0))
-    ∷ Protects 1 0x50006000 (bytes_in 4) true (Some Eacces)
+    ∷ Protects 1 1 0x50006000 (bytes_in 4) true (Some Eacces)
     ∷ At 7 (does 1 (stat 0) (shows 0 32768 1 4 5 0))
     ∷ At 8 (does 1 (Store 0x50005FFF (7 ∷ [])) (Refused Sigsegv))
     ∷ At 9 (does 1 (Store 0x50006000 (7 ∷ [])) Done)
@@ -236,7 +236,7 @@ UnmapRow =
 abbrev pub FewPiecesRow : Type 0
 FewPiecesRow =
     Go (eight_pages 2)
-    (Protects 1 0x50001000 (bytes_in 1) false (Some Enomem)
+    (Protects 1 1 0x50001000 (bytes_in 1) false (Some Enomem)
     ∷ At 3 (does 1 (stat 0) (shows 0 32768 1 1 2 0))
     ∷ At 4 (does 1 (Store 0x50001000 (7 ∷ [])) Done)
     ∷ Unmaps 5 1 0x50001000 (bytes_in 1) None

@@ -1,11 +1,12 @@
 -- What a process does to attached memory beside the calls: it unmaps a range of its addresses (munmap(2)), or protects one
 -- (mprotect(2)). Neither is a part of the step. Lengths are rounded up to whole pages.
-use Rattle.std.specs.Prelude.{ℕ, zero, suc, ◌+◌, ◌-◌, ◌*◌, ◌/◌, ◌%◌, ◌^◌, Bool, not, ◌&&◌, ◌==◌, nat_le, nat_lt, min, if◌then◌else◌, List, length, Option, Some, None, Result, Ok, Err}
-use Rattle.shm_base.specs.State.{Piece, Machine, pages_of}
+use Rattle.std.specs.Prelude.{ℕ, zero, suc, ◌+◌, ◌-◌, ◌*◌, ◌/◌, ◌%◌, ◌^◌, Bool, not, ◌&&◌, ◌==◌, nat_le, nat_lt, min, if◌then◌else◌, List, [], ◌∷◌, length, Option, Some, None, Result, Ok, Err}
+use Rattle.shm_base.specs.State.{Entry, Piece, Machine, pages_of}
 use Rattle.shm_base.specs.Access.{end_of}
 use Rattle.shm_base.specs.Space.{end_address, covering, inserted, cut, cut_segments}
-use Rattle.shm_base.specs.Segments.{after_detach}
-use Rattle.shm_base.specs.Step.{Caller, caller_of, with_pieces}
+use Rattle.shm_base.specs.Rules.{rest_is_attached}
+use Rattle.shm_base.specs.Segments.{attach_all, detach_all, swept}
+use Rattle.shm_base.specs.Step.{Caller, caller_of, rests, with_pieces}
 use Rattle.shm_base.specs.declared.errno.Errno.{Errno}
 use Rattle.shm_base.specs.declared.errno.Errno.TheVariants.{Esrch, Einval, Enomem, Eacces}
 use Rattle.shm_base.specs.declared.paging.TheConstants.{PAGE_SIZE}
@@ -15,19 +16,30 @@ rounded len = PAGE_SIZE * pages_of len
 
 -- UNMAP
 
--- the range is taken out, as a remap takes one out. Refused where its rest would be too many pieces
-abbrev pub unmaps_range : Machine → ℕ → Caller → ℕ → ℕ → Result Machine Errno
-unmaps_range s n c from to =
-    if nat_lt s.limits.most_pieces (length (cut from to c.pieces)) then Err Enomem else
-    Ok (after_detach s n c.pid (with_pieces s.runners c (cut from to c.pieces)) (cut_segments from to c.pieces))
-
-abbrev pub unmaps_of : Machine → ℕ → ℕ → ℕ → Option Caller → Result Machine Errno
-unmaps_of s n addr len None = Err Esrch
-unmaps_of s n addr len (Some c) =
+-- where the range ends that an unmap takes out
+abbrev pub unmapped_to : ℕ → ℕ → Result ℕ Errno
+unmapped_to addr len =
     if not (addr % PAGE_SIZE == 0) then Err Einval else
     if len == 0 then Err Einval else
     if nat_lt end_address (addr + len) then Err Einval else
-    unmaps_range s n c addr (addr + rounded len)
+    Ok (addr + rounded len)
+
+-- the table after a range was taken out: what lost pages, and what the range attaches anew
+abbrev pub after_cut : Machine → ℕ → Caller → ℕ → ℕ → List Entry
+after_cut s n c from to =
+    attach_all n c.pid (detach_all n c.pid s.table (cut_segments from to c.pieces)) (rests s from to c.pieces)
+
+-- the range is taken out, as a remap takes one out. Refused where its rest would be too many pieces
+abbrev pub unmaps_range : Machine → ℕ → Caller → ℕ → Result ℕ Errno → Result Machine Errno
+unmaps_range s n c from (Err e) = Err e
+unmaps_range s n c from (Ok to) =
+    if nat_lt s.limits.most_pieces (length (cut from to c.pieces)) then Err Enomem else
+    let rs = with_pieces s.runners c (cut from to c.pieces) in
+    Ok (record s { table = swept rs (after_cut s n c from to); runners = rs })
+
+abbrev pub unmaps_of : Machine → ℕ → ℕ → ℕ → Option Caller → Result Machine Errno
+unmaps_of s n addr len None = Err Esrch
+unmaps_of s n addr len (Some c) = unmaps_range s n c addr (unmapped_to addr len)
 
 -- a live process unmaps a range at time n
 abbrev pub unmaps : Machine → ℕ → ℕ → ℕ → ℕ → Result Machine Errno
@@ -77,13 +89,21 @@ replaced w low high p ps = inserted (part_between w low high p) (cut low high ps
 abbrev pub turned : Bool → ℕ → ℕ → Piece → List Piece → List Piece
 turned w at to p ps = replaced w (low_end w at to p ps) (high_end w at to p ps) p ps
 
--- what is left, and why it stopped there where it did
+-- the pieces that are left, the segments that have a piece more, and why it stopped
 pub record Protected : Type 0 where
   pub pieces : List Piece
+  pub split : List ℕ
   pub refusal : Option Errno
 
 abbrev pub stopped : List Piece → Errno → Protected
-stopped ps e = record { pieces = ps; refusal = Some e }
+stopped ps e = record { pieces = ps; split = []; refusal = Some e }
+
+abbrev pub ended : List Piece → Protected
+ended ps = record { pieces = ps; split = []; refusal = None }
+
+-- a piece of the segment was protected: where that made a new one, the segment is named
+abbrev pub with_split : ℕ → List Piece → List Piece → Protected → Protected
+with_split id before after x = if nat_lt (length before) (length after) then record x { split = id ∷ x.split } else x
 
 -- what becomes of the pieces when the one at an address is protected, and how that goes on behind it
 abbrev pub protects_piece : ℕ → Bool → ℕ → ℕ → List Piece → (ℕ → List Piece → Protected) → Option Piece → Protected
@@ -92,19 +112,19 @@ protects_piece most w at to ps next (Some p) =
     if w && not p.may_write then stopped ps Eacces else
     if has_protection w p then next (end_of p) ps else
     if nat_lt most (length (turned w at to p ps)) then stopped ps Enomem else
-    next (end_of p) (turned w at to p ps)
+    with_split p.seg ps (turned w at to p ps) (next (end_of p) (turned w at to p ps))
 
 -- up the range piece by piece, of which there are no more than pages. What is below the refusal was changed
 abbrev pub protects_from : ℕ → ℕ → Bool → ℕ → ℕ → List Piece → Protected
-protects_from zero most w to at ps = record { pieces = ps; refusal = None }
+protects_from zero most w to at ps = ended ps
 protects_from (suc k) most w to at ps =
-    if nat_le to at then record { pieces = ps; refusal = None } else
+    if nat_le to at then ended ps else
     protects_piece most w at to ps (protects_from k most w to) (covering at ps)
 
 abbrev pub protects_pieces : ℕ → Bool → ℕ → ℕ → List Piece → Protected
 protects_pieces most w addr len ps =
     if not (addr % PAGE_SIZE == 0) then stopped ps Einval else
-    if len == 0 then record { pieces = ps; refusal = None } else
+    if len == 0 then ended ps else
     if nat_le (2 ^ 64) (addr + rounded len) then stopped ps Enomem else
     protects_from (pages_of len) most w (addr + rounded len) addr ps
 
@@ -113,13 +133,21 @@ pub record Protection : Type 0 where
   pub state : Machine
   pub refusal : Option Errno
 
-abbrev pub with_protected : Machine → Caller → Protected → Protection
-with_protected s c x = record { state = record s { runners = with_pieces s.runners c x.pieces }; refusal = x.refusal }
+-- the table after pieces were split, which may attach their segments anew
+abbrev pub after_split : Machine → ℕ → Caller → List ℕ → List Entry
+after_split s n c ids = if rest_is_attached s.limits.rules then attach_all n c.pid s.table ids else s.table
 
-abbrev pub protects_of : Machine → Bool → ℕ → ℕ → Option Caller → Protection
-protects_of s w addr len None = record { state = s; refusal = Some Esrch }
-protects_of s w addr len (Some c) = with_protected s c (protects_pieces s.limits.most_pieces w addr len c.pieces)
+abbrev pub with_protected : Machine → ℕ → Caller → Protected → Protection
+with_protected s n c x =
+    record {
+      state = record s { table = after_split s n c x.split; runners = with_pieces s.runners c x.pieces };
+      refusal = x.refusal;
+    }
 
--- a range of a live process becomes writable, or read-only
-abbrev pub protects : Machine → ℕ → ℕ → ℕ → Bool → Protection
-protects s pid addr len w = protects_of s w addr len (caller_of s pid)
+abbrev pub protects_of : Machine → ℕ → Bool → ℕ → ℕ → Option Caller → Protection
+protects_of s n w addr len None = record { state = s; refusal = Some Esrch }
+protects_of s n w addr len (Some c) = with_protected s n c (protects_pieces s.limits.most_pieces w addr len c.pieces)
+
+-- a range of a live process becomes writable, or read-only, at time n
+abbrev pub protects : Machine → ℕ → ℕ → ℕ → ℕ → Bool → Protection
+protects s n pid addr len w = protects_of s n w addr len (caller_of s pid)

@@ -43,7 +43,7 @@ impl AccessLen {
 /// The bytes of an access, 1 to 64 of them.
 #[derive(Clone, Copy, Debug)]
 pub struct Chunk {
-    // Those behind the length are zeros, so that its bytes tell a chunk's fields.
+    // Those after the length are zeros, so that its bytes tell a chunk's fields.
     bytes: [u8; LONGEST_ACCESS],
     len: AccessLen,
 }
@@ -79,7 +79,7 @@ impl Chunk {
         Some(Chunk { bytes: all, len })
     }
 
-    /// The first bytes of an array that has zeros behind them. It takes no memory.
+    /// The first bytes of an array that has zeros after them. It takes no memory.
     #[inline(always)]
     pub fn from_array(bytes: [u8; LONGEST_ACCESS], len: AccessLen) -> Chunk
         requires zeros { bytes ≡ take len bytes ++ replicate (64 - len) 0 }

@@ -6,7 +6,7 @@ pub const LOWEST_ADDRESS: u64 = 0x10000;
 /// Where the search for a gap begins, for a null address.
 pub const FIRST_GAP: u64 = 0x4000_0000;
 
-/// The end of what may be attached: the first address behind it.
+/// The end of what may be attached: the first address after it.
 pub const END_ADDRESS: u64 = 0x7fff_ffff_f000;
 
 /// How many indexes a table of segments may have. An identifier is its index and so often a sequence number.

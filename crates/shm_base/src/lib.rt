@@ -26,7 +26,7 @@ pub use bounds::{
 };
 pub use call::{Call, Event, Process, Reply, ShmId, ShmidDs, Step, has_pid, index_of};
 pub use errno::Errno;
-pub use flags::{AtFlags, GetFlags, Status};
+pub use flags::{AtFlags, GetFlags, Rules, Status};
 pub use guest::{AdmitRefusal, DismissRefusal};
 pub use limits::{BadLimits, Limits, Sizes};
 pub use memory::HostMemory;

@@ -6,11 +6,13 @@ use crate::bounds::{
     PROFILE_FRAMES, PROFILE_PIECES, PROFILE_PROCESSES, PROFILE_SHMALL, PROFILE_SHMMAX,
     PROFILE_SHMMNI, PROFILE_SLOTS,
 };
+use crate::flags::Rules;
+use bitflags::Flags;
 use std::marker::Model;
 use thiserror::Error;
 
 /// The first limit that is out of its range: 1 SHMMAX, 2 SHMMNI, 3 SHMALL, 4 frames, 5 MEMLOCK, 6 the most
-/// pieces of a process, 7 the most processes, 8 the most slots of a swap area.
+/// pieces of a process, 7 the most processes, 8 the most slots of a swap area, 9 the rules.
 #[derive(Clone, Copy, Debug, PartialEq, Eq, Error)]
 #[error("bad limits {0}")]
 pub struct BadLimits(pub u8);
@@ -34,6 +36,8 @@ pub struct Sizes {
     pub most_processes: u64,
     /// The most slots of a swap area.
     pub most_slots: u64,
+    /// The rules of Linux that hold.
+    pub rules: Rules,
 }
 
 impl Sizes {
@@ -46,6 +50,7 @@ impl Sizes {
         most_pieces: PROFILE_PIECES as u64,
         most_processes: PROFILE_PROCESSES as u64,
         most_slots: PROFILE_SLOTS as u64,
+        rules: Rules::PROFILE,
     };
 
     const LARGEST: Sizes = Sizes {
@@ -57,6 +62,7 @@ impl Sizes {
         most_pieces: MOST_PIECES as u64,
         most_processes: MOST_PROCESSES as u64,
         most_slots: MOST_SLOTS as u64,
+        rules: Rules::LINUX,
     };
 }
 
@@ -72,6 +78,7 @@ pub struct Limits {
     most_pieces: u32,
     most_processes: u32,
     most_slots: u32,
+    rules: Rules,
 }
 
 impl Model for Limits {
@@ -79,21 +86,21 @@ impl Model for Limits {
 
     ghost Value = { Bounds };
 
-    ghost view = { λ l. record { shmmax = l.shmmax; shmmni = l.shmmni; shmall = l.shmall; frames = l.frames; memlock = l.memlock; most_pieces = l.most_pieces; most_processes = l.most_processes; most_slots = l.most_slots } };
+    ghost view = { λ l. record { shmmax = l.shmmax; shmmni = l.shmmni; shmall = l.shmall; frames = l.frames; memlock = l.memlock; most_pieces = l.most_pieces; most_processes = l.most_processes; most_slots = l.most_slots; rules = l.rules } };
 
-    ghost inverse = { λ b. record { shmmax = b.shmmax; shmmni = b.shmmni; shmall = b.shmall; frames = b.frames; memlock = b.memlock; most_pieces = b.most_pieces; most_processes = b.most_processes; most_slots = b.most_slots } };
+    ghost inverse = { λ b. record { shmmax = b.shmmax; shmmni = b.shmmni; shmall = b.shmall; frames = b.frames; memlock = b.memlock; most_pieces = b.most_pieces; most_processes = b.most_processes; most_slots = b.most_slots; rules = b.rules } };
 
-    ghost invariant = { λ l. AreBounds (record { shmmax = l.shmmax; shmmni = l.shmmni; shmall = l.shmall; frames = l.frames; memlock = l.memlock; most_pieces = l.most_pieces; most_processes = l.most_processes; most_slots = l.most_slots }) };
+    ghost invariant = { λ l. AreBounds (record { shmmax = l.shmmax; shmmni = l.shmmni; shmall = l.shmall; frames = l.frames; memlock = l.memlock; most_pieces = l.most_pieces; most_processes = l.most_processes; most_slots = l.most_slots; rules = l.rules }) };
 }
 
 impl Limits {
     ghost use Rattle.std.specs.Prelude.{Ok, Err};
-    ghost use Rattle.shm_base.specs.Bounds.{limits_of, machine_limits_of, limits_within, bounds_of, AreBounds};
+    ghost use Rattle.shm_base.specs.Bounds.{limits_of, machine_limits_of, limits_within, bounds_of, lockable, ruled, AreBounds};
 
     /// The limits of a machine of the profile, or which is the first that is out of range, in the order of the
     /// arguments: SHMMAX is 1 to 2^24 bytes, SHMMNI 1 to 4096 segments, SHMALL 1 to 65536 pages, frames are 2 to
     /// 4096, MEMLOCK is at least 2 less than the frames. A process has at most 256 pieces, a machine 64
-    /// processes, a swap area 65536 slots.
+    /// processes, a swap area 65536 slots. No rule of Linux holds.
     pub fn new(
         shmmax: u64,
         shmmni: u64,
@@ -117,11 +124,21 @@ impl Limits {
     /// The limits of a machine that may be larger than one of the profile, or which is the first that is out of
     /// range, in the order of the fields: SHMMAX is 1 to 2^40 bytes, SHMMNI 1 to 32768 segments, SHMALL 1 to 2^28
     /// pages, frames are 2 to 2^24, MEMLOCK is at least 2 less than the frames, pieces are 1 to 65530, processes 1
-    /// to 32768, slots 1 to 2^28.
+    /// to 32768, slots 1 to 2^28. Rules are any set of those that have a name.
     pub fn of(sizes: &Sizes) -> Result<Limits, BadLimits>
         ensures { result ≡ machine_limits_of (bounds_of sizes.now) }
     {
         Limits::within(&Sizes::LARGEST, sizes)
+    }
+
+    /// These limits with other rules, which are any set of those that have a name; else the rules are refused.
+    pub fn with_rules(self, rules: Rules) -> Result<Limits, BadLimits>
+        ensures { result ≡ ruled rules self }
+    {
+        if !Rules::LINUX.contains(rules) {
+            return Err(BadLimits(9));
+        }
+        Ok(Limits { rules, ..self })
     }
 
     // The limits, or which is the first that is out of its range, where these are the largest.
@@ -153,6 +170,9 @@ impl Limits {
         if sizes.most_slots < 1 || sizes.most_slots > most.most_slots {
             return Err(BadLimits(8));
         }
+        if !Rules::LINUX.contains(sizes.rules) {
+            return Err(BadLimits(9));
+        }
         Ok(Limits {
             shmmax: sizes.shmmax,
             shmmni: sizes.shmmni,
@@ -162,6 +182,7 @@ impl Limits {
             most_pieces: sizes.most_pieces as u32,
             most_processes: sizes.most_processes as u32,
             most_slots: sizes.most_slots as u32,
+            rules: sizes.rules,
         })
     }
 
@@ -228,5 +249,32 @@ impl Limits {
         ensures range { (1 ≤ result) × (result ≤ MOST_SLOTS) }
     {
         self.most_slots
+    }
+
+    /// The rules of Linux that hold.
+    pub fn rules(&self) -> Rules
+        ensures value { result ≡ self.now.rules }
+    {
+        self.rules
+    }
+
+    /// The most pages that are locked at a time: MEMLOCK, or two less than the frames where MEMLOCK is a limit of
+    /// each user.
+    pub fn lockable(&self) -> u64
+        ensures value { result ≡ lockable self.now }
+        ensures range { result ≤ MOST_FRAMES }
+        ensures room { result + 2 ≤ self.now.frames }
+    {
+        let Limits {
+            rules,
+            frames,
+            memlock,
+            ..
+        } = *self;
+        if rules.contains(Rules::LOCKS_BY_USER) {
+            frames - 2
+        } else {
+            memlock
+        }
     }
 }

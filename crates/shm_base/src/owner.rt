@@ -23,6 +23,7 @@ pub struct Perm {
 pub struct Want {
     pub read: bool,
     pub write: bool,
+    pub execute: bool,
 }
 
 fn triple(cred: &Cred, perm: &Perm) -> u16
@@ -38,8 +39,8 @@ fn triple(cred: &Cred, perm: &Perm) -> u16
 }
 
 /// Whether the permissions allow what is wanted (sysvipc(7)). Owner bits apply where the user is owner or
-/// creator, else group bits where the group is theirs, else the other bits; execute bits are never
-/// tested, and user 0 passes every test (this project's profile).
+/// creator, else group bits where the group is theirs, else the other bits; user 0 passes every test
+/// (this project's profile, in which no call asks for execution).
 pub fn grants(cred: &Cred, perm: &Perm, want: Want) -> bool
     ensures { result ≡ flat.grants cred.now perm.now want }
 {
@@ -47,5 +48,7 @@ pub fn grants(cred: &Cred, perm: &Perm, want: Want) -> bool
         return true;
     }
     let bits = triple(cred, perm);
-    (!want.read || bits / 4 % 2 == 1) && (!want.write || bits / 2 % 2 == 1)
+    (!want.read || bits / 4 % 2 == 1)
+        && (!want.write || bits / 2 % 2 == 1)
+        && (!want.execute || bits % 2 == 1)
 }

@@ -92,7 +92,7 @@ fn turn<E: Fn(PageRef) -> bool>(
 }
 
 /// The frame whose page has to go. `eligible` says of a page whether it may; the pinned frame stays.
-/// The hand then stands at the number after the victim, and at 0 after the last.
+/// The hand is then at the number after the victim, and at 0 after the last.
 ///
 /// There has to be an eligible frame other than the pinned one. Each frame's referenced bit is looked
 /// at once at most: those of the frames that are passed, and the victim's where it is clear.
@@ -111,7 +111,7 @@ pub fn victim<E: Fn(PageRef) -> bool>(
     requires one { candidates passes pinned frames.old hand.old ≢ [] }
     requires countable { looks.old + length frames.old < 2 ^ 64 }
 
-    // The rule as a list of frames: who is taken, which bits become clear, and where the hand stands.
+    // The rule as a list of frames: who is taken, which bits become clear, and where the hand is.
     ensures victim { result ≡ victim_of frames.old (candidates passes pinned frames.old hand.old) }
     ensures bits { let going = candidates passes pinned frames.old hand.old in
         frames.new ≡ unset_all frames.old (passed_by frames.old going) }

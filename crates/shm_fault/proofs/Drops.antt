@@ -1,5 +1,5 @@
 -- A page that leaves its frame and its slot for good.
-use Rattle.shm_fault.proofs.Names.{◌≡◌, ◌≢◌, ℕ, ◌<◌, ◌≤◌, ◌+◌, true, List, [], ◌∷◌, length, set, map, sum_by, Option, Some, None, refl, sym, ap, ◌∙◌, inl, inr, arith, get_or-set_same, not, eqb, cases_eq, cases_lt, eq-eqb, ne_eqb, length-replicate, set-get_or, PageRef, Slot, without, SwapView, owner_of, page_in, without_slot, IsSwap, IsSteady, Frame, frame_at, PageRec, SegRec, AreApart, but, no_page, find_seg, rec_by, count_by_id, HasPage, with_rec, page_count, locked_pages, StoreView, held_by, disowned, IsTied, IsStoreSound, outline, outlines, emptied, Given, IsBlank, Dropped, AtRest, sum_by-filter_both, nat_tests, common_steps}
+use Rattle.shm_fault.proofs.Names.{◌≡◌, ◌≢◌, ℕ, zero, suc, ◌<◌, ◌≤◌, ◌+◌, true, List, [], ◌∷◌, length, set, map, sum_by, Option, Some, None, refl, sym, ap, ◌∙◌, inl, inr, arith, get_or-set_same, not, eqb, cases_eq, cases_lt, eq-eqb, ne_eqb, length-replicate, set-get_or, PageRef, Slot, without, SwapView, owner_of, page_in, without_slot, IsSwap, IsSteady, Frame, frame_at, PageRec, SegRec, AreApart, but, no_page, find_seg, rec_by, count_by_id, HasPage, NowhereFrom, with_rec, page_count, locked_pages, StoreView, held_by, disowned, IsTied, IsStoreSound, outline, outlines, emptied, Given, IsBlank, Dropped, AtRest, sum_by-filter_both, nat_tests, common_steps}
 use Rattle.shm_pager.specs.Pages.{zero_page}
 use Rattle.shm_fault.specs.Store.{held}
 use Rattle.shm_fault.proofs.Entries.{apart-filter, edit-none, find-but, find-out}
@@ -11,10 +11,10 @@ use Rattle.shm_fault.proofs.Ties.{FramesApart, SlotsApart, Touches, segs-with, f
 use Rattle.shm_fault.proofs.Bytes.{joined, held_one, held_of, bytes_at, held-is, joined-ext}
 use Rattle.shm_fault.proofs.Changes.{sound-one}
 use Rattle.shm_fault.specs.Placing.{places, after_forget}
-use Rattle.shm_fault.proofs.Forgets.{forgets-none, forgets-then}
+use Rattle.shm_fault.proofs.Forgets.{forget-nowhere, forgets-none, forgets-then}
 
 -- a page that is where it is said to be
-with-is : (gs : List SegRec) (r : PageRef) (p : PageRec) → AreApart gs → rec_by gs r ≡ p → with_rec gs r p ≡ gs
+pub with-is : (gs : List SegRec) (r : PageRef) (p : PageRec) → AreApart gs → rec_by gs r ≡ p → with_rec gs r p ≡ gs
 with-is [] r p apart is = refl
 with-is (g ∷ gs) r p apart is = grind (arith, nat_tests, with-is gs r p apart.1, edit-none (λ h. record h { pages = set h.pages r.page p }) gs r.seg, apart.0, set-get_or g.pages r.page no_page)
 
@@ -149,6 +149,33 @@ dropped-more seg n s t u d has segs bytes frames slots size steady rest same pla
       nothing = λ blank. let is : t ≡ s = d.nothing blank in same (rw is (blank n)) ∙ is;
       placed = forgets-then seg n (places s) (places t) (places u) d.placed placed;
     }
+
+-- pages that are nowhere are so as they are
+pub dropped-rest : (seg n k : ℕ) (s t : StoreView) → AreApart t.segs → NowhereFrom n seg t.segs → n + k ≤ count_by_id t.segs seg → Dropped seg n s t → Dropped seg (n + k) s t
+dropped-rest seg n zero s t apart none few d = let e : n + 0 ≡ n = omega arith in rw e d
+dropped-rest seg n (suc k) s t apart none few d =
+    let r : PageRef = record { seg = seg; page = n + k } in
+    let at : rec_by t.segs r ≡ no_page = none (n + k) (omega arith) in
+    let before = dropped-rest seg n k s t apart none (omega (arith, few)) d in
+    let same = with-is t.segs r no_page apart at in
+    let steady : IsSteady t.swap t.swap = record { goes_on = GoesOn-refl t.swap; failures = refl; same_sizes = refl } in
+    let rest : AtRest t t = record { hand = refl; ins = refl; outs = refl } in
+    let e : n + suc k ≡ n + k + 1 = omega arith in
+    rw e (dropped-more seg (n + k) s t t before (omega (arith, few)) (sym same) refl (λ f. refl) (λ j. refl) refl steady rest (λ none. refl) (forget-nowhere t r same at))
+
+-- the pages of a segment that are nowhere are so still
+abbrev pub StayNowhere : ℕ → StoreView → StoreView → Type 0
+StayNowhere seg s t = (page : ℕ) → rec_by s.segs (record { seg = seg; page = page }) ≡ no_page → rec_by t.segs (record { seg = seg; page = page }) ≡ no_page
+
+pub nowhere-more : (seg n : ℕ) (s t u : StoreView) → StayNowhere seg s t → HasPage t.segs (record { seg = seg; page = n }) → u.segs ≡ with_rec t.segs (record { seg = seg; page = n }) no_page → StayNowhere seg s u
+nowhere-more seg n s t u stay has segs page none =
+    let r : PageRef = record { seg = seg; page = n } in
+    let q : PageRef = record { seg = seg; page = page } in
+    let at : rec_by u.segs q ≡ rec_by (with_rec t.segs r no_page) q = ap (λ (gs : List SegRec). rec_by gs q) segs in
+    elim (cases_eq page n) [
+      | inl e ↦ at ∙ rw e (rec-with t.segs r no_page has)
+      | inr ne ↦ at ∙ rec-with_other t.segs r q no_page (other-true r q (λ same. ne (ap (λ (x : PageRef). x.page) same))) ∙ stay page none
+    ]
 
 -- a segment all of whose pages are nowhere is taken out
 pub record IsDropped (seg : ℕ) (s t : StoreView) : Type 0 where

@@ -1,5 +1,5 @@
 -- The stored segments and what they show: looked up, added, taken out, changed.
-use Rattle.shm_fault.proofs.Names.{◌≡◌, ◌≢◌, ℕ, zero, suc, not, cond, eqb, List, [], ◌∷◌, ◌++◌, map, filter, Some, None, refl, sym, ap, ◌∙◌, inl, inr, arith, option_map, nat_eq, lookup, lookup_key, remove_entry, values_of, cases_Bool, cases_eq, eq-eqb, ne_eqb, set_value_at, insert_entry, PageTable, SegRec, find_seg, AreApart, but, seg_view, segs_view, seg_at, nat_tests, common_steps}
+use Rattle.shm_fault.proofs.Names.{◌≡◌, ◌≢◌, ◌<◌, ℕ, zero, suc, length, not, cond, eqb, List, [], ◌∷◌, ◌++◌, map, filter, Some, None, refl, sym, ap, ◌∙◌, inl, inr, arith, option_map, nat_eq, lookup, lookup_key, values_of, cases_Bool, cases_eq, eq-eqb, ne_eqb, insert_entry, TableView, SegRec, find_seg, AreApart, but, seg_view, segs_view, seg_at, nat_tests, common_steps}
 use Rattle.std.proofs.Common.{slice_get}
 use Rattle.shm_fault.proofs.Pages.{find-map}
 
@@ -7,16 +7,16 @@ use Rattle.shm_fault.proofs.Pages.{find-map}
 abbrev pub edit_at : ℕ → (SegRec → SegRec) → SegRec → SegRec
 edit_at id f g = cond (eqb g.id id) (f g) g
 
-abbrev pub seg_of : ℕ → PageTable → SegRec
+abbrev pub seg_of : ℕ → TableView → SegRec
 seg_of id s = seg_view (id, s)
 
-pub find-lookup : (es : List (ℕ × PageTable)) (id : ℕ) → find_seg (segs_view es) id ≡ option_map (seg_of id) (lookup (nat_eq id) es)
+pub find-lookup : (es : List (ℕ × TableView)) (id : ℕ) → find_seg (segs_view es) id ≡ option_map (seg_of id) (lookup (nat_eq id) es)
 find-lookup [] id = refl
 find-lookup (e ∷ es) id = grind (arith, nat_tests, find-lookup es id)
 
-pub insert-view : (es : List (ℕ × PageTable)) (id : ℕ) (s : PageTable) → find_seg (segs_view es) id ≡ None → segs_view (insert_entry nat_eq es id s) ≡ segs_view es ++ seg_of id s ∷ []
-insert-view [] id s none = refl
-insert-view (e ∷ es) id s none = grind (arith, nat_tests, insert-view es id s)
+pub insert-new : (es : List (ℕ × TableView)) (id : ℕ) (t : TableView) → find_seg (segs_view es) id ≡ None → insert_entry nat_eq es id t ≡ es ++ (id, t) ∷ []
+insert-new [] id t none = refl
+insert-new (e ∷ es) id t none = grind (arith, nat_tests, insert-new es id t)
 
 find-append : (gs : List SegRec) (h : SegRec) (id : ℕ) → find_seg gs id ≡ None → h.id ≢ id → find_seg (gs ++ h ∷ []) id ≡ None
 find-append [] h id none n = rw (ne_eqb h.id id n) refl
@@ -31,25 +31,15 @@ pub filter-none : (gs : List SegRec) (id : ℕ) → find_seg gs id ≡ None → 
 filter-none [] id none = refl
 filter-none (g ∷ gs) id none = grind (arith, nat_tests, filter-none gs id)
 
-pub remove-view : (es : List (ℕ × PageTable)) (id : ℕ) → AreApart (segs_view es) → segs_view (remove_entry (nat_eq id) es) ≡ filter (λ (g : SegRec). not (eqb g.id id)) (segs_view es)
-remove-view [] id apart = refl
-remove-view (e ∷ es) id apart = grind (arith, nat_tests, remove-view es id apart.1, filter-none (segs_view es) id, apart.0)
-
 -- an edit of a segment that is not there
 pub edit-none : (f : SegRec → SegRec) (gs : List SegRec) (id : ℕ) → find_seg gs id ≡ None → map (edit_at id f) gs ≡ gs
 edit-none f [] id none = refl
 edit-none f (g ∷ gs) id none = grind (arith, nat_tests, edit-none f gs id)
 
-find-there : (es : List (ℕ × PageTable)) (i k : ℕ) (w : PageTable) → slice_get es i ≡ Some (k, w) → find_seg (segs_view es) k ≢ None
+pub find-there : (es : List (ℕ × TableView)) (i k : ℕ) (w : TableView) → slice_get es i ≡ Some (k, w) → find_seg (segs_view es) k ≢ None
 find-there [] i k w at none = cc
 find-there (e ∷ es) zero k w at none = grind (arith, nat_tests)
 find-there (e ∷ es) (suc i) k w at none = grind (arith, nat_tests, find-there es i k w at)
-
-pub edit-view : (f : SegRec → SegRec) (es : List (ℕ × PageTable)) (i k : ℕ) (w v : PageTable) → AreApart (segs_view es) → slice_get es i ≡ Some (k, w) → seg_of k v ≡ f (seg_of k w)
-    → segs_view (set_value_at es i v) ≡ map (edit_at k f) (segs_view es)
-edit-view f [] i k w v apart at is = refl
-edit-view f (e ∷ es) zero k w v apart at is = grind (arith, nat_tests, at, apart.0, edit-none f (segs_view es) k, is)
-edit-view f (e ∷ es) (suc i) k w v apart at is = grind (arith, nat_tests, find-there es i k w at, apart.0, edit-view f es i k w v apart.1 at is)
 
 edit-id : (f : SegRec → SegRec) → ((g : SegRec) → (f g).id ≡ g.id) → (id : ℕ) (g : SegRec) → (edit_at id f g).id ≡ g.id
 edit-id f keeps id g = elim (cases_Bool (eqb g.id id)) [ inl t ↦ rw t (keeps g) | inr n ↦ rw n refl ]
@@ -75,37 +65,26 @@ apart-filter [] id apart = tt
 apart-filter (g ∷ gs) id apart = grind (arith, nat_tests, find-filter gs id g.id apart.0, apart-filter gs id apart.1)
 
 -- the key that is found is the one that was looked for
-pub key_found : (es : List (ℕ × PageTable)) (id k : ℕ) → Some k ≡ lookup_key (nat_eq id) es → k ≡ id
+pub key_found : (es : List (ℕ × TableView)) (id k : ℕ) → Some k ≡ lookup_key (nat_eq id) es → k ≡ id
 key_found [] id k at = cc
 key_found (e ∷ es) id k at = grind (arith, nat_tests, key_found es id k)
 
-pub none_found : (es : List (ℕ × PageTable)) (id : ℕ) → None ≡ lookup (nat_eq id) es → find_seg (segs_view es) id ≡ None
+pub none_found : (es : List (ℕ × TableView)) (id : ℕ) → None ≡ lookup (nat_eq id) es → find_seg (segs_view es) id ≡ None
 none_found es id none = find-lookup es id ∙ ap (option_map (seg_of id)) (sym none)
 
 -- the entry with this key and this value
-pub entry-from : (es : List (ℕ × PageTable)) (i id : ℕ) (w : PageTable) → seg_at es i ≡ Some id → slice_get (values_of es) i ≡ Some w → slice_get es i ≡ Some (id, w)
+pub entry-from : (es : List (ℕ × TableView)) (i id : ℕ) (w : TableView) → seg_at es i ≡ Some id → slice_get (values_of es) i ≡ Some w → slice_get es i ≡ Some (id, w)
 entry-from [] i id w key value = cc
 entry-from (e ∷ es) zero id w key value = grind arith
 entry-from (e ∷ es) (suc i) id w key value = entry-from es i id w key value
 
+pub seg_there : (es : List (ℕ × TableView)) (i id : ℕ) → seg_at es i ≡ Some id → i < length es
+seg_there [] i id at = cc
+seg_there (e ∷ es) zero id at = omega arith
+seg_there (e ∷ es) (suc i) id at = omega (arith, seg_there es i id at)
+
 -- what is found of a segment that is there
-pub find-entry : (es : List (ℕ × PageTable)) (i id : ℕ) (w : PageTable) → AreApart (segs_view es) → slice_get es i ≡ Some (id, w) → find_seg (segs_view es) id ≡ Some (seg_of id w)
+pub find-entry : (es : List (ℕ × TableView)) (i id : ℕ) (w : TableView) → AreApart (segs_view es) → slice_get es i ≡ Some (id, w) → find_seg (segs_view es) id ≡ Some (seg_of id w)
 find-entry [] i id w apart at = cc
 find-entry (e ∷ es) zero id w apart at = let q : e ≡ (id, w) = cc in rw (q, eq-eqb id id refl) refl
 find-entry (e ∷ es) (suc i) id w apart at = grind (arith, nat_tests, find-there es i id w at, apart.0, find-entry es i id w apart.1 at)
-
--- an index of a segment is one of its entry
-pub at-view : (es : List (ℕ × PageTable)) (i : ℕ) → option_map (λ (g : SegRec). g.id) (slice_get (segs_view es) i) ≡ seg_at es i
-at-view [] i = refl
-at-view (e ∷ es) zero = refl
-at-view (e ∷ es) (suc i) = at-view es i
-
--- the segment at a place was edited
-pub record IsEdited (f : SegRec → SegRec) (id : ℕ) (es fs : List (ℕ × PageTable)) : Type 0 where
-  pub view : segs_view fs ≡ map (edit_at id f) (segs_view es)
-  pub apart : AreApart (segs_view fs)
-
-pub edited : (f : SegRec → SegRec) → ((g : SegRec) → (f g).id ≡ g.id) → (es : List (ℕ × PageTable)) (i id : ℕ) (w v : PageTable) → AreApart (segs_view es)
-    → seg_at es i ≡ Some id → slice_get (values_of es) i ≡ Some w → seg_of id v ≡ f (seg_of id w) → IsEdited f id es (set_value_at es i v)
-edited f keeps es i id w v apart key value is =
-    grind (arith, edit-view f es i id w v apart (entry-from es i id w key value) is, apart-edit f keeps (segs_view es) id apart)

@@ -130,6 +130,21 @@ module _ (n : ℕ) (s : StoreView) (i : ℕ) (t : StoreView) (written failed : �
       other : (f : ℕ) → f ≢ i → frame_at u.frames f ≡ frame_at t.frames f
       other f ne = ap (λ (fs : List Frame). frame_at fs f) frames ∙ get_or-set_other t.frames i f (record (frame_at t.frames i) { dirty = dirty_after u i }) no_frame ne
 
+-- enough frames were written, whatever comes after them
+pub flushed-full : (n : ℕ) (s : StoreView) (i k : ℕ) (t : StoreView) (written failed : ℕ) → n ≤ written + failed → Flushed n s i t written failed → Flushed n s (i + k) t written failed
+flushed-full n s i zero t written failed le d = let e : i + 0 ≡ i = omega arith in rw e d
+flushed-full n s i (suc k) t written failed le d =
+    let e : i + suc k ≡ i + k + 1 = omega arith in
+    rw e (flushed-enough n s (i + k) t written failed (flushed-full n s i k t written failed le d) le)
+
+-- clean frames are passed
+pub flushed-past : (n : ℕ) (s : StoreView) (i k : ℕ) (t : StoreView) (written failed : ℕ) → ((f : ℕ) → i ≤ f → f < i + k → (frame_at t.frames f).dirty ≡ false) → Flushed n s i t written failed → Flushed n s (i + k) t written failed
+flushed-past n s i zero t written failed clean d = let e : i + 0 ≡ i = omega arith in rw e d
+flushed-past n s i (suc k) t written failed clean d =
+    let e : i + suc k ≡ i + k + 1 = omega arith in
+    let off : may_flush t (i + k) ≡ false = rw (clean (i + k) (omega arith) (omega arith)) refl in
+    rw e (flushed-not n s (i + k) t written failed (flushed-past n s i k t written failed (λ f le lt. clean f le (omega (arith, lt))) d) off)
+
 pub flushed-all : (n : ℕ) (s : StoreView) (i : ℕ) (t : StoreView) (written failed : ℕ) → i ≡ length s.frames → Flushed n s i t written failed → IsFlushed s t n (record { written = written; failed = failed })
 flushed-all n s i t written failed e d = grind (arith, nat_tests, common_steps, due, d.sum, length-take, d.failures, d.frames, d.others, d.counted, d.written_out, d.read_in, d.hand, d.placed)
 

@@ -19,6 +19,10 @@ pub forget-is : (s : StoreView) (r : PageRef) (u : SwapView) → Given s.swap (r
 unfolding places after_forget
 forget-is s r u given = rw (bare-emptied s.frames (rec_by s.segs r).frame, owners-given s.swap u (rec_by s.segs r).slot given) refl
 
+pub forget-nowhere : (s : StoreView) (r : PageRef) → with_rec s.segs r no_page ≡ s.segs → rec_by s.segs r ≡ no_page → places s ≡ after_forget r (places s)
+unfolding places after_forget
+forget-nowhere s r same is = rw (same, is) refl
+
 -- page after page
 pub forgets-none : (seg : ℕ) (s : Places) → s ≡ after_forgets seg 0 s
 unfolding after_forgets

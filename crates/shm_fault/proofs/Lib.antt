@@ -31,3 +31,6 @@ pub mod Moves
 pub mod Forgets
 pub mod Dirtied
 mod Copies
+mod Order
+mod Untouched
+mod Locks

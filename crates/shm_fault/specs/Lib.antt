@@ -15,3 +15,4 @@ pub mod Adding
 pub mod Dropping
 pub mod Moving
 pub mod Paging
+pub mod Exchanging

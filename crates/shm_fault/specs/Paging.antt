@@ -1,16 +1,81 @@
 -- What the steps of a fault leave, done or not.
-use Rattle.std.specs.Prelude.{ℕ, ◌≡◌, ◌≤◌, ◌+◌, ◌&&◌, Bool, true, false, not, Option, Some, None, Result, MatchResult, IfOk, OnOk, OnErr, is_ok, is_some, length}
+use Rattle.std.specs.Prelude.{ℕ, ◌≡◌, ◌<◌, ◌≤◌, ◌+◌, List, set, ◌&&◌, Bool, true, false, not, Option, Some, None, Result, MatchResult, IfOk, OnOk, OnErr, is_ok, is_some, length}
 use Rattle.shm_base.specs.declared.paging.PageRef.{PageRef}
-use Rattle.shm_slots.specs.Cause.{had_cause}
-use Rattle.shm_frames.specs.Frame.{frame_at}
+use Rattle.shm_base.specs.declared.paging.Slot.{Slot}
+use Rattle.shm_slots.specs.View.{SwapView, SameSlots, IsSwap, sizes}
+use Rattle.shm_slots.specs.Cause.{had_cause, GoesOn}
+use Rattle.shm_clock.specs.Clock.{may_go}
+use Rattle.shm_frames.specs.Frame.{Frame, frame_at, no_frame}
 use Rattle.shm_fault.specs.declared.paging.Evicted.{Evicted}
 use Rattle.shm_fault.specs.declared.touched.Touched.{Touched}
-use Rattle.shm_fault.specs.Segs.{rec_by}
-use Rattle.shm_fault.specs.Store.{StoreView, Still, IsFreeFrame, marked}
+use Rattle.shm_fault.specs.Segs.{rec_by, with_rec}
+use Rattle.shm_fault.specs.Store.{StoreView, Still, IsFreeFrame, marked, slot_bytes}
 use Rattle.shm_fault.specs.Sound.{IsStoreSound}
-use Rattle.shm_fault.specs.Goes.{Goes, StaysAway, Visits, MovesOn, OnlyMoves, OnlyWrites, CountsWrite, frame_by, referenced_at}
-use Rattle.shm_fault.specs.Counting.{raised, one_if, CountsOn, turned, hand_for_frame}
-use Rattle.shm_fault.specs.Placing.{places, after_page_out, after_clean, after_eviction, after_room, frame_for, settled, victim_in, StopsAtWrite}
+use Rattle.shm_fault.specs.Goes.{Goes, Alike, unlocked, StaysAway, Visits, MovesOn, OnlyMoves, OnlyWrites, CountsWrite, frame_by, referenced_at}
+use Rattle.shm_fault.specs.Counting.{raised, one_if, CountsOn, victim_by, turned, hand_for_frame}
+use Rattle.shm_fault.specs.Placing.{places, after_page_out, after_clean, after_turn, after_eviction, after_room, frame_for, settled, vacated, victim_in, with_bit, StopsAtWrite}
+
+-- A frame has what is in a slot, or zeros. Where a pager failed nobody knows what it has.
+pub record FillsFrom
+    {A E : Type 0} (frame : ℕ) (from : Option Slot) (before after : List Frame) (old new : SwapView)
+    (result : Result A E) : Type 0 where
+  pub frames : after ≡ set before frame (record (frame_at before frame) { bytes = (frame_at after frame).bytes })
+  pub bytes : OnOk result ((frame_at after frame).bytes ≡ slot_bytes old from)
+  pub swap : OnOk result (new ≡ old)
+  pub kept : SameSlots old new
+  pub slot : OnErr result (is_some from ≡ true)
+  pub cause : OnErr result (had_cause old new ≡ true)
+  pub goes_on : GoesOn old new
+  pub sizes : sizes new ≡ sizes old
+  pub sound : IsSwap old → IsSwap new
+
+-- The clock named the frame whose page has to go. Referenced bits may be clear now, but not that of the pinned frame.
+pub record NamesVictim (pinned : Option ℕ) (s t : StoreView) (frame : ℕ) : Type 0 where
+  pub there : frame < length s.frames
+  pub may : may_go (unlocked s.segs) pinned s.frames frame ≡ true
+  pub alike : (f : ℕ) → Alike (frame_at s.frames f) (frame_at t.frames f)
+  pub pin : (p : ℕ) → pinned ≡ Some p → frame_at t.frames p ≡ frame_at s.frames p
+  pub rest : t ≡ record s { frames = t.frames; hand = t.hand }
+  pub victim : frame ≡ victim_by s pinned
+  pub hand : t.hand ≡ turned s pinned
+  pub placed : places t ≡ after_turn pinned (places s)
+  pub chosen : frame ≡ victim_in pinned (places s)
+  pub goes : Goes s t
+
+-- a page left its frame, which was clean, and its slot or none stays its own
+pub record Leaves (frame : ℕ) (s t : StoreView) (it : PageRef) : Type 0 where
+  pub page : (frame_at s.frames frame).owner ≡ Some it
+  pub was : (rec_by s.segs it).frame ≡ Some frame
+  pub frames : t.frames ≡ set s.frames frame (record no_frame { bytes = (frame_at s.frames frame).bytes })
+  pub segs : t.segs ≡ with_rec s.segs it (record (rec_by s.segs it) { frame = None })
+  pub rest : t ≡ record s { segs = t.segs; frames = t.frames }
+  pub placed : places t ≡ vacated frame (places s)
+  pub goes : Goes s t
+  pub sound : IsStoreSound t
+
+-- a free frame has a page's bytes, from its slot or zeros; where the read failed it is free still
+pub record Loads
+    {A E : Type 0} (frame : ℕ) (from : Option Slot) (s t : StoreView) (result : Result A E) : Type 0 where
+  pub bytes : OnOk result ((frame_at t.frames frame).bytes ≡ slot_bytes s.swap from)
+  pub swap : OnOk result (t.swap ≡ s.swap)
+  pub rest : t ≡ record s { frames = t.frames; swap = t.swap; ins = t.ins }
+  pub ins : t.ins ≡ raised s.ins (one_if (is_ok result && is_some from))
+  pub free : (frame_at t.frames frame).owner ≡ None
+  pub placed : places t ≡ places s
+  pub slot : OnErr result (is_some from ≡ true)
+  pub visits : (page : PageRef) (pinned : Option ℕ) → Visits page pinned s t
+  pub cause : OnErr result (had_cause s.swap t.swap ≡ true)
+
+-- a dirty frame was written to the slot that its page has; where that failed it is dirty still
+pub record WritesBack {A E : Type 0} (frame : ℕ) (s t : StoreView) (result : Result A E) : Type 0 where
+  pub frames : t.frames ≡ marked s.frames frame (not (is_ok result))
+  pub rest : t ≡ record s { frames = t.frames; swap = t.swap; outs = t.outs }
+  pub outs : t.outs ≡ raised s.outs (one_if (is_ok result))
+  pub goes : Goes s t
+  pub cause : OnErr result (had_cause s.swap t.swap ≡ true)
+  pub counted : CountsWrite (is_ok result) s t
+  pub placed : places t ≡ with_bit frame (not (is_ok result)) (places s)
+  pub sound : IsStoreSound t
 
 -- a dirty frame was written to the slot of its page
 pub record PagesOut {A E : Type 0} (frame : ℕ) (s t : StoreView) (result : Result A E) : Type 0 where

@@ -1,11 +1,17 @@
 -- Segments by identifier, and where each of their pages is.
-use Rattle.std.specs.Prelude.{ℕ, ◌≡◌, ◌==◌, ◌<◌, Bool, false, if◌then◌else◌, List, [], ◌∷◌, Option, Some, None, map, length, get_or, set, replicate, filter, not, slice_get, option_map}
+use Rattle.std.specs.Prelude.{ℕ, ◌≡◌, ◌==◌, ◌<◌, ◌≤◌, Bool, false, if◌then◌else◌, List, [], ◌∷◌, Option, Some, None, map, length, get_or, set, replicate, filter, not}
 use Rattle.shm_base.specs.declared.paging.PageRef.{PageRef}
 use Rattle.shm_fault.specs.declared.page_tables.PageRec.{PageRec}
 
 -- a segment: its identifier, whether it is locked, and where its pages are
 pub record SegRec : Type 0 where
   pub id : ℕ
+  pub locked : Bool
+  pub pages : List PageRec
+
+-- what a page table shows: how many were made before it, whether its segment is locked, and where the pages are
+pub record TableView : Type 0 where
+  pub number : ℕ
   pub locked : Bool
   pub pages : List PageRec
 
@@ -52,9 +58,9 @@ lock_in (Some g) = g.locked
 abbrev pub locked_by : List SegRec → ℕ → Bool
 locked_by gs id = lock_in (find_seg gs id)
 
--- the segment at an index
-abbrev pub IsAt : List SegRec → ℕ → ℕ → Type 0
-IsAt gs index id = option_map (λ (g : SegRec). g.id) (slice_get gs index) ≡ Some id
+-- the pages of a segment from this one on are nowhere
+abbrev pub NowhereFrom : ℕ → ℕ → List SegRec → Type 0
+NowhereFrom first id gs = (page : ℕ) → first ≤ page → rec_by gs (record { seg = id; page = page }) ≡ no_page
 
 -- where one page is, set
 abbrev pub seg_with : PageRef → PageRec → SegRec → SegRec

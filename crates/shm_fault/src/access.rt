@@ -12,7 +12,7 @@ ghost use Rattle.shm_fault.specs.Segs.{HasPage};
 ghost use Rattle.shm_fault.specs.Store.{held, ref_of};
 ghost use Rattle.shm_fault.specs.Sound.{IsStoreSound};
 ghost use Rattle.shm_fault.specs.Goes.{frame_by, referenced_at};
-ghost use Rattle.shm_fault.specs.Placing.{places, with_bit, with_dirty, after_access, Stops, NoneDirtied, AreDirtied};
+ghost use Rattle.shm_fault.specs.Placing.{places, with_bit, with_dirty, after_access, Stops, AreDirtied};
 ghost use Rattle.shm_fault.specs.Access.{NameFrames, NamesFrame, IsUntouched, AreIn, Brings, Reads, Writes, answer_of};
 ghost use Rattle.shm_fault.specs.Adding.{number_in, added};
 
@@ -65,8 +65,23 @@ impl<P: Pager> PageStore<P> {
         }
     }
 
-    // The frame that the page of a span is in: the one that the span names, as long as nothing moved.
-    fn frame_now(&self, span: &Span, page: PageRef, touched: &Touched) -> Option<FrameNo>
+    // At which place the table of a page is. While nothing moved nobody asks, and the first may do.
+    fn table_now(&self, page: PageRef, touched: &Touched) -> usize {
+        if !touched.moved.is_empty() {
+            return self.segs.find(page.seg);
+        }
+        0
+    }
+
+    // The frame that the page of a span is in: the one that the span names, as long as nothing moved. The page's
+    // table may be at `near`.
+    fn frame_now(
+        &self,
+        span: &Span,
+        page: PageRef,
+        near: usize,
+        touched: &Touched,
+    ) -> Option<FrameNo>
         requires page { page ≡ ref_of span.now }
         requires still { touched.now.moved.items ≡ [] → NamesFrame self.now span.now }
         ensures { result ≡ frame_by self.now page }
@@ -74,7 +89,7 @@ impl<P: Pager> PageStore<P> {
         if touched.moved.is_empty() {
             return span.frame;
         }
-        self.segs.page(page).frame
+        self.segs.page_in(near, page).frame
     }
 
     // Brings in the page of a span.
@@ -89,7 +104,7 @@ impl<P: Pager> PageStore<P> {
         ensures stopped { OnErr result (Stops (first.now ∷ []) (places self.old) (places self.new)) }
     {
         let page = self.page_at(first);
-        let frame = self.visit(page, first.frame, None, touched)?;
+        let frame = self.visit(page, first.frame, 0, None, touched)?;
         Ok(InFrames {
             first: frame,
             second: frame,
@@ -116,10 +131,11 @@ impl<P: Pager> PageStore<P> {
             OnErr result (Stops spans (places self.old) (places self.new)) }
     {
         let page = self.page_at(first);
-        let near = self.visit(page, first.frame, None, touched)?;
+        let near = self.visit(page, first.frame, 0, None, touched)?;
         let page = self.page_at(second);
-        let known = self.frame_now(second, page, touched);
-        let far = self.visit(page, known, Some(near), touched)?;
+        let table = self.table_now(page, touched);
+        let known = self.frame_now(second, page, table, touched);
+        let far = self.visit(page, known, table, Some(near), touched)?;
         Ok(InFrames {
             first: near,
             second: far,
@@ -128,7 +144,11 @@ impl<P: Pager> PageStore<P> {
 
     // Brings in the pages of at most two spans, the first page first, and answers their frames.
     #[inline(always)]
-    fn bring_spans(&mut self, spans: &[Span], touched: &mut Touched) -> Result<InFrames, PagerFault>
+    pub(crate) fn bring_spans(
+        &mut self,
+        spans: &[Span],
+        touched: &mut Touched,
+    ) -> Result<InFrames, PagerFault>
         requires few { length spans.now ≤ 2 }
         requires fit { All (FitsPage (held self.old)) spans.now }
         requires frames { NameFrames self.old spans.now }
@@ -183,7 +203,7 @@ impl<P: Pager> PageStore<P> {
 
     // Copies the bytes of spans out of the frames that their pages are in.
     #[inline(always)]
-    fn copy_spans(&self, spans: &[Span], here: InFrames, out: &mut [u8])
+    pub(crate) fn copy_spans(&self, spans: &[Span], here: InFrames, out: &mut [u8])
         requires spans { IsAccess (FitsPage (held self.now)) spans.now (length out.old) }
         requires here { AreIn self.now spans.now here }
         ensures { out.new ≡ read_from (held self.now) spans.now }
@@ -201,7 +221,7 @@ impl<P: Pager> PageStore<P> {
 
     // Puts bytes into the frames that the pages of spans are in.
     #[inline(always)]
-    fn store_spans(&mut self, spans: &[Span], here: InFrames, bytes: &[u8])
+    pub(crate) fn store_spans(&mut self, spans: &[Span], here: InFrames, bytes: &[u8])
         requires spans { IsAccess (FitsPage (held self.old)) spans.now (length bytes.now) }
         requires here { AreIn self.old spans.now here }
         requires sound { IsStoreSound self.old }
@@ -229,8 +249,8 @@ impl<P: Pager> PageStore<P> {
     /// the first fails the second is not tried. No pager is asked for more than that. What is counted, and
     /// which pages moved, goes into `touched`, which begins as [`Touched::none`]; `Accessed` says what.
     ///
-    /// An error is a pager's, whose count then rose or stood at its last value before. What is in `out` is
-    /// unknown then. Each span lies in one page of a segment that is held and names the frame that the
+    /// An error is a pager's, whose count then rose or stood at its last value before. `out` is as it was
+    /// then. Each span lies in one page of a segment that is held and names the frame that the
     /// page is in, and their lengths sum up to that of `out`.
     #[inline(always)]
     pub fn read_with(
@@ -242,7 +262,8 @@ impl<P: Pager> PageStore<P> {
         requires spans { IsAccess (FitsPage (held self.old)) spans.now (length out.old) }
         requires frames { NameFrames self.old spans.now }
         requires none { IsUntouched touched.old }
-        ensures { Reads spans.now self.old self.new out.new result (answer_of touched.new result) }
+        ensures reads { Reads spans.now self.old self.new out.new result (answer_of touched.new result) }
+        ensures kept { OnErr result (out.new ≡ out.old) }
     {
         let here = self.bring_spans(spans, touched)?;
         self.copy_spans(spans, here, out);

@@ -38,16 +38,18 @@ fn free_slot<P: Pager>(swap: &mut Swap<P>, slot: Option<Slot>)
 }
 
 impl<P: Pager> PageStore<P> {
-    // Takes a page out of its frame and its slot. Its bytes are zeros then.
-    fn forget(&mut self, page: PageRef)
+    // Takes a page, whose table was found at `near`, out of its frame and its slot. Its bytes are zeros then.
+    fn forget(&mut self, near: usize, page: PageRef)
         requires { HasPage self.old.segs page }
         ensures { Forgets page self.old self.new }
     {
-        let table = self.segs.table_of(page);
-        let place = self.segs.page_in(table, page);
+        let place = self.segs.page_in(near, page);
+        if place == PageRec::NOWHERE {
+            return;
+        }
         empty_frame(&mut self.frames, place.frame);
         free_slot(&mut self.swap, place.slot);
-        self.segs.set_page(table, page, PageRec::NOWHERE);
+        self.segs.set_page(near, page, PageRec::NOWHERE);
     }
 
     /// Takes a segment out, and its pages out of their frames and slots, which are free then. No pager is
@@ -57,9 +59,10 @@ impl<P: Pager> PageStore<P> {
         requires there { is_held (held self.old) seg ≡ true }
         ensures { Drops seg self.old self.new }
     {
-        let count = self.segs.count(seg) as u32;
-        for page in 0..count {
-            self.forget(PageRef { seg, page });
+        let near = self.segs.find(seg);
+        let touched = self.segs.touched(seg);
+        for page in 0..touched {
+            self.forget(near, PageRef { seg, page });
         }
         self.segs.remove(seg);
     }

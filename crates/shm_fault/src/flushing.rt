@@ -16,13 +16,14 @@ use shm_base::{FlushReport, FrameNo};
 use shm_pager::Pager;
 
 impl<P: Pager> PageStore<P> {
-    // Whether a frame is dirty, and its segment is not locked.
+    // Whether the segment of a dirty frame's page is not locked.
     fn is_flushable(&self, frame: FrameNo) -> bool
-        requires { frame < length self.now.frames }
+        requires there { frame < length self.now.frames }
+        requires dirty { (frame_at self.now.frames frame).dirty ≡ true }
         ensures { result ≡ may_flush self.now frame }
     {
         match self.frames.owner(frame) {
-            Some(page) => self.frames.is_dirty(frame) && !self.segs.is_locked(page.seg),
+            Some(page) => !self.segs.is_locked(0, page.seg),
             None => false,
         }
     }
@@ -47,7 +48,8 @@ impl<P: Pager> PageStore<P> {
             places self.new ≡ after_page_out frame written (places self.old) }
         ensures sound { IsStoreSound self.new }
     {
-        match self.page_out(frame) {
+        let table = self.table_of(frame, 0);
+        match self.page_out(frame, table) {
             Ok(()) => report.written += 1,
             Err(_) => report.failed += 1,
         }
@@ -55,7 +57,7 @@ impl<P: Pager> PageStore<P> {
 
     /// Writes the first `n` dirty frames of segments that are not locked, by rising number, each to the
     /// slot of its page, as where that page has to go. A frame whose write failed stays dirty; it is one
-    /// of the `n`. The clock's hand stays.
+    /// of the `n`. The clock's hand stays. Blocks of 64 frames of which none is dirty are passed at once.
     pub fn flush(&mut self, n: u64) -> FlushReport
         ensures flushed { IsFlushed self.old self.new n result }
         ensures held { held self.new ≡ held self.old }
@@ -70,10 +72,16 @@ impl<P: Pager> PageStore<P> {
             written: 0,
             failed: 0,
         };
-        for frame in 0..self.frames.count() {
-            if report.written + report.failed < n && self.is_flushable(frame) {
+        let count = self.frames.count();
+        let mut from = 0;
+        while from < count && report.written + report.failed < n {
+            let Some(frame) = self.frames.next_dirty(from) else {
+                return report;
+            };
+            if self.is_flushable(frame) {
                 self.flush_frame(frame, &mut report);
             }
+            from = frame + 1;
         }
         report
     }

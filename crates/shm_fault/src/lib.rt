@@ -9,8 +9,10 @@
 mod access;
 mod copying;
 mod dropping;
+mod exchange;
 mod flushing;
 mod moving;
+mod page_table;
 mod page_tables;
 mod paging;
 mod shown;

@@ -2,7 +2,7 @@
 ghost use Rattle.std.specs.Prelude.{◌≡◌, true, Some, None, OnOk, OnErr};
 ghost use Rattle.shm_slots.specs.View.{HasSlot, IsSwap, area_at, page_in};
 ghost use Rattle.shm_slots.specs.Cause.{had_cause};
-ghost use Rattle.shm_fault.specs.Segs.{IsAt, rec_by};
+ghost use Rattle.shm_fault.specs.Segs.{rec_by};
 ghost use Rattle.shm_fault.specs.Store.{Still};
 ghost use Rattle.shm_fault.specs.Sound.{IsStoreSound};
 ghost use Rattle.shm_fault.specs.Goes.{Goes};
@@ -62,7 +62,6 @@ fn relocate<P: Pager>(swap: &mut Swap<P>, page: PageRef, from: Slot) -> Result<S
 impl<P: Pager> PageStore<P> {
     // A resident page gives its slot back, and is dirty.
     fn give_back(&mut self, page: PageRef, table: usize, frame: FrameNo, slot: Slot)
-        requires at { IsAt self.old.segs table page.seg }
         requires place { rec_by self.old.segs page ≡ record { frame = Some frame; slot = Some slot } }
         ensures goes { Goes self.old self.new }
         ensures still { Still self.old self.new }
@@ -85,7 +84,6 @@ impl<P: Pager> PageStore<P> {
 
     // A page that is not resident moves to another area.
     fn carry(&mut self, page: PageRef, table: usize, slot: Slot) -> Result<(), PagerFault>
-        requires at { IsAt self.old.segs table page.seg }
         requires place { rec_by self.old.segs page ≡ record { frame = None; slot = Some slot } }
         requires room { FitOutside self.old slot.area }
         ensures goes { Goes self.old self.new }
@@ -126,7 +124,7 @@ impl<P: Pager> PageStore<P> {
         let Some(page) = self.swap.owner(slot) else {
             return Ok(());
         };
-        let table = self.segs.table_of(page);
+        let table = self.segs.find(page.seg);
         match self.segs.page_in(table, page).frame {
             Some(frame) => {
                 self.give_back(page, table, frame, slot);

@@ -1,9 +1,13 @@
 //! The page tables of the segments that the store holds: where each of their pages is.
-ghost use Rattle.std.specs.Prelude.{◌≡◌, ◌<◌, ◌^◌, [], ◌∷◌, ◌++◌, length, sum_by, count_by, set, map, filter, not, ◌==◌, None, Some, IfSome, IfNone, IfOk, OnOk, OnErr, replicate};
-ghost use Rattle.shm_fault.specs.Segs.{SegRec, find_seg, rec_at, rec_by, count_by_id, locked_by, page_count, HasPage, IsAt, with_rec, with_seg_lock, no_page, new_seg};
-ghost use Rattle.shm_fault.specs.Entries.{segs_view, seg_at, IsCopy};
-ghost use Rattle.shm_fault.specs.Store.{is_swapped, swapped_pages};
+//!
+//! They are seen in the order in which they were added, which the number of each table says. They are stored in
+//! another order: where one is taken out, the last takes its place, and no other table is looked at.
+ghost use Rattle.std.specs.Prelude.{◌≡◌, ◌<◌, ◌≤◌, ◌^◌, [], ◌∷◌, ◌++◌, sum_by, map, filter, not, ◌==◌, None, Some, IfSome, IfNone, IfOk, OnOk, OnErr};
+ghost use Rattle.shm_fault.specs.Segs.{SegRec, find_seg, rec_by, count_by_id, locked_by, page_count, HasPage, NowhereFrom, with_rec, with_seg_lock, new_seg};
+ghost use Rattle.shm_fault.specs.Entries.{segs_view, seg_at};
+ghost use Rattle.shm_fault.specs.Store.{swapped_pages};
 
+use crate::page_table::PageTable;
 use indexmap::IndexMap;
 use shm_base::{FrameNo, HostMemory, PageRef, Slot};
 use std::alloc::{AllocError, Global};
@@ -17,56 +21,39 @@ pub struct PageRec {
     pub slot: Option<Slot>,
 }
 
-/// Where the pages of a segment are, and whether it is locked.
-pub(crate) struct PageTable {
-    pub(crate) locked: bool,
-    pub(crate) pages: Vec<PageRec>,
-}
-
-impl Drop for PageTable {
-    fn drop(self) {
-        let PageTable {
-            locked: _,
-            pages: _,
-        } = self;
-    }
-}
-
-impl Clone for PageTable {
-    ghost is_clone = { IsCopy };
-
-    fn clone(&self) -> Result<PageTable, AllocError> {
-        Ok(PageTable {
-            locked: self.locked,
-            pages: Vec::from_slice(*self.pages.allocator(), &self.pages)?,
-        })
-    }
-}
-
 /// The page tables of segments, in the order in which they were added. Finding one by its segment takes no
-/// longer where there are more of them.
+/// longer where there are more of them, nor does taking one out.
 pub(crate) struct PageTables {
     alloc: Global,
     by_id: IndexMap<u32, PageTable>,
+    // How many tables were ever made.
+    made: u64,
+    // How many segments are locked. Where none is, no table is looked for to know it.
+    locked: usize,
 }
 
 impl Drop for PageTables {
     fn drop(self) {
-        let PageTables { alloc: _, by_id: _ } = self;
+        let PageTables {
+            alloc: _,
+            by_id: _,
+            made: _,
+            locked: _,
+        } = self;
     }
 }
 
 impl Model for PageTables {
     ghost use Rattle.std.specs.Prelude.{List};
-    ghost use Rattle.shm_fault.specs.Segs.{SegRec, AreApart};
+    ghost use Rattle.shm_fault.specs.Segs.{SegRec};
 
     ghost Value = { List SegRec };
 
-    ghost use Rattle.shm_fault.specs.Entries.{segs_view};
+    ghost use Rattle.shm_fault.specs.Entries.{segs_in_order, AreTables};
 
-    ghost view = { λ s. segs_view s.by_id.entries };
+    ghost view = { λ s. segs_in_order s.by_id.entries };
 
-    ghost invariant = { λ s. AreApart (segs_view s.by_id.entries) };
+    ghost invariant = { λ s. AreTables s.by_id.entries s.made s.locked };
 }
 
 impl PageRec {
@@ -77,56 +64,26 @@ impl PageRec {
     };
 }
 
-// Pages that are nowhere.
-fn blank_pages(alloc: Global, count: u32) -> Result<Vec<PageRec>, AllocError>
-    ensures { IfOk result (λ pages. pages.items ≡ replicate count no_page) }
-{
-    let mut pages = Vec::with_capacity(alloc, count as usize)?;
-    for _page in 0..count {
-        pages.push(PageRec::NOWHERE)?;
-    }
-    Ok(pages)
-}
-
-// How many of these pages are in a slot and in no frame.
-fn swapped_in(pages: &Vec<PageRec>) -> u32
-    requires { length pages.now.items < 2 ^ 32 }
-    ensures { result ≡ count_by is_swapped pages.now.items }
-{
-    let mut count = 0;
-    for page in pages {
-        if page.frame.is_none() && page.slot.is_some() {
-            count += 1;
-        }
-    }
-    count
-}
-
-// Where a page of a segment is.
-fn page_at(pages: &Vec<PageRec>, page: u32) -> PageRec
-    ensures { result ≡ rec_at pages.now.items page }
-{
-    pages
-        .get(page as usize)
-        .copied()
-        .unwrap_or(PageRec::NOWHERE)
-}
-
-// Notes where a page of a segment is.
-fn set_page_at(pages: &mut Vec<PageRec>, page: u32, rec: PageRec)
-    requires { page < length pages.old.items }
-    ensures { pages.new.items ≡ set pages.old.items page rec }
-{
-    pages[page as usize] = rec;
-}
-
-// At which place a segment stands.
+// The place of a segment.
 fn index_of(by_id: &IndexMap<u32, PageTable>, id: u32) -> Option<usize>
     ensures some { IfSome result (λ i. seg_at by_id.now.entries i ≡ Some id) }
     ensures none { IfNone result (find_seg (segs_view by_id.now.entries) id ≡ None) }
 {
     let (index, _, _) = by_id.get_full(&id)?;
     Some(index)
+}
+
+// The same, where it was found at `near` before: mostly it is still there.
+fn index_near(by_id: &IndexMap<u32, PageTable>, near: usize, id: u32) -> Option<usize>
+    ensures some { IfSome result (λ i. seg_at by_id.now.entries i ≡ Some id) }
+    ensures none { IfNone result (find_seg (segs_view by_id.now.entries) id ≡ None) }
+{
+    if let Some((other, _)) = by_id.get_index(near) {
+        if *other == id {
+            return Some(near);
+        }
+    }
+    index_of(by_id, id)
 }
 
 impl PageTables {
@@ -137,6 +94,8 @@ impl PageTables {
         PageTables {
             alloc,
             by_id: IndexMap::new(alloc),
+            made: 0,
+            locked: 0,
         }
     }
 
@@ -147,6 +106,8 @@ impl PageTables {
         Ok(PageTables {
             alloc: self.alloc,
             by_id: self.by_id.clone()?,
+            made: self.made,
+            locked: self.locked,
         })
     }
 
@@ -157,31 +118,33 @@ impl PageTables {
     {
         let mut count = 0;
         for table in self.by_id.values().as_slice() {
-            count += swapped_in(&table.pages);
+            count += table.swapped();
         }
         count
     }
 
-    /// One more segment, not locked, whose pages are nowhere.
+    /// One more segment, not locked, whose pages are nowhere. The last number counts as lack of memory.
     pub(crate) fn add(&mut self, id: u32, pages: u32) -> Result<(), HostMemory>
         requires new { find_seg self.old id ≡ None }
         ensures ok { OnOk result (self.new ≡ self.old ++ new_seg id pages ∷ []) }
         ensures err { OnErr result (self.new ≡ self.old) }
     {
-        let pages = blank_pages(self.alloc, pages)?;
-        let table = PageTable {
-            locked: false,
-            pages,
+        let Some(made) = self.made.checked_add(1) else {
+            return Err(HostMemory);
         };
+        let table = PageTable::new(self.alloc, self.made, pages)?;
         self.by_id.insert(id, table)?;
+        self.made = made;
         Ok(())
     }
 
-    /// Takes a segment out.
+    /// Takes a segment out. The last table takes the place of its own.
     pub(crate) fn remove(&mut self, id: u32)
         ensures { self.new ≡ filter (λ (g : SegRec). not (g.id == id)) self.old }
     {
-        self.by_id.shift_remove(&id);
+        if let Some(table) = self.by_id.swap_remove(&id) {
+            self.locked -= usize::from(table.is_locked());
+        }
     }
 
     /// Where a page is.
@@ -189,58 +152,73 @@ impl PageTables {
         ensures { result ≡ rec_by self.now page }
     {
         match self.by_id.get(&page.seg) {
-            Some(table) => page_at(&table.pages, page.page),
+            Some(table) => table.page(page.page),
             None => PageRec::NOWHERE,
         }
     }
 
-    /// How many pages a segment has.
-    pub(crate) fn count(&self, id: u32) -> usize
-        ensures { result ≡ count_by_id self.now id }
+    /// How many of the first pages of a segment may be somewhere. All after them are nowhere.
+    pub(crate) fn touched(&self, id: u32) -> u32
+        ensures few { result ≤ count_by_id self.now id }
+        ensures rest { NowhereFrom result id self.now }
     {
         match self.by_id.get(&id) {
-            Some(table) => table.pages.len(),
+            Some(table) => table.touched(),
             None => 0,
         }
     }
 
-    /// Whether a segment is locked.
-    pub(crate) fn is_locked(&self, id: u32) -> bool
+    /// Whether a segment is locked, whose table may be at `near`.
+    pub(crate) fn is_locked(&self, near: usize, id: u32) -> bool
         ensures { result ≡ locked_by self.now id }
     {
-        match self.by_id.get(&id) {
-            Some(table) => table.locked,
+        if self.locked == 0 {
+            return false;
+        }
+        match index_near(&self.by_id, near, id) {
+            Some(index) => self.by_id[index].is_locked(),
             None => false,
         }
     }
 
-    /// The number of a page's table, which stays until a segment comes or goes. A caller that keeps it need
-    /// not look for the segment again.
-    pub(crate) fn table_of(&self, page: PageRef) -> usize
-        requires { HasPage self.now page }
-        ensures { IsAt self.now result page.seg }
-    {
-        let Some(table) = index_of(&self.by_id, page.seg) else {
-            unreachable!();
-        };
-        table
+    /// At which place the table of a segment is. A caller that keeps it need not look for the segment again, as
+    /// long as the table stays there.
+    pub(crate) fn find(&self, id: u32) -> usize {
+        index_of(&self.by_id, id).unwrap_or(0)
     }
 
-    /// Where a page is, by the number of its table.
-    pub(crate) fn page_in(&self, table: usize, page: PageRef) -> PageRec
-        requires { IsAt self.now table page.seg }
+    /// The same, where it may be at `near`: if it is, the segment is not looked for.
+    pub(crate) fn find_near(&self, near: usize, id: u32) -> usize {
+        index_near(&self.by_id, near, id).unwrap_or(0)
+    }
+
+    /// As [`PageTables::find`], for [`PageTables::is_locked`] alone: where none is locked, that asks for no place.
+    pub(crate) fn find_if_locked(&self, id: u32) -> usize {
+        if self.locked == 0 {
+            return 0;
+        }
+        self.find(id)
+    }
+
+    /// Where a page is, whose table was found at `near`.
+    pub(crate) fn page_in(&self, near: usize, page: PageRef) -> PageRec
         ensures { result ≡ rec_by self.now page }
     {
-        page_at(&self.by_id[table].pages, page.page)
+        match index_near(&self.by_id, near, page.seg) {
+            Some(index) => self.by_id[index].page(page.page),
+            None => PageRec::NOWHERE,
+        }
     }
 
-    /// Notes where a page is, by the number of its table.
-    pub(crate) fn set_page(&mut self, table: usize, page: PageRef, rec: PageRec)
-        requires at { IsAt self.old table page.seg }
-        requires has { HasPage self.old page }
+    /// Notes where a page is, whose table was found at `near`.
+    pub(crate) fn set_page(&mut self, near: usize, page: PageRef, rec: PageRec)
+        requires { HasPage self.old page }
         ensures { self.new ≡ with_rec self.old page rec }
     {
-        set_page_at(&mut self.by_id[table].pages, page.page, rec);
+        let Some(index) = index_near(&self.by_id, near, page.seg) else {
+            unreachable!();
+        };
+        self.by_id[index].set_page(page.page, rec);
     }
 
     /// Locks or unlocks a segment.
@@ -248,7 +226,11 @@ impl PageTables {
         ensures { self.new ≡ map (with_seg_lock id locked) self.old }
     {
         if let Some(index) = index_of(&self.by_id, id) {
-            self.by_id[index].locked = locked;
+            let all = self.by_id.len();
+            let table = &mut self.by_id[index];
+            self.locked -= usize::from(table.is_locked());
+            table.set_locked(locked);
+            self.locked = all.min(self.locked + usize::from(locked));
         }
     }
 }

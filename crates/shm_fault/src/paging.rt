@@ -1,19 +1,18 @@
 //! Pages that come into a frame and leave it. Each step here keeps all bytes of all segments.
-ghost use Rattle.std.specs.Prelude.{◌≡◌, ◌≢◌, ℕ, ◌+◌, ◌<◌, ◌≤◌, ◌^◌, true, false, not, [], length, set, Option, Some, None, ◌&&◌, is_ok, is_some, IfOk, OnOk, OnErr, IsSome, MatchOption};
+ghost use Rattle.std.specs.Prelude.{◌≡◌, ◌≢◌, ℕ, ◌+◌, ◌<◌, ◌≤◌, ◌^◌, true, false, not, [], length, set, Option, Some, None, ◌&&◌, is_ok, IfOk, OnOk, OnErr, IsSome, MatchOption};
 ghost use Rattle.shm_base.specs.declared.bounds.TheConstants.{MOST_FRAMES};
 ghost use Rattle.shm_base.specs.declared.paging.PageRef.{PageRef as Ref};
-ghost use Rattle.shm_slots.specs.View.{SameSlots, HasSlot, IsFirstFree, IsSwap, sizes};
-ghost use Rattle.shm_slots.specs.Cause.{had_cause, total, GoesOn};
-ghost use Rattle.shm_frames.specs.Frame.{frame_at, no_frame, OwnedBelow};
+ghost use Rattle.shm_slots.specs.View.{HasSlot, IsFirstFree};
+ghost use Rattle.shm_slots.specs.Cause.{total};
+ghost use Rattle.shm_frames.specs.Frame.{frame_at, OwnedBelow};
 ghost use Rattle.shm_clock.specs.Clock.{may_go, candidates, victim_of, passed_by, unset_all, next, IsClockVictim};
-ghost use Rattle.shm_fault.specs.Segs.{rec_by, HasPage, IsAt, with_rec};
-ghost use Rattle.shm_fault.specs.Store.{Still, marked, slot_bytes};
+ghost use Rattle.shm_fault.specs.Segs.{rec_by, HasPage};
+ghost use Rattle.shm_fault.specs.Store.{Still, slot_bytes};
 ghost use Rattle.shm_fault.specs.Sound.{IsStoreSound};
-ghost use Rattle.shm_fault.specs.Counting.{raised, one_if, victim_by, turned};
-ghost use Rattle.shm_fault.specs.Placing.{places, slotted, with_bit, vacated, after_turn, victim_in, settled, referenced, after_visit, StopsAt};
+ghost use Rattle.shm_fault.specs.Placing.{places, slotted, settled, referenced, after_visit, StopsAt};
 ghost use Rattle.shm_fault.specs.Access.{Visited};
-ghost use Rattle.shm_fault.specs.Paging.{PagesOut, Cleans, Evicts, MakesRoom, ComesIn};
-ghost use Rattle.shm_fault.specs.Goes.{Goes, StaysAway, Alike, Visits, IsSeenIn, OnlyMoves, IsSlotOf, CountsWrite, referenced_at, unlocked, frame_by};
+ghost use Rattle.shm_fault.specs.Paging.{FillsFrom, NamesVictim, Leaves, Loads, WritesBack, PagesOut, Cleans, Evicts, MakesRoom, ComesIn};
+ghost use Rattle.shm_fault.specs.Goes.{Goes, StaysAway, Visits, IsSeenIn, OnlyMoves, IsSlotOf, referenced_at, unlocked, frame_by};
 
 use crate::page_tables::{PageRec, PageTables};
 use crate::store::PageStore;
@@ -32,7 +31,18 @@ struct Evicted {
     written: bool,
 }
 
-// The frame whose page has to go, by the clock, among those of segments that are not locked.
+// At which place the table of the page under the hand is, if a segment is locked.
+fn table_at(segs: &PageTables, frames: &Frames, hand: FrameNo) -> usize
+    requires { hand < length frames.now }
+{
+    match frames.owner(hand) {
+        Some(page) => segs.find_if_locked(page.seg),
+        None => 0,
+    }
+}
+
+// The frame whose page has to go, by the clock, among those of segments that are not locked. No table is looked for
+// to pass the frames of the segment that the hand begins at.
 fn choose(
     segs: &PageTables,
     frames: &mut Frames,
@@ -50,7 +60,8 @@ fn choose(
         frames.new ≡ unset_all frames.old (passed_by frames.old going) }
     ensures hand { hand.new ≡ next (length frames.old) result }
 {
-    let eligible = |page: PageRef| !segs.is_locked(page.seg);
+    let near = table_at(segs, frames, *hand);
+    let eligible = |page: PageRef| !segs.is_locked(near, page.seg);
     victim(frames, hand, &eligible, pinned, &mut Looks::new())
 }
 
@@ -63,16 +74,7 @@ fn fill_from<P: Pager>(
 ) -> Result<(), PagerFault>
     requires there { frame < length frames.old }
     requires slot { MatchOption slot (Unit {0}) (λ k. HasSlot swap.old k.area k.slot) }
-    ensures frames { let bytes = (frame_at frames.new frame).bytes in
-        frames.new ≡ set frames.old frame (record (frame_at frames.old frame) { bytes = bytes }) }
-    ensures bytes { OnOk result ((frame_at frames.new frame).bytes ≡ slot_bytes swap.old slot) }
-    ensures swap { OnOk result (swap.new ≡ swap.old) }
-    ensures kept { SameSlots swap.old swap.new }
-    ensures slot { OnErr result (is_some slot ≡ true) }
-    ensures cause { OnErr result (had_cause swap.old swap.new ≡ true) }
-    ensures goes_on { GoesOn swap.old swap.new }
-    ensures sizes { sizes swap.new ≡ sizes swap.old }
-    ensures sound { IsSwap swap.old → IsSwap swap.new }
+    ensures { FillsFrom frame slot frames.old frames.new swap.old swap.new result }
 {
     match slot {
         Some(slot) => swap.read_slot(slot, frames.bytes_mut(frame)),
@@ -84,9 +86,18 @@ fn fill_from<P: Pager>(
 }
 
 impl<P: Pager> PageStore<P> {
+    // At which place the page table of a frame's page is, which may be `near`.
+    pub(crate) fn table_of(&self, frame: FrameNo, near: usize) -> usize
+        requires there { frame < length self.now.frames }
+        requires owned { IsSome (frame_at self.now.frames frame).owner }
+    {
+        self.segs
+            .find_near(near, self.frames.resident_page(frame).seg)
+    }
+
     // The slot of the page in a dirty frame. Where it has none it gets the least free one of the
     // lowest-numbered area that has one.
-    fn slot_for(&mut self, frame: FrameNo) -> Slot
+    fn slot_for(&mut self, frame: FrameNo, table: usize) -> Slot
         requires there { frame < length self.old.frames }
         requires owned { IsSome (frame_at self.old.frames frame).owner }
         requires dirty { (frame_at self.old.frames frame).dirty ≡ true }
@@ -103,7 +114,6 @@ impl<P: Pager> PageStore<P> {
         ensures sound { IsStoreSound self.new }
     {
         let page = self.frames.resident_page(frame);
-        let table = self.segs.table_of(page);
         let place = self.segs.page_in(table, page);
         if let Some(slot) = place.slot {
             return slot;
@@ -128,15 +138,7 @@ impl<P: Pager> PageStore<P> {
         requires owned { IsSome (frame_at self.old.frames frame).owner }
         requires dirty { (frame_at self.old.frames frame).dirty ≡ true }
         requires slot { IsSlotOf (frame_at self.old.frames frame).owner self.old.segs slot }
-        ensures frames { self.new.frames ≡ marked self.old.frames frame (not (is_ok result)) }
-        ensures rest { let t = self.new in
-            t ≡ record self.old { frames = t.frames; swap = t.swap; outs = t.outs } }
-        ensures outs { self.new.outs ≡ raised self.old.outs (one_if (is_ok result)) }
-        ensures goes { Goes self.old self.new }
-        ensures cause { OnErr result (had_cause self.old.swap self.new.swap ≡ true) }
-        ensures counted { CountsWrite (is_ok result) self.old self.new }
-        ensures placed { places self.new ≡ with_bit frame (not (is_ok result)) (places self.old) }
-        ensures sound { IsStoreSound self.new }
+        ensures { WritesBack frame self.old self.new result }
     {
         self.swap.write_slot(slot, self.frames.bytes(frame))?;
         self.frames.set_dirty(frame, false);
@@ -145,35 +147,26 @@ impl<P: Pager> PageStore<P> {
     }
 
     /// Writes a dirty frame to the slot of its page, or to the least free slot of the lowest-numbered
-    /// area that has one. Where the write fails the frame stays dirty, and the page keeps that slot.
-    pub(crate) fn page_out(&mut self, frame: FrameNo) -> Result<(), PagerFault>
+    /// area that has one. Where the write fails the frame stays dirty, and the page keeps that slot. The page's
+    /// table was found at `table`.
+    pub(crate) fn page_out(&mut self, frame: FrameNo, table: usize) -> Result<(), PagerFault>
         requires there { frame < length self.old.frames }
         requires owned { IsSome (frame_at self.old.frames frame).owner }
         requires dirty { (frame_at self.old.frames frame).dirty ≡ true }
         ensures { PagesOut frame self.old self.new result }
     {
-        let slot = self.slot_for(frame);
+        let slot = self.slot_for(frame, table);
         self.write_back(frame, slot)
     }
 
     // The page in a clean frame leaves it.
-    fn vacate(&mut self, frame: FrameNo) -> PageRef
+    fn vacate(&mut self, frame: FrameNo, table: usize) -> PageRef
         requires there { frame < length self.old.frames }
         requires owned { IsSome (frame_at self.old.frames frame).owner }
         requires clean { (frame_at self.old.frames frame).dirty ≡ false }
-        ensures page { (frame_at self.old.frames frame).owner ≡ Some result }
-        ensures was { (rec_by self.old.segs result).frame ≡ Some frame }
-        ensures frames { let bytes = (frame_at self.old.frames frame).bytes in
-            self.new.frames ≡ set self.old.frames frame (record no_frame { bytes = bytes }) }
-        ensures segs { let place = record (rec_by self.old.segs result) { frame = None } in
-            self.new.segs ≡ with_rec self.old.segs result place }
-        ensures rest { self.new ≡ record self.old { segs = self.new.segs; frames = self.new.frames } }
-        ensures placed { places self.new ≡ vacated frame (places self.old) }
-        ensures goes { Goes self.old self.new }
-        ensures sound { IsStoreSound self.new }
+        ensures { Leaves frame self.old self.new result }
     {
         let page = self.frames.resident_page(frame);
-        let table = self.segs.table_of(page);
         let place = self.segs.page_in(table, page);
         self.frames.empty(frame);
         self.segs.set_page(
@@ -191,22 +184,13 @@ impl<P: Pager> PageStore<P> {
     // of the pinned frame.
     fn turn(&mut self, pinned: Option<FrameNo>) -> FrameNo
         requires full { OwnedBelow self.old.frames (length self.old.frames) }
-        ensures there { result < length self.old.frames }
-        ensures may { may_go (unlocked self.old.segs) pinned self.old.frames result ≡ true }
-        ensures alike { (f : ℕ) → Alike (frame_at self.old.frames f) (frame_at self.new.frames f) }
-        ensures pin { (p : ℕ) → pinned ≡ Some p → frame_at self.new.frames p ≡ frame_at self.old.frames p }
-        ensures rest { self.new ≡ record self.old { frames = self.new.frames; hand = self.new.hand } }
-        ensures victim { result ≡ victim_by self.old pinned }
-        ensures hand { self.new.hand ≡ turned self.old pinned }
-        ensures placed { places self.new ≡ after_turn pinned (places self.old) }
-        ensures chosen { result ≡ victim_in pinned (places self.old) }
-        ensures goes { Goes self.old self.new }
+        ensures { NamesVictim pinned self.old self.new result }
     {
         choose(&self.segs, &mut self.frames, &mut self.hand, pinned)
     }
 
     // Writes a frame if it is dirty, and tells whether it was.
-    fn clean(&mut self, frame: FrameNo) -> Result<bool, PagerFault>
+    fn clean(&mut self, frame: FrameNo, table: usize) -> Result<bool, PagerFault>
         requires there { frame < length self.old.frames }
         requires owned { IsSome (frame_at self.old.frames frame).owner }
         ensures { Cleans frame self.old self.new result }
@@ -214,19 +198,20 @@ impl<P: Pager> PageStore<P> {
         if !self.frames.is_dirty(frame) {
             return Ok(false);
         }
-        self.page_out(frame)?;
+        self.page_out(frame, table)?;
         Ok(true)
     }
 
     // Makes a frame free by having its page leave it. Where the page's write fails, the page stays. The hand
-    // stands behind that frame then, also after a failure.
-    fn evict(&mut self, pinned: Option<FrameNo>) -> Result<Evicted, PagerFault>
+    // stands behind that frame then, also after a failure. The page's table may be at `near`.
+    fn evict(&mut self, pinned: Option<FrameNo>, near: usize) -> Result<Evicted, PagerFault>
         requires full { OwnedBelow self.old.frames (length self.old.frames) }
         ensures { Evicts pinned self.old self.new result }
     {
         let frame = self.turn(pinned);
-        let written = self.clean(frame)?;
-        let page = self.vacate(frame);
+        let table = self.table_of(frame, near);
+        let written = self.clean(frame, table)?;
+        let page = self.vacate(frame, table);
         Ok(Evicted {
             frame,
             page,
@@ -239,16 +224,7 @@ impl<P: Pager> PageStore<P> {
         requires there { frame < length self.old.frames }
         requires free { (frame_at self.old.frames frame).owner ≡ None }
         requires slot { MatchOption slot (Unit {0}) (λ k. HasSlot self.old.swap k.area k.slot) }
-        ensures bytes { OnOk result ((frame_at self.new.frames frame).bytes ≡ slot_bytes self.old.swap slot) }
-        ensures swap { OnOk result (self.new.swap ≡ self.old.swap) }
-        ensures rest { let t = self.new in
-            t ≡ record self.old { frames = t.frames; swap = t.swap; ins = t.ins } }
-        ensures ins { self.new.ins ≡ raised self.old.ins (one_if (is_ok result && is_some slot)) }
-        ensures free { (frame_at self.new.frames frame).owner ≡ None }
-        ensures placed { places self.new ≡ places self.old }
-        ensures slot { OnErr result (is_some slot ≡ true) }
-        ensures visits { (page : Ref) (pinned : Option ℕ) → Visits page pinned self.old self.new }
-        ensures cause { OnErr result (had_cause self.old.swap self.new.swap ≡ true) }
+        ensures { Loads frame slot self.old self.new result }
     {
         fill_from(&mut self.frames, &mut self.swap, frame, slot)?;
         self.ins = self.ins.saturating_add(u64::from(slot.is_some()));
@@ -261,7 +237,6 @@ impl<P: Pager> PageStore<P> {
         requires free { (frame_at self.old.frames frame).owner ≡ None }
         requires has { HasPage self.old.segs page }
         requires away { frame_by self.old page ≡ None }
-        requires at { IsAt self.old.segs table page.seg }
         requires bytes { let slot = (rec_by self.old.segs page).slot in
             (frame_at self.old.frames frame).bytes ≡ slot_bytes self.old.swap slot }
         ensures came { OnlyMoves page (Some frame) self.old self.new }
@@ -283,11 +258,13 @@ impl<P: Pager> PageStore<P> {
         );
     }
 
-    // Brings a page into a free frame. Where the read fails the page stays where it is.
+    // Brings a page, whose table was found at `table`, into a free frame. Where the read fails the page stays
+    // where it is.
     fn come_in(
         &mut self,
         frame: FrameNo,
         page: PageRef,
+        table: usize,
         touched: &mut Touched,
     ) -> Result<(), PagerFault>
         requires there { frame < length self.old.frames }
@@ -298,7 +275,6 @@ impl<P: Pager> PageStore<P> {
         requires small { touched.old.ins < 2 ^ 32 }
         ensures { ComesIn frame page self.old self.new touched.old touched.new result }
     {
-        let table = self.segs.table_of(page);
         let slot = self.segs.page_in(table, page).slot;
         self.load(frame, slot)?;
         self.settle(frame, page, table);
@@ -307,10 +283,11 @@ impl<P: Pager> PageStore<P> {
         Ok(())
     }
 
-    // A free frame: the one of least number, or the one of the page that has to go.
+    // A free frame: the one of least number, or the one of the page that has to go, whose table may be at `near`.
     fn take_frame(
         &mut self,
         pinned: Option<FrameNo>,
+        near: usize,
         touched: &mut Touched,
     ) -> Result<FrameNo, PagerFault>
         requires room { length touched.old.moved.items < 4 }
@@ -320,17 +297,19 @@ impl<P: Pager> PageStore<P> {
         if let Some(frame) = self.frames.free_frame() {
             return Ok(frame);
         }
-        let evicted = self.evict(pinned)?;
+        let evicted = self.evict(pinned, near)?;
         touched.outs += u64::from(evicted.written);
         touched.moved.push(PageMove::Gone(evicted.page));
         Ok(evicted.frame)
     }
 
-    // Brings in a page that is not resident.
+    // Brings in a page that is not resident, whose table may be at `near`. Each of the two tables that this takes
+    // is looked for once.
     #[inline(never)]
     fn fault(
         &mut self,
         page: PageRef,
+        near: usize,
         pinned: Option<FrameNo>,
         touched: &mut Touched,
     ) -> Result<FrameNo, PagerFault>
@@ -343,8 +322,9 @@ impl<P: Pager> PageStore<P> {
         ensures placed { OnOk result (places self.new ≡ after_visit page pinned (places self.old)) }
         ensures stopped { OnErr result (StopsAt page pinned (places self.old) (places self.new)) }
     {
-        let frame = self.take_frame(pinned, touched)?;
-        self.come_in(frame, page, touched)?;
+        let table = self.segs.find_near(near, page.seg);
+        let frame = self.take_frame(pinned, table, touched)?;
+        self.come_in(frame, page, table, touched)?;
         Ok(frame)
     }
 
@@ -361,12 +341,13 @@ impl<P: Pager> PageStore<P> {
     }
 
     /// Visits a page: it is resident afterwards, with its referenced bit set. `known` is its frame where it
-    /// is resident, and the pinned frame stays as it is.
+    /// is resident, its table may be at `near`, and the pinned frame stays as it is.
     #[inline(always)]
     pub(crate) fn visit(
         &mut self,
         page: PageRef,
         known: Option<FrameNo>,
+        near: usize,
         pinned: Option<FrameNo>,
         touched: &mut Touched,
     ) -> Result<FrameNo, PagerFault>
@@ -384,7 +365,7 @@ impl<P: Pager> PageStore<P> {
                 self.touch(page, frame);
                 Ok(frame)
             }
-            None => self.fault(page, pinned, touched),
+            None => self.fault(page, near, pinned, touched),
         }
     }
 }

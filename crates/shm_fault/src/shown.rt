@@ -1,4 +1,4 @@
-//! What a store lends to whoever looks at it: its frames, its swap areas, and where the clock's hand stands.
+//! What a store lends to whoever looks at it: its frames, its swap areas, and where the clock's hand is.
 ghost use Rattle.std.specs.Prelude.{◌≡◌};
 
 use crate::store::PageStore;
@@ -23,7 +23,7 @@ impl<P: Pager> PageStore<P> {
         &self.swap
     }
 
-    /// The frame that the clock's hand stands at.
+    /// The frame that the clock's hand is at.
     pub fn hand(&self) -> FrameNo
         ensures { result ≡ self.now.hand }
     {

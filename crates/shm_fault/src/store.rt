@@ -23,7 +23,7 @@ use std::marker::Model;
 pub struct PageStore<P: Pager> {
     pub(crate) segs: PageTables,
     pub(crate) frames: Frames,
-    // Where the clock's hand stands.
+    // Where the clock's hand is.
     pub(crate) hand: FrameNo,
     pub(crate) swap: Swap<P>,
     // Pager reads for faults, and pager writes for evictions and flushes.

@@ -1,3 +1,4 @@
 pub mod Shown
 pub mod Counts
 pub mod First
+pub mod Marks

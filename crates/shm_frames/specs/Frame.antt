@@ -1,5 +1,5 @@
 -- Frames, as callers see them.
-use Rattle.std.specs.Prelude.{◌≡◌, ℕ, ◌<◌, Bool, false, Option, None, is_none, is_some, List, [], length, get_or, count_by}
+use Rattle.std.specs.Prelude.{◌≡◌, ℕ, ◌<◌, ◌≤◌, Bool, true, false, Option, None, Some, is_none, is_some, List, [], length, get_or, count_by}
 use Rattle.shm_base.specs.declared.paging.PageRef.{PageRef}
 
 -- a frame: whose it is, its bytes, and its two bits
@@ -50,3 +50,14 @@ pub record IsLeastFree (frames : List Frame) (i : ℕ) : Type 0 where
   pub there : i < length frames
   pub free : (frame_at frames i).owner ≡ None
   pub least : OwnedBelow frames i
+
+-- the frame is a dirty one, not below `from`
+pub record IsDirtyFrom (frames : List Frame) (from i : ℕ) : Type 0 where
+  pub there : i < length frames
+  pub past : from ≤ i
+  pub dirty : (frame_at frames i).dirty ≡ true
+
+-- the frames from one on are clean, up to the one that is found or to the last
+abbrev pub AreCleanUpTo : List Frame → ℕ → Option ℕ → Type 0
+AreCleanUpTo frames from None = (i : ℕ) → from ≤ i → (frame_at frames i).dirty ≡ false
+AreCleanUpTo frames from (Some n) = (i : ℕ) → from ≤ i → i < n → (frame_at frames i).dirty ≡ false

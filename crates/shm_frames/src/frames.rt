@@ -3,9 +3,10 @@
 //! A table has an entry for each frame, and the bytes of the frames lie apart from it, so that a walk
 //! over owners and bits reads no page. Entries and bytes are made when a frame is first used: memory that was
 //! reserved for other frames is not touched. The table keeps a bound below which no frame is free, and
-//! counts the frames that are owned and those that are dirty. A frame that is free has both bits
-//! clear; what its bytes are is nobody's concern.
-ghost use Rattle.std.specs.Prelude.{◌≡◌, ℕ, ◌+◌, ◌-◌, ◌<◌, ◌≤◌, ◌^◌, [], ◌∷◌, ◌++◌, length, get_or, set, position, count_by, vec_capacity, None, Some, IfOk, IsSome, MatchOption, false};
+//! counts the frames that are owned and those that are dirty. It marks each block of 64 frames in which one may be
+//! dirty, so that a search for dirty frames passes the other blocks. A frame that is free has both bits clear; what
+//! its bytes are is nobody's concern.
+ghost use Rattle.std.specs.Prelude.{◌≡◌, ℕ, ◌+◌, ◌-◌, ◌/◌, ◌<◌, ◌≤◌, ◌^◌, [], ◌∷◌, ◌++◌, length, get_or, set, position, count_by, vec_capacity, None, Some, IfOk, IfSome, IsSome, MatchOption, true, false};
 ghost use Rattle.std.specs.Borrow.{sem};
 ghost use Rattle.shm_pager.specs.Padded.{padded};
 ghost use Rattle.shm_pager.specs.Pages.{zero_page};
@@ -35,6 +36,8 @@ pub struct Frames {
     // How many frames are owned, and how many are dirty.
     resident: u32,
     dirty: u32,
+    // Whether a frame of each block may be dirty. The blocks after these have none.
+    marks: Vec<bool>,
 }
 
 impl Drop for Frames {
@@ -46,23 +49,26 @@ impl Drop for Frames {
             first_free: _,
             resident: _,
             dirty: _,
+            marks: _,
         } = self;
     }
 }
 
 impl Model for Frames {
-    ghost use Rattle.std.specs.Prelude.{◌≤◌, List, vec_capacity};
+    ghost use Rattle.std.specs.Prelude.{◌≤◌, List, length, vec_capacity};
     ghost use Rattle.shm_frames.specs.Frame.{Frame};
 
     ghost Value = { List Frame };
 
-    ghost use Rattle.shm_frames.specs.Table.{all_frames, AreUsed, IsFrameTable};
+    ghost use Rattle.shm_frames.specs.Table.{all_frames, AreUsed, IsFrameTable, AreMarked, HasMarks};
 
     ghost view = { λ a. all_frames a.table.items a.pages.items a.count };
 
     ghost invariant = { λ a. AreUsed a.table.items a.pages.items a.count
         × (a.count ≤ vec_capacity a.table) × (a.count ≤ vec_capacity a.pages)
-        × IsFrameTable a.table.items a.first_free a.resident a.dirty };
+        × IsFrameTable a.table.items a.first_free a.resident a.dirty
+        × AreMarked a.table.items a.marks.items
+        × HasMarks a.count (length a.marks.items) (vec_capacity a.marks) };
 }
 
 impl FrameState {
@@ -73,7 +79,10 @@ impl FrameState {
     };
 }
 
-ghost use Rattle.shm_frames.specs.Table.{free_entry, state_at, has_owner, UsedBelow};
+// How many frames have one mark.
+const BLOCK: usize = 64;
+
+ghost use Rattle.shm_frames.specs.Table.{free_entry, state_at, has_owner, UsedBelow, AreMarked, CleanFrom};
 
 // What the table has of a frame. One that was never used is free.
 fn state_of(table: &Vec<FrameState>, frame: FrameNo) -> FrameState
@@ -168,6 +177,60 @@ fn least_free(table: &Vec<FrameState>, first: FrameNo, resident: u32) -> FrameNo
     used as FrameNo
 }
 
+// Marks the block of a frame.
+fn mark(marks: &mut Vec<bool>, frame: FrameNo)
+    requires { frame / 64 < vec_capacity marks.old }
+    ensures marks { marks.new.items ≡ set (padded marks.old.items (frame / 64 + 1) false) (frame / 64) true }
+    ensures room { vec_capacity marks.new ≡ vec_capacity marks.old }
+{
+    let block = frame as usize / BLOCK;
+    for _block in marks.len()..block + 1 {
+        marks.push_reserved(false);
+    }
+    marks[block] = true;
+}
+
+// The least dirty frame of those from `first` up to `last`.
+fn dirty_between(table: &Vec<FrameState>, first: usize, last: usize) -> Option<FrameNo>
+    requires { length table.now.items < 2 ^ 32 }
+    ensures some { IfSome result (λ f. (first ≤ f) × ((state_at table.now.items f).dirty ≡ true)) }
+    ensures clean { CleanFrom table.now.items first last result }
+{
+    for frame in first..last.min(table.len()) {
+        if table[frame].dirty {
+            return Some(frame as FrameNo);
+        }
+    }
+    None
+}
+
+// The least dirty frame from one on. Blocks in which no frame is dirty are no longer marked.
+fn dirty_from(table: &Vec<FrameState>, marks: &mut Vec<bool>, from: FrameNo) -> Option<FrameNo>
+    requires few { length table.now.items < 2 ^ 32 }
+    requires blocks { length marks.old.items ≤ 2 ^ 32 }
+    requires marked { AreMarked table.now.items marks.old.items }
+    ensures some { IfSome result (λ f. (from ≤ f) × ((state_at table.now.items f).dirty ≡ true)) }
+    ensures clean { CleanFrom table.now.items from (length table.now.items) result }
+    ensures marked { AreMarked table.now.items marks.new.items }
+    ensures blocks { length marks.new.items ≡ length marks.old.items }
+    ensures room { vec_capacity marks.new ≡ vec_capacity marks.old }
+{
+    let from = from as usize;
+    for block in from / BLOCK..marks.len() {
+        if marks[block] {
+            let first = from.max(block * BLOCK);
+            let found = dirty_between(table, first, block * BLOCK + BLOCK);
+            if found.is_some() {
+                return found;
+            }
+            if first > from {
+                marks[block] = false;
+            }
+        }
+    }
+    None
+}
+
 // The items once more, with room for `room` of them.
 fn copied<T: Copy>(items: &Vec<T>, room: u32) -> Result<Vec<T>, AllocError>
     ensures items { IfOk result (λ copy. copy.items ≡ items.now.items) }
@@ -179,7 +242,7 @@ fn copied<T: Copy>(items: &Vec<T>, room: u32) -> Result<Vec<T>, AllocError>
 }
 
 impl Frames {
-    ghost use Rattle.shm_frames.specs.Frame.{frame_at, no_frame, is_free, resident_of, dirty_of, FreeAreClear, OwnedBelow, IsLeastFree, IsFrameBlank};
+    ghost use Rattle.shm_frames.specs.Frame.{frame_at, no_frame, is_free, resident_of, dirty_of, FreeAreClear, OwnedBelow, IsLeastFree, IsFrameBlank, IsDirtyFrom, AreCleanUpTo};
     ghost use Rattle.shm_frames.specs.Lends.{lends_bytes};
     ghost use Rattle.shm_base.specs.declared.paging.TheConstants.{PAGE_BYTES};
 
@@ -195,6 +258,7 @@ impl Frames {
             first_free: 0,
             resident: 0,
             dirty: 0,
+            marks: Vec::with_capacity(alloc, count as usize / BLOCK + 1)?,
         })
     }
 
@@ -210,6 +274,7 @@ impl Frames {
             first_free: self.first_free,
             resident: self.resident,
             dirty: self.dirty,
+            marks: copied(&self.marks, self.count / 64 + 1)?,
         })
     }
 
@@ -373,5 +438,18 @@ impl Frames {
         self.dirty -= u32::from(entry.dirty);
         entry.dirty = dirty;
         self.dirty += u32::from(dirty);
+        if dirty {
+            mark(&mut self.marks, frame);
+        }
+    }
+
+    /// The least dirty frame from one on, or none. Frames stay as they are: what changes is where the next search
+    /// looks. It passes blocks of 64 frames of which none is dirty.
+    pub fn next_dirty(&mut self, from: FrameNo) -> Option<FrameNo>
+        ensures some { IfSome result (IsDirtyFrom self.old from) }
+        ensures least { AreCleanUpTo self.old from result }
+        ensures same { self.new ≡ self.old }
+    {
+        dirty_from(&self.table, &mut self.marks, from)
     }
 }

@@ -23,7 +23,7 @@ module _ {T : Type 0} where
 
   -- a row as the flat machine has it, of which nothing is told but the key
   abbrev pub blank_segment : Row T → Segment
-  blank_segment r = record { key = r.key; perm = record { uid = 0; gid = 0; cuid = 0; cgid = 0; mode = 0 }; size = 0; cpid = 0; lpid = 0; dest = false; locked = false; atime = 0; dtime = 0; ctime = 0; bytes = [] }
+  blank_segment r = record { key = r.key; perm = record { uid = 0; gid = 0; cuid = 0; cgid = 0; mode = 0 }; size = 0; cpid = 0; lpid = 0; dest = false; locked = false; locker = 0; atime = 0; dtime = 0; ctime = 0; bytes = [] }
 
   -- an entry with its row so
   abbrev pub blank_entry : Entry T → FlatEntry

@@ -36,7 +36,7 @@ pub struct Row<T> {
     pub value: T,
 }
 
-/// What stands at one index: how many rows were destroyed there, and the row that holds it.
+/// What one index has: how many rows were destroyed there, and the row that holds it.
 pub struct Entry<T> {
     pub destroyed: u32,
     pub row: Option<Row<T>>,

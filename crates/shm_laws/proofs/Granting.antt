@@ -1,5 +1,5 @@
 -- Each piece goes back to a shmat that was granted, and each move keeps out who has no permission.
-use Rattle.shm_laws.proofs.Names.{new_piece, ◌≡◌, ◌⊎◌, ℕ, ◌+◌, ◌*◌, ◌%◌, ◌<◌, ℤ, Bool, true, false, not, List, [], ◌∷◌, ◌++◌, length, get_or, Option, Some, None, slice_get, slice_set, refl, sym, ap, subst, ◌∙◌, inl, inr, arith, true≢false, All, Contains, none-some, slice_get_within, get_or_from_slice_get, All-nil, All-append, All-filter, All-map, All-weaker, All-contains, Contains-get_or, flat_map-cons, common_steps, Call, Load, Store, Xadd, Done, Event, Place, covers, places, writable_places, Segment, Piece, Live, Runner, Machine, Opening, start_of, runner_at_start, pages_in, look, meets, part_below, part_above, parts, cut, inserted, Caller, Outcome, caller_of, acts, pieces_with, is_rdonly, controls, load, store, xadd, is_refusal, IsMove, IsHistory, all-cons, all-head, all-tail, all-slice_set, HasPiece, EachPiece, IsPart, IsGranted, IsInherited, GoesBack, Granted, Kept, Inherited, Reach, StaysInside, controlled, OwnerAsks, KeepsOut, KeepsCredentials, MayAsk, NoWayIn, ShmidDs, pos, negsuc, stat, wish_of, grants, not-false, Look, Found, Removed, Invalid, Stands, IsCreated, Swapoff, swapoff, IsUserZero, ◌==◌}
+use Rattle.shm_laws.proofs.Names.{new_piece, ◌≡◌, ◌⊎◌, ℕ, ◌+◌, ◌*◌, ◌%◌, ◌<◌, ℤ, Bool, true, false, not, List, [], ◌∷◌, ◌++◌, length, get_or, Option, Some, None, slice_get, slice_set, refl, sym, ap, subst, ◌∙◌, inl, inr, arith, true≢false, All, Contains, none-some, slice_get_within, get_or_from_slice_get, All-nil, All-append, All-filter, All-map, All-weaker, All-contains, Contains-get_or, flat_map-cons, common_steps, Call, Load, Store, Xadd, Done, Event, Place, covers, places, writable_places, Segment, Piece, Live, Runner, Machine, Opening, start_of, runner_at_start, pages_in, look, meets, part_below, part_above, parts, cut, inserted, Caller, Outcome, caller_of, acts, pieces_with, is_rdonly, controls, load, store, xadd, is_refusal, IsMove, IsHistory, all-cons, all-head, all-tail, all-slice_set, HasPiece, EachPiece, IsPart, IsGranted, IsInherited, GoesBack, Granted, Kept, Inherited, Reach, StaysInside, controlled, OwnerAsks, KeepsOut, KeepsCredentials, MayAsk, NoWayIn, ShmidDs, pos, negsuc, stat, wish_of, grants, not-false, Look, Found, Removed, Invalid, Stands, IsCreated, Swapoff, swapoff, IsUserZero, ◌==◌, Set, Rmid, Lock, Unlock, sets, removes, locks, unlocks}
 use Rattle.shm_laws.proofs.Accessing.{lies-in, place-of, writable-at, writable-parts}
 use Rattle.shm_laws.proofs.Handing.{CallerAt, caller-at, IsAligned, Attaches, Leaves, Forks, Hands, hands-acts}
 use Rattle.shm_laws.proofs.Inducting.{each_move, at_all_times}
@@ -186,7 +186,7 @@ goes_on o before s e t h now m =
 
 -- the process may read the segment
 abbrev Reads : Machine → ℕ → ℤ → Type 0
-Reads s pid id = (m : ℕ) × (id ≡ pos m) × MayAsk s pid m (record { read = true; write = false })
+Reads s pid id = (m : ℕ) × (id ≡ pos m) × MayAsk s pid m (record { read = true; write = false; execute = false })
 
 module _ (s : Machine) (n pid : ℕ) (c : Caller) (live : caller_of s pid ≡ Some c) where
   abbrev At : Reach → Type 0
@@ -240,14 +240,18 @@ module _ (s : Machine) (n pid : ℕ) (c : Caller) (live : caller_of s pid ≡ So
   asked own act id is done = let same : own ≡ id = cc is in subst (OwnerAsks s pid) same (asks own act done)
 
   asks-acts : (call : Call) → Asks call (acts s n c call)
-  asks-acts call id is done = grind (arith, common_steps, asked, none-some)
+  asks-acts (Set own uid gid mode) id is = asked own (sets s n uid gid mode) id is
+  asks-acts (Rmid own) id is = asked own (removes s) id is
+  asks-acts (Lock own) id is = asked own (locks s c) id is
+  asks-acts (Unlock own) id is = asked own (unlocks s) id is
+  asks-acts call id is = absurd (none-some _ is)
 
   -- who may read is shown the segment
   reads-found : (m : ℕ) (d : ShmidDs) (l : Look) → look s.table (pos m) ≡ l → (stat s c l).reply ≡ replies.Stat d → Reads s pid (pos m)
   reads-found m d Invalid is told = absurd (cc told)
   reads-found m d Removed is told = absurd (cc told)
   reads-found m d (Found i x) is told =
-      pick_by (λ (o : Outcome). o.reply ≡ replies.Stat d → Reads s pid (pos m)) (not (grants c.cred x.perm (record { read = true; write = false }))) _ _ (λ h shown. absurd (cc shown))
+      pick_by (λ (o : Outcome). o.reply ≡ replies.Stat d → Reads s pid (pos m)) (not (grants c.cred x.perm (record { read = true; write = false; execute = false }))) _ _ (λ h shown. absurd (cc shown))
       (λ h shown. (
         m,
         refl,
@@ -256,7 +260,7 @@ module _ (s : Machine) (n pid : ℕ) (c : Caller) (live : caller_of s pid ≡ So
           live = live;
           segment = x;
           stands = is ∙ ap (λ k. Found k x) (found-own s.table m i x is).0;
-          permitted = not-false (grants c.cred x.perm (record { read = true; write = false })) h;
+          permitted = not-false (grants c.cred x.perm (record { read = true; write = false; execute = false })) h;
         },
       )) told
 
@@ -295,13 +299,13 @@ keeps s n e t =
     })
 
 -- who gets a segment that stood had what the mode asks for
-got-granted : (s : Machine) (pid key mode id : ℕ) (t : Machine) (x : Segment) → Stands s id x → GetsBy s pid key mode (pos id) t → MayAsk s pid id (wish_of mode)
+got-granted : (s : Machine) (pid key mode id : ℕ) (t : Machine) (x : Segment) → Stands s id x → GetsBy s pid key mode (pos id) t → MayAsk s pid id (wish_of s.limits.rules mode)
 got-granted s pid key mode id t x stood g = by g.either
   where
     same : g.id ≡ id
     same = cc (sym g.named)
 
-    by : IsGot s g.caller key mode g.id ⊎ IsCreated s key g.id t → MayAsk s pid id (wish_of mode)
+    by : IsGot s g.caller key mode g.id ⊎ IsCreated s key g.id t → MayAsk s pid id (wish_of s.limits.rules mode)
     by (inl h) = record { caller = g.caller; live = g.live; segment = h.segment; stands = subst (λ n. Stands s n h.segment) same h.stands; permitted = h.permitted }
     by (inr h) = let gone : look s.table (pos id) ≡ Invalid = subst (λ n. look s.table (pos n) ≡ Invalid) same h.never in absurd (cc (sym gone ∙ stood))
 

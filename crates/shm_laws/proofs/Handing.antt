@@ -1,5 +1,6 @@
 -- What each call does to the pieces of processes: nothing, or the caller attaches a segment, or loses pieces, or has a child.
-use Rattle.shm_laws.proofs.Names.{◌≡◌, ◌⊎◌, ℕ, suc, ◌+◌, ◌-◌, ◌*◌, ◌%◌, ◌≤◌, ◌==◌, ◌&&◌, ℤ, pos, negsuc, Bool, true, false, not, nat_lt, List, [], ◌∷◌, length, map, get_or, Option, Some, None, slice_get, slice_set, refl, sym, ap, ◌∙◌, inl, inr, arith, ne_eqb, common_steps, All, filter, find, cases_eq, not-false, none-some, All-map, Errno, Call, Shmget, Shmat, Shmdt, Load, Fork, Exec, Exit, Addr, Done, AtFlags, end_of, grants, Segment, Piece, Life, Live, Ended, Runner, Machine, pages_in, Look, Found, Removed, Invalid, identifier, destroyed_at, look, inside, occupied, choose, is_gap, first_chosen, lowest_address, end_address, origin_of, is_named, is_refusal, refuses, creates, Caller, Outcome, caller_from, acts, at_wish, is_rnd, is_remap, pieces_with, with_pieces, attaches, attaches_chosen, attaches_fixed, attaches_found, shmat, detaches, forks, unborn_from, all-cons, all-head, all-tail, Stands, hands_pieces}
+use Rattle.shm_base.specs.Step.{gets}
+use Rattle.shm_laws.proofs.Names.{◌≡◌, ◌⊎◌, ℕ, suc, ◌+◌, ◌-◌, ◌*◌, ◌%◌, ◌≤◌, ◌==◌, ◌&&◌, ℤ, pos, negsuc, Bool, true, false, not, nat_lt, List, [], ◌∷◌, length, map, get_or, Option, Some, None, slice_get, slice_set, refl, sym, ap, ◌∙◌, inl, inr, arith, ne_eqb, common_steps, All, filter, find, cases_eq, not-false, none-some, All-map, Errno, Call, Shmget, Shmat, Shmdt, Load, Fork, Exec, Exit, Addr, Done, AtFlags, end_of, grants, Segment, Piece, Life, Live, Ended, Runner, Machine, pages_in, Look, Found, Removed, Invalid, identifier, destroyed_at, look, inside, occupied, choose, is_gap, first_chosen, lowest_address, end_address, origin_of, is_named, is_refusal, refuses, creates, Caller, Outcome, caller_from, acts, at_wish, is_rnd, is_remap, pieces_with, with_pieces, attaches, attaches_chosen, attaches_fixed, attaches_found, shmat, detaches, forks, unborn_from, all-cons, all-head, all-tail, Stands, hands_pieces, GetFlags, huge_errno, is_taken, is_full, remaps_null, creates_at, creates_small, slots, reserved, segment_count, free_index, pages_of, within, nat_le, wants_no_other, wants_creation, wish_of, find_key}
 use Rattle.shm_laws.proofs.Looks.{found-own}
 use Rattle.shm_laws.proofs.Stepping.{pick, pick_by}
 
@@ -35,7 +36,7 @@ pub record Attaches (s : Machine) (c : Caller) (call : Call) (o : Outcome) : Typ
   pub segment : Segment
   pub asked : call ≡ Shmat (pos seg) addr flags
   pub stands : Stands s seg segment
-  pub permitted : grants c.cred segment.perm (at_wish flags) ≡ true
+  pub permitted : grants c.cred segment.perm (at_wish s flags) ≡ true
   pub page : All IsAligned c.pieces → base % 4096 ≡ 0
   pub from : lowest_address ≤ base
   pub to : base + 4096 * pages_in segment ≤ end_address
@@ -130,7 +131,7 @@ module _ (s : Machine) (n : ℕ) (c : Caller) where
   rests call o why same = inl (record { why = inl why; runners = same })
 
   -- of a call that asks for a segment that stands, and has the permission
-  module _ (call : Call) (seg at : ℕ) (flags : AtFlags) (x : Segment) (asked : call ≡ Shmat (pos seg) at flags) (there : Stands s seg x) (permitted : grants c.cred x.perm (at_wish flags) ≡ true) where
+  module _ (call : Call) (seg at : ℕ) (flags : AtFlags) (x : Segment) (asked : call ≡ Shmat (pos seg) at flags) (there : Stands s seg x) (permitted : grants c.cred x.perm (at_wish s flags) ≡ true) where
     hands-attaches : (base : ℕ) → (All IsAligned c.pieces → base % 4096 ≡ 0) → IsInside base (base + 4096 * pages_in x) → (is_remap flags ≡ false → occupied c.pieces base (base + 4096 * pages_in x) ≡ false)
         → Hands s c call (attaches s n c seg x flags base)
     hands-attaches base page inside free =
@@ -159,9 +160,16 @@ module _ (s : Machine) (n : ℕ) (c : Caller) where
 
     hands-fixed : (base : ℕ) → base % 4096 ≡ 0 → Hands s c call (attaches_fixed s n c seg x flags base)
     hands-fixed base page =
-        pick_by (Hands s c call) (not (inside base (pages_in x))) _ _ (λ h. refused call _)
-        (λ within. pick_by (Hands s c call) (not (is_remap flags) && occupied c.pieces base (base + 4096 * pages_in x)) _ _ (λ h. refused call _)
-        (λ h. hands-attaches base (λ all. page) (fixed-inside base (pages_in x) within) (λ plain. rw plain at h)))
+        pick_by (Hands s c call) (is_taken s c x flags base) _ _ (λ h. refused call _)
+        (λ taken. pick (Hands s c call) (is_full s c) _ _ (refused call _)
+        (pick_by (Hands s c call) (not (inside base (pages_in x))) _ _ (λ h. refused call _)
+        (λ within.
+        let lies = fixed-inside base (pages_in x) within in
+        hands-attaches base (λ all. page) lies (λ plain. untaken base lies.from taken plain))))
+      where
+        -- where no piece is to be replaced, none is met
+        untaken : (base : ℕ) → lowest_address ≤ base → is_taken s c x flags base ≡ false → is_remap flags ≡ false → occupied c.pieces base (base + 4096 * pages_in x) ≡ false
+        untaken base low taken plain = grind (arith, common_steps)
 
   hands-found : (m : ℕ) (flags : AtFlags) (addr at : ℕ) (l : Look) → look s.table (pos m) ≡ l → Hands s c (Shmat (pos m) at flags) (attaches_found s n c flags addr l)
   hands-found m flags addr at Invalid is = refused _ _
@@ -171,9 +179,9 @@ module _ (s : Machine) (n : ℕ) (c : Caller) where
       let own : identifier i (destroyed_at s.table i) ≡ m = found.1 in
       let there : Stands s (identifier i (destroyed_at s.table i)) x = rw own (is ∙ ap (λ k. Found k x) found.0) in
       let asked : Shmat (pos m) at flags ≡ Shmat (pos (identifier i (destroyed_at s.table i))) at flags = ap (λ k. Shmat (pos k) at flags) (sym own) in
-      pick_by (Hands s c (Shmat (pos m) at flags)) (not (grants c.cred x.perm (at_wish flags))) _ _ (λ h. refused _ _)
+      pick_by (Hands s c (Shmat (pos m) at flags)) (not (grants c.cred x.perm (at_wish s flags))) _ _ (λ h. refused _ _)
       (λ h.
-      let permitted = not-false (grants c.cred x.perm (at_wish flags)) h in
+      let permitted = not-false (grants c.cred x.perm (at_wish s flags)) h in
       pick (Hands s c (Shmat (pos m) at flags)) (addr == 0) _ _
       (hands-chosen _ _ at flags x asked there permitted (choose c.pieces (pages_in x)) refl)
       (hands-fixed _ _ at flags x asked there permitted (addr - addr % 4096) (omega arith)))
@@ -184,7 +192,7 @@ module _ (s : Machine) (n : ℕ) (c : Caller) where
 
   hands-shmat : (id : ℤ) (addr : ℕ) (flags : AtFlags) → Hands s c (Shmat id addr flags) (shmat s n c id addr flags)
   hands-shmat id addr flags =
-      pick (Hands s c (Shmat id addr flags)) ((addr == 0) && is_remap flags) _ _ (refused _ _)
+      pick (Hands s c (Shmat id addr flags)) (remaps_null s addr flags) _ _ (refused _ _)
       (pick (Hands s c (Shmat id addr flags)) (not (addr % 4096 == 0) && not (is_rnd flags)) _ _ (refused _ _) (hands-look id flags addr))
 
   hands-detaches : (addr : ℕ) (o : Option Piece) → origin_of addr c.pieces ≡ o → Hands s c (Shmdt addr) (detaches s n c addr o)
@@ -203,19 +211,36 @@ module _ (s : Machine) (n : ℕ) (c : Caller) where
         runners = is ∙ ap (λ ps. slice_set s.runners c.index (record { pid = c.pid; life = life; pieces = ps })) (none-stay c.pieces);
       })))
 
-  hands-forks : (child : ℕ) (o : Option ℕ) → unborn_from 0 child s.runners ≡ o → Hands s c (Fork child) (forks s c child o)
-  hands-forks child o is = grind (arith, common_steps, refused)
+  hands-forks : (child : ℕ) (o : Option ℕ) → unborn_from 0 child s.runners ≡ o → Hands s c (Fork child) (forks s n c child o)
+  hands-forks child None is = refused _ _
+  hands-forks child (Some i) is = inr (inr (inr (record { child = child; index = i; asked = refl; answer = refl; unborn = is; runners = refl })))
 
   -- the other calls leave the pieces of all processes
 
   abbrev Leave : Outcome → Type 0
   Leave o = o.state.runners ≡ s.runners
 
-  same-creates : (key size mode : ℕ) → Leave (creates s n c key size mode)
-  same-creates key size mode = grind arith
+  same-at : (key size mode : ℕ) (o : Option ℕ) → Leave (creates_at s n c key size mode o)
+  same-at key size mode None = refl
+  same-at key size mode (Some i) = pick Leave (nat_lt (slots s.areas) (reserved s.table + pages_of size)) _ _ refl refl
+
+  same-small : (key size mode : ℕ) (o : Option Errno) → Leave (creates_small s n c key size mode o)
+  same-small key size mode (Some e) = refl
+  same-small key size mode None = pick Leave (nat_le s.limits.shmmni (segment_count s.table)) _ _ refl (same-at key size mode (free_index s.table))
+
+  same-creates : (key size mode : ℕ) (flags : GetFlags) → Leave (creates s n c key size mode flags)
+  same-creates key size mode flags =
+      pick Leave (not (within 1 s.limits.shmmax size)) _ _ refl
+      (pick Leave (nat_lt s.limits.shmall (reserved s.table + pages_of size)) _ _ refl (same-small key size mode (huge_errno s c flags)))
+
+  same-gets : (key size mode : ℕ) (flags : GetFlags) (l : Look) → Leave (gets s n c key size mode flags l)
+  same-gets key size mode flags (Found i x) =
+      pick Leave (wants_no_other flags) _ _ refl (pick Leave (nat_lt x.size size) _ _ refl (pick Leave (not (grants c.cred x.perm (wish_of s.limits.rules mode))) _ _ refl refl))
+  same-gets key size mode flags Removed = pick Leave (wants_creation flags) _ _ (same-creates key size mode flags) refl
+  same-gets key size mode flags Invalid = pick Leave (wants_creation flags) _ _ (same-creates key size mode flags) refl
 
   pub hands-acts : (call : Call) → Hands s c call (acts s n c call)
-  hands-acts (Shmget key size mode flags) = rests _ _ refl (grind (arith, same-creates))
+  hands-acts (Shmget key size mode flags) = rests _ _ refl (pick Leave (key == 0) _ _ (same-creates 0 size mode flags) (same-gets key size mode flags (find_key s.table key)))
   hands-acts (Shmat id addr flags) = hands-shmat id addr flags
   hands-acts (Shmdt addr) = hands-detaches addr (origin_of addr c.pieces) refl
   hands-acts (Fork child) = hands-forks child (unborn_from 0 child s.runners) refl

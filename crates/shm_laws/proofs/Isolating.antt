@@ -1,12 +1,12 @@
 -- A call sees no byte that is hidden from its process.
-use Rattle.shm_laws.proofs.Names.{◌≡◌, ◌⊎◌, ℕ, ◌+◌, ◌*◌, ◌/◌, ◌%◌, ◌^◌, ◌==◌, ℤ, Bool, true, false, not, nat_lt, if◌then◌else◌, List, [], ◌∷◌, length, Option, Some, None, slice_get, refl, sym, ap, subst, ◌∙◌, inl, inr, arith, common_steps, w64, to_le_bytes, from_le_bytes, length-replicate, none-some, slice_get_within, Errno, Eperm, Emfile, GetFlags, AtFlags, Call, Shmget, Shmat, Shmdt, Stat, Set, Rmid, Lock, Unlock, Load, Store, Xadd, Fork, Exec, Exit, Swapoff, Addr, Number, Done, Event, Place, place, places, writable_places, stored, Segment, Entry, Piece, Runner, Machine, Opening, pages_in, Look, identifier, destroyed_in, destroyed_at, find_key, look, cut_segments, origin_of, change, attached, detach_all, swept, after_detach, Outcome, gives, refuses, Caller, caller_of, with_pieces, with_end, segments_of, new_segment, creates, shmget, pieces_with, attaches, attaches_chosen, attaches_fixed, attaches_found, shmat, detaches, forks, unborn_from, stat, controls, sets, removes, locks, unlocks, load, store, xadd, number_at, takes_away, acts, step_by, step, is_failure, IsMove, IsHistory, HasPiece, Reach, reach, veiled, veiled_from, veil, DifferIn, HasNone, IsPrivate, IsAsked, IsBlindOn, IsIsolated, pieces_of_caller, clear_step, first_clear, rest_clear}
+use Rattle.shm_laws.proofs.Names.{◌≡◌, ◌⊎◌, ℕ, ◌+◌, ◌*◌, ◌/◌, ◌%◌, ◌^◌, ◌==◌, ℤ, Bool, true, false, not, nat_lt, if◌then◌else◌, List, [], ◌∷◌, length, Option, Some, None, slice_get, refl, sym, ap, subst, ◌∙◌, inl, inr, arith, common_steps, w64, to_le_bytes, from_le_bytes, length-replicate, none-some, slice_get_within, Errno, Eperm, GetFlags, AtFlags, Call, Shmget, Shmat, Shmdt, Stat, Set, Rmid, Lock, Unlock, Load, Store, Xadd, Fork, Exec, Exit, Swapoff, Addr, Number, Done, Event, Place, place, places, writable_places, stored, Segment, Entry, Piece, Runner, Machine, Opening, pages_in, Look, identifier, destroyed_in, destroyed_at, find_key, look, cut_segments, origin_of, change, attached, detach_all, swept, after_detach, Outcome, gives, refuses, Caller, caller_of, with_pieces, with_end, segments_of, new_segment, creates, shmget, pieces_with, attaches, attaches_chosen, attaches_fixed, attaches_found, shmat, detaches, forks, unborn_from, stat, controls, sets, removes, locks, unlocks, load, store, xadd, number_at, takes_away, acts, step_by, step, is_failure, IsMove, IsHistory, HasPiece, Reach, reach, veiled, veiled_from, veil, DifferIn, HasNone, IsPrivate, IsAsked, IsBlindOn, IsIsolated, pieces_of_caller, clear_step, first_clear, rest_clear, Einval, Enospc, Enomem, creates_small, huge_errno, within, reserved, pages_of, rests, attach_all, pieces_errno, inherited, fork_marks, slice_set, Live, may_not_lock, passes_limit, locks_as, unlocked, is_no_owner, ◌&&◌, Eexist, Eacces, grants, wish_of, wants_no_other, wants_creation, Found, Removed, Invalid, Id, pos, remaps_null, is_rnd, nat_le}
 use Rattle.shm_laws.proofs.Refusing.{by-move}
 use Rattle.shm_base.specs.Step.{gets}
 use Rattle.shm_laws.proofs.Accessing.{place-of, places-length, writable-parts}
 use Rattle.shm_laws.proofs.Fitting.{IsFit, fit-start, fit-move, spot-fits}
 use Rattle.shm_laws.proofs.Inducting.{always}
 use Rattle.shm_laws.proofs.Looks.{stands-at}
-use Rattle.shm_laws.proofs.Veiling.{veiled-pages, veiled_look, veiled-destroyed, reserved-veiled, locked-sum, count-veiled, free-veiled, find-veiled, look-veiled, change-veiled, detach-veiled, swept-veiled, made-veiled, Seen, Hid, loaded-veiled, stored-veiled, stored-hidden}
+use Rattle.shm_laws.proofs.Veiling.{veiled-pages, veiled_look, veiled-destroyed, reserved-veiled, locked-sum, count-veiled, free-veiled, find-veiled, look-veiled, change-veiled, attach-veiled, detach-veiled, locked_by-sum, swept-veiled, made-veiled, Seen, Hid, loaded-veiled, stored-veiled, stored-hidden}
 
 -- the outcome with those bytes hidden
 abbrev out : (ℕ → Bool) → Outcome → Outcome
@@ -38,21 +38,35 @@ module _ (hidden : ℕ → Bool) (s : Machine) (n : ℕ) (c : Caller) where
   tests : (e : Errno) (b d : Bool) (p y : Outcome) → b ≡ d → p ≡ out hidden y → (if b then refuses B e else p) ≡ out hidden (if d then refuses s e else y)
   tests e b d p y same k = both b d (refuses B e) p (refuses s e) y same refl k
 
+  -- a table or another
+  either-veiled : (b : Bool) (t u v w : List Entry) → t ≡ V v → u ≡ V w → (if b then t else u) ≡ V (if b then v else w)
+  either-veiled b t u v w h k = grind (arith, common_steps)
+
   -- SHMGET
 
   new-zeros : (key size mode : ℕ) (b : Bool) → veiled b (new_segment n c key size mode) ≡ new_segment n c key size mode
   new-zeros key size mode b = grind (arith, length-replicate {A = ℕ})
 
-  out-creates : (key size mode : ℕ) → creates B n c key size mode ≡ out hidden (creates s n c key size mode)
-  out-creates key size mode = grind (arith, common_steps, reserved-veiled, count-veiled, free-veiled, arith, new-zeros, veiled-destroyed, made-veiled)
+  out-small : (key size mode : ℕ) (o : Option Errno) → creates_small B n c key size mode o ≡ out hidden (creates_small s n c key size mode o)
+  out-small key size mode o = grind (arith, common_steps, reserved-veiled, count-veiled, free-veiled, arith, new-zeros, veiled-destroyed, made-veiled)
+
+  out-creates : (key size mode : ℕ) (flags : GetFlags) → creates B n c key size mode flags ≡ out hidden (creates s n c key size mode flags)
+  out-creates key size mode flags =
+      tests Einval (not (within 1 s.limits.shmmax size)) _ _ _ refl
+      (tests Enospc (nat_lt s.limits.shmall (reserved (V T) + pages_of size)) _ _ _ (ap (λ r. nat_lt s.limits.shmall (r + pages_of size)) (reserved-veiled hidden T)) (out-small key size mode (huge_errno s c flags)))
 
   out-gets : (key size mode : ℕ) (flags : GetFlags) (b : Bool) (l : Look) → gets B n c key size mode flags (veiled_look b l) ≡ out hidden (gets s n c key size mode flags l)
-  out-gets key size mode flags b l = let made = out-creates key size mode in grind (arith, veiled-destroyed hidden T)
+  out-gets key size mode flags b (Found i x) =
+      tests Eexist (wants_no_other flags) _ _ _ refl
+      (tests Einval (nat_lt x.size size) _ _ _ refl
+      (tests Eacces (not (grants c.cred x.perm (wish_of s.limits.rules mode))) _ _ _ refl (λ j. record { reply = Id (pos (identifier i (veiled-destroyed hidden T i j))); state = B })))
+  out-gets key size mode flags b Removed = both (wants_creation flags) _ _ _ _ _ refl (out-creates key size mode flags) refl
+  out-gets key size mode flags b Invalid = both (wants_creation flags) _ _ _ _ _ refl (out-creates key size mode flags) refl
 
   out-shmget : (key size mode : ℕ) (flags : GetFlags) → shmget B n c key size mode flags ≡ out hidden (shmget s n c key size mode flags)
   out-shmget key size mode flags =
       let f = find-veiled hidden key T in
-      let made = out-creates 0 size mode in
+      let made = out-creates 0 size mode flags in
       let found = out-gets key size mode flags f.0 (find_key T key) in
       grind arith
 
@@ -61,7 +75,7 @@ module _ (hidden : ℕ → Bool) (s : Machine) (n : ℕ) (c : Caller) where
   out-attaches : (b : Bool) (id : ℕ) (x : Segment) (flags : AtFlags) (base : ℕ) → attaches B n c id (veiled b x) flags base ≡ out hidden (attaches s n c id x flags base)
   out-attaches b id x flags base =
       rw (veiled-pages b x)
-      (tests Emfile (nat_lt s.limits.most_pieces (length (pieces_with c id x flags base))) _ _ _ refl (λ j. record { reply = Addr base; state = record s { table = table j; runners = rs } }))
+      (tests (pieces_errno s.limits.rules) (nat_lt s.limits.most_pieces (length (pieces_with c id x flags base))) _ _ _ refl (λ j. record { reply = Addr base; state = record s { table = table j; runners = rs } }))
     where
       rs : List Runner
       rs = with_pieces s.runners c (pieces_with c id x flags base)
@@ -69,11 +83,18 @@ module _ (hidden : ℕ → Bool) (s : Machine) (n : ℕ) (c : Caller) where
       lost : List ℕ
       lost = cut_segments base (base + 4096 * pages_in x) c.pieces
 
-      table : swept rs (change (detach_all n c.pid (V T) lost) id (attached n c.pid)) ≡ V (swept rs (change (detach_all n c.pid T lost) id (attached n c.pid)))
+      kept : List ℕ
+      kept = rests s base (base + 4096 * pages_in x) c.pieces
+
+      gone : List Entry
+      gone = attach_all n c.pid (detach_all n c.pid T lost) kept
+
+      table : swept rs (change (attach_all n c.pid (detach_all n c.pid (V T) lost) kept) id (attached n c.pid)) ≡ V (swept rs (change gone id (attached n c.pid)))
       table =
-          ap (λ t. swept rs (change t id (attached n c.pid))) (detach-veiled hidden n c.pid lost T)
-          ∙ ap (swept rs) (change-veiled hidden (attached n c.pid) (λ b x. refl) (detach_all n c.pid T lost) id)
-          ∙ swept-veiled hidden 0 rs (change (detach_all n c.pid T lost) id (attached n c.pid))
+          ap (λ t. swept rs (change (attach_all n c.pid t kept) id (attached n c.pid))) (detach-veiled hidden n c.pid lost T)
+          ∙ ap (λ t. swept rs (change t id (attached n c.pid))) (attach-veiled hidden n c.pid kept (detach_all n c.pid T lost))
+          ∙ ap (swept rs) (change-veiled hidden (attached n c.pid) (λ b x. refl) gone id)
+          ∙ swept-veiled hidden 0 rs (change gone id (attached n c.pid))
 
   out-chosen : (b : Bool) (id : ℕ) (x : Segment) (flags : AtFlags) (o : Option ℕ) → attaches_chosen B n c id (veiled b x) flags o ≡ out hidden (attaches_chosen s n c id x flags o)
   out-chosen b id x flags o = grind (arith, common_steps, out-attaches)
@@ -85,7 +106,10 @@ module _ (hidden : ℕ → Bool) (s : Machine) (n : ℕ) (c : Caller) where
   out-found flags addr b l = grind (arith, common_steps, veiled-destroyed, both, veiled-pages, out-chosen, out-fixed)
 
   out-shmat : (id : ℤ) (addr : ℕ) (flags : AtFlags) → shmat B n c id addr flags ≡ out hidden (shmat s n c id addr flags)
-  out-shmat id addr flags = let l = look-veiled hidden T id in let found = out-found flags addr l.0 (look T id) in grind arith
+  out-shmat id addr flags =
+      let l = look-veiled hidden T id in
+      tests Einval (remaps_null s addr flags) _ _ _ refl
+      (tests Einval (not (addr % 4096 == 0) && not (is_rnd flags)) _ _ _ refl (ap (attaches_found B n c flags addr) l.1 ∙ out-found flags addr l.0 (look T id)))
 
   -- DETACHING, FORK AND CONTROL
 
@@ -96,8 +120,12 @@ module _ (hidden : ℕ → Bool) (s : Machine) (n : ℕ) (c : Caller) where
   out-detaches addr None = refl
   out-detaches addr (Some p) = out-after _ (p.seg ∷ [])
 
-  out-forks : (child : ℕ) (o : Option ℕ) → forks B c child o ≡ out hidden (forks s c child o)
-  out-forks child o = grind arith
+  out-inherited : inherited B n c ≡ V (inherited s n c)
+  out-inherited = either-veiled (fork_marks s.limits.rules) _ _ _ _ (attach-veiled hidden n c.pid (segments_of c) T) refl
+
+  out-forks : (child : ℕ) (o : Option ℕ) → forks B n c child o ≡ out hidden (forks s n c child o)
+  out-forks child None = refl
+  out-forks child (Some i) = λ j. record { reply = Done; state = record s { table = out-inherited j; runners = slice_set s.runners i (record { pid = child; life = Live c.cred; pieces = c.pieces }) } }
 
   out-stat : (b : Bool) (l : Look) → stat B c (veiled_look b l) ≡ out hidden (stat s c l)
   out-stat b l = grind (arith, veiled-destroyed hidden T)
@@ -112,8 +140,19 @@ module _ (hidden : ℕ → Bool) (s : Machine) (n : ℕ) (c : Caller) where
   out-removes : (b : Bool) (i : ℕ) (x : Segment) → removes B i (veiled b x) ≡ out hidden (removes s i x)
   out-removes b i x = grind (arith, common_steps, change-veiled, refl, swept-veiled, arith)
 
-  out-locks : (b : Bool) (i : ℕ) (x : Segment) → locks B i (veiled b x) ≡ out hidden (locks s i x)
-  out-locks b i x = grind (arith, common_steps, tests, locked-sum, veiled-pages, out-changed)
+  locks-veiled : (uid : ℕ) (b : Bool) (x : Segment) → locks_as uid (veiled b x) ≡ veiled b (locks_as uid x)
+  locks-veiled uid b x = grind (arith, common_steps)
+
+  limit-veiled : (b : Bool) (x : Segment) → passes_limit s.limits c.cred (V T) (veiled b x) ≡ passes_limit s.limits c.cred T x
+  limit-veiled b x = grind (arith, common_steps, locked-sum, locked_by-sum, veiled-pages)
+
+  out-locks : (b : Bool) (i : ℕ) (x : Segment) → locks B c i (veiled b x) ≡ out hidden (locks s c i x)
+  out-locks b i x =
+      tests Eperm (may_not_lock s.limits c.cred) _ _ _ refl
+      (tests Enomem (not x.locked && passes_limit s.limits c.cred (V T) (veiled b x)) _ _ _ (ap (λ d. not x.locked && d) (limit-veiled b x)) (out-changed i (locks_as c.cred.uid) (locks-veiled c.cred.uid)))
+
+  out-sets : (uid gid mode : ℕ) (b : Bool) (i : ℕ) (x : Segment) → sets B n uid gid mode i (veiled b x) ≡ out hidden (sets s n uid gid mode i x)
+  out-sets uid gid mode b i x = tests Einval (is_no_owner s uid gid) _ _ _ refl (out-changed i _ (λ b x. refl))
 
   out-look : (f g : ℕ → Segment → Outcome) → ((b : Bool) (i : ℕ) (x : Segment) → f i (veiled b x) ≡ out hidden (g i x)) → (id : ℤ) → controls B c f (look (V T) id) ≡ out hidden (controls s c g (look T id))
   out-look f g acts id = let l = look-veiled hidden T id in ap (controls B c f) l.1 ∙ out-controls f g acts l.0 (look T id)
@@ -146,10 +185,10 @@ module _ (hidden : ℕ → Bool) (s : Machine) (n : ℕ) (c : Caller) where
     out-acts (Shmat id addr flags) = out-shmat id addr flags
     out-acts (Shmdt addr) = out-detaches addr (origin_of addr c.pieces)
     out-acts (Stat id) = let l = look-veiled hidden T id in ap (stat B c) l.1 ∙ out-stat l.0 (look T id)
-    out-acts (Set id uid gid mode) = out-look (sets B n uid gid mode) (sets s n uid gid mode) (λ b i x. out-changed i _ (λ b x. refl)) id
+    out-acts (Set id uid gid mode) = out-look (sets B n uid gid mode) (sets s n uid gid mode) (out-sets uid gid mode) id
     out-acts (Rmid id) = out-look (removes B) (removes s) out-removes id
-    out-acts (Lock id) = out-look (locks B) (locks s) out-locks id
-    out-acts (Unlock id) = out-look (unlocks B) (unlocks s) (λ b i x. out-changed i (λ (y : Segment). record y { locked = false }) (λ b x. refl)) id
+    out-acts (Lock id) = out-look (locks B c) (locks s c) out-locks id
+    out-acts (Unlock id) = out-look (unlocks B) (unlocks s) (λ b i x. out-changed i unlocked (λ b x. refl)) id
     out-acts (Load a len) = out-load a len (places c.pieces a len) refl
     out-acts (Store a bytes) = out-store a bytes (writable_places c.pieces a (length bytes)) refl
     out-acts (Xadd a add) = out-xadd a add (writable_places c.pieces a 8) refl

@@ -1,5 +1,5 @@
 -- No call changes the limits of a machine.
-use Rattle.shm_laws.proofs.Names.{◌≡◌, ◌+◌, ◌*◌, ◌%◌, ◌==◌, ◌&&◌, ℕ, ℤ, Bool, not, nat_lt, nat_le, within, List, length, Option, Some, None, refl, common_steps, arith, AtFlags, GetFlags, Call, Shmget, Shmat, Shmdt, Stat, Set, Rmid, Lock, Unlock, Load, Store, Xadd, Fork, Exec, Exit, Swapoff, Event, Place, Segment, Piece, Machine, pages_of, pages_in, Look, Found, Removed, Invalid, find_key, free_index, look, places, writable_places, choose, occupied, inside, origin_of, reserved, locked, segment_count, Outcome, refuses, Caller, caller_of, creates, shmget, pieces_with, attaches, attaches_chosen, attaches_fixed, attaches_found, shmat, detaches, forks, unborn_from, stat, controls, sets, removes, locks, unlocks, load, store, xadd, takes_away, swapoff, acts, is_remap, is_rnd, at_wish, wish_of, wants_creation, wants_no_other, grants, owns, IsMove}
+use Rattle.shm_laws.proofs.Names.{◌≡◌, ◌+◌, ◌*◌, ◌%◌, ◌==◌, ◌&&◌, ℕ, ℤ, Bool, not, nat_lt, nat_le, within, List, length, Option, Some, None, refl, common_steps, arith, AtFlags, GetFlags, Call, Shmget, Shmat, Shmdt, Stat, Set, Rmid, Lock, Unlock, Load, Store, Xadd, Fork, Exec, Exit, Swapoff, Event, Place, Segment, Piece, Machine, pages_of, pages_in, Look, Found, Removed, Invalid, find_key, free_index, look, places, writable_places, choose, occupied, inside, origin_of, reserved, locked, segment_count, Outcome, refuses, Caller, caller_of, creates, shmget, pieces_with, attaches, attaches_chosen, attaches_fixed, attaches_found, shmat, detaches, forks, unborn_from, stat, controls, sets, removes, locks, unlocks, load, store, xadd, takes_away, swapoff, acts, is_remap, is_rnd, at_wish, wish_of, wants_creation, wants_no_other, grants, owns, IsMove, Errno, creates_small, huge_errno, is_taken, is_full, is_no_owner, remaps_null, may_not_lock, passes_limit}
 use Rattle.shm_base.specs.Step.{gets, creates_at}
 use Rattle.shm_laws.proofs.Refusing.{by-move}
 use Rattle.shm_laws.proofs.Stepping.{pick}
@@ -11,17 +11,20 @@ module _ (s : Machine) (n : ℕ) (c : Caller) where
   limited-creates_at : (key size mode : ℕ) (o : Option ℕ) → Limited (creates_at s n c key size mode o)
   limited-creates_at key size mode o = grind (arith, common_steps)
 
-  limited-creates : (key size mode : ℕ) → Limited (creates s n c key size mode)
-  limited-creates key size mode =
+  limited-small : (key size mode : ℕ) (o : Option Errno) → Limited (creates_small s n c key size mode o)
+  limited-small key size mode (Some e) = refl
+  limited-small key size mode None = pick Limited (nat_le s.limits.shmmni (segment_count s.table)) _ _ refl (limited-creates_at key size mode (free_index s.table))
+
+  limited-creates : (key size mode : ℕ) (flags : GetFlags) → Limited (creates s n c key size mode flags)
+  limited-creates key size mode flags =
       pick Limited (not (within 1 s.limits.shmmax size)) _ _ refl
-      (pick Limited (nat_lt s.limits.shmall (reserved s.table + pages_of size)) _ _ refl
-      (pick Limited (nat_le s.limits.shmmni (segment_count s.table)) _ _ refl (limited-creates_at key size mode (free_index s.table))))
+      (pick Limited (nat_lt s.limits.shmall (reserved s.table + pages_of size)) _ _ refl (limited-small key size mode (huge_errno s c flags)))
 
   limited-gets : (key size mode : ℕ) (flags : GetFlags) (l : Look) → Limited (gets s n c key size mode flags l)
   limited-gets key size mode flags (Found i x) =
-      pick Limited (wants_no_other flags) _ _ refl (pick Limited (nat_lt x.size size) _ _ refl (pick Limited (not (grants c.cred x.perm (wish_of mode))) _ _ refl refl))
-  limited-gets key size mode flags Removed = pick Limited (wants_creation flags) _ _ (limited-creates key size mode) refl
-  limited-gets key size mode flags Invalid = pick Limited (wants_creation flags) _ _ (limited-creates key size mode) refl
+      pick Limited (wants_no_other flags) _ _ refl (pick Limited (nat_lt x.size size) _ _ refl (pick Limited (not (grants c.cred x.perm (wish_of s.limits.rules mode))) _ _ refl refl))
+  limited-gets key size mode flags Removed = pick Limited (wants_creation flags) _ _ (limited-creates key size mode flags) refl
+  limited-gets key size mode flags Invalid = pick Limited (wants_creation flags) _ _ (limited-creates key size mode flags) refl
 
   limited-attaches : (id : ℕ) (x : Segment) (flags : AtFlags) (base : ℕ) → Limited (attaches s n c id x flags base)
   limited-attaches id x flags base = pick Limited (nat_lt s.limits.most_pieces (length (pieces_with c id x flags base))) _ _ refl refl
@@ -32,18 +35,18 @@ module _ (s : Machine) (n : ℕ) (c : Caller) where
 
   limited-fixed : (id : ℕ) (x : Segment) (flags : AtFlags) (base : ℕ) → Limited (attaches_fixed s n c id x flags base)
   limited-fixed id x flags base =
-      pick Limited (not (inside base (pages_in x))) _ _ refl
-      (pick Limited (not (is_remap flags) && occupied c.pieces base (base + 4096 * pages_in x)) _ _ refl (limited-attaches id x flags base))
+      pick Limited (is_taken s c x flags base) _ _ refl
+      (pick Limited (is_full s c) _ _ refl (pick Limited (not (inside base (pages_in x))) _ _ refl (limited-attaches id x flags base)))
 
   limited-found : (flags : AtFlags) (addr : ℕ) (l : Look) → Limited (attaches_found s n c flags addr l)
   limited-found flags addr Invalid = refl
   limited-found flags addr Removed = refl
   limited-found flags addr (Found i x) =
-      pick Limited (not (grants c.cred x.perm (at_wish flags))) _ _ refl (pick Limited (addr == 0) _ _ (limited-chosen _ x flags _) (limited-fixed _ x flags _))
+      pick Limited (not (grants c.cred x.perm (at_wish s flags))) _ _ refl (pick Limited (addr == 0) _ _ (limited-chosen _ x flags _) (limited-fixed _ x flags _))
 
   limited-shmat : (id : ℤ) (addr : ℕ) (flags : AtFlags) → Limited (shmat s n c id addr flags)
   limited-shmat id addr flags =
-      pick Limited ((addr == 0) && is_remap flags) _ _ refl
+      pick Limited (remaps_null s addr flags) _ _ refl
       (pick Limited (not (addr % 4096 == 0) && not (is_rnd flags)) _ _ refl (limited-found flags addr (look s.table id)))
 
   limited-controls : (act : ℕ → Segment → Outcome) → ((i : ℕ) (x : Segment) → Limited (act i x)) → (l : Look) → Limited (controls s c act l)
@@ -54,8 +57,11 @@ module _ (s : Machine) (n : ℕ) (c : Caller) where
   limited-removes : (i : ℕ) (x : Segment) → Limited (removes s i x)
   limited-removes i x = grind (arith, common_steps)
 
-  limited-locks : (i : ℕ) (x : Segment) → Limited (locks s i x)
-  limited-locks i x = pick Limited (not x.locked && nat_lt s.limits.memlock (locked s.table + pages_in x)) _ _ refl refl
+  limited-locks : (i : ℕ) (x : Segment) → Limited (locks s c i x)
+  limited-locks i x = pick Limited (may_not_lock s.limits c.cred) _ _ refl (pick Limited (not x.locked && passes_limit s.limits c.cred s.table x) _ _ refl refl)
+
+  limited-sets : (uid gid mode i : ℕ) (x : Segment) → Limited (sets s n uid gid mode i x)
+  limited-sets uid gid mode i x = pick Limited (is_no_owner s uid gid) _ _ refl refl
 
   limited-stat : (l : Look) → Limited (stat s c l)
   limited-stat l = grind (arith, common_steps)
@@ -64,7 +70,7 @@ module _ (s : Machine) (n : ℕ) (c : Caller) where
   limited-detaches addr None = refl
   limited-detaches addr (Some p) = refl
 
-  limited-forks : (child : ℕ) (o : Option ℕ) → Limited (forks s c child o)
+  limited-forks : (child : ℕ) (o : Option ℕ) → Limited (forks s n c child o)
   limited-forks child None = refl
   limited-forks child (Some i) = refl
 
@@ -85,13 +91,13 @@ module _ (s : Machine) (n : ℕ) (c : Caller) where
 
   pub limited-acts : (call : Call) → Limited (acts s n c call)
   limited-acts (Shmget key size mode flags) =
-      pick Limited (key == 0) _ _ (limited-creates 0 size mode) (limited-gets key size mode flags (find_key s.table key))
+      pick Limited (key == 0) _ _ (limited-creates 0 size mode flags) (limited-gets key size mode flags (find_key s.table key))
   limited-acts (Shmat id addr flags) = limited-shmat id addr flags
   limited-acts (Shmdt addr) = limited-detaches addr (origin_of addr c.pieces)
   limited-acts (Stat id) = limited-stat (look s.table id)
-  limited-acts (Set id uid gid mode) = limited-controls (sets s n uid gid mode) (λ i x. refl) (look s.table id)
+  limited-acts (Set id uid gid mode) = limited-controls (sets s n uid gid mode) (limited-sets uid gid mode) (look s.table id)
   limited-acts (Rmid id) = limited-controls (removes s) limited-removes (look s.table id)
-  limited-acts (Lock id) = limited-controls (locks s) limited-locks (look s.table id)
+  limited-acts (Lock id) = limited-controls (locks s c) limited-locks (look s.table id)
   limited-acts (Unlock id) = limited-controls (unlocks s) (λ i x. refl) (look s.table id)
   limited-acts (Load a len) = limited-load (places c.pieces a len)
   limited-acts (Store a bytes) = limited-store bytes (writable_places c.pieces a (length bytes))

@@ -19,10 +19,12 @@ pub use Rattle.shm_base.specs.History.{IsExcused, IsHistory, IsMove, LeadsFrom, 
 pub use Rattle.shm_base.specs.Identifier.{Found, Invalid, Look, Removed, destroyed_at, destroyed_in, find_key, free_from, free_index, has_key, identifier, key_from, look, look_entry, look_segment, with_segment}
 pub use Rattle.shm_base.specs.Permission.{grants, owns, wish_of}
 pub use Rattle.shm_base.specs.Processes.{pieces_of_caller}
-pub use Rattle.shm_base.specs.Segments.{after_detach, attach_count, attached, change, detach_all, detached, locked, marked, pages_held, pages_locked, reserved, segment_count, slots, swept, swept_at, swept_from, with_entry}
+pub use Rattle.shm_base.specs.Locking.{locks_as, may_not_lock, passes_limit, unlocked}
+pub use Rattle.shm_base.specs.Rules.{fork_marks, pieces_errno, removed_errno, rest_is_attached}
+pub use Rattle.shm_base.specs.Segments.{after_detach, attach_all, attach_count, attached, change, change_all, detach_all, detached, locked, marked, pages_held, pages_locked, reserved, locked_by_user, pages_locked_by, segment_count, slots, swept, swept_at, swept_from, with_entry}
 pub use Rattle.shm_base.specs.Space.{choose, cut, cut_segments, first_chosen, inserted, inside, is_gap, is_named, new_piece, end_address, lowest_address, meets, occupied, origin_of, part_above, part_below, parts, pieces_of, without_named}
 pub use Rattle.shm_base.specs.State.{Ended, Entry, Life, Live, Machine, Opening, Piece, Runner, Segment, Unborn, pages_in, pages_of, runner_at_start, start_of}
-pub use Rattle.shm_base.specs.Step.{Caller, Outcome, acts, at_wish, attaches, attaches_chosen, attaches_fixed, attaches_found, caller_from, caller_of, controls, creates, creates_at, detaches, forks, gives, is_rdonly, is_remap, is_rnd, load, locks, new_segment, number_at, pieces_with, refuses, removes, segments_of, sets, shmat, shmget, stat, step, step_by, store, swapoff, takes_away, unborn_from, unlocks, wants_creation, wants_no_other, with_end, with_pieces, xadd}
+pub use Rattle.shm_base.specs.Step.{Caller, Outcome, acts, at_wish, creates_small, huge_errno, inherited, is_full, is_no_owner, is_taken, outside_errno, remaps_null, rests, attaches, attaches_chosen, attaches_fixed, attaches_found, caller_from, caller_of, controls, creates, creates_at, detaches, forks, gives, is_rdonly, is_remap, is_rnd, load, locks, new_segment, number_at, pieces_with, refuses, removes, segments_of, sets, shmat, shmget, stat, step, step_by, store, swapoff, takes_away, unborn_from, unlocks, wants_creation, wants_no_other, with_end, with_pieces, xadd}
 pub use Rattle.shm_base.specs.declared.owner.Cred.{Cred}
 pub use Rattle.shm_base.specs.declared.call.Call.{Call}
 pub use Rattle.shm_base.specs.declared.call.Call.TheVariants.{Exec, Exit, Fork, Load, Lock, Rmid, Set, Shmat, Shmdt, Shmget, Stat, Store, Swapoff, Unlock, Xadd}
@@ -32,7 +34,7 @@ pub use Rattle.shm_base.specs.declared.call.Reply.{Reply}
 pub use Rattle.shm_base.specs.declared.call.Reply.TheVariants.{Addr, Bytes, Done, Id, Number, Refused}
 pub use Rattle.shm_base.specs.declared.call.ShmidDs.{ShmidDs}
 pub use Rattle.shm_base.specs.declared.errno.Errno.{Errno}
-pub use Rattle.shm_base.specs.declared.errno.Errno.TheVariants.{Emfile, Eperm, Esrch}
+pub use Rattle.shm_base.specs.declared.errno.Errno.TheVariants.{Eacces, Eexist, Einval, Enomem, Enospc, Eperm, Esrch}
 pub use Rattle.shm_base.specs.declared.flags.AtFlags.{AtFlags}
 pub use Rattle.shm_base.specs.declared.flags.GetFlags.{GetFlags}
 pub use Rattle.shm_history.proofs.Clear.{clear_step, failures-cons, first_clear, rest_clear}

@@ -1,8 +1,8 @@
 -- The four kinds of step on the segments: still, a sweep after a detach, a creation, a removal.
-use Rattle.shm_laws.proofs.Names.{◌≡◌, ◌⊎◌, ℕ, ◌+◌, ◌*◌, ◌%◌, ◌^◌, ◌≤◌, ◌==◌, ◌&&◌, ℤ, pos, negsuc, Bool, true, false, not, nat_lt, nat_le, within, if◌then◌else◌, List, [], ◌∷◌, length, replicate, get_or, Option, Some, None, slice_get, slice_set, refl, sym, ap, subst, ◌∙◌, inl, inr, arith, common_steps, get-set_other, w64, to_le_bytes, slice_get-get_or, Emfile, GetFlags, AtFlags, Call, Shmget, Shmat, Shmdt, Stat, Set, Rmid, Lock, Unlock, Load, Store, Xadd, Fork, Exec, Exit, Swapoff, Reply, Id, Done, Addr, Event, grants, owns, wish_of, Place, places, writable_places, stored, Segment, Entry, Piece, Unborn, Live, Ended, Runner, Machine, pages_in, pages_of, Look, Found, Removed, Invalid, identifier, destroyed_at, free_index, with_segment, look, find_key, inside, occupied, cut_segments, origin_of, attach_count, locked, reserved, segment_count, change, attached, marked, detach_all, swept, Outcome, gives, refuses, segments_of, Caller, caller_of, acts, new_segment, creates, creates_at, shmget, wants_creation, wants_no_other, is_rnd, is_remap, at_wish, attaches, attaches_chosen, attaches_fixed, attaches_found, shmat, pieces_with, with_pieces, detaches, forks, unborn_from, stat, controls, sets, removes, locks, unlocks, load, store, xadd, number_at, takes_away, swapoff, first_runner, child_at, life_in, keeps-set, IsSame, Put, put, pieces_of_caller}
+use Rattle.shm_laws.proofs.Names.{◌≡◌, ◌⊎◌, ℕ, ◌+◌, ◌*◌, ◌%◌, ◌^◌, ◌≤◌, ◌==◌, ◌&&◌, ℤ, pos, negsuc, Bool, true, false, not, nat_lt, nat_le, within, if◌then◌else◌, List, [], ◌∷◌, length, replicate, get_or, Option, Some, None, slice_get, slice_set, refl, sym, ap, subst, ◌∙◌, inl, inr, arith, common_steps, get-set_other, w64, to_le_bytes, slice_get-get_or, GetFlags, AtFlags, Call, Shmget, Shmat, Shmdt, Stat, Set, Rmid, Lock, Unlock, Load, Store, Xadd, Fork, Exec, Exit, Swapoff, Reply, Id, Done, Addr, Event, grants, owns, wish_of, Place, places, writable_places, stored, Segment, Entry, Piece, Unborn, Live, Ended, Runner, Machine, pages_in, pages_of, Look, Found, Removed, Invalid, identifier, destroyed_at, free_index, with_segment, look, find_key, inside, occupied, cut_segments, origin_of, attach_count, locked, reserved, segment_count, change, attached, marked, detach_all, swept, Outcome, gives, refuses, segments_of, Caller, caller_of, acts, new_segment, creates, creates_at, shmget, wants_creation, wants_no_other, is_rnd, is_remap, at_wish, attaches, attaches_chosen, attaches_fixed, attaches_found, shmat, pieces_with, with_pieces, detaches, forks, unborn_from, stat, controls, sets, removes, locks, unlocks, load, store, xadd, number_at, takes_away, swapoff, first_runner, child_at, life_in, keeps-set, IsSame, Put, put, pieces_of_caller, Errno, creates_small, huge_errno, rests, attach_all, is_taken, is_full, remaps_null, pieces_errno, inherited, fork_marks, may_not_lock, passes_limit, locks_as, unlocked, is_no_owner}
 use Rattle.shm_base.specs.Step.{gets}
 use Rattle.shm_laws.proofs.Accessing.{writable-parts}
-use Rattle.shm_laws.proofs.Turning.{IsAlike, Turned, unchanged, puts_in, turned-refl, turned-trans, turned-change, turned-detach, turned-stored, set-got}
+use Rattle.shm_laws.proofs.Turning.{IsAlike, Turned, unchanged, puts_in, turned-refl, turned-trans, turned-change, turned-attach, turned-detach, turned-stored, set-got}
 use Rattle.shm_laws.proofs.Looks.{entry-found}
 
 -- PROCESSES THAT ARE NOT BORN HAVE NO PIECES
@@ -135,6 +135,19 @@ pick P b o p h k = grind (arith, common_steps)
 pub pick_by : (P : Outcome → Type 0) (b : Bool) (o p : Outcome) → (b ≡ true → P o) → (b ≡ false → P p) → P (if b then o else p)
 pick_by P b o p h k = grind (arith, common_steps)
 
+-- a table or another, as `pick` for outcomes
+pick_table : (P : List Entry → Type 0) (b : Bool) (t u : List Entry) → P t → P u → P (if b then t else u)
+pick_table P b t u h k = grind (arith, common_steps)
+
+locked-head : (uid : ℕ) (y : Segment) → IsSame y (locks_as uid y)
+locked-head uid y = grind (arith, common_steps)
+
+locked-alike : (uid : ℕ) (y : Segment) → IsAlike y (locks_as uid y)
+locked-alike uid y = grind (arith, common_steps)
+
+locked-bytes : (uid : ℕ) (y : Segment) → (locks_as uid y).bytes ≡ y.bytes
+locked-bytes uid y = grind (arith, common_steps)
+
 same_head : (x y : Segment) → y.size ≡ x.size → y.cpid ≡ x.cpid → y.perm.cuid ≡ x.perm.cuid → y.perm.cgid ≡ x.perm.cgid → IsSame x y
 same_head x y a b c d = record { size = a; cpid = b; cuid = c; cgid = d }
 
@@ -161,20 +174,24 @@ module _ (like : Segment → Type 0) (s : Machine) (n : ℕ) (c : Caller) where
   abbrev Likes : ℕ → ℕ → ℕ → Type 0
   Likes key size mode = 1 ≤ size → like (new_segment n c key size mode)
 
-  kind-creates : (key size mode : ℕ) → Likes key size mode → Plain s (creates s n c key size mode)
-  kind-creates key size mode made =
+  kind-small : (key size mode : ℕ) (o : Option Errno) → like (new_segment n c key size mode) → Plain s (creates_small s n c key size mode o)
+  kind-small key size mode (Some e) made = still like s _
+  kind-small key size mode None made = pick (Plain s) (nat_le s.limits.shmmni (segment_count s.table)) _ _ (still like s _) (kind-makes key size mode (free_index s.table) refl made)
+
+  kind-creates : (key size mode : ℕ) (flags : GetFlags) → Likes key size mode → Plain s (creates s n c key size mode flags)
+  kind-creates key size mode flags made =
       pick_by (Plain s) (not (within 1 s.limits.shmmax size)) _ _ (λ h. still like s _)
       (λ h. pick (Plain s) (nat_lt s.limits.shmall (reserved s.table + pages_of size)) _ _ (still like s _)
-      (pick (Plain s) (nat_le s.limits.shmmni (segment_count s.table)) _ _ (still like s _) (kind-makes key size mode (free_index s.table) refl (made (within-low size s.limits.shmmax h)))))
+      (kind-small key size mode (huge_errno s c flags) (made (within-low size s.limits.shmmax h))))
 
   kind-gets : (key size mode : ℕ) (flags : GetFlags) (l : Look) → (((i : ℕ) (x : Segment) → l ≡ Found i x → ⊥) → Likes key size mode) → Plain s (gets s n c key size mode flags l)
-  kind-gets key size mode flags (Found i x) made = pick (Plain s) (wants_no_other flags) _ _ (still like s _) (pick (Plain s) (nat_lt x.size size) _ _ (still like s _) (pick (Plain s) (not (grants c.cred x.perm (wish_of mode))) _ _ (still like s _) (still like s _)))
-  kind-gets key size mode flags Removed made = pick (Plain s) (wants_creation flags) _ _ (kind-creates key size mode (made (λ i x h. cc h))) (still like s _)
-  kind-gets key size mode flags Invalid made = pick (Plain s) (wants_creation flags) _ _ (kind-creates key size mode (made (λ i x h. cc h))) (still like s _)
+  kind-gets key size mode flags (Found i x) made = pick (Plain s) (wants_no_other flags) _ _ (still like s _) (pick (Plain s) (nat_lt x.size size) _ _ (still like s _) (pick (Plain s) (not (grants c.cred x.perm (wish_of s.limits.rules mode))) _ _ (still like s _) (still like s _)))
+  kind-gets key size mode flags Removed made = pick (Plain s) (wants_creation flags) _ _ (kind-creates key size mode flags (made (λ i x h. cc h))) (still like s _)
+  kind-gets key size mode flags Invalid made = pick (Plain s) (wants_creation flags) _ _ (kind-creates key size mode flags (made (λ i x h. cc h))) (still like s _)
 
   kind-shmget : (key size mode : ℕ) (flags : GetFlags) → ((key ≡ 0) ⊎ IsFree s.table key → Likes key size mode) → Plain s (shmget s n c key size mode flags)
   kind-shmget key size mode flags made =
-      pick_by (Plain s) (key == 0) _ _ (λ h. kind-creates 0 size mode (private h))
+      pick_by (Plain s) (key == 0) _ _ (λ h. kind-creates 0 size mode flags (private h))
       (λ h. kind-gets key size mode flags (find_key s.table key) (λ free. made (inr free)))
     where
       private : (key == 0) ≡ true → Likes 0 size mode
@@ -183,12 +200,14 @@ module _ (like : Segment → Type 0) (s : Machine) (n : ℕ) (c : Caller) where
   kind-attaches : (id : ℕ) (x : Segment) (flags : AtFlags) (base : ℕ) → Plain s (attaches s n c id x flags base)
   kind-attaches id x flags base =
       let lost : List ℕ = cut_segments base (base + 4096 * pages_in x) c.pieces in
-      let old : List Entry = detach_all n c.pid s.table lost in
+      let gone : List Entry = detach_all n c.pid s.table lost in
+      let kept : List ℕ = rests s base (base + 4096 * pages_in x) c.pieces in
+      let old : List Entry = attach_all n c.pid gone kept in
       let rs : List Runner = with_pieces s.runners c (pieces_with c id x flags base) in
       let after : Machine = record s { table = swept rs (change old id (attached n c.pid)); runners = rs } in
-      pick (Plain s) (nat_lt s.limits.most_pieces (length (pieces_with c id x flags base))) (refuses s Emfile) (gives after (Addr base)) (still like s _)
+      pick (Plain s) (nat_lt s.limits.most_pieces (length (pieces_with c id x flags base))) (refuses s (pieces_errno s.limits.rules)) (gives after (Addr base)) (still like s _)
       (sweeps like s (Addr base) after (change old id (attached n c.pid))
-      (λ i. turned-trans unchanged unchanged s.table old (change old id (attached n c.pid)) i (turned-detach n c.pid lost s.table i) (turned-change (attached n c.pid) (λ y. same_head y (attached n c.pid y) refl refl refl refl) (λ y. record { key = refl; dest = refl }) (λ y. refl) old id i))
+      (λ i. turned-trans unchanged unchanged s.table old (change old id (attached n c.pid)) i (turned-trans unchanged unchanged s.table gone old i (turned-detach n c.pid lost s.table i) (turned-attach n c.pid kept gone i)) (turned-change (attached n c.pid) (λ y. same_head y (attached n c.pid y) refl refl refl refl) (λ y. record { key = refl; dest = refl }) (λ y. refl) old id i))
       refl (living c (pieces_with c id x flags base) s.runners))
 
   kind-chosen : (id : ℕ) (x : Segment) (flags : AtFlags) (o : Option ℕ) → Plain s (attaches_chosen s n c id x flags o)
@@ -196,22 +215,27 @@ module _ (like : Segment → Type 0) (s : Machine) (n : ℕ) (c : Caller) where
   kind-chosen id x flags (Some base) = kind-attaches id x flags base
 
   kind-fixed : (id : ℕ) (x : Segment) (flags : AtFlags) (base : ℕ) → Plain s (attaches_fixed s n c id x flags base)
-  kind-fixed id x flags base = pick (Plain s) (not (inside base (pages_in x))) _ _ (still like s _) (pick (Plain s) (not (is_remap flags) && occupied c.pieces base (base + 4096 * pages_in x)) _ _ (still like s _) (kind-attaches id x flags base))
+  kind-fixed id x flags base =
+      pick (Plain s) (is_taken s c x flags base) _ _ (still like s _)
+      (pick (Plain s) (is_full s c) _ _ (still like s _) (pick (Plain s) (not (inside base (pages_in x))) _ _ (still like s _) (kind-attaches id x flags base)))
 
   kind-found : (flags : AtFlags) (addr : ℕ) (l : Look) → Plain s (attaches_found s n c flags addr l)
   kind-found flags addr Invalid = still like s _
   kind-found flags addr Removed = still like s _
   kind-found flags addr (Found i x) =
-      pick (Plain s) (not (grants c.cred x.perm (at_wish flags))) _ _ (still like s _) (pick (Plain s) (addr == 0) _ _ (kind-chosen _ x flags _) (kind-fixed _ x flags _))
+      pick (Plain s) (not (grants c.cred x.perm (at_wish s flags))) _ _ (still like s _) (pick (Plain s) (addr == 0) _ _ (kind-chosen _ x flags _) (kind-fixed _ x flags _))
 
   kind-shmat : (id : ℤ) (addr : ℕ) (flags : AtFlags) → Plain s (shmat s n c id addr flags)
-  kind-shmat id addr flags = pick (Plain s) ((addr == 0) && is_remap flags) _ _ (still like s _) (pick (Plain s) (not (addr % 4096 == 0) && not (is_rnd flags)) _ _ (still like s _) (kind-found flags addr (look s.table id)))
+  kind-shmat id addr flags = pick (Plain s) (remaps_null s addr flags) _ _ (still like s _) (pick (Plain s) (not (addr % 4096 == 0) && not (is_rnd flags)) _ _ (still like s _) (kind-found flags addr (look s.table id)))
 
   kind-detaches : (addr : ℕ) (o : Option Piece) → Plain s (detaches s n c addr o)
   kind-detaches addr None = still like s _
   kind-detaches addr (Some p) = sweeps like s _ _ _ (turned-detach n c.pid (p.seg ∷ []) s.table) refl (living c _ s.runners)
 
-  kind-forks : (child : ℕ) (o : Option ℕ) → Bare s.runners → unborn_from 0 child s.runners ≡ o → Plain s (forks s c child o)
+  turned-inherited : (i : ℕ) → Turned unchanged s.table (inherited s n c) i
+  turned-inherited i = pick_table (λ t. Turned unchanged s.table t i) (fork_marks s.limits.rules) _ _ (turned-attach n c.pid (segments_of c) s.table i) (turned-refl s.table i)
+
+  kind-forks : (child : ℕ) (o : Option ℕ) → Bare s.runners → unborn_from 0 child s.runners ≡ o → Plain s (forks s n c child o)
   kind-forks child None bare is = still like s _
   kind-forks child (Some i) bare is =
       let old = unborn-bare child i s.runners is bare in
@@ -219,7 +243,7 @@ module _ (like : Segment → Type 0) (s : Machine) (n : ℕ) (c : Caller) where
       inl (
         refl,
         inl (record {
-          turned = turned-refl s.table;
+          turned = turned-inherited;
           grows = λ id. keeps-set [] s.runners i new old.0 old.1 (λ j other. rw old.2 (omega arith)) id refl;
           bare = λ h. bare-set s.runners i new h (λ (e : Live c.cred ≡ Unborn). cc e);
         }),
@@ -234,13 +258,18 @@ module _ (like : Segment → Type 0) (s : Machine) (n : ℕ) (c : Caller) where
   kind-controls act acts (Found i x) = pick (Plain s) (not (owns c.cred x.perm)) _ _ (still like s _) (acts i x)
 
   kind-sets : (uid gid mode i : ℕ) (x : Segment) → Plain s (sets s n uid gid mode i x)
-  kind-sets uid gid mode i x = grind (arith, common_steps, quiet, turned-change, same_head, alike_head)
+  kind-sets uid gid mode i x =
+      pick (Plain s) (is_no_owner s uid gid) _ _ (still like s _)
+      (quiet idle like s _ _ (turned-change (λ (y : Segment). record y { perm = record y.perm { uid = uid; gid = gid; mode = mode % 512 }; ctime = n }) (λ y. same_head y _ refl refl refl refl) (λ y. record { key = refl; dest = refl }) (λ y. refl) s.table i) refl)
 
-  kind-locks : (i : ℕ) (x : Segment) → Plain s (locks s i x)
-  kind-locks i x = pick (Plain s) (not x.locked && nat_lt s.limits.memlock (locked s.table + pages_in x)) _ _ (still like s _) (quiet idle like s _ _ (turned-change (λ (y : Segment). record y { locked = true }) (λ y. same_head y _ refl refl refl refl) (λ y. record { key = refl; dest = refl }) (λ y. refl) s.table i) refl)
+  kind-locks : (i : ℕ) (x : Segment) → Plain s (locks s c i x)
+  kind-locks i x =
+      pick (Plain s) (may_not_lock s.limits c.cred) _ _ (still like s _)
+      (pick (Plain s) (not x.locked && passes_limit s.limits c.cred s.table x) _ _ (still like s _)
+      (quiet idle like s _ _ (turned-change (locks_as c.cred.uid) (λ y. locked-head c.cred.uid y) (λ y. locked-alike c.cred.uid y) (λ y. locked-bytes c.cred.uid y) s.table i) refl))
 
   kind-unlocks : (i : ℕ) (x : Segment) → Plain s (unlocks s i x)
-  kind-unlocks i x = quiet idle like s _ _ (turned-change (λ (y : Segment). record y { locked = false }) (λ y. same_head y _ refl refl refl refl) (λ y. record { key = refl; dest = refl }) (λ y. refl) s.table i) refl
+  kind-unlocks i x = quiet idle like s _ _ (turned-change unlocked (λ y. same_head y _ refl refl refl refl) (λ y. record { key = refl; dest = refl }) (λ y. refl) s.table i) refl
 
   kind-load : (o : Option (List Place)) → Plain s (load s o)
   kind-load o = grind (arith, common_steps, still)
@@ -281,7 +310,7 @@ module _ (like : Segment → Type 0) (s : Machine) (n : ℕ) (c : Caller) where
   kind-acts (Set id uid gid mode) bare made = kind-controls (sets s n uid gid mode) (kind-sets uid gid mode) (look s.table id)
   kind-acts (Rmid (pos id)) bare made = kind-rmid id (look s.table (pos id)) refl
   kind-acts (Rmid (negsuc id)) bare made = still like s _
-  kind-acts (Lock id) bare made = kind-controls (locks s) kind-locks (look s.table id)
+  kind-acts (Lock id) bare made = kind-controls (locks s c) kind-locks (look s.table id)
   kind-acts (Unlock id) bare made = kind-controls (unlocks s) kind-unlocks (look s.table id)
   kind-acts (Load a len) bare made = kind-load (places c.pieces a len)
   kind-acts (Store a bytes) bare made = kind-store a bytes (writable_places c.pieces a (length bytes)) refl

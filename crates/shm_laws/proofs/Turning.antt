@@ -1,5 +1,5 @@
 -- Changes of a table that keep what a segment was made as, and its mark; and what becomes of its bytes.
-use Rattle.shm_laws.proofs.Names.{◌≡◌, ◌≢◌, ◌⊎◌, ℕ, suc, zero, ◌+◌, ◌%◌, ◌==◌, if◌then◌else◌, List, [], ◌∷◌, Option, Some, slice_get, slice_set, refl, sym, subst, ◌∙◌, inl, inr, arith, eq-eqb, ne_eqb, common_steps, none-some, option_map, cases_eq, Segment, Entry, Runner, Place, set_in, with_byte, byte_set, stored, change, with_entry, detached, detach_all, swept_at, swept_from, swept, IsSame, get-set_same, get-set_other}
+use Rattle.shm_laws.proofs.Names.{◌≡◌, ◌≢◌, ◌⊎◌, ℕ, suc, zero, ◌+◌, ◌%◌, ◌==◌, if◌then◌else◌, List, [], ◌∷◌, Option, Some, slice_get, slice_set, refl, sym, subst, ◌∙◌, inl, inr, arith, eq-eqb, ne_eqb, common_steps, none-some, option_map, cases_eq, Segment, Entry, Runner, Place, set_in, with_byte, byte_set, stored, change, with_entry, detached, detach_all, swept_at, swept_from, swept, IsSame, get-set_same, get-set_other, change_all, attach_all, attached}
 
 pub same_refl : (x : Segment) → IsSame x x
 same_refl x = record { size = refl; cpid = refl; cuid = refl; cgid = refl }
@@ -74,12 +74,18 @@ module _ (f : Segment → Segment) (same : (x : Segment) → IsSame x (f x)) (al
 
 -- MANY
 
+turned-all : (f : Segment → Segment) → ((x : Segment) → IsSame x (f x)) → ((x : Segment) → IsAlike x (f x)) → ((x : Segment) → (f x).bytes ≡ x.bytes)
+    → (ids : List ℕ) (t : List Entry) (i : ℕ) → Turned unchanged t (change_all f t ids) i
+turned-all f same alike bytes [] t i = turned-refl t i
+turned-all f same alike bytes (id ∷ ids) t i =
+    turned-trans unchanged unchanged t (change t id f) (change_all f (change t id f) ids) i (turned-change f same alike bytes t id i)
+    (turned-all f same alike bytes ids (change t id f) i)
+
 pub turned-detach : (n pid : ℕ) (ids : List ℕ) (t : List Entry) (i : ℕ) → Turned unchanged t (detach_all n pid t ids) i
-turned-detach n pid [] t i = turned-refl t i
-turned-detach n pid (id ∷ ids) t i =
-    turned-trans unchanged unchanged t (change t id (detached n pid)) (detach_all n pid (change t id (detached n pid)) ids) i
-    (turned-change (detached n pid) (λ x. record { size = refl; cpid = refl; cuid = refl; cgid = refl }) (λ x. record { key = refl; dest = refl }) (λ x. refl) t id i)
-    (turned-detach n pid ids (change t id (detached n pid)) i)
+turned-detach n pid = turned-all (detached n pid) (λ x. record { size = refl; cpid = refl; cuid = refl; cgid = refl }) (λ x. record { key = refl; dest = refl }) (λ x. refl)
+
+pub turned-attach : (n pid : ℕ) (ids : List ℕ) (t : List Entry) (i : ℕ) → Turned unchanged t (attach_all n pid t ids) i
+turned-attach n pid = turned-all (attached n pid) (λ x. record { size = refl; cpid = refl; cuid = refl; cgid = refl }) (λ x. record { key = refl; dest = refl }) (λ x. refl)
 
 -- one byte that is put, if it is one of the index's
 abbrev pub byte_in : ℕ → Place → ℕ → List ℕ → List ℕ

@@ -1,5 +1,5 @@
 -- A table with the bytes of some segments hidden: what it counts and finds, and what becomes of it.
-use Rattle.shm_laws.proofs.Names.{◌≡◌, ℕ, suc, zero, ◌+◌, ◌/◌, ◌%◌, ℤ, pos, negsuc, Bool, true, false, is_none, cond, List, [], ◌∷◌, ◌++◌, length, Option, Some, None, slice_get, slice_set, refl, ap, ◌∙◌, inl, inr, arith, common_steps, option_map, sum_by, is_some, cases_Bool, length-replicate, sum_by-cons, Segment, Entry, Runner, pages_in, Place, set_in, entry_byte_set, with_byte, stored, byte_at, loaded, Look, Found, Removed, Invalid, identifier, free_from, destroyed_in, destroyed_at, with_segment, look_segment, look_entry, look, has_key, key_from, find_key, pages_held, pages_locked, reserved, locked, segment_count, with_entry, change, detached, detach_all, swept_at, swept_from, length-slice_set, veiled, veiled_entry, veiled_from}
+use Rattle.shm_laws.proofs.Names.{◌≡◌, ℕ, suc, zero, ◌+◌, ◌/◌, ◌%◌, ℤ, pos, negsuc, Bool, true, false, is_none, cond, List, [], ◌∷◌, ◌++◌, length, Option, Some, None, slice_get, slice_set, refl, ap, ◌∙◌, inl, inr, arith, common_steps, option_map, sum_by, is_some, cases_Bool, length-replicate, sum_by-cons, Segment, Entry, Runner, pages_in, Place, set_in, entry_byte_set, with_byte, stored, byte_at, loaded, Look, Found, Removed, Invalid, identifier, free_from, destroyed_in, destroyed_at, with_segment, look_segment, look_entry, look, has_key, key_from, find_key, pages_held, pages_locked, reserved, locked, segment_count, with_entry, change, detached, detach_all, swept_at, swept_from, length-slice_set, veiled, veiled_entry, veiled_from, change_all, attach_all, attached, locked_by_user, pages_locked_by}
 use Rattle.shm_laws.proofs.Turning.{turned-byte}
 
 -- A SEGMENT
@@ -94,6 +94,12 @@ module _ (hidden : ℕ → Bool) where
   pub locked-sum : (t : List Entry) → locked (V 0 t) ≡ locked t
   locked-sum t = sum-veiled (λ e. pages_locked e.segment) (λ k e. locked-veiled (hides k e) e.segment) 0 t
 
+  locked_by-veiled : (uid : ℕ) (b : Bool) (o : Option Segment) → pages_locked_by uid (option_map (veiled b) o) ≡ pages_locked_by uid o
+  locked_by-veiled uid b o = grind (arith, veiled-pages)
+
+  pub locked_by-sum : (uid : ℕ) (t : List Entry) → locked_by_user uid (V 0 t) ≡ locked_by_user uid t
+  locked_by-sum uid t = sum-veiled (λ e. pages_locked_by uid e.segment) (λ k e. locked_by-veiled uid (hides k e) e.segment) 0 t
+
   pub count-veiled : (t : List Entry) → segment_count (V 0 t) ≡ segment_count t
   count-veiled t = sum-veiled (λ e. one_where (is_some e.segment)) (λ k e. there-veiled (hides k e) e.segment) 0 t
 
@@ -135,9 +141,15 @@ module _ (hidden : ℕ → Bool) where
   pub change-veiled : (f : Segment → Segment) → ((b : Bool) (x : Segment) → f (veiled b x) ≡ veiled b (f x)) → (t : List Entry) (id : ℕ) → change (V 0 t) id f ≡ V 0 (change t id f)
   change-veiled f same t id = in-veiled t (id % 32768) (with_entry f) (slice_get t (id % 32768)) refl (λ e is. grind (arith, same))
 
+  all-veiled : (f : Segment → Segment) → ((b : Bool) (x : Segment) → f (veiled b x) ≡ veiled b (f x)) → (ids : List ℕ) (t : List Entry) → change_all f (V 0 t) ids ≡ V 0 (change_all f t ids)
+  all-veiled f same [] t = refl
+  all-veiled f same (id ∷ ids) t = ap (λ u. change_all f u ids) (change-veiled f same t id) ∙ all-veiled f same ids (change t id f)
+
   pub detach-veiled : (n pid : ℕ) (ids : List ℕ) (t : List Entry) → detach_all n pid (V 0 t) ids ≡ V 0 (detach_all n pid t ids)
-  detach-veiled n pid [] t = refl
-  detach-veiled n pid (id ∷ ids) t = grind (arith, common_steps, change-veiled, detach-veiled n pid ids (change t id (detached n pid)))
+  detach-veiled n pid = all-veiled (detached n pid) (λ b x. refl)
+
+  pub attach-veiled : (n pid : ℕ) (ids : List ℕ) (t : List Entry) → attach_all n pid (V 0 t) ids ≡ V 0 (attach_all n pid t ids)
+  attach-veiled n pid = all-veiled (attached n pid) (λ b x. refl)
 
   swept-entry : (k : ℕ) (rs : List Runner) (d : ℕ) (o : Option Segment)
       → swept_at k rs d (option_map (veiled (hidden (identifier k d))) o) ≡ veiled_entry hidden k (swept_at k rs d o)

@@ -15,7 +15,7 @@ use Rattle.shm_base.specs.declared.call.Event.{Event}
 use Rattle.shm_base.specs.State.{Segment, Piece, Unborn, Live, Runner, Machine, Opening, pages_in}
 use Rattle.shm_base.specs.Permission.{grants, wish_of}
 use Rattle.shm_base.specs.Access.{end_of, covers}
-use Rattle.shm_base.specs.Step.{Caller, caller_of, is_rdonly}
+use Rattle.shm_base.specs.Step.{at_wish, Caller, caller_of, is_rdonly}
 use Rattle.shm_base.specs.History.{is_refusal, IsHistory}
 use Rattle.shm_laws.specs.Standing.{Stands, HasPiece, EachPiece, EachMove, Always}
 use Rattle.shm_base.specs.declared.paging.TheConstants.{PAGE_SIZE}
@@ -43,7 +43,7 @@ pub record IsGranted (s : Machine) (e : Event) (pid : ℕ) (p : Piece) : Type 0 
   pub live : caller_of s pid ≡ Some caller
   pub segment : Segment
   pub stands : Stands s p.seg segment
-  pub permitted : grants caller.cred segment.perm (record { read = true; write = p.writable }) ≡ true
+  pub permitted : grants caller.cred segment.perm (record { read = true; write = p.writable; execute = (at_wish s flags).execute }) ≡ true
   pub page : p.base % PAGE_SIZE ≡ 0
   pub whole : (p.first_page ≡ 0) × (p.pages ≡ pages_in segment)
 
@@ -121,10 +121,10 @@ pub record KeepsOut (s : Machine) (e : Event) (t : Machine) : Type 0 where
   pub owner : (id : ℤ) → controlled e.call ≡ Some id → e.reply ≡ Done → OwnerAsks s e.pid id
   pub stat :
       (id : ℤ) (d : ShmidDs) → e.call ≡ calls.Stat id → e.reply ≡ replies.Stat d
-      → (n : ℕ) × (id ≡ pos n) × MayAsk s e.pid n (record { read = true; write = false })
+      → (n : ℕ) × (id ≡ pos n) × MayAsk s e.pid n (record { read = true; write = false; execute = false })
   pub get :
       (key size mode id : ℕ) (flags : GetFlags) (x : Segment) → e.call ≡ Shmget key size mode flags → e.reply ≡ Id (pos id)
-      → Stands s id x → MayAsk s e.pid id (wish_of mode)
+      → Stands s id x → MayAsk s e.pid id (wish_of s.limits.rules mode)
   pub swapoff : (area : ℕ) → e.call ≡ Swapoff area → e.reply ≡ Done → IsUserZero s e.pid
 
 -- the event is a fork that made the process, and its parent had these credentials

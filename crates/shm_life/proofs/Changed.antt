@@ -1,7 +1,15 @@
 -- What is kept where a segment is locked, marked or written, and where a process forks.
-use Rattle.shm_life.proofs.Names.{OrphansAmong, ◌≡◌, ℕ, ◌+◌, ◌/◌, ◌%◌, ◌≤◌, ◌&&◌, nat_lt, not, Bool, true, false, if◌then◌else◌, List, [], ◌∷◌, length, Some, refl, sym, ◌∙◌, arith, All, IsAccess, OnOk, OnErr, Place, Bounds, Live, Entry, Runner, pages_of, attach_count, change, marked, locked, Span, Translation, IsCaller, caller_seen, pieces_at, InPage, page_of, PassPages, pieces_by, wanted, wanted_in, Child, born_child, pieces_by-caller, IsFound, SpanFits, page_there, relocked, get-set_same, get-set_other, sum-set, SamePages, SameTable, same-refl, change-pages, change-locked, change-left, PieceFits, PiecesFit, IsTableSound, IsWell, IsWellBut, StoreView, frame_of, cases_eq, nat_tests}
+use Rattle.shm_life.proofs.Names.{OrphansAmong, ◌≡◌, ℕ, ◌+◌, ◌/◌, ◌%◌, ◌≤◌, ◌&&◌, not, Bool, true, false, if◌then◌else◌, List, [], ◌∷◌, length, Some, refl, sym, ◌∙◌, arith, All, IsAccess, OnOk, OnErr, Place, Bounds, lockable, Live, Entry, Runner, pages_of, attach_count, change, marked, locked, Span, Translation, IsCaller, caller_seen, pieces_at, InPage, page_of, PassPages, pieces_by, wanted, wanted_in, Child, born_child, pieces_by-caller, IsFound, SpanFits, page_there, relocked, get-set_same, get-set_other, sum-set, SamePages, SameTable, same-refl, change-pages, change-locked, change-left, PieceFits, PiecesFit, IsTableSound, IsWell, IsWellBut, StoreView, frame_of, cases_eq, nat_tests}
 use Rattle.std.proofs.Common.{slice_set, sum_by, true≢false}
-use Rattle.std.specs.Prelude.{Option, Result, Ok, Err}
+use Rattle.std.specs.Prelude.{Option, None, Result, Ok, Err, is_some}
+use Rattle.shm_base.specs.declared.owner.Cred.{Cred}
+use Rattle.shm_base.specs.Locking.{locks_as, may_not_lock, passes_limit}
+use Rattle.shm_base.specs.declared.errno.Errno.{Errno}
+use Rattle.shm_base.specs.declared.errno.Errno.TheVariants.{Eperm, Enomem}
+use Rattle.shm_life.specs.Looking.{lock_refusal}
+use Rattle.shm_life.proofs.Names.{none-some, gives, refuses, Outcome, Done, locks}
+use Rattle.shm_base.specs.State.{Machine as FlatMachine}
+use Rattle.shm_base.specs.State.{Segment}
 use Rattle.shm_base.specs.State.{pages_in}
 use Rattle.shm_base.specs.Step.{Caller as FlatCaller}
 use Rattle.shm_attach.specs.declared.process.Caller.{Caller}
@@ -18,38 +26,69 @@ use Rattle.shm_life.proofs.Running.{true_still, kept-by}
 pub pages-seen : (t : List Entry) (f : Found) → IsFound t f → pages_in (table.segment_seen t f) ≡ pages_of f.head.size
 pages-seen t f found = omega (arith, found.long)
 
-module _ (t : List Entry) (f : Found) (found : IsFound t f) (b : Bool) where
+module _ (t : List Entry) (f : Found) (found : IsFound t f) (o : Option ℕ) where
   abbrev x : Entry
   x = record { destroyed = f.seg / 32768; segment = Some (table.segment_seen t f) }
 
   abbrev y : Entry
-  y = record { destroyed = f.seg / 32768; segment = Some (relocked b (table.segment_seen t f)) }
+  y = record { destroyed = f.seg / 32768; segment = Some (relocked o (table.segment_seen t f)) }
 
-  is-set : change t f.seg (relocked b) ≡ slice_set t (f.seg % 32768) y
+  is-set : change t f.seg (relocked o) ≡ slice_set t (f.seg % 32768) y
   is-set = rw found.entry refl
 
   -- the sum loses what the segment had in it, and gains what it has
-  pub relocked-sum : locked (change t f.seg (relocked b)) + (if f.head.locked then pages_of f.head.size else 0) ≡ locked t + (if b then pages_of f.head.size else 0)
+  pub relocked-sum : locked (change t f.seg (relocked o)) + (if f.head.locked then pages_of f.head.size else 0) ≡ locked t + (if is_some o then pages_of f.head.size else 0)
   relocked-sum = grind (arith, sum-set)
 
-kept-relocked : (limits : Bounds) (t : List Entry) (rs : List Runner) (seg : ℕ) (b : Bool) → IsTableSound limits t rs → locked (change t seg (relocked b)) ≤ limits.memlock → IsTableSound limits (change t seg (relocked b)) rs
-kept-relocked limits t rs seg b k few =
-    let same : SamePages t (change t seg (relocked b)) = change-pages (relocked b) (λ s. refl) t seg in
-    kept-by limits t (change t seg (relocked b)) rs rs k (omega (arith, same.size)) (omega (arith, same.reserved)) few (fit-same t (change t seg (relocked b)) rs same k.pieces)
-    (λ i h. absurd (true≢false (sym (k.orphans i (sym (change-left (relocked b) (λ s. refl) t seg rs i) ∙ h))))) k.processes
+relocked-bytes : (o : Option ℕ) (s : Segment) → length (relocked o s).bytes ≡ length s.bytes
+relocked-bytes o s = grind (arith)
+
+relocked-dest : (o : Option ℕ) (s : Segment) → (relocked o s).dest ≡ s.dest
+relocked-dest o s = grind (arith)
+
+kept-relocked : (limits : Bounds) (t : List Entry) (rs : List Runner) (seg : ℕ) (o : Option ℕ) → IsTableSound limits t rs → locked (change t seg (relocked o)) ≤ lockable limits → IsTableSound limits (change t seg (relocked o)) rs
+kept-relocked limits t rs seg o k few =
+    let same : SamePages t (change t seg (relocked o)) = change-pages (relocked o) (relocked-bytes o) t seg in
+    kept-by limits t (change t seg (relocked o)) rs rs k (omega (arith, same.size)) (omega (arith, same.reserved)) few (fit-same t (change t seg (relocked o)) rs same k.pieces)
+    (λ i h. absurd (true≢false (sym (k.orphans i (sym (change-left (relocked o) (relocked-dest o) t seg rs i) ∙ h))))) k.processes
 
 -- a segment locked or unlocked
-pub relocked-well : (limits : Bounds) (t : List Entry) (rs : List Runner) (ts : List Translation) (m n : StoreView) (seg : ℕ) (b : Bool) → IsWell limits t rs ts m → locked (change t seg (relocked b)) ≤ limits.memlock
-    → length n.frames ≡ length m.frames → ((s page : ℕ) → frame_of n s page ≡ frame_of m s page) → IsWell limits (change t seg (relocked b)) rs ts n
-relocked-well limits t rs ts m n seg b w few frames still =
-    record { kept = kept-relocked limits t rs seg b w.kept few; frames = frames ∙ w.frames; room = w.room; translated = true_still ts m n still w.translated }
+pub relocked-well : (limits : Bounds) (t : List Entry) (rs : List Runner) (ts : List Translation) (m n : StoreView) (seg : ℕ) (o : Option ℕ) → IsWell limits t rs ts m → locked (change t seg (relocked o)) ≤ lockable limits
+    → length n.frames ≡ length m.frames → ((s page : ℕ) → frame_of n s page ≡ frame_of m s page) → IsWell limits (change t seg (relocked o)) rs ts n
+relocked-well limits t rs ts m n seg o w few frames still =
+    record { kept = kept-relocked limits t rs seg o w.kept few; frames = frames ∙ w.frames; room = w.room; translated = true_still ts m n still w.translated }
 
-pub lock-few : (t : List Entry) (f : Found) (memlock : ℕ) → IsFound t f → locked t ≤ memlock → (not f.head.locked && nat_lt memlock (locked t + pages_of f.head.size)) ≡ false
-    → locked (change t f.seg (relocked true)) ≤ memlock
-lock-few t f memlock found few fits = grind (arith, nat_tests, relocked-sum t f found true, few, fits)
+pub lock-few : (t : List Entry) (f : Found) (limits : Bounds) (cred : Cred) → IsFound t f → locked t ≤ lockable limits → (not f.head.locked && passes_limit limits cred t (table.segment_seen t f)) ≡ false
+    → locked (change t f.seg (relocked (Some cred.uid))) ≤ lockable limits
+lock-few t f limits cred found few fits = grind (arith, nat_tests, relocked-sum t f found (Some cred.uid), pages-seen t f found, few, fits)
 
-pub unlock-few : (t : List Entry) (f : Found) (memlock : ℕ) → IsFound t f → locked t ≤ memlock → locked (change t f.seg (relocked false)) ≤ memlock
-unlock-few t f memlock found few = let sum = relocked-sum t f found false in omega (arith, sum, few)
+-- a lock that is granted passed both tests
+pub lock-granted : (limits : Bounds) (cred : Cred) (t : List Entry) (x : Segment) → lock_refusal limits cred t x ≡ None
+    → (may_not_lock limits cred ≡ false) × ((not x.locked && passes_limit limits cred t x) ≡ false)
+lock-granted limits cred t x none = by (may_not_lock limits cred) (not x.locked && passes_limit limits cred t x) refl refl none
+  where
+    by : (a b : Bool) → may_not_lock limits cred ≡ a → (not x.locked && passes_limit limits cred t x) ≡ b → (if a then Some Eperm else if b then Some Enomem else None) ≡ None
+        → (may_not_lock limits cred ≡ false) × ((not x.locked && passes_limit limits cred t x) ≡ false)
+    by true b h k z = absurd (none-some _ (sym z))
+    by false true h k z = absurd (none-some _ (sym z))
+    by false false h k z = (h, k)
+
+-- what the flat machine does with the refusal of a lock
+abbrev pub locked_outcome : FlatMachine → FlatCaller → ℕ → Option Errno → Outcome
+locked_outcome s c i (Some e) = refuses s e
+locked_outcome s c i None = gives (record s { table = change s.table i (locks_as c.cred.uid) }) Done
+
+pub lock-outcome : (s : FlatMachine) (c : FlatCaller) (i : ℕ) (x : Segment) → locks s c i x ≡ locked_outcome s c i (lock_refusal s.limits c.cred s.table x)
+lock-outcome s c i x = by (may_not_lock s.limits c.cred) (not x.locked && passes_limit s.limits c.cred s.table x)
+  where
+    by : (a b : Bool) → (if a then refuses s Eperm else if b then refuses s Enomem else gives (record s { table = change s.table i (locks_as c.cred.uid) }) Done)
+        ≡ locked_outcome s c i (if a then Some Eperm else if b then Some Enomem else None)
+    by true b = refl
+    by false true = refl
+    by false false = refl
+
+pub unlock-few : (t : List Entry) (f : Found) (most : ℕ) → IsFound t f → locked t ≤ most → locked (change t f.seg (relocked None)) ≤ most
+unlock-few t f most found few = let sum = relocked-sum t f found None in omega (arith, sum, few)
 
 -- MARKED
 

@@ -1,14 +1,13 @@
 -- A process whose pieces go, or come: what the calls on segments need, and what is kept but for segments that
 -- lost their last piece.
-use Rattle.shm_life.proofs.Names.{common_steps, ◌≡◌, ◌≤◌, ℕ, ◌+◌, ◌*◌, ◌%◌, false, List, [], ◌∷◌, zero, suc, Some, None, refl, sym, ap, ◌∙◌, arith, All-nil, All, set_in, Bounds, Piece, Life, Live, Entry, Runner, cut, pieces_of, origin_of, without_named, change, with_entry, attached, detached, detach_all, segments_of, AtFlags, StoreView, Translation, AreTrue, IsCaller, caller_seen, pieces_at, IsLive, SameTable, change-same, Placed, piece_for, pieces_after, lost_to, PieceFits, is_among, IsTableSound, IsTableSoundBut, IsWell, IsWellBut}
-use Rattle.std.proofs.Common.{slice_get, slice_set, Option, option_map}
+use Rattle.shm_life.proofs.Names.{◌≡◌, ◌≤◌, ℕ, ◌+◌, ◌*◌, ◌%◌, false, List, [], ◌∷◌, zero, suc, Some, None, refl, sym, ap, ◌∙◌, arith, All-nil, All, set_in, Bounds, Piece, Life, Live, Entry, Runner, cut, pieces_of, origin_of, without_named, change, with_entry, attached, attach_all, attach_all-same, detached, detach_all, same-refl, same-trans, segments_of, AtFlags, StoreView, Translation, AreTrue, IsCaller, caller_seen, pieces_at, IsLive, SameTable, change-same, Placed, piece_for, pieces_after, lost_to, PieceFits, is_among, IsTableSound, IsTableSoundBut, IsWell, IsWellBut}
+use Rattle.std.proofs.Common.{slice_get, slice_set, Option, option_map, Bool, true, if◌then◌else◌}
+use Rattle.shm_base.specs.Rules.{rest_is_attached}
 use Rattle.shm_attach.specs.declared.process.Caller.{Caller}
 use Rattle.shm_life.specs.Sound.{AreProcesses}
 use Rattle.shm_base.specs.Space.{cut_segments}
-use Rattle.shm_base.specs.Segments.{attach_count}
-use Rattle.std.specs.Prelude.{◌<◌}
 use Rattle.shm_life.proofs.Running.{kept-by}
-use Rattle.shm_life.proofs.Leaving.{keeps-set, keeps-all, keeps-without, keeps-cut, keeps-rest, orphans-named, count-named}
+use Rattle.shm_life.proofs.Leaving.{keeps-set, orphans-among, keeps-all, keeps-without, keeps-cut, keeps-rest, orphans-named, count-named}
 use Rattle.shm_attach.specs.Mapping.{KeepsOwn}
 use Rattle.shm_segments.specs.Table.{live, page_there}
 use Rattle.std.specs.Prelude.{is_some}
@@ -40,7 +39,11 @@ module _ (limits : Bounds) (t : List Entry) (rs : List Runner) (c : Caller) (k :
 
   going : (life : Life) (ps : List Piece) (lost : List ℕ) → All (PieceFits t) ps → ((id : ℕ) → is_among lost id ≡ false → pieces_of id (pieces_at rs c.index) ≤ pieces_of id ps)
       → IsTableSoundBut lost limits t (replaced rs c life ps)
-  going life ps lost fits le = grind (arith, common_steps, keeps-set, caller-runner, same-processes)
+  going life ps lost fits le =
+      let r : Runner = record { pid = c.pid; life = life; pieces = ps } in
+      let x : Runner = record { pid = c.pid; life = Live c.cred; pieces = pieces_at rs c.index } in
+      kept-by limits t t rs (replaced rs c life ps) k (omega arith) (omega arith) k.locked (fit-set t rs c.index r k.pieces fits)
+      (orphans-among lost rs (replaced rs c life ps) t k.orphans (keeps-set lost rs c.index r x (caller-runner c rs is) le)) (same-processes life ps)
 
   -- shmdt
   pub named-go : (addr seg : ℕ) → option_map (λ (p : Piece). p.seg) (origin_of addr (pieces_at rs c.index)) ≡ Some seg
@@ -90,12 +93,21 @@ all-gone limits t rs c ts m w is life us all =
 
 -- ATTACHING
 
--- a segment whose attach was noted
-pub attached-goes : (limits : Bounds) (t : List Entry) (rs : List Runner) (c : Caller) (n : ℕ) (flags : AtFlags) (p : Placed) → IsTableSound limits t rs → IsCaller c rs → PieceFits t (piece_for flags p)
-    → Goes limits (change t p.seg (attached n c.pid)) (replaced rs c (Live c.cred) (pieces_after (pieces_at rs c.index) flags p)) (lost_to (pieces_at rs c.index) p)
-attached-goes limits t rs c n flags p k is fits =
-    let v = change t p.seg (attached n c.pid) in
-    let same : SameTable t v = change-same (attached n c.pid) (λ s. refl) (λ s. refl) (λ s. refl) t p.seg in
+-- segments that are attached anew, where that is a rule
+abbrev pub renewed : Bool → ℕ → ℕ → List Entry → List ℕ → List Entry
+renewed b n pid t ids = if b then attach_all n pid t ids else t
+
+pub renewed-same : (b : Bool) (n pid : ℕ) (t : List Entry) (ids : List ℕ) → SameTable t (renewed b n pid t ids)
+renewed-same true n pid t ids = attach_all-same n pid ids t
+renewed-same false n pid t ids = same-refl t
+
+-- a segment whose attach was noted, after what its range attaches anew
+pub attached-goes : (limits : Bounds) (t : List Entry) (rs : List Runner) (c : Caller) (n : ℕ) (kept : List ℕ) (flags : AtFlags) (p : Placed) → IsTableSound limits t rs → IsCaller c rs → PieceFits t (piece_for flags p)
+    → Goes limits (change (renewed (rest_is_attached limits.rules) n c.pid t kept) p.seg (attached n c.pid)) (replaced rs c (Live c.cred) (pieces_after (pieces_at rs c.index) flags p)) (lost_to (pieces_at rs c.index) p)
+attached-goes limits t rs c n kept flags p k is fits =
+    let u = renewed (rest_is_attached limits.rules) n c.pid t kept in
+    let v = change u p.seg (attached n c.pid) in
+    let same : SameTable t v = same-trans t u v (renewed-same (rest_is_attached limits.rules) n c.pid t kept) (change-same (attached n c.pid) (λ s. refl) (λ s. refl) (λ s. refl) u p.seg) in
     place-goes limits v rs c (settled-table limits t v rs k same) is flags p (piece-same t v (piece_for flags p) same.same.there same.same.pages fits)
 
 module _ (h k : Entry → Entry) (both : (e : Entry) → h (k e) ≡ k (h e)) where
@@ -120,3 +132,13 @@ attached-first n pid [] t seg = refl
 attached-first n pid (id ∷ ids) t seg =
     ap (λ u. detach_all n pid u ids) (set_in-both (with_entry (attached n pid)) (with_entry (detached n pid)) (attach-detach n pid) t (seg % 32768) (id % 32768))
     ∙ attached-first n pid ids (change t id (detached n pid)) seg
+
+pub attach_all-first : (n pid : ℕ) (ids lost : List ℕ) (t : List Entry) → detach_all n pid (attach_all n pid t ids) lost ≡ attach_all n pid (detach_all n pid t lost) ids
+attach_all-first n pid [] lost t = refl
+attach_all-first n pid (id ∷ ids) lost t =
+    attach_all-first n pid ids lost (change t id (attached n pid)) ∙ ap (λ u. attach_all n pid u ids) (attached-first n pid lost t id)
+
+-- what is attached anew may be noted before the detaches
+pub renewed-first : (b : Bool) (n pid : ℕ) (ids lost : List ℕ) (t : List Entry) → detach_all n pid (renewed b n pid t ids) lost ≡ attach_all n pid (detach_all n pid t lost) (if b then ids else [])
+renewed-first true n pid ids lost t = attach_all-first n pid ids lost t
+renewed-first false n pid ids lost t = refl

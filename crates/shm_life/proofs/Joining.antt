@@ -1,20 +1,19 @@
 -- What is kept where processes join, leave, or have other credentials.
 use Rattle.std.proofs.lemmas.Bool.{cases_eq}
-use Rattle.std.proofs.Common.{inl, inr, eq-eqb, ne_eqb, ◌≡◌, ℕ, ◌+◌, ◌-◌, ◌<◌, ◌≤◌, List, [], ◌∷◌, ◌++◌, length, get_or, set, take, Option, Some, None, refl, sym, ap, ◌∙◌, arith, subst, Bool, true, false, not, if◌then◌else◌, nat_le, ◌==◌, slice_get, slice_set}
+use Rattle.std.proofs.Common.{inl, inr, eq-eqb, ne_eqb, ◌≡◌, ℕ, ◌+◌, ◌-◌, List, [], ◌∷◌, ◌++◌, length, get_or, Option, Some, None, refl, sym, arith, subst, Bool, true, false, not, if◌then◌else◌, nat_le, slice_set}
 use Rattle.std.specs.Prelude.{All, Result, Ok, Err, IfOk, OnErr, swap_remove}
-use Rattle.std.proofs.lemmas.Grind.{common_steps}
 use Rattle.std.proofs.lemmas.List.Elements.{All-head, All-tail, All-cons, All-nil, All-append, All-take}
 use Rattle.shm_base.specs.State.{Entry, Piece, Runner, Life, Unborn, Live, Ended, runner_at_start}
 use Rattle.shm_base.specs.Step.{Caller, caller_from, caller_by}
 use Rattle.shm_base.specs.Bounds.{within}
-use Rattle.shm_base.specs.Guest.{Standing, standing, standing_from, joins, joins_beside, leaves, leaves_found, becomes, becomes_by, with_cred, left_by, is_live, is_ended}
+use Rattle.shm_base.specs.Guest.{Standing, standing, joins, joins_beside, leaves, leaves_found, becomes, becomes_by, with_cred, left_by, is_live, is_ended}
 use Rattle.shm_base.specs.declared.bounds.TheConstants.{LAST_PID}
 use Rattle.shm_base.specs.declared.call.Process.{Process}
 use Rattle.shm_base.specs.declared.errno.Errno.{Errno}
 use Rattle.shm_base.specs.declared.guest.AdmitRefusal.{AdmitRefusal}
 use Rattle.shm_base.specs.declared.guest.AdmitRefusal.TheVariants.{BadPid, PidTaken, TooManyProcesses}
 use Rattle.shm_base.specs.declared.guest.DismissRefusal.{DismissRefusal}
-use Rattle.shm_base.specs.declared.guest.DismissRefusal.TheVariants.{NoProcess, StillLive}
+use Rattle.shm_base.specs.declared.guest.DismissRefusal.TheVariants.{StillLive}
 use Rattle.shm_base.specs.declared.owner.Cred.{Cred}
 use Rattle.shm_base.specs.declared.memory.HostMemory.{HostMemory}
 use Rattle.shm_attach.specs.Spaces.{SpacesView}

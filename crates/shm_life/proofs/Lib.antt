@@ -10,8 +10,11 @@ pub mod Settled
 pub mod Opens
 pub mod Created
 pub mod Changed
+pub mod Inheriting
+pub mod Splitting
 pub mod Going
 pub mod Attaching
 pub mod Reserved
 pub mod Joining
 pub mod Peopled
+pub mod Exchanging

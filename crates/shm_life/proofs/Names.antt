@@ -12,7 +12,6 @@ pub use Rattle.std.proofs.lemmas.List.Sums.{get_or-le-sum_by, sum_by-append, sum
 pub use Rattle.std.proofs.lemmas.Option.{none-some, slice_get-get_or, slice_get_past, slice_get_within}
 pub use Rattle.std.specs.Prelude.{All, AllPairs, OnErr, OnOk, find, is_err, slice_index_or}
 pub use Rattle.shm_areas.specs.Arranged.{bare_all}
-pub use Rattle.shm_areas.specs.Fixed.{fixed_at}
 pub use Rattle.shm_attach.proofs.Callers.{caller_there}
 pub use Rattle.shm_attach.proofs.FlatSteps.{load-wanted, pieces_by-caller, shmdt-named, store-wanted}
 pub use Rattle.shm_attach.proofs.Keeping.{pieces_of-there}
@@ -22,18 +21,18 @@ pub use Rattle.shm_attach.specs.Spaces.{AreTrue, IsCaller, Translation, caller_s
 pub use Rattle.shm_attach.specs.Spans.{PassPages, pieces_by, wanted, wanted_in}
 pub use Rattle.shm_attach.specs.declared.process.Child.{Child}
 pub use Rattle.shm_base.specs.Access.{Place, end_of, loaded, set_in}
-pub use Rattle.shm_base.specs.Bounds.{Bounds, within}
+pub use Rattle.shm_base.specs.Bounds.{Bounds, lockable, within}
 pub use Rattle.shm_base.specs.History.{is_refusal}
 pub use Rattle.shm_base.specs.Identifier.{Invalid, Look, Removed, destroyed_at, destroyed_in, free_from, free_index, identifier, look, with_segment}
 pub use Rattle.shm_base.specs.Permission.{grants}
-pub use Rattle.shm_base.specs.Segments.{attach_count, attached, change, detach_all, detached, locked, marked, pages_held, pages_locked, reserved, swept, swept_at, swept_from, with_entry}
-pub use Rattle.shm_base.specs.Space.{choose, cut, cut_segments, has_origin, inserted, is_named, meets, origin_of, part_above, part_below, parts, pieces_of, without_named}
+pub use Rattle.shm_base.specs.Segments.{attach_all, attach_count, attached, change, change_all, detach_all, detached, locked, marked, pages_held, pages_locked, reserved, swept, swept_at, swept_from, with_entry}
+pub use Rattle.shm_base.specs.Space.{choose, cut, cut_segments, leaves_rest, rest_segments, has_origin, inserted, is_named, meets, origin_of, part_above, part_below, parts, pieces_of, without_named}
 pub use Rattle.shm_base.specs.Spans.{InPage, page_of, span_places}
 pub use Rattle.shm_base.specs.State.{Entry, Life, Live, Machine, Piece, Runner, Segment, pages_of, runner_at_start}
-pub use Rattle.shm_base.specs.Step.{Outcome, at_wish, attaches, attaches_chosen, attaches_fixed, attaches_found, gives, locks, refuses, segments_of, shmat, swapoff}
+pub use Rattle.shm_base.specs.Step.{Outcome, rests, at_wish, attaches, attaches_chosen, attaches_fixed, attaches_found, gives, locks, refuses, segments_of, shmat, swapoff}
 pub use Rattle.shm_base.specs.declared.call.Process.{Process}
 pub use Rattle.shm_base.specs.declared.call.Reply.TheVariants.{Bytes, Done}
-pub use Rattle.shm_base.specs.declared.errno.Errno.TheVariants.{Emfile, Enomem}
+pub use Rattle.shm_base.specs.declared.errno.Errno.TheVariants.{Enomem}
 pub use Rattle.shm_base.specs.declared.flags.AtFlags.{AtFlags}
 pub use Rattle.shm_base.specs.declared.paging.PageRef.{PageRef}
 pub use Rattle.shm_base.specs.declared.paging.Span.{Span}
@@ -56,7 +55,7 @@ pub use Rattle.shm_segments.proofs.Entries.{get-set_other, get-set_same, length-
 pub use Rattle.shm_segments.proofs.Finding.{live-found}
 pub use Rattle.shm_segments.proofs.Held.{sum-without}
 pub use Rattle.shm_segments.proofs.Remembered.{memory-refl, memory-trans, view_of}
-pub use Rattle.shm_segments.proofs.Same.{SamePages, SameTable, change-left, change-locked, change-pages, change-same, detach_all-same, same-refl, stored-same}
+pub use Rattle.shm_segments.proofs.Same.{SamePages, SameTable, attach_all-same, change-left, change-locked, change-pages, change-same, change_all-same, detach_all-same, same-refl, same-trans, stored-same}
 pub use Rattle.shm_segments.specs.Joined.{segment_of, whole}
 pub use Rattle.shm_segments.specs.Orphan.{identifier_at, id_in, is_orphan, orphan, orphan_in}
 pub use Rattle.shm_segments.specs.Table.{IsFound, IsLive, SpanFits, created, destroyed, live, look_of, made, page_there, pages_at, relocked, reowned, segment_seen}
@@ -67,7 +66,7 @@ pub use Rattle.shm_life.specs.Address.{misplaced}
 pub use Rattle.shm_life.specs.Sound.{IsTableSoundBut, IsTableSound, IsWell, IsWellBut}
 pub use Rattle.shm_life.specs.MachineView.{KeepsOn}
 pub use Rattle.shm_life.specs.Orphans.{OrphansAmong, Sweeps, is_among}
-pub use Rattle.shm_life.specs.Placing.{base_for, gap_found, if_few, piece_for, placed, placed_at, placed_found, wished}
+pub use Rattle.shm_life.specs.Placing.{base_for, fixed, gap_found, if_few, piece_for, placed, placed_at, placed_found, wished}
 pub use Rattle.shm_life.proofs.PlacedOutcome.{lost_to, pieces_after, placed_outcome}
 pub use Rattle.shm_life.specs.Start.{are_pids, are_sizes, start_error}
 pub use Rattle.shm_base.specs.Processes.{has_pid}

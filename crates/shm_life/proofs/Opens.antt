@@ -1,5 +1,5 @@
 -- Where no start error holds, swap areas and processes are as their crates ask.
-use Rattle.shm_life.proofs.Names.{◌≡◌, ◌≢◌, ℕ, zero, suc, ◌≤◌, ◌&&◌, Bool, true, false, not, if◌then◌else◌, List, [], ◌∷◌, length, get_or, replicate, Some, None, refl, sym, ap, arith, common_steps, All-nil, All-map, length-replicate, get_or-replicate, get_or_past, AllPairs-cons, All, AllPairs, Bounds, within, Runner, runner_at_start, PieceFits, IsTableSound, Process, PageRef, pager_seen, IsAreaSize, owner_of, sizes, new_swap, fresh, are_sizes, has_pid, are_pids, start_error, nat_tests}
+use Rattle.shm_life.proofs.Names.{◌≡◌, ◌≢◌, ℕ, zero, suc, ◌≤◌, ◌&&◌, Bool, true, false, not, if◌then◌else◌, List, [], ◌∷◌, length, get_or, replicate, Some, None, refl, sym, ap, arith, common_steps, All-nil, All-map, length-replicate, get_or-replicate, get_or_past, AllPairs-cons, All, AllPairs, Bounds, within, Runner, runner_at_start, PieceFits, IsTableSound, Process, PageRef, pager_seen, IsAreaSize, owner_of, sizes, new_swap, fresh, are_sizes, has_pid, are_pids, start_error, nat_tests, lockable}
 use Rattle.std.proofs.Common.{map, Option, true≢false}
 use Rattle.shm_base.specs.Bounds.{Bounds}
 use Rattle.shm_base.specs.declared.bounds.TheConstants.{MOST_FRAMES, MOST_PROCESSES, MOST_SHMALL, MOST_SLOTS}
@@ -64,14 +64,14 @@ owners-new content failed (p ∷ ps) zero slot = none-owned (length (content p))
 owners-new content failed (p ∷ ps) (suc area) slot = owners-new content failed ps area slot
 
 -- without segments and pieces nothing is owed
-pub fresh-kept : (limits : Bounds) (ps : List Process) → limits.shmall ≤ MOST_SHMALL → limits.memlock ≤ MOST_FRAMES → length ps ≤ limits.most_processes → AllPairs (λ (p q : Process). p.pid ≢ q.pid) ps → IsTableSound limits [] (map runner_at_start ps)
+pub fresh-kept : (limits : Bounds) (ps : List Process) → limits.shmall ≤ MOST_SHMALL → lockable limits ≤ MOST_FRAMES → length ps ≤ limits.most_processes → AllPairs (λ (p q : Process). p.pid ≢ q.pid) ps → IsTableSound limits [] (map runner_at_start ps)
 fresh-kept limits ps shmall memlock few apart =
     record {
       few = omega arith;
       reserved = omega arith;
       shmall = shmall;
       locked = omega arith;
-      memlock = memlock;
+      lockable = memlock;
       pieces = All-map (λ (r : Runner). All (PieceFits []) r.pieces) runner_at_start ps (λ k d lt. All-nil (PieceFits []));
       orphans = λ i h. absurd (true≢false (sym h));
       processes = fresh-apart limits.most_processes ps few apart;

@@ -1,8 +1,7 @@
 -- As many processes as there may be, no two with one pid: what calls and hosts keep of that.
 use Rattle.std.proofs.lemmas.Bool.{cases_eq}
-use Rattle.std.proofs.Common.{inl, inr, eq-eqb, ne_eqb, ◌≡◌, ◌≢◌, ℕ, zero, suc, ◌+◌, ◌-◌, ◌<◌, ◌≤◌, List, [], ◌∷◌, ◌++◌, length, get_or, set, take, map, Option, Some, None, refl, sym, ap, ◌∙◌, arith, subst, Bool, true, false, not, if◌then◌else◌, nat_le, ◌==◌, slice_get, slice_set}
-use Rattle.std.specs.Prelude.{All, AllPairs, Result, Ok, Err, IfOk, OnErr, swap_remove}
-use Rattle.std.proofs.lemmas.Grind.{common_steps}
+use Rattle.std.proofs.Common.{inl, inr, eq-eqb, ne_eqb, ◌≡◌, ◌≢◌, ℕ, zero, suc, ◌+◌, ◌-◌, ◌<◌, ◌≤◌, List, [], ◌∷◌, ◌++◌, length, get_or, set, map, Option, Some, None, refl, sym, ap, ◌∙◌, arith, subst, Bool, true, false, not, if◌then◌else◌, nat_le, slice_get, slice_set}
+use Rattle.std.specs.Prelude.{AllPairs, Result, Ok, Err, IfOk, OnErr, swap_remove}
 use Rattle.std.proofs.lemmas.List.Quantifiers.{all_pairs_push}
 use Rattle.std.proofs.lemmas.List.{get_or-take, get_or-set_other, get_or_default, get_or-map, length-map, length-set, length-take, length_push}
 use Rattle.std.proofs.lemmas.Grind.{get_or-set_at}
@@ -17,7 +16,7 @@ use Rattle.shm_base.specs.declared.errno.Errno.{Errno}
 use Rattle.shm_base.specs.declared.guest.AdmitRefusal.{AdmitRefusal}
 use Rattle.shm_base.specs.declared.guest.AdmitRefusal.TheVariants.{BadPid, PidTaken, TooManyProcesses}
 use Rattle.shm_base.specs.declared.guest.DismissRefusal.{DismissRefusal}
-use Rattle.shm_base.specs.declared.guest.DismissRefusal.TheVariants.{NoProcess, StillLive}
+use Rattle.shm_base.specs.declared.guest.DismissRefusal.TheVariants.{StillLive}
 use Rattle.shm_base.specs.declared.owner.Cred.{Cred}
 use Rattle.shm_base.specs.declared.memory.HostMemory.{HostMemory}
 use Rattle.shm_attach.specs.Spaces.{SpacesView}

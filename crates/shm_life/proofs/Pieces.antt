@@ -19,7 +19,7 @@ module _ {X : Type 0} (P : X → Type 0) where
 
 -- PIECES
 
-all-if : {X : Type 0} (P : X → Type 0) (b : Bool) (x : X) → (b ≡ true → P x) → All P (if b then x ∷ [] else [])
+pub all-if : {X : Type 0} (P : X → Type 0) (b : Bool) (x : X) → (b ≡ true → P x) → All P (if b then x ∷ [] else [])
 all-if P true x h = all-cons P x [] (h refl) (All-nil P)
 all-if P false x h = All-nil P
 

@@ -4,9 +4,9 @@ use Rattle.shm_base.specs.declared.errno.Errno.{Errno}
 use Rattle.shm_base.specs.declared.flags.AtFlags.{AtFlags}
 use Rattle.shm_base.specs.declared.call.Reply.TheVariants.{Addr}
 use Rattle.shm_base.specs.State.{Piece, Machine}
-use Rattle.shm_base.specs.Segments.{change, attached, detach_all, swept}
+use Rattle.shm_base.specs.Segments.{attach_all, change, attached, detach_all, swept}
 use Rattle.shm_base.specs.Space.{inserted, cut, cut_segments}
-use Rattle.shm_base.specs.Step.{Caller, Outcome, gives, refuses, with_pieces}
+use Rattle.shm_base.specs.Step.{Caller, Outcome, gives, refuses, rests, with_pieces}
 use Rattle.shm_life.specs.Placing.{piece_for}
 use Rattle.shm_life.specs.declared.shmat.Placed.{Placed}
 
@@ -23,4 +23,4 @@ abbrev pub placed_outcome : Machine → ℕ → Caller → AtFlags → Result Pl
 placed_outcome s n c flags (Err e) = refuses s e
 placed_outcome s n c flags (Ok p) =
     let rs = with_pieces s.runners c (pieces_after c.pieces flags p) in
-    gives (record s { table = swept rs (change (detach_all n c.pid s.table (lost_to c.pieces p)) p.seg (attached n c.pid)); runners = rs }) (Addr p.base)
+    gives (record s { table = swept rs (change (attach_all n c.pid (detach_all n c.pid s.table (lost_to c.pieces p)) (rests s p.base (p.base + 4096 * p.pages) c.pieces)) p.seg (attached n c.pid)); runners = rs }) (Addr p.base)

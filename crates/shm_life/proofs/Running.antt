@@ -1,5 +1,5 @@
 -- What calls keep of the memory.
-use Rattle.shm_life.proofs.Names.{◌≡◌, ◌<◌, ◌+◌, ℕ, Bool, true, false, List, [], ◌∷◌, length, drop, get_or, refl, sym, ◌∙◌, arith, ◌≤◌, drop-cons, is_err, OnOk, OnErr, Bounds, Entry, Runner, sizes, StoreView, frame_of, GoesOn-refl, Translation, AreTrue, KeepsMemory, IsWell, IsWellBut, IsTableSoundBut, KeepsOn, SegRec, held_by, nat_tests, OrphansAmong, Sweeps, PiecesFit, reserved, locked}
+use Rattle.shm_life.proofs.Names.{◌≡◌, ◌<◌, ◌+◌, ℕ, Bool, true, false, List, [], ◌∷◌, Some, length, drop, get_or, refl, sym, ◌∙◌, arith, ◌≤◌, drop-cons, is_err, OnOk, OnErr, Bounds, Entry, Runner, sizes, StoreView, frame_of, GoesOn-refl, Translation, AreTrue, KeepsMemory, IsWell, IsWellBut, IsTableSoundBut, KeepsOn, SegRec, held_by, nat_tests, OrphansAmong, Sweeps, PiecesFit, reserved, locked, lockable}
 use Rattle.std.proofs.Common.{map, is_some, ap, true≢false}
 use Rattle.shm_fault.specs.Store.{held, Still}
 use Rattle.shm_fault.specs.Segs.{with_seg_lock}
@@ -11,8 +11,17 @@ use Rattle.shm_base.specs.declared.call.Reply.{Reply}
 use Rattle.shm_base.specs.declared.call.Reply.TheVariants.{Refused}
 use Rattle.shm_base.specs.declared.errno.Errno.{Errno}
 use Rattle.shm_life.specs.Sound.{AreProcesses}
-use Rattle.shm_life.specs.MachineView.{MachineView, Answered, IsFailed, LocksNothing, names_failure}
+use Rattle.shm_life.specs.MachineView.{MachineView, Answered, IsFailed, names_failure}
 use Rattle.std.specs.Prelude.{Result, Ok, Err}
+use Rattle.shm_base.specs.declared.call.Call.{Call}
+use Rattle.shm_base.specs.Exchange.{compares, compares_of, exchanges, exchanges_of}
+use Rattle.shm_attach.specs.Spaces.{IsCaller, caller_seen}
+use Rattle.shm_attach.specs.declared.process.Caller.{Caller}
+use Rattle.shm_life.specs.MachineView.{AnsweredBy, Served}
+use Rattle.shm_life.specs.Exchanged.{seen}
+use Rattle.shm_life.specs.SystemState.{SystemState, Replied, most_calls, time_of}
+use Rattle.shm_base.specs.History.{IsMove, is_failure}
+use Rattle.std.proofs.Common.{inl, inr}
 
 pub keeps_refl : (m : StoreView) → KeepsOn m m
 keeps_refl m = record { kept = λ seg page a b e. e; goes_on = GoesOn-refl m.swap }
@@ -56,6 +65,38 @@ answered_as o reply locks s step = record { step = λ _. step; failed = λ e. ab
 pub failing : (o : Outcome) (errno : Errno) (locks : Bool) (s t : MachineView) → names_failure (Refused errno) ≡ true → IsFailed o s t → KeepsMemory s.memory t.memory → Answered o true locks (Refused errno) s t
 failing o errno locks s t names failed keeps = record { step = λ e. absurd (true≢false e); failed = λ _. failed; keeps = keeps_on s.memory t.memory keeps; locked = λ _. keeps.locks; still = λ _ n. absurd (true≢false (sym names ∙ n)) }
 
+-- a call of a live process is served
+pub called : (s : MachineView) (n pid : ℕ) (caller : Caller) (call : Call) (reply : Reply) (t : MachineView) → caller.pid ≡ pid → IsCaller caller s.flat.runners → Served s n caller call reply t → AnsweredBy s n pid call reply t
+called s n pid caller call reply t same is served = rw (← same, is) served
+
+-- an answer that is counted is a reply of the system
+pub replied_as : (s t : SystemState) (pid : ℕ) (call : Call) (reply : Reply) → s.calls < most_calls → AnsweredBy (seen s) (time_of s) pid call reply (seen t) → t ≡ record s { calls = s.calls + 1; machine = t.machine; memory = t.memory } → Replied s pid call reply t
+replied_as s t pid call reply room a rest = record {
+  room = room;
+  move = by (is_failure call reply) refl;
+  cause = λ f. (a.failed f).cause;
+  counted = ap (λ (x : SystemState). x.calls) rest;
+  opening = ap (λ (x : SystemState). x.opening) rest;
+  clock = ap (λ (x : SystemState). x.clock) rest;
+  only_calls = ap (λ (x : SystemState). x.only_calls) rest;
+  keeps = a.keeps;
+  locked = a.locked;
+  still = a.still;
+}
+  where
+    by : (b : Bool) → is_failure call reply ≡ b → IsMove s.machine (time_of s) (record { pid = pid; call = call; reply = reply }) t.machine
+    by false h = inl (a.step h)
+    by true h = inr (record { failure = h; instead = (a.failed h).instead; unchanged = (a.failed h).unchanged })
+
+-- an exchange of a live process is served
+pub exchanged : (s : MachineView) (pid : ℕ) (caller : Caller) (addr : ℕ) (bytes : List ℕ) (names locks : Bool) (reply : Reply) (t : MachineView) → caller.pid ≡ pid → IsCaller caller s.flat.runners
+    → Answered (exchanges_of s.flat addr bytes (Some (caller_seen caller s.flat.runners))) names locks reply s t → Answered (exchanges s.flat pid addr bytes) names locks reply s t
+exchanged s pid caller addr bytes names locks reply t same is served = rw (← same, is) served
+
+pub compared : (s : MachineView) (pid : ℕ) (caller : Caller) (addr : ℕ) (expected bytes : List ℕ) (names locks : Bool) (reply : Reply) (t : MachineView) → caller.pid ≡ pid → IsCaller caller s.flat.runners
+    → Answered (compares_of s.flat addr expected bytes (Some (caller_seen caller s.flat.runners))) names locks reply s t → Answered (compares s.flat pid addr expected bytes) names locks reply s t
+compared s pid caller addr expected bytes names locks reply t same is served = rw (← same, is) served
+
 -- translations stay true where no page moves
 pub true_still : (ts : List Translation) (a b : StoreView) → ((s page : ℕ) → frame_of b s page ≡ frame_of a s page) → AreTrue ts a → AreTrue ts b
 true_still ts a b still all = λ k d lt. all k d lt ∙ sym (still (get_or ts k d).seg (get_or ts k d).page)
@@ -74,7 +115,7 @@ pub sweeps-none : (rs : List Runner) (a : List Entry) → Sweeps rs a a
 sweeps-none rs a = record { swept = refl; size = refl; reserved = omega arith; locked = omega arith; pieces = λ fit. fit }
 
 -- another table and other processes, where nothing grows past its bound
-pub kept-by : {lost more : List ℕ} (limits : Bounds) (t u : List Entry) (rs after : List Runner) → IsTableSoundBut lost limits t rs → length u ≤ length t → reserved u ≤ reserved t → locked u ≤ limits.memlock → PiecesFit u after → OrphansAmong more after u → AreProcesses limits.most_processes after
+pub kept-by : {lost more : List ℕ} (limits : Bounds) (t u : List Entry) (rs after : List Runner) → IsTableSoundBut lost limits t rs → length u ≤ length t → reserved u ≤ reserved t → locked u ≤ lockable limits → PiecesFit u after → OrphansAmong more after u → AreProcesses limits.most_processes after
     → IsTableSoundBut more limits u after
 kept-by limits t u rs after k few_entries few_pages few_locked pieces orphans processes = grind arith
 

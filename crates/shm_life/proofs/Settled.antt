@@ -1,5 +1,5 @@
 -- What is kept through calls that take pieces out, and through those that put pieces in.
-use Rattle.shm_life.proofs.Names.{nat_tests, ◌≡◌, ℕ, zero, suc, ◌+◌, ◌<◌, take, Bool, List, [], ◌∷◌, length, get_or, filter, Some, None, refl, sym, ap, ◌∙◌, arith, All-nil, All-map, All-filter, none-some, All, find, Bounds, Piece, Live, Entry, Runner, Span, meets, cut_segments, has_origin, origin_of, StoreView, PageMove, Touched, MovesLead, Accessed, answer_of, Translation, AreTrue, IsCaller, pieces_at, caller_there, IsLive, orphan, identifier_at, change, detached, detach_all, SameTable, detach_all-same, PieceFits, PiecesFit, is_among, OrphansAmong, IsTableSoundBut, IsWellBut, IsWell}
+use Rattle.shm_life.proofs.Names.{nat_tests, ◌≡◌, ℕ, zero, suc, ◌+◌, ◌<◌, take, Bool, List, [], ◌∷◌, length, get_or, filter, Some, None, refl, sym, ap, ◌∙◌, arith, All-nil, All-map, All-filter, none-some, All, find, Bounds, Piece, Live, Entry, Runner, Span, meets, cut_segments, leaves_rest, rest_segments, has_origin, origin_of, StoreView, PageMove, Touched, MovesLead, Accessed, answer_of, Translation, AreTrue, IsCaller, pieces_at, caller_there, IsLive, orphan, identifier_at, change, detach_all, SameTable, detach_all-same, PieceFits, PiecesFit, is_among, OrphansAmong, IsTableSoundBut, IsWellBut, IsWell, change_all, attach_all, attach_all-same, Segment}
 use Rattle.std.proofs.Common.{map, slice_get, Option, option_map}
 use Rattle.std.specs.Prelude.{Result, Ok, Err}
 use Rattle.shm_attach.specs.declared.process.Caller.{Caller}
@@ -37,7 +37,11 @@ lives-map table ps fit = All-map (IsLive table) (λ (p : Piece). p.seg) ps (λ k
 pub lives-cut : (table : List Entry) (from to : ℕ) (ps : List Piece) → All (PieceFits table) ps → All (IsLive table) (cut_segments from to ps)
 lives-cut table from to ps fit = lives-map table (filter (meets from to) ps) (All-filter (meets from to) (PieceFits table) ps fit)
 
-found-all : (P : Piece → Type 0) (test : Piece → Bool) (ps : List Piece) (p : Piece) → All P ps → find test ps ≡ Some p → P p
+-- those of which a range leaves a part
+pub lives-rest : (table : List Entry) (from to : ℕ) (ps : List Piece) → All (PieceFits table) ps → All (IsLive table) (rest_segments from to ps)
+lives-rest table from to ps fit = lives-map table (filter (leaves_rest from to) ps) (All-filter (leaves_rest from to) (PieceFits table) ps fit)
+
+pub found-all : (P : Piece → Type 0) (test : Piece → Bool) (ps : List Piece) (p : Piece) → All P ps → find test ps ≡ Some p → P p
 found-all P test [] p all is = absurd (none-some p is)
 found-all P test (q ∷ qs) p all is = grind (arith, nat_tests, all-head P q qs all, found-all P test qs p (all-tail P q qs all))
 
@@ -57,14 +61,17 @@ caller-runner c rs is = caller_there c rs is
 pub caller-fits : (table : List Entry) (c : Caller) (rs : List Runner) → IsCaller c rs → PiecesFit table rs → All (PieceFits table) (pieces_at rs c.index)
 caller-fits table c rs is fit = all-at (RunnerFits table) rs c.index (record { pid = c.pid; life = Live c.cred; pieces = pieces_at rs c.index }) fit (caller_there c rs is)
 
--- one more segment that lost a piece
-pub detach_all-more : (n pid : ℕ) (t : List Entry) (ids : List ℕ) (i d : ℕ) → i < length ids → detach_all n pid t (take (i + 1) ids) ≡ change (detach_all n pid t (take i ids)) (get_or ids i d) (detached n pid)
-detach_all-more n pid t [] i d lt = absurd (omega (arith, lt))
-detach_all-more n pid t (x ∷ xs) zero d lt = refl
-detach_all-more n pid t (x ∷ xs) (suc i) d lt =
+-- one more segment that is changed
+pub change_all-more : (f : Segment → Segment) (t : List Entry) (ids : List ℕ) (i d : ℕ) → i < length ids → change_all f t (take (i + 1) ids) ≡ change (change_all f t (take i ids)) (get_or ids i d) f
+change_all-more f t [] i d lt = absurd (omega (arith, lt))
+change_all-more f t (x ∷ xs) zero d lt = refl
+change_all-more f t (x ∷ xs) (suc i) d lt =
     let next : suc i + 1 ≡ suc (i + 1) = omega arith in
-    rw next (detach_all-more n pid (change t x (detached n pid)) xs i d (omega (arith, lt)))
+    rw next (change_all-more f (change t x f) xs i d (omega (arith, lt)))
 
 -- what is live stays so
 pub live-detached : (n pid : ℕ) (t : List Entry) (ids : List ℕ) (id : ℕ) → IsLive t id → IsLive (detach_all n pid t ids) id
 live-detached n pid t ids id is = (detach_all-same n pid ids t).same.there id ∙ is
+
+pub live-attached : (n pid : ℕ) (t : List Entry) (ids : List ℕ) (id : ℕ) → IsLive t id → IsLive (attach_all n pid t ids) id
+live-attached n pid t ids id is = (attach_all-same n pid ids t).same.there id ∙ is

@@ -4,9 +4,12 @@ pub mod Orphans
 pub mod Listed
 pub mod Address
 pub mod Placing
+pub mod Looking
+pub mod Inherited
 pub mod Start
 pub mod SystemState
 pub mod MachineView
 pub mod Counts
 pub mod Guest
 pub mod Mapped
+pub mod Exchanged

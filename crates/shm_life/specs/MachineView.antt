@@ -6,8 +6,9 @@ use Rattle.shm_base.specs.declared.call.Reply.{Reply}
 use Rattle.shm_base.specs.declared.call.Reply.TheVariants.{Done, Refused}
 use Rattle.shm_base.specs.declared.errno.Errno.{Errno}
 use Rattle.shm_base.specs.declared.errno.Errno.TheVariants.{Sigbus, Eio}
+use Rattle.shm_base.specs.Bounds.{lockable}
 use Rattle.shm_base.specs.State.{Machine}
-use Rattle.shm_base.specs.Step.{Outcome, acts}
+use Rattle.shm_base.specs.Step.{Outcome, acts, step}
 use Rattle.shm_base.specs.History.{is_failure, is_refusal}
 use Rattle.shm_base.specs.Segments as flat
 use Rattle.shm_fault.specs.Held.{holds_locked}
@@ -82,6 +83,10 @@ pub record Answered (o : Outcome) (names locks : Bool) (reply : Reply) (s t : Ma
 abbrev pub Served : MachineView → ℕ → Caller → Call → Reply → MachineView → Type 0
 Served s n caller call reply t = Answered (acts s.flat n (caller_seen caller s.flat.runners) call) (is_failure call reply) (is_lock call) reply s t
 
+-- what a process's call at place n leaves, whether it is live or not
+abbrev pub AnsweredBy : MachineView → ℕ → ℕ → Call → Reply → MachineView → Type 0
+AnsweredBy s n pid call reply t = Answered (step s.flat n pid call) (is_failure call reply) (is_lock call) reply s t
+
 -- no memory was left for a call that the flat machine does not refuse, and nothing changed
 pub record IsWithoutMemory (o : Outcome) (s t : MachineView) : Type 0 where
   pub unchanged : t ≡ s
@@ -99,5 +104,5 @@ pub record IsExactly (m : Machine) (memory : StoreView) : Type 0 where
   pub room : flat.reserved m.table ≤ swap_slots memory.swap
   pub reserved : flat.reserved m.table ≤ m.limits.shmall
   pub shmall : m.limits.shmall ≤ MOST_SHMALL
-  pub locked : flat.locked m.table ≤ m.limits.memlock
+  pub locked : flat.locked m.table ≤ lockable m.limits
   pub processes : AreProcesses m.limits.most_processes m.runners

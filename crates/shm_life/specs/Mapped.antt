@@ -1,22 +1,11 @@
 -- What unmapping and protecting a range leave of a system.
-use Rattle.std.specs.Prelude.{ℕ, ◌≡◌, ◌<◌, ◌+◌, ◌%◌, ◌==◌, not, nat_lt, if◌then◌else◌, Bool, false, Result, Ok, Err, OnOk, OnErr}
+use Rattle.std.specs.Prelude.{ℕ, ◌≡◌, ◌<◌, Bool, false, Result, OnOk, OnErr}
 use Rattle.shm_base.specs.declared.errno.Errno.{Errno}
-use Rattle.shm_base.specs.declared.errno.Errno.TheVariants.{Einval}
-use Rattle.shm_base.specs.declared.paging.TheConstants.{PAGE_SIZE}
 use Rattle.shm_base.specs.Guest.{left_by}
-use Rattle.shm_base.specs.Mapping.{rounded, unmaps, protects}
-use Rattle.shm_base.specs.Space.{end_address}
+use Rattle.shm_base.specs.Mapping.{unmaps, protects}
 use Rattle.shm_attach.specs.Mapping.{refusal_in}
 use Rattle.shm_life.specs.MachineView.{KeepsOn, LocksNothing}
 use Rattle.shm_life.specs.SystemState.{SystemState, time_of, most_calls}
-
--- where a range ends that is to be unmapped
-abbrev pub unmapped_to : ℕ → ℕ → Result ℕ Errno
-unmapped_to addr len =
-    if not (addr % PAGE_SIZE == 0) then Err Einval else
-    if len == 0 then Err Einval else
-    if nat_lt end_address (addr + len) then Err Einval else
-    Ok (addr + rounded len)
 
 -- the machine is what the unmap leaves, or all is as it was where that is refused. It is no call. Pages of destroyed segments
 -- go; else no page moves, and no bit changes
@@ -31,5 +20,6 @@ pub record Unmapped (before : SystemState) (pid addr len : ℕ) (result : Result
 
 -- the machine is what the protection leaves, also where it was refused on its way
 pub record IsProtected (before : SystemState) (pid addr len : ℕ) (w : Bool) (result : Result (Unit {0}) Errno) (after : SystemState) : Type 0 where
-  pub outcome : protects before.machine pid addr len w ≡ record { state = after.machine; refusal = refusal_in result }
+  pub room : before.calls < most_calls
+  pub outcome : protects before.machine (time_of before) pid addr len w ≡ record { state = after.machine; refusal = refusal_in result }
   pub rest : after ≡ record before { machine = after.machine; only_calls = false }

@@ -1,7 +1,7 @@
 -- What always holds between a machine's limits, its segments and its pieces. Within a call the segments among `lost`
 -- may be marked and without pieces.
 use Rattle.std.specs.Prelude.{ℕ, ◌≡◌, ◌≢◌, ◌≤◌, ◌+◌, List, [], length, AllPairs}
-use Rattle.shm_base.specs.Bounds.{Bounds}
+use Rattle.shm_base.specs.Bounds.{Bounds, lockable}
 use Rattle.shm_base.specs.State.{Entry, Runner}
 use Rattle.shm_base.specs.Segments.{reserved, locked}
 use Rattle.shm_fault.specs.Store.{StoreView}
@@ -19,8 +19,8 @@ pub record IsTableSoundBut (lost : List ℕ) (limits : Bounds) (table : List Ent
   pub few : length table ≤ INDEXES
   pub reserved : reserved table ≤ limits.shmall
   pub shmall : limits.shmall ≤ MOST_SHMALL
-  pub locked : locked table ≤ limits.memlock
-  pub memlock : limits.memlock ≤ MOST_FRAMES
+  pub locked : locked table ≤ lockable limits
+  pub lockable : lockable limits ≤ MOST_FRAMES
   pub pieces : PiecesFit table rs
   pub orphans : OrphansAmong lost rs table
   pub processes : AreProcesses limits.most_processes rs
@@ -30,7 +30,7 @@ pub record IsTableSoundBut (lost : List ℕ) (limits : Bounds) (table : List Ent
 pub record IsWellBut (lost : List ℕ) (limits : Bounds) (table : List Entry) (rs : List Runner) (ts : List Translation) (memory : StoreView) : Type 0 where
   pub kept : IsTableSoundBut lost limits table rs
   pub frames : length memory.frames ≡ limits.frames
-  pub room : limits.memlock + 2 ≤ limits.frames
+  pub room : lockable limits + 2 ≤ limits.frames
   pub translated : AreTrue ts memory
 
 -- between calls no segment that is marked is left without pieces

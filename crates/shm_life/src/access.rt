@@ -1,7 +1,8 @@
 //! Loads, stores and additions.
-ghost use Rattle.std.specs.Prelude.{ℕ};
+ghost use Rattle.std.specs.Prelude.{◌≡◌, ◌≤◌, ℕ, length, OnErr};
 ghost use Rattle.shm_base.specs.declared.call.Call.TheVariants as call;
-ghost use Rattle.shm_base.specs.declared.call.Reply.TheVariants.{Number};
+ghost use Rattle.shm_base.specs.declared.call.Reply.TheVariants.{Bytes, Number};
+ghost use Rattle.shm_base.specs.declared.paging.TheConstants.{PAGE_SIZE};
 ghost use Rattle.shm_attach.specs.Spaces.{IsCaller};
 ghost use Rattle.shm_life.specs.MachineView.{Served, done, replied, reply_in};
 
@@ -13,9 +14,32 @@ use shm_pager::Pager;
 
 impl<P: Pager> Kernel<P> {
     #[tactic(auto, using(crate::proofs::Running::kept_refl))]
-    /// Reads bytes into the reply, which moves no other reply about; Sigsegv where an address has no piece, Sigbus where a
-    /// pager failed.
-    pub(crate) fn load(
+    /// Reads bytes; Sigsegv where an address has no piece, Sigbus where a pager failed. Where it is refused, the buffer is
+    /// as it was.
+    #[inline(always)]
+    pub(crate) fn load(&mut self, caller: &Caller, addr: u64, out: &mut [u8]) -> Result<(), Errno>
+        requires caller { IsCaller caller.now self.old.flat.runners }
+        requires size { (1 ≤ length out.old) × (length out.old ≤ PAGE_SIZE) }
+        ensures served { let load = call.Load addr (length out.old) in
+            (n : ℕ) → Served self.old n caller.now load (reply_in (Bytes out.new) result) self.new }
+        ensures kept { OnErr result (out.new ≡ out.old) }
+        ensures size { length out.new ≡ length out.old }
+    {
+        let Ok(spans) = self.spaces.spans_of(caller, addr, out.len() as u64, false) else {
+            return Err(Errno::Sigsegv);
+        };
+        let mut touched = Touched::none();
+        let read = self.segments.read(spans.as_slice(), out, &mut touched);
+        // Where a pager failed pages may have moved before.
+        self.spaces.note(touched.moved.as_slice());
+        if read.is_err() {
+            return Err(Errno::Sigbus);
+        }
+        Ok(())
+    }
+
+    /// Reads bytes into a reply; refused as [`Kernel::load`] is.
+    pub(crate) fn load_reply(
         &mut self,
         caller: &Caller,
         addr: u64,
@@ -25,18 +49,9 @@ impl<P: Pager> Kernel<P> {
         requires { IsCaller caller.now self.old.flat.runners }
         ensures { (n : ℕ) → Served self.old n caller.now (call.Load addr len) (reply_in reply.new result) self.new }
     {
-        let Ok(spans) = self.spaces.spans_of(caller, addr, len.get() as u64, false) else {
-            return Err(Errno::Sigsegv);
-        };
         let mut bytes = [0; LONGEST_ACCESS];
-        let mut touched = Touched::none();
-        let read = self
-            .segments
-            .read(spans.as_slice(), &mut bytes[..len.get()], &mut touched);
-        // Where a pager failed pages may have moved before.
-        self.spaces.note(touched.moved.as_slice());
-        if read.is_err() {
-            return Err(Errno::Sigbus);
+        if let Err(errno) = self.load(caller, addr, &mut bytes[..len.get()]) {
+            return Err(errno);
         }
         *reply = Reply::Bytes(Chunk::from_array(bytes, len));
         Ok(())
@@ -45,11 +60,13 @@ impl<P: Pager> Kernel<P> {
     #[tactic(auto, using(crate::proofs::Running::kept_refl))]
     /// Replaces bytes; Sigsegv where an address has no piece, or one that is read-only, Sigbus where a pager
     /// failed, and then no byte has changed.
-    pub(crate) fn store(&mut self, caller: &Caller, addr: u64, chunk: &Chunk) -> Result<(), Errno>
-        requires { IsCaller caller.now self.old.flat.runners }
-        ensures { (n : ℕ) → Served self.old n caller.now (call.Store addr chunk.now) (replied done result) self.new }
+    #[inline(always)]
+    pub(crate) fn store(&mut self, caller: &Caller, addr: u64, bytes: &[u8]) -> Result<(), Errno>
+        requires caller { IsCaller caller.now self.old.flat.runners }
+        requires size { (1 ≤ length bytes.now) × (length bytes.now ≤ PAGE_SIZE) }
+        ensures { let store = call.Store addr bytes.now in
+            (n : ℕ) → Served self.old n caller.now store (replied done result) self.new }
     {
-        let bytes = chunk.as_slice();
         let Ok(spans) = self.spaces.spans_of(caller, addr, bytes.len() as u64, true) else {
             return Err(Errno::Sigsegv);
         };

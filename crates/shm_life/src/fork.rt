@@ -1,25 +1,66 @@
 //! fork: a child is born with its parent's pieces.
-ghost use Rattle.std.specs.Prelude.{ℕ};
+ghost use Rattle.std.specs.Prelude.{◌≡◌, if◌then◌else◌, All};
+ghost use Rattle.shm_base.specs.Rules.{fork_marks};
+ghost use Rattle.shm_base.specs.Segments.{attach_all};
+ghost use Rattle.shm_segments.specs.Table.{IsLive};
+ghost use Rattle.shm_life.specs.Inherited.{segments_in};
 ghost use Rattle.shm_base.specs.declared.call.Call.TheVariants as call;
 ghost use Rattle.shm_attach.specs.Spaces.{IsCaller};
 ghost use Rattle.shm_life.specs.MachineView.{Served, replied, done};
 
 use crate::kernel::Kernel;
+use bitflags::Flags;
+use shm_areas::Piece;
 use shm_attach::Caller;
-use shm_base::Errno;
+use shm_base::{Errno, Rules};
 use shm_pager::Pager;
+use shm_segments::Segments;
+
+// Sets the time and the pid of an attach in the segment of each of these pieces.
+fn note_pieces<P: Pager>(segments: &mut Segments<P>, pieces: &[Piece], time: u64, pid: u32)
+    requires { All (IsLive segments.old.table) (segments_in pieces.now) }
+    ensures { segments.new ≡ record segments.old { table = attach_all time pid segments.old.table (segments_in pieces.now) } }
+{
+    for piece in pieces {
+        segments.attached(piece.seg, time, pid);
+    }
+}
+
+// The same, where a child that inherits the pieces attaches them anew.
+fn note_inherited<P: Pager>(
+    segments: &mut Segments<P>,
+    rules: Rules,
+    pieces: &[Piece],
+    time: u64,
+    pid: u32,
+)
+    requires { All (IsLive segments.old.table) (segments_in pieces.now) }
+    ensures { segments.new ≡ record segments.old { table = if fork_marks rules then attach_all time pid segments.old.table (segments_in pieces.now) else segments.old.table } }
+{
+    if rules.contains(Rules::FORK_MARKS) {
+        note_pieces(segments, pieces, time, pid);
+    }
+}
 
 impl<P: Pager> Kernel<P> {
     #[tactic(auto, using(crate::proofs::Running::kept_refl))]
     /// A child that was declared is born, with the caller's credentials and pieces (fork(2)). Eagain where the
-    /// process is no such child.
-    pub(crate) fn fork(&mut self, caller: &Caller, child: u32) -> Result<(), Errno>
+    /// process is no such child. Under `Rules::FORK_MARKS` each segment that the child inherits gets an attach time, and
+    /// the caller as last pid.
+    pub(crate) fn fork(&mut self, time: u64, caller: &Caller, child: u32) -> Result<(), Errno>
         requires { IsCaller caller.now self.old.flat.runners }
-        ensures { (n : ℕ) → Served self.old n caller.now (call.Fork child) (replied done result) self.new }
+        ensures { Served self.old time caller.now (call.Fork child) (replied done result) self.new }
     {
         let Some(child) = self.spaces.child(child) else {
             return Err(Errno::Eagain);
         };
+        note_inherited(
+            &mut self.segments,
+            self.limits.rules(),
+            self.spaces.space(caller).pieces(),
+            time,
+            caller.pid,
+        );
         self.spaces.fork(caller, &child);
         Ok(())
     }

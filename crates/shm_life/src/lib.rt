@@ -3,7 +3,9 @@
 
 mod access;
 mod copying;
+mod exchange;
 mod exec_exit;
+mod fixed;
 mod fork;
 mod guest;
 mod kernel;
@@ -18,6 +20,7 @@ mod start;
 mod swapoff;
 mod sweep;
 mod system;
+mod typed;
 
 pub use listing::ShmInfo;
 pub use start::{StartError, first_area_error};

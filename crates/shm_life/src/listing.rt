@@ -1,6 +1,9 @@
 //! What ipcs(1) asks of a system: the highest index that a segment holds, sums over all segments, and the segment at an
-//! index as a process may see it. None of it changes anything.
+//! index as a process may see it; and where a page-in failed. None of it changes anything.
 ghost use Rattle.std.specs.Prelude.{◌≡◌, ℕ};
+ghost use Rattle.shm_attach.specs.Failing.{first_absent};
+ghost use Rattle.shm_attach.specs.Spans.{pieces_by};
+ghost use Rattle.shm_fault.specs.Store.{frame_of};
 ghost use Rattle.shm_life.specs.Listed.{IsHighest, Sums, stat_at};
 
 use crate::system::System;
@@ -58,10 +61,19 @@ impl<P: Pager> System<P> {
         let want = Want {
             read: true,
             write: false,
+            execute: false,
         };
         if !grants(&caller.cred, &found.head.perm, want) {
             return Err(Errno::Eacces);
         }
         Ok((found.id, self.kernel.shown(&found)))
+    }
+
+    /// The first address of an access of a process whose page is in no frame, if all addresses below it have pieces: the one
+    /// that a Sigbus is about, asked right after it.
+    pub fn absent_at(&self, pid: u32, addr: u64, len: u64) -> Option<u64>
+        ensures { result ≡ first_absent (frame_of self.now.memory) (pieces_by pid self.now.machine.runners) addr len }
+    {
+        self.kernel.spaces.absent_at(pid, addr, len)
     }
 }

@@ -1,5 +1,6 @@
 //! shmat: a segment is attached.
-ghost use Rattle.std.specs.Prelude.{◌≡◌, ◌+◌, ◌*◌, ◌≤◌, length, IfOk, OnErr};
+ghost use Rattle.std.specs.Prelude.{◌≡◌, ◌+◌, ◌*◌, ◌==◌, ◌≤◌, ◌&&◌, ◌||◌, nat_lt, length, IfOk, OnErr};
+ghost use Rattle.shm_base.specs.Rules.{low_is_eperm};
 ghost use Rattle.shm_base.specs.Space.{cut};
 ghost use Rattle.shm_base.specs.Step as flat;
 ghost use Rattle.shm_base.specs.declared.bounds.TheConstants.{MOST_SHMALL};
@@ -13,23 +14,13 @@ ghost use Rattle.shm_life.specs.MachineView.{IsWithoutMemory, Served, replied};
 ghost use Rattle.shm_life.specs.Placing.{placed, piece_for};
 ghost use Rattle.shm_life.specs.Tied.{PieceFits};
 
+use crate::fixed::pieces_errno;
 use crate::kernel::Kernel;
-use crate::sweep::after_detach;
+use crate::sweep::{after_detach, attach_rests};
 use bitflags::Flags;
 use shm_attach::Caller;
-use shm_base::{AtFlags, Errno, HostMemory, PAGE_SIZE, ShmId, Want, grants};
+use shm_base::{AtFlags, Errno, HostMemory, PAGE_SIZE, Rules, ShmId, Want, grants};
 use shm_pager::Pager;
-
-/// Whether a null address comes with SHM_REMAP, or another is unaligned without SHM_RND (shmop(2)).
-fn is_misplaced(addr: u64, flags: AtFlags) -> bool
-    ensures { result ≡ misplaced addr flags }
-{
-    if addr == 0 {
-        flags.contains(AtFlags::REMAP)
-    } else {
-        addr % PAGE_SIZE != 0 && !flags.contains(AtFlags::RND)
-    }
-}
 
 /// Where a new piece goes: its segment, that segment's pages, and its base.
 #[derive(Clone, Copy)]
@@ -40,6 +31,40 @@ pub(crate) struct Placed {
 }
 
 impl<P: Pager> Kernel<P> {
+    // Whether a null address comes with SHM_REMAP, or another is unaligned without SHM_RND (shmop(2)). Under
+    // `Rules::LOW_IS_EPERM` an address that is rounded to 0 is null too.
+    fn is_misplaced(&self, addr: u64, flags: AtFlags) -> bool
+        ensures { result ≡ misplaced self.now.flat addr flags }
+    {
+        if flags.contains(AtFlags::REMAP) && self.is_null(addr, flags) {
+            return true;
+        }
+        addr % PAGE_SIZE != 0 && !flags.contains(AtFlags::RND)
+    }
+
+    // Whether nothing is put in another's place at the address, as it is null.
+    fn is_null(&self, addr: u64, flags: AtFlags) -> bool
+        ensures { result ≡ ((addr == 0) || low_is_eperm self.now.flat.limits.rules && flat.is_rnd flags && nat_lt addr PAGE_SIZE) }
+    {
+        addr == 0
+            || self.limits.rules().contains(Rules::LOW_IS_EPERM)
+                && flags.contains(AtFlags::RND)
+                && addr < PAGE_SIZE
+    }
+
+    // What an attach asks for: reading, and writing without SHM_RDONLY; execution with SHM_EXEC, under
+    // `Rules::EXEC_IS_ASKED` alone.
+    fn wish_at(&self, flags: AtFlags) -> Want
+        ensures { result ≡ flat.at_wish self.now.flat flags }
+    {
+        Want {
+            read: true,
+            write: !flags.contains(AtFlags::RDONLY),
+            execute: self.limits.rules().contains(Rules::EXEC_IS_ASKED)
+                && flags.contains(AtFlags::EXEC),
+        }
+    }
+
     /// The refusals of shmat in their order, and where the new piece goes (shmop(2); the order is this
     /// profile's). Einval where a null address comes with SHM_REMAP or another is unaligned without SHM_RND;
     /// Einval or Eidrm for the identifier; Eacces; Einval where the range leaves the addresses, or is occupied
@@ -58,15 +83,11 @@ impl<P: Pager> Kernel<P> {
         ensures range { IfOk result (λ p. IsRange p.pages p.base) }
         ensures room { IfOk result (λ p. length (cut p.base (p.base + PAGE_SIZE * p.pages) (pieces_at self.now.flat.runners caller.now.index)) + 1 ≤ self.now.flat.limits.most_pieces) }
     {
-        if is_misplaced(addr, flags) {
+        if self.is_misplaced(addr, flags) {
             return Err(Errno::Einval);
         }
-        let found = self.segments.look(id)?;
-        let want = Want {
-            read: true,
-            write: !flags.contains(AtFlags::RDONLY),
-        };
-        if !grants(&caller.cred, &found.head.perm, want) {
+        let found = self.look(id)?;
+        if !grants(&caller.cred, &found.head.perm, self.wish_at(flags)) {
             return Err(Errno::Eacces);
         }
         let space = self.spaces.space(caller);
@@ -74,12 +95,12 @@ impl<P: Pager> Kernel<P> {
         let wish = if addr == 0 {
             space.choose(pages).ok_or(Errno::Enomem)
         } else {
-            space.check_fixed(addr, pages, flags)
+            self.fixed(caller, &found, flags, addr - addr % PAGE_SIZE)
         };
         let base = wish?;
         let most = self.limits.most_pieces() as usize;
         if space.count_outside(base, base + PAGE_SIZE * pages as u64) >= most {
-            return Err(Errno::Emfile);
+            return Err(pieces_errno(self.limits.rules()));
         }
         Ok(Placed { seg, pages, base })
     }
@@ -105,9 +126,18 @@ impl<P: Pager> Kernel<P> {
             Err(errno) => return Ok(Err(errno)),
         };
         let writable = !flags.contains(AtFlags::RDONLY);
+        let end = base + PAGE_SIZE * pages as u64;
+        let rests = self.spaces.space(caller).rests(base, end);
         let store = self.segments.store();
         self.spaces
             .attach(caller, seg, base, pages, writable, store)?;
+        attach_rests(
+            &mut self.segments,
+            self.limits.rules(),
+            rests.segments(),
+            time,
+            caller.pid,
+        );
         self.segments.attached(seg, time, caller.pid);
         after_detach(
             &mut self.segments,

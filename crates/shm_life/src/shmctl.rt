@@ -1,22 +1,23 @@
 //! shmctl: stat, set, rmid, lock and unlock.
-ghost use Rattle.std.specs.Prelude.{◌≡◌, ℕ, ◌+◌, ◌&&◌, not, nat_lt, ◌%◌, [], IfOk, IfErr};
+ghost use Rattle.std.specs.Prelude.{◌≡◌, ℕ, ◌%◌, [], Some, IfOk, IfErr};
 ghost use Rattle.shm_base.specs.Identifier as flat_ids;
+ghost use Rattle.shm_base.specs.Locking as locking;
 ghost use Rattle.shm_base.specs.Permission as permission;
-ghost use Rattle.shm_base.specs.Segments.{locked};
-ghost use Rattle.shm_base.specs.State.{Segment, pages_of};
+ghost use Rattle.shm_base.specs.State.{Segment};
 ghost use Rattle.shm_base.specs.Step as flat;
 ghost use Rattle.shm_attach.specs.Spaces.{caller_seen};
 ghost use Rattle.shm_segments.specs.Joined.{segment_of};
-ghost use Rattle.shm_segments.specs.Table.{IsFound, segment_seen};
+ghost use Rattle.shm_segments.specs.Table.{IsFound, look_of, segment_seen};
 ghost use Rattle.shm_base.specs.declared.call.Call.TheVariants as call;
 ghost use Rattle.shm_base.specs.declared.call.Reply.TheVariants.{Stat, Refused};
 ghost use Rattle.shm_life.specs.MachineView.{Served, replied, done};
+ghost use Rattle.shm_life.specs.Looking.{refused_by, lock_refusal};
 
 use crate::kernel::Kernel;
 use crate::sweep::sweep;
 use bitflags::Flags;
 use shm_attach::Caller;
-use shm_base::{Cred, Errno, Perm, ShmId, ShmidDs, Status, Want, grants};
+use shm_base::{Cred, Errno, Perm, Rules, ShmId, ShmidDs, Status, Want, grants};
 use shm_pager::Pager;
 use shm_segments::Found;
 
@@ -58,14 +59,30 @@ impl<P: Pager> Kernel<P> {
         }
     }
 
+    /// The segment under an identifier that a process names: Eidrm where it was destroyed, or Einval under
+    /// `Rules::REMOVED_IS_INVALID`; Einval where the identifier was never issued (shmctl(2)).
+    pub(crate) fn look(&self, id: ShmId) -> Result<Found, Errno>
+        ensures found { IfOk result (IsFound self.now.flat.table) }
+        ensures ok { IfOk result (λ f. flat_ids.look self.now.flat.table id ≡ look_of self.now.flat.table f) }
+        ensures err { IfErr result (λ e. refused_by self.now.flat.limits.rules (flat_ids.look self.now.flat.table id) ≡ Some e) }
+    {
+        match self.segments.look(id) {
+            Err(Errno::Eidrm) if self.limits.rules().contains(Rules::REMOVED_IS_INVALID) => {
+                Err(Errno::Einval)
+            }
+            looked => looked,
+        }
+    }
+
     /// Shows a segment (IPC_STAT): Einval or Eidrm for the identifier, Eacces without read permission.
     pub(crate) fn stat(&self, caller: &Caller, id: ShmId) -> Result<ShmidDs, Errno>
         ensures { (n : ℕ) → Served self.now n caller.now (call.Stat id) (replied Stat result) self.now }
     {
-        let found = self.segments.look(id)?;
+        let found = self.look(id)?;
         let want = Want {
             read: true,
             write: false,
+            execute: false,
         };
         if !grants(&caller.cred, &found.head.perm, want) {
             return Err(Errno::Eacces);
@@ -79,15 +96,23 @@ impl<P: Pager> Kernel<P> {
         ensures ok { IfOk result (λ f. (act : ℕ → Segment → flat.Outcome) → flat.controls self.now.flat (caller_seen caller.now self.now.flat.runners) act (flat_ids.look self.now.flat.table id) ≡ act (f.seg % 32768) (segment_seen self.now.flat.table f)) }
         ensures err { IfErr result (λ e. (act : ℕ → Segment → flat.Outcome) → flat.controls self.now.flat (caller_seen caller.now self.now.flat.runners) act (flat_ids.look self.now.flat.table id) ≡ record { reply = Refused e; state = self.now.flat }) }
     {
-        let found = self.segments.look(id)?;
+        let found = self.look(id)?;
         if !owns(&caller.cred, &found.head.perm) {
             return Err(Errno::Eperm);
         }
         Ok(found)
     }
 
+    // Whether no segment is given to these.
+    fn is_no_owner(&self, uid: u32, gid: u32) -> bool
+        ensures { result ≡ flat.is_no_owner self.now.flat uid gid }
+    {
+        self.limits.rules().contains(Rules::NO_LAST_USER) && (uid == u32::MAX || gid == u32::MAX)
+    }
+
     #[tactic(auto, using(crate::proofs::Running::kept_refl))]
-    /// Gives a segment another owner and other permission bits (IPC_SET).
+    /// Gives a segment another owner and other permission bits (IPC_SET). Under `Rules::NO_LAST_USER` Einval for user or
+    /// group 2^32 - 1.
     pub(crate) fn set(
         &mut self,
         time: u64,
@@ -100,6 +125,9 @@ impl<P: Pager> Kernel<P> {
         ensures { Served self.old time caller.now (call.Set id uid gid mode) (replied done result) self.new }
     {
         let found = self.controlled(caller, id)?;
+        if self.is_no_owner(uid, gid) {
+            return Err(Errno::Einval);
+        }
         self.segments.set_owner(found.seg, time, uid, gid, mode);
         Ok(())
     }
@@ -115,25 +143,53 @@ impl<P: Pager> Kernel<P> {
         Ok(())
     }
 
-    // Whether a segment is not locked and its pages are too many beside those that are.
-    fn exceeds_memlock(&self, found: &Found) -> bool
-        requires { IsFound self.now.flat.table found.now }
-        ensures { result ≡ (not found.now.head.locked && nat_lt self.now.flat.limits.memlock (locked self.now.flat.table + pages_of found.now.head.size)) }
+    // Whether MEMLOCK is a limit of this user.
+    fn has_own_limit(&self, cred: &Cred) -> bool
+        ensures { result ≡ locking.has_own_limit self.now.flat.limits cred.now }
     {
-        let wanted = self.segments.locked() + u64::from(found.pages());
-        !found.head.locked && wanted > self.limits.memlock()
+        self.limits.rules().contains(Rules::LOCKS_BY_USER) && cred.uid != 0
+    }
+
+    // Whether the user, or all together, would have locked too many pages.
+    fn passes_limit(&self, cred: &Cred, found: &Found) -> bool
+        requires { IsFound self.now.flat.table found.now }
+        ensures { result ≡ locking.passes_limit self.now.flat.limits cred.now self.now.flat.table (segment_seen self.now.flat.table found.now) }
+    {
+        let pages = u64::from(found.pages());
+        if self.has_own_limit(cred)
+            && self.segments.locked_by(cred.uid) + pages > self.limits.memlock()
+        {
+            return true;
+        }
+        self.segments.locked() + pages > self.limits.lockable()
+    }
+
+    // Why a user may not lock the segment.
+    fn lock_refusal(&self, cred: &Cred, found: &Found) -> Option<Errno>
+        requires { IsFound self.now.flat.table found.now }
+        ensures { result ≡ lock_refusal self.now.flat.limits cred.now self.now.flat.table (segment_seen self.now.flat.table found.now) }
+    {
+        if self.has_own_limit(cred) && self.limits.memlock() == 0 {
+            return Some(Errno::Eperm);
+        }
+        if !found.head.locked && self.passes_limit(cred, found) {
+            return Some(Errno::Enomem);
+        }
+        None
     }
 
     #[tactic(auto, using(crate::proofs::Running::kept_refl))]
-    /// Locks a segment's pages (SHM_LOCK): Enomem where those of all locked segments would exceed MEMLOCK.
+    /// Locks a segment's pages (SHM_LOCK): Enomem where those of all locked segments would exceed MEMLOCK. Under
+    /// `Rules::LOCKS_BY_USER` MEMLOCK is a limit of each user but 0: Eperm where it is 0, Enomem where those that the caller's
+    /// user locked would exceed it, or where fewer than two frames would stay free.
     pub(crate) fn lock(&mut self, caller: &Caller, id: ShmId) -> Result<(), Errno>
         ensures { (n : ℕ) → Served self.old n caller.now (call.Lock id) (replied done result) self.new }
     {
         let found = self.controlled(caller, id)?;
-        if self.exceeds_memlock(&found) {
-            return Err(Errno::Enomem);
+        if let Some(errno) = self.lock_refusal(&caller.cred, &found) {
+            return Err(errno);
         }
-        self.segments.set_locked(found.seg, true);
+        self.segments.set_locked(found.seg, Some(caller.cred.uid));
         Ok(())
     }
 
@@ -143,7 +199,7 @@ impl<P: Pager> Kernel<P> {
         ensures { (n : ℕ) → Served self.old n caller.now (call.Unlock id) (replied done result) self.new }
     {
         let found = self.controlled(caller, id)?;
-        self.segments.set_locked(found.seg, false);
+        self.segments.set_locked(found.seg, None);
         Ok(())
     }
 }

@@ -1,5 +1,8 @@
 //! shmget: an existing segment by its key, or a new one.
-ghost use Rattle.std.specs.Prelude.{◌≡◌, ◌≢◌, ℕ, false, [], IfOk, OnErr};
+ghost use Rattle.std.specs.Prelude.{◌≡◌, ◌≢◌, ◌≤◌, ◌+◌, ℕ, false, [], None, IfOk, OnErr};
+ghost use Rattle.shm_base.specs.Segments.{reserved};
+ghost use Rattle.shm_base.specs.State.{pages_of};
+ghost use Rattle.shm_base.specs.declared.bounds.TheConstants.{MOST_SHMMAX};
 ghost use Rattle.shm_base.specs.State.{Machine};
 ghost use Rattle.shm_base.specs.declared.call.Call.TheVariants as call;
 ghost use Rattle.shm_base.specs.declared.call.Reply.TheVariants.{Id};
@@ -14,18 +17,20 @@ ghost use Rattle.shm_life.specs.MachineView.{Answered, IsWithoutMemory, Served, 
 use crate::kernel::Kernel;
 use bitflags::Flags;
 use shm_attach::Caller;
-use shm_base::{Errno, GetFlags, HostMemory, MODES, Perm, ShmId, Want, grants, pages_of};
+use shm_base::{Errno, GetFlags, HostMemory, MODES, Perm, Rules, ShmId, Want, grants, pages_of};
 use shm_pager::Pager;
 use shm_segments::{Found, Head};
 
 /// What the nine bits of a shmget on an existing segment ask for: reading if any read bit is among them,
-/// writing if any write bit is (this project's profile).
-fn wish_of(mode: u16) -> Want
-    ensures { result ≡ permission.wish_of mode }
+/// writing if any write bit is; execution if any execute bit is, under `Rules::EXECUTE_IS_ASKED` alone.
+fn wish_of(rules: Rules, mode: u16) -> Want
+    ensures { result ≡ permission.wish_of rules mode }
 {
     Want {
         read: !(mode / 4 % 2 == 0 && mode / 32 % 2 == 0 && mode / 256 % 2 == 0),
         write: !(mode / 2 % 2 == 0 && mode / 16 % 2 == 0 && mode / 128 % 2 == 0),
+        execute: rules.contains(Rules::EXECUTE_IS_ASKED)
+            && !(mode % 2 == 0 && mode / 8 % 2 == 0 && mode / 64 % 2 == 0),
     }
 }
 
@@ -47,6 +52,7 @@ fn new_head(time: u64, caller: &Caller, size: u64, mode: u16) -> Head
         lpid: 0,
         dest: false,
         locked: false,
+        locker: 0,
         atime: 0,
         dtime: 0,
         ctime: time,
@@ -55,13 +61,14 @@ fn new_head(time: u64, caller: &Caller, size: u64, mode: u16) -> Head
 
 // An existing segment. Eexist where it was to be new, Einval where it is too small, Eacces.
 fn get(
+    rules: Rules,
     caller: &Caller,
     found: &Found,
     size: u64,
     mode: u16,
     flags: GetFlags,
 ) -> Result<ShmId, Errno>
-    ensures { (s : Machine) (n key : ℕ) → IsFound s.table found.now → flat.gets s n (caller_seen caller.now s.runners) key size mode flags (look_of s.table found.now) ≡ record { reply = replied Id result; state = s } }
+    ensures { (s : Machine) (n key : ℕ) → IsFound s.table found.now → s.limits.rules ≡ rules → flat.gets s n (caller_seen caller.now s.runners) key size mode flags (look_of s.table found.now) ≡ record { reply = replied Id result; state = s } }
 {
     if flags.contains(GetFlags::CREAT) && flags.contains(GetFlags::EXCL) {
         return Err(Errno::Eexist);
@@ -69,7 +76,7 @@ fn get(
     if size > found.head.size {
         return Err(Errno::Einval);
     }
-    if !grants(&caller.cred, &found.head.perm, wish_of(mode)) {
+    if !grants(&caller.cred, &found.head.perm, wish_of(rules, mode)) {
         return Err(Errno::Eacces);
     }
     Ok(found.id)
@@ -93,19 +100,71 @@ impl<P: Pager> Kernel<P> {
             OnErr result (IsWithoutMemory (flat.shmget self.old.flat time seen key size mode flags) self.old self.new) }
     {
         if key == 0 {
-            return self.create(time, caller, 0, size, mode);
+            return self.create(time, caller, 0, size, mode, flags);
         }
         match self.segments.find_key(key) {
-            Some(found) => Ok(get(caller, &found, size, mode, flags)),
-            None if flags.contains(GetFlags::CREAT) => self.create(time, caller, key, size, mode),
+            Some(found) => Ok(get(self.limits.rules(), caller, &found, size, mode, flags)),
+            None if flags.contains(GetFlags::CREAT) => self.create(
+                time, caller, key, size, mode, flags,
+            ),
             None => Ok(Err(Errno::Enoent)),
         }
     }
 
     #[tactic(auto, using(crate::proofs::Running::kept_refl))]
-    // A new segment. Einval where the size is 0 or above SHMMAX; Enospc where SHMALL or SHMMNI is reached or
-    // no identifier is left; Enomem where the swap areas could not take all pages.
+    // A new segment. Einval where the size is 0 or above SHMMAX; Enospc where SHMALL is reached; the refusal of huge pages;
+    // and then those of `create_small`.
     fn create(
+        &mut self,
+        time: u64,
+        caller: &Caller,
+        key: u32,
+        size: u64,
+        mode: u16,
+        flags: GetFlags,
+    ) -> Result<Result<ShmId, Errno>, HostMemory>
+        requires absent { key ≢ 0 → flat_ids.find_key self.old.flat.table key ≡ flat_ids.Invalid }
+        ensures created { let seen = caller_seen caller.now self.old.flat.runners in
+            IfOk result (λ r. Answered (flat.creates self.old.flat time seen key size mode flags) false false (replied Id r) self.old self.new) }
+        ensures memory { let seen = caller_seen caller.now self.old.flat.runners in
+            OnErr result (IsWithoutMemory (flat.creates self.old.flat time seen key size mode flags) self.old self.new) }
+    {
+        if size < 1 || size > self.limits.shmmax() {
+            return Ok(Err(Errno::Einval));
+        }
+        if self.segments.reserved() + pages_of(size) > self.limits.shmall() {
+            return Ok(Err(Errno::Enospc));
+        }
+        if let Some(errno) = self.huge_errno(caller, flags) {
+            return Ok(Err(errno));
+        }
+        self.create_small(time, caller, key, size, mode)
+    }
+
+    // Why a segment of huge pages is not made, under `Rules::HUGE_IS_REFUSED`: Eperm for all but user 0 and group 0; and
+    // Enomem, as there are no huge pages, unless none is reserved.
+    fn huge_errno(&self, caller: &Caller, flags: GetFlags) -> Option<Errno>
+        ensures { result ≡ flat.huge_errno self.now.flat (caller_seen caller.now self.now.flat.runners) flags }
+    {
+        if !self.limits.rules().contains(Rules::HUGE_IS_REFUSED)
+            || !flags.contains(GetFlags::HUGETLB)
+        {
+            return None;
+        }
+        if caller.cred.uid != 0 && caller.cred.gid != 0 {
+            return Some(Errno::Eperm);
+        }
+        if flags.contains(GetFlags::NORESERVE) {
+            None
+        } else {
+            Some(Errno::Enomem)
+        }
+    }
+
+    #[tactic(auto, using(crate::proofs::Running::kept_refl))]
+    // A new segment whose pages SHMALL allows. Enospc where SHMMNI is reached or no identifier is left; Enomem where the swap
+    // areas could not take all pages.
+    fn create_small(
         &mut self,
         time: u64,
         caller: &Caller,
@@ -114,22 +173,20 @@ impl<P: Pager> Kernel<P> {
         mode: u16,
     ) -> Result<Result<ShmId, Errno>, HostMemory>
         requires absent { key ≢ 0 → flat_ids.find_key self.old.flat.table key ≡ flat_ids.Invalid }
+        requires size { (1 ≤ size) × (size ≤ MOST_SHMMAX) }
+        requires shmall { reserved self.old.flat.table + pages_of size ≤ self.old.flat.limits.shmall }
         ensures created { let seen = caller_seen caller.now self.old.flat.runners in
-            IfOk result (λ r. Answered (flat.creates self.old.flat time seen key size mode) false false (replied Id r) self.old self.new) }
+            IfOk result (λ r. Answered (flat.creates_small self.old.flat time seen key size mode None) false false (replied Id r) self.old self.new) }
         ensures memory { let seen = caller_seen caller.now self.old.flat.runners in
-            OnErr result (IsWithoutMemory (flat.creates self.old.flat time seen key size mode) self.old self.new) }
+            OnErr result (IsWithoutMemory (flat.creates_small self.old.flat time seen key size mode None) self.old self.new) }
     {
-        if size < 1 || size > self.limits.shmmax() {
-            return Ok(Err(Errno::Einval));
-        }
-        let reserved = self.segments.reserved() + pages_of(size);
-        if reserved > self.limits.shmall() || self.segments.count() >= self.limits.shmmni() {
+        if self.segments.count() >= self.limits.shmmni() {
             return Ok(Err(Errno::Enospc));
         }
         let Some(id) = self.segments.next_id() else {
             return Ok(Err(Errno::Enospc));
         };
-        if reserved > self.segments.store().swap().capacity() {
+        if self.segments.reserved() + pages_of(size) > self.segments.store().swap().capacity() {
             return Ok(Err(Errno::Enomem));
         }
         let head = new_head(time, caller, size, mode);

@@ -1,8 +1,9 @@
 //! What pieces that went leave behind: times and pids, and segments that go with their last piece.
-ghost use Rattle.std.specs.Prelude.{◌≡◌, ◌≢◌, true, ◌≤◌, ◌==◌, ◌&&◌, ℕ, List, ◌∷◌, length, All};
+ghost use Rattle.std.specs.Prelude.{◌≡◌, ◌≢◌, true, ◌≤◌, ◌==◌, ◌&&◌, if◌then◌else◌, ℕ, List, ◌∷◌, length, All};
 ghost use Rattle.shm_base.specs.Bounds.{Bounds};
+ghost use Rattle.shm_base.specs.Rules.{rest_is_attached};
 ghost use Rattle.shm_base.specs.declared.bounds.TheConstants.{INDEXES};
-ghost use Rattle.shm_base.specs.Segments.{attach_count, detach_all, swept};
+ghost use Rattle.shm_base.specs.Segments.{attach_all, attach_count, detach_all, swept};
 ghost use Rattle.shm_attach.specs.Spaces.{Translation, AreTrue};
 ghost use Rattle.shm_slots.specs.View.{sizes};
 ghost use Rattle.shm_segments.specs.Table.{IsLive};
@@ -10,7 +11,9 @@ ghost use Rattle.shm_segments.specs.View.{KeepsMemory};
 ghost use Rattle.shm_life.specs.Sound.{IsWell, IsWellBut};
 ghost use Rattle.shm_life.specs.Orphans.{OrphansAmong, Sweeps};
 
+use bitflags::Flags;
 use shm_attach::Spaces;
+use shm_base::Rules;
 use shm_pager::Pager;
 use shm_segments::{Found, Segments};
 
@@ -21,6 +24,32 @@ fn note_detached<P: Pager>(segments: &mut Segments<P>, lost: &[u32], time: u64, 
 {
     for seg in lost {
         segments.detached(*seg, time, pid);
+    }
+}
+
+/// Sets the time and the pid of an attach in each of these segments, which are attached anew, where that is a rule.
+pub(crate) fn attach_rests<P: Pager>(
+    segments: &mut Segments<P>,
+    rules: Rules,
+    rests: &[u32],
+    time: u64,
+    pid: u32,
+)
+    requires { All (IsLive segments.old.table) rests.now }
+    ensures { segments.new ≡ record segments.old { table = if rest_is_attached rules then attach_all time pid segments.old.table rests.now else segments.old.table } }
+{
+    if rules.contains(Rules::REST_IS_ATTACHED) {
+        note_attached(segments, rests, time, pid);
+    }
+}
+
+// Sets the time and the pid of an attach in each of these segments.
+fn note_attached<P: Pager>(segments: &mut Segments<P>, ids: &[u32], time: u64, pid: u32)
+    requires { All (IsLive segments.old.table) ids.now }
+    ensures { segments.new ≡ record segments.old { table = attach_all time pid segments.old.table ids.now } }
+{
+    for seg in ids {
+        segments.attached(*seg, time, pid);
     }
 }
 

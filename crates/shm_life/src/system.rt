@@ -125,7 +125,7 @@ impl<P: Pager> System<P> {
         ensures { IfOk result (λ s. IsStarted limits (map (λ p. length (P.content p)) pagers.items) (map (λ p. fresh (pager_seen P.content P.failed p)) pagers.items) processes.now s) }
     {
         // What is read has a proof know its range.
-        let (_, _) = (limits.shmall(), limits.memlock());
+        let (_, _) = (limits.shmall(), limits.lockable());
         let (_, _) = (limits.most_processes(), limits.most_slots());
         let opening = Opening {
             limits,

@@ -1,5 +1,5 @@
 -- A reply that is no refusal is of its call's kind.
-use Rattle.std.proofs.Common.{◌≡◌, ℕ, zero, suc, ◌+◌, ℤ, true, false, List, length, Option, Some, arith}
+use Rattle.std.proofs.Common.{◌≡◌, ℕ, zero, suc, ◌+◌, ◌-◌, ◌%◌, ℤ, Bool, true, false, if◌then◌else◌, List, length, Option, Some, None, refl, true≢false, arith}
 use Rattle.std.proofs.lemmas.Grind.{common_steps}
 use Rattle.shm_base.specs.declared.flags.GetFlags.{GetFlags}
 use Rattle.shm_base.specs.declared.flags.AtFlags.{AtFlags}
@@ -7,37 +7,98 @@ use Rattle.shm_base.specs.declared.call.Call.{Call}
 use Rattle.shm_base.specs.declared.call.Call.TheVariants.{Shmget, Shmat, Load}
 use Rattle.shm_base.specs.declared.call.Reply.{Reply}
 use Rattle.shm_base.specs.declared.call.Event.{Event}
-use Rattle.shm_base.specs.State.{Piece, Machine}
-use Rattle.shm_base.specs.Identifier.{Look, Found, find_key}
+use Rattle.shm_base.specs.State.{Piece, Segment, Machine, pages_in, pages_of}
+use Rattle.shm_base.specs.Space.{choose, inside}
+use Rattle.shm_base.specs.Bounds.{within}
+use Rattle.shm_base.specs.Permission.{grants, wish_of}
+use Rattle.shm_base.specs.declared.errno.Errno.{Errno}
+use Rattle.shm_base.specs.declared.errno.Errno.TheVariants.{Esrch, Enoent, Enomem, Enospc, Eacces, Eexist, Einval}
+use Rattle.shm_base.specs.declared.call.Reply.TheVariants.{Id, Addr}
+use Rattle.shm_base.specs.Rules.{pieces_errno, removed_errno}
+use Rattle.shm_base.specs.Segments.{reserved, segment_count, slots}
+use Rattle.std.specs.Prelude.{nat_le, nat_lt, pos, not, ◌&&◌, ◌==◌, ◌*◌}
+use Rattle.shm_base.specs.Identifier.{Look, Found, Removed, Invalid, destroyed_at, find_key, free_index, identifier, look}
 use Rattle.shm_base.specs.Access.{Place, places}
 use Rattle.shm_base.specs.History.{is_refusal, is_failure, IsMove}
-use Rattle.shm_base.specs.Step.{Outcome, Caller, acts, step_by, caller_of, creates, gets, shmget, attaches_found, shmat}
+use Rattle.shm_base.specs.Step.{Outcome, Caller, acts, step_by, caller_of, gives, refuses, pieces_with, at_wish, is_full, is_rnd, is_taken, outside_errno, remaps_null, wants_creation, wants_no_other, creates, creates_at, creates_small, huge_errno, gets, shmget, attaches, attaches_chosen, attaches_fixed, attaches_found, shmat}
 use Rattle.shm_machine.specs.Answered.{fits}
 
-abbrev Fine : Call → Outcome → Type 0
-Fine call o = is_refusal o.reply ≡ false → fits call o.reply ≡ true
+record Fine (call : Call) (o : Outcome) : Type 0 where
+  fit : is_refusal o.reply ≡ false → fits call o.reply ≡ true
+
+-- both fit, or the one that is refused is no matter
+pick : (call : Call) (b : Bool) (o p : Outcome) → Fine call o → Fine call p → Fine call (if b then o else p)
+pick call true o p h k = h
+pick call false o p h k = k
+
+refused : (call : Call) (s : Machine) (e : Errno) → Fine call (refuses s e)
+refused call s e = record { fit = λ plain. absurd (true≢false plain) }
+
+given : (call : Call) (s : Machine) (r : Reply) → fits call r ≡ true → Fine call (gives s r)
+given call s r h = record { fit = λ plain. h }
 
 module _ (s : Machine) (n : ℕ) (c : Caller) where
   module _ (key size mode : ℕ) (flags : GetFlags) where
-    abbrev Got : Outcome → Type 0
-    Got = Fine (Shmget key size mode flags)
+    abbrev get : Call
+    get = Shmget key size mode flags
 
-    fine-creates : (k : ℕ) → Got (creates s n c k size mode)
-    fine-creates k = grind (arith, common_steps)
+    abbrev Got : Outcome → Type 0
+    Got = Fine get
+
+    fine-at : (k : ℕ) (o : Option ℕ) → Got (creates_at s n c k size mode o)
+    fine-at k None = refused get s Enospc
+    fine-at k (Some i) =
+        pick get (nat_lt (slots s.areas) (reserved s.table + pages_of size)) (refuses s Enomem) _ (refused get s Enomem) (given get _ (Id (pos (identifier i (destroyed_at s.table i)))) refl)
+
+    fine-small : (k : ℕ) (o : Option Errno) → Got (creates_small s n c k size mode o)
+    fine-small k (Some e) = refused get s e
+    fine-small k None = pick get (nat_le s.limits.shmmni (segment_count s.table)) _ _ (refused get s Enospc) (fine-at k (free_index s.table))
+
+    fine-creates : (k : ℕ) → Got (creates s n c k size mode flags)
+    fine-creates k =
+        pick get (not (within 1 s.limits.shmmax size)) _ _ (refused get s Einval)
+        (pick get (nat_lt s.limits.shmall (reserved s.table + pages_of size)) _ _ (refused get s Enospc) (fine-small k (huge_errno s c flags)))
 
     fine-gets : (l : Look) → Got (gets s n c key size mode flags l)
-    fine-gets l = grind (arith, common_steps, fine-creates)
+    fine-gets (Found i x) =
+        pick get (wants_no_other flags) _ _ (refused get s Eexist)
+        (pick get (nat_lt x.size size) _ _ (refused get s Einval)
+        (pick get (not (grants c.cred x.perm (wish_of s.limits.rules mode))) _ _ (refused get s Eacces) (given get s (Id (pos (identifier i (destroyed_at s.table i)))) refl)))
+    fine-gets Removed = pick get (wants_creation flags) _ _ (fine-creates key) (refused get s Enoent)
+    fine-gets Invalid = pick get (wants_creation flags) _ _ (fine-creates key) (refused get s Enoent)
 
     fine-shmget : Got (shmget s n c key size mode flags)
-    fine-shmget = grind (arith, common_steps, fine-creates 0, fine-gets (find_key s.table key))
+    fine-shmget = pick get (key == 0) _ _ (fine-creates 0) (fine-gets (find_key s.table key))
 
   module _ (id : ℤ) (addr : ℕ) (flags : AtFlags) where
-    fine-found : (l : Look) → Fine (Shmat id addr flags) (attaches_found s n c flags addr l)
-    fine-found (Found i x) = grind (arith, common_steps)
-    fine-found l = grind (arith, common_steps)
+    abbrev at : Call
+    at = Shmat id addr flags
 
-    fine-shmat : Fine (Shmat id addr flags) (shmat s n c id addr flags)
-    fine-shmat = grind (arith, common_steps, fine-found)
+    fine-attaches : (seg : ℕ) (x : Segment) (base : ℕ) → Fine at (attaches s n c seg x flags base)
+    fine-attaches seg x base =
+        pick at (nat_lt s.limits.most_pieces (length (pieces_with c seg x flags base))) (refuses s (pieces_errno s.limits.rules)) _ (refused at s (pieces_errno s.limits.rules)) (given at _ (Addr base) refl)
+
+    fine-chosen : (seg : ℕ) (x : Segment) (o : Option ℕ) → Fine at (attaches_chosen s n c seg x flags o)
+    fine-chosen seg x None = refused at s Enomem
+    fine-chosen seg x (Some base) = fine-attaches seg x base
+
+    fine-fixed : (seg : ℕ) (x : Segment) (base : ℕ) → Fine at (attaches_fixed s n c seg x flags base)
+    fine-fixed seg x base =
+        pick at (is_taken s c x flags base) _ _ (refused at s Einval)
+        (pick at (is_full s c) _ _ (refused at s Enomem)
+        (pick at (not (inside base (pages_in x))) _ _ (refused at s (outside_errno s c (base + 4096 * pages_in x))) (fine-attaches seg x base)))
+
+    fine-found : (l : Look) → Fine at (attaches_found s n c flags addr l)
+    fine-found Invalid = refused at s Einval
+    fine-found Removed = refused at s (removed_errno s.limits.rules)
+    fine-found (Found i x) =
+        pick at (not (grants c.cred x.perm (at_wish s flags))) _ _ (refused at s Eacces)
+        (pick at (addr == 0) _ _ (fine-chosen (identifier i (destroyed_at s.table i)) x (choose c.pieces (pages_in x))) (fine-fixed (identifier i (destroyed_at s.table i)) x (addr - addr % 4096)))
+
+    fine-shmat : Fine at (shmat s n c id addr flags)
+    fine-shmat =
+        pick at (remaps_null s addr flags) _ _ (refused at s Einval)
+        (pick at (not (addr % 4096 == 0) && not (is_rnd flags)) _ _ (refused at s Einval) (fine-found (look s.table id)))
 
 pub places-length : (pieces : List Piece) (a n : ℕ) (ps : List Place) → places pieces a n ≡ Some ps → length ps ≡ n
 places-length pieces a zero ps is = grind (arith, common_steps)
@@ -46,15 +107,16 @@ places-length pieces a (suc n) ps is = grind (arith, common_steps, places-length
 fine-acts : (s : Machine) (n : ℕ) (c : Caller) (call : Call) → Fine call (acts s n c call)
 fine-acts s n c (Shmget key size mode flags) = fine-shmget s n c key size mode flags
 fine-acts s n c (Shmat id addr flags) = fine-shmat s n c id addr flags
-fine-acts s n c (Load addr len) = grind (arith, common_steps, places-length c.pieces addr len)
-fine-acts s n c call = grind (arith, common_steps)
+fine-acts s n c (Load addr len) = record { fit = grind (arith, common_steps, places-length c.pieces addr len) }
+fine-acts s n c call = record { fit = grind (arith, common_steps) }
 
 fine-by : (s : Machine) (n : ℕ) (call : Call) (o : Option Caller) → Fine call (step_by s n call o)
-fine-by s n call o = grind (arith, common_steps, fine-acts)
+fine-by s n call None = refused call s Esrch
+fine-by s n call (Some c) = fine-acts s n c call
 
 -- a failure is named by a refusal
 failure-refuses : (call : Call) (r : Reply) → is_failure call r ≡ true → is_refusal r ≡ true
 failure-refuses call r h = grind (arith, common_steps)
 
 pub move_fits : (s t : Machine) (n : ℕ) (e : Event) → IsMove s n e t → is_refusal e.reply ≡ false → fits e.call e.reply ≡ true
-move_fits s t n e m h = grind (arith, common_steps, fine-by s n e.call (caller_of s e.pid), failure-refuses e.call e.reply)
+move_fits s t n e m h = grind (arith, common_steps, (fine-by s n e.call (caller_of s e.pid)).fit, failure-refuses e.call e.reply)

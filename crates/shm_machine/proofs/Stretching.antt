@@ -1,5 +1,5 @@
 -- One load, or store, after another is one of all bytes.
-use Rattle.std.proofs.Common.{◌≡◌, ℕ, zero, suc, ◌+◌, ◌-◌, ◌%◌, ◌<◌, ◌≤◌, min, take, drop, true, List, [], ◌∷◌, ◌++◌, length, Some, refl, sym, ap, ◌∙◌, arith}
+use Rattle.std.proofs.Common.{◌≡◌, ℕ, zero, suc, ◌+◌, ◌-◌, ◌%◌, ◌/◌, ◌<◌, ◌≤◌, take, drop, true, List, [], ◌∷◌, ◌++◌, length, Some, refl, sym, ap, ◌∙◌, arith}
 use borrow.Rule.Slice.PartMut.{put_mid}
 use Rattle.std.proofs.lemmas.Grind.{common_steps}
 use Rattle.std.proofs.Math.Seq.{take-add}
@@ -13,7 +13,8 @@ use Rattle.shm_life.specs.SystemState.{Replied}
 use Rattle.shm_fault.specs.Steps.{LockedPagesStay}
 use Rattle.shm_fault.specs.Store.{StoreView}
 use Rattle.shm_life.specs.MachineView.{LocksNothing}
-use Rattle.shm_machine.specs.Stretched.{Reached}
+use Rattle.shm_machine.specs.Stretched.{Reached, calls_for, next_len}
+use Rattle.shm_fault.proofs.Sound.{GoesOn-trans}
 use Rattle.shm_base.specs.declared.call.Call.TheVariants.{Load, Store}
 use Rattle.shm_base.specs.declared.call.Reply.TheVariants.{Bytes, Done}
 use Rattle.shm_base.specs.State.{Entry, Piece, Machine}
@@ -126,26 +127,55 @@ locked-trans a b c p q = record {
 
 -- ONE CALL MORE
 
-reached-next : (before now after : SystemState) (done len pid : ℕ) (call : Call) (reply : Reply) → Reached before done now → Replied now pid call reply after → done % 64 ≡ 0 → 0 < len → len ≤ 64 → Reached before (done + len) after
-reached-next before now after done len pid call reply r moves full some few = grind (arith, common_steps)
+-- a call goes on at the beginning of a page, but for the first
+abbrev IsNext : ℕ → ℕ → Type 0
+IsNext addr done = 0 < done → (addr + done) % 4096 ≡ 0
 
--- whole calls were done where there is more to do
-abbrev pub AreWhole : ℕ → ℕ → Type 0
-AreWhole done size = (done ≤ size) × (done < size → done % 64 ≡ 0)
+calls-some : (addr n : ℕ) → 0 < n → calls_for addr n ≡ (addr % 4096 + n + 4095) / 4096
+calls-some addr zero some = absurd (omega (arith, some))
+calls-some addr (suc n) some = refl
 
-whole-next : (done size : ℕ) → AreWhole done size → done < size → AreWhole (done + min (size - done) 64) size
-whole-next done size whole lt = grind (arith, common_steps)
+calls-next : (addr done len : ℕ) → IsNext addr done → 0 < len → len ≤ 4096 - (addr + done) % 4096 → calls_for addr (done + len) ≡ calls_for addr done + 1
+calls-next addr zero len next some few =
+    let at : addr + zero ≡ addr = omega arith in
+    let near : len ≤ 4096 - addr % 4096 = rw at at few in
+    let now : calls_for addr (zero + len) ≡ (addr % 4096 + (zero + len) + 4095) / 4096 = calls-some addr (zero + len) (omega (arith, some)) in
+    omega (arith, near, now, some)
+calls-next addr (suc d) len next some few =
+    let at : (addr + suc d) % 4096 ≡ 0 = next (omega arith) in
+    let now = calls-some addr (suc d + len) (omega arith) in
+    let was = calls-some addr (suc d) (omega arith) in
+    omega (arith, at, few, some, now, was)
+
+reached-next : (before now after : SystemState) (addr done len pid : ℕ) (call : Call) (reply : Reply) → Reached before addr done now → Replied now pid call reply after → IsNext addr done → 0 < len → len ≤ 4096 - (addr + done) % 4096 → Reached before addr (done + len) after
+reached-next before now after addr done len pid call reply r moves next some few = record {
+  calls = moves.counted ∙ ap (λ n. n + 1) r.calls ∙ omega (arith, calls-next addr done len next some few);
+  opening = moves.opening ∙ r.opening;
+  clock = moves.clock ∙ r.clock;
+  only_calls = moves.only_calls ∙ r.only_calls;
+  goes_on = GoesOn-trans before.memory.swap now.memory.swap after.memory.swap r.goes_on moves.keeps.goes_on;
+}
+
+-- whole pages were done where there is more to do
+abbrev pub AreWhole : ℕ → ℕ → ℕ → Type 0
+AreWhole addr done size = (done ≤ size) × (done < size → IsNext addr done)
+
+whole-next : (addr done size : ℕ) → AreWhole addr done size → done < size → AreWhole addr (done + next_len (addr + done) (size - done)) size
+whole-next addr done size whole lt = (
+  omega (arith, lt),
+  λ less _. omega (arith, lt, less),
+)
 
 pub record ReadSo (before : SystemState) (pid addr : ℕ) (old : List ℕ) (done : ℕ) (new : List ℕ) (now : SystemState) : Type 0 where
-  pub whole : AreWhole done (length old)
+  pub whole : AreWhole addr done (length old)
   pub size : length new ≡ length old
   pub rest : drop done new ≡ drop done old
   pub bytes : 0 < done → (step before.machine (time_of before) pid (Load addr done)).reply ≡ Bytes (take done new)
-  pub reached : Reached before done now
+  pub reached : Reached before addr done now
   pub machine : now.machine ≡ before.machine
   pub locked : KeepsLocked before.memory now.memory
 
-pub read_next : (before now after : SystemState) (pid addr : ℕ) (old new xs : List ℕ) (done len room : ℕ) → ReadSo before pid addr old done new now → done < length old → len ≡ min (length old - done) 64 → room ≡ len
+pub read_next : (before now after : SystemState) (pid addr : ℕ) (old new xs : List ℕ) (done len room : ℕ) → ReadSo before pid addr old done new now → done < length old → len ≡ next_len (addr + done) (length old - done) → room ≡ len
     → Replied now pid (Load (addr + done) len) (Bytes xs) after → length xs ≡ len → ReadSo before pid addr old (done + len) (put_mid done room new xs) after
 read_next before now after pid addr old new xs done len room so lt len-is room-is moves size =
     let l = loads now.machine after.machine (time_of now) pid (addr + done) len xs moves.move in
@@ -155,11 +185,11 @@ read_next before now after pid addr old new xs done len room so lt len-is room-i
     let front : take (done + len) (put_mid done room new xs) ≡ take done new ++ xs = take-put_mid done room new xs (done + len) (ap (λ n. done + n) (sym size)) within in
     let next : (step before.machine (time_of now) pid (Load (addr + done) len)).reply ≡ Bytes xs = ap (λ (m : Machine). (step m (time_of now) pid (Load (addr + done) len)).reply) (sym so.machine) ∙ l.reply in
     record {
-      whole = rw len-is (whole-next done (length old) so.whole lt);
+      whole = rw len-is (whole-next addr done (length old) so.whole lt);
       size = length-put_mid done room new xs fits held ∙ so.size;
       rest = drop-put_mid done room new xs (done + len) (omega (arith, room-is)) within held ∙ drop_on done len new old so.rest;
       bytes = λ some. one done len (so.bytes) next front;
-      reached = reached-next before now after done len pid (Load (addr + done) len) (Bytes xs) so.reached moves (so.whole.1 lt) (omega (arith, lt, len-is)) (omega (arith, len-is));
+      reached = reached-next before now after addr done len pid (Load (addr + done) len) (Bytes xs) so.reached moves (so.whole.1 lt) (omega (arith, lt, len-is)) (omega (arith, len-is));
       machine = l.state ∙ so.machine;
       locked = locked-trans before.memory now.memory after.memory so.locked (record { kept = moves.keeps.kept; locks = moves.locked refl });
     }
@@ -173,21 +203,21 @@ read_next before now after pid addr old new xs done len room so lt len-is room-i
     one (suc d) len first next front = grind (arith, read_more before.machine (time_of before) (time_of now) pid addr (suc d) len (take (suc d) new) xs)
 
 pub record WrittenSo (before : SystemState) (pid addr : ℕ) (bytes : List ℕ) (done : ℕ) (now : SystemState) : Type 0 where
-  pub whole : AreWhole done (length bytes)
+  pub whole : AreWhole addr done (length bytes)
   pub none : done ≡ 0 → now.machine ≡ before.machine
   pub stored : 0 < done → Stores before.machine (time_of before) pid addr (take done bytes) now.machine
-  pub reached : Reached before done now
+  pub reached : Reached before addr done now
   pub locked : KeepsLocked before.memory now.memory
 
-pub write_next : (before now after : SystemState) (pid addr : ℕ) (bytes xs : List ℕ) (done len : ℕ) → WrittenSo before pid addr bytes done now → done < length bytes → len ≡ min (length bytes - done) 64
+pub write_next : (before now after : SystemState) (pid addr : ℕ) (bytes xs : List ℕ) (done len : ℕ) → WrittenSo before pid addr bytes done now → done < length bytes → len ≡ next_len (addr + done) (length bytes - done)
     → xs ≡ take len (drop done bytes) → Replied now pid (Store (addr + done) xs) Done after → WrittenSo before pid addr bytes (done + len) after
 write_next before now after pid addr bytes xs done len so lt len-is is moves =
     let some : 0 < len = omega (arith, lt, len-is) in
     record {
-      whole = rw len-is (whole-next done (length bytes) so.whole lt);
+      whole = rw len-is (whole-next addr done (length bytes) so.whole lt);
       none = λ zero-is. absurd (omega (arith, zero-is, some));
       stored = λ more. rw (take-add done len bytes, ← is) (one done lt so.none so.stored (stores now.machine after.machine (time_of now) pid (addr + done) xs moves.move));
-      reached = reached-next before now after done len pid (Store (addr + done) xs) Done so.reached moves (so.whole.1 lt) some (omega (arith, len-is));
+      reached = reached-next before now after addr done len pid (Store (addr + done) xs) Done so.reached moves (so.whole.1 lt) some (omega (arith, len-is));
       locked = locked-trans before.memory now.memory after.memory so.locked (record { kept = moves.keeps.kept; locks = moves.locked refl });
     }
   where

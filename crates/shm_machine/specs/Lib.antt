@@ -1,3 +1,4 @@
 pub mod Answered
 pub mod Opened
 pub mod Stretched
+pub mod Exchanged

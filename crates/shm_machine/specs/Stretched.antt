@@ -1,10 +1,11 @@
--- Loads and stores of any length, as calls of at most 64 bytes each from the first on.
-use Rattle.std.specs.Prelude.{ℕ, ◌≡◌, ◌+◌, ◌-◌, ◌/◌, ◌^◌, ◌<◌, ◌≤◌, ◌⊎◌, min, List, length, take, drop, Err, MatchOption}
+-- Loads and stores of any length, as calls that each end with their page, from the first on.
+use Rattle.std.specs.Prelude.{ℕ, zero, suc, ◌≡◌, ◌+◌, ◌-◌, ◌/◌, ◌%◌, ◌^◌, ◌<◌, ◌≤◌, ◌⊎◌, min, List, length, take, drop, replicate, Err, MatchOption, Option, Some, None}
 use Rattle.shm_base.specs.declared.call.Call.{Call}
 use Rattle.shm_base.specs.declared.call.Call.TheVariants.{Load, Store}
 use Rattle.shm_base.specs.declared.call.Reply.TheVariants.{Bytes, Done}
 use Rattle.shm_base.specs.declared.errno.Errno.TheVariants.{Sigsegv}
 use Rattle.shm_base.specs.Step.{step}
+use Rattle.shm_base.specs.declared.paging.TheConstants.{PAGE_SIZE}
 use Rattle.shm_slots.specs.Cause.{GoesOn}
 use Rattle.shm_fault.specs.Steps.{LockedPagesStay}
 use Rattle.shm_life.specs.MachineView.{LocksNothing}
@@ -14,17 +15,18 @@ use Rattle.shm_machine.specs.declared.refusal.Refusal.TheVariants.{Refused}
 use Rattle.shm_machine.specs.declared.stretch.Progress.{Progress}
 use Rattle.shm_machine.specs.Answered.{Answered}
 
--- how many calls so many bytes take
-abbrev pub calls_for : ℕ → ℕ
-calls_for n = (n + 63) / 64
+-- how many calls so many bytes from an address on take: one for each page of addresses
+abbrev pub calls_for : ℕ → ℕ → ℕ
+calls_for addr zero = 0
+calls_for addr (suc n) = (addr % PAGE_SIZE + suc n + (PAGE_SIZE - 1)) / PAGE_SIZE
 
 -- how many bytes the next call takes of so many
-abbrev pub next_len : ℕ → ℕ
-next_len n = min n 64
+abbrev pub next_len : ℕ → ℕ → ℕ
+next_len addr n = min n (PAGE_SIZE - addr % PAGE_SIZE)
 
 -- so many bytes were done, by as many calls as they take, and no count of failures fell
-pub record Reached (before : SystemState) (bytes : ℕ) (stood : SystemState) : Type 0 where
-  pub calls : stood.calls ≡ before.calls + calls_for bytes
+pub record Reached (before : SystemState) (addr bytes : ℕ) (stood : SystemState) : Type 0 where
+  pub calls : stood.calls ≡ before.calls + calls_for addr bytes
   pub opening : stood.opening ≡ before.opening
   pub clock : stood.clock ≡ before.clock
   pub only_calls : stood.only_calls ≡ before.only_calls
@@ -40,7 +42,7 @@ StoppedAt stood pid addr call refusal after =
 abbrev pub EndedAt : SystemState → ℕ → ℕ → ℕ → (ℕ → Call) → Progress → SystemState → Type 0
 EndedAt stood pid addr size next p after =
     MatchOption p.stopped ((p.done ≡ size) × (after ≡ stood))
-    (λ refusal. (p.done < size) × StoppedAt stood pid (addr + p.done) (next (next_len (size - p.done))) refusal after)
+    (λ refusal. (p.done < size) × StoppedAt stood pid (addr + p.done) (next (next_len (addr + p.done) (size - p.done))) refusal after)
 
 -- the bytes that were read are those of one load of the flat machine; the others stay. Pages of locked segments stay
 -- resident, whether all was read or not, and nothing becomes locked
@@ -49,7 +51,7 @@ pub record ReadTo (before : SystemState) (pid addr : ℕ) (old : List ℕ) (p : 
   pub rest : drop p.done new ≡ drop p.done old
   pub bytes : 0 < p.done → (step before.machine (time_of before) pid (Load addr p.done)).reply ≡ Bytes (take p.done new)
   pub stood : SystemState
-  pub reached : Reached before p.done stood
+  pub reached : Reached before addr p.done stood
   pub machine : stood.machine ≡ before.machine
   pub ended : EndedAt stood pid addr (length old) (λ n. Load (addr + p.done) n) p after
   pub kept : LockedPagesStay before.memory after.memory
@@ -60,9 +62,25 @@ pub record ReadTo (before : SystemState) (pid addr : ℕ) (old : List ℕ) (p : 
 pub record WrittenTo (before : SystemState) (pid addr : ℕ) (bytes : List ℕ) (p : Progress) (after : SystemState) : Type 0 where
   pub within : p.done ≤ length bytes
   pub stood : SystemState
-  pub reached : Reached before p.done stood
+  pub reached : Reached before addr p.done stood
   pub none : p.done ≡ 0 → stood.machine ≡ before.machine
   pub stored : 0 < p.done → step before.machine (time_of before) pid (Store addr (take p.done bytes)) ≡ record { reply = Done; state = stood.machine }
   pub ended : EndedAt stood pid addr (length bytes) (λ n. Store (addr + p.done) (take n (drop p.done bytes))) p after
   pub kept : LockedPagesStay before.memory after.memory
   pub locks : LocksNothing before.memory after.memory
+
+-- what stops a copy: what stopped its store, else what stopped its load
+abbrev pub stop_of : Option Refusal → Option Refusal → Option Refusal
+stop_of (Some refusal) load = Some refusal
+stop_of None load = load
+
+-- a copy: all bytes that can be read were read first, and then as many of them written as can be
+pub record CopiedTo (before : SystemState) (from to : ℕ × ℕ) (size : ℕ) (p : Progress) (after : SystemState) : Type 0 where
+  pub load : Progress
+  pub bytes : List ℕ
+  pub mid : SystemState
+  pub read : ReadTo before from.0 from.1 (replicate size 0) load bytes mid
+  pub store : Progress
+  pub written : WrittenTo mid to.0 to.1 (take load.done bytes) store after
+  pub done : p.done ≡ store.done
+  pub stopped : p.stopped ≡ stop_of store.stopped load.stopped

@@ -6,7 +6,7 @@ ghost use Rattle.shm_machine.specs.Answered.{Answered, as_reply};
 
 use crate::machine::Machine;
 use crate::refusal::Refusal;
-use shm_base::{AccessLen, AtFlags, Call, Chunk, GetFlags, Reply, ShmId, ShmidDs};
+use shm_base::{AccessLen, AtFlags, Call, Chunk, GetFlags, LONGEST_ACCESS, Reply, ShmId, ShmidDs};
 
 impl Machine {
     /// shmget(2): the identifier of the segment that has the key, or of a new one.
@@ -51,11 +51,11 @@ impl Machine {
         ensures answered { Answered self.old.system pid (call.Load addr len) (as_reply (λ b. reply.Bytes b) result) self.new.system }
         ensures length { IfOk result (λ b. length b ≡ len) }
     {
-        match &self.answer(pid, &Call::Load { addr, len }) {
-            Ok(Reply::Bytes(chunk)) => Ok(*chunk),
-            Ok(_) => unreachable!(),
-            Err(refusal) => Err(*refusal),
+        let mut bytes = [0; LONGEST_ACCESS];
+        if let Err(refusal) = self.load_into(pid, addr, &mut bytes[..len.get()]) {
+            return Err(refusal);
         }
+        Ok(Chunk::from_array(bytes, len))
     }
 
     /// shmctl(2), IPC_STAT: what the segment shows.
@@ -64,17 +64,6 @@ impl Machine {
     {
         match self.answer(pid, &Call::Stat { id }) {
             Ok(Reply::Stat(shown)) => Ok(shown),
-            Ok(_) => unreachable!(),
-            Err(refusal) => Err(refusal),
-        }
-    }
-
-    /// Adds to eight little-endian bytes of attached memory modulo 2^64, and answers the number that stood there.
-    pub fn add(&mut self, pid: u32, addr: u64, add: u64) -> Result<u64, Refusal>
-        ensures { Answered self.old.system pid (call.Xadd addr add) (as_reply (λ n. reply.Number n) result) self.new.system }
-    {
-        match self.answer(pid, &Call::Xadd { addr, add }) {
-            Ok(Reply::Number(before)) => Ok(before),
             Ok(_) => unreachable!(),
             Err(refusal) => Err(refusal),
         }

@@ -2,7 +2,9 @@
 //! No history is kept: a machine answers calls in memory that does not grow with their number.
 #![tactic(auto)]
 
+mod access;
 mod calls;
+mod copy;
 mod machine;
 mod opening;
 mod refusal;

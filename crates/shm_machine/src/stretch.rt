@@ -1,13 +1,14 @@
-//! Loads and stores of any length, as calls of at most 64 bytes each.
-ghost use Rattle.std.specs.Prelude.{◌≡◌, ◌+◌, ◌^◌, ◌≤◌, length, Ok, Err, MatchResult};
+//! Reads and writes of any length: calls that each end with their page, from the first on.
+ghost use Rattle.std.specs.Prelude.{◌≡◌, ◌+◌, ◌^◌, ◌≤◌, length, MatchResult, OnErr};
 ghost use Rattle.shm_base.specs.declared.call.Call.TheVariants as call;
 ghost use Rattle.shm_base.specs.declared.call.Reply.TheVariants as reply;
+ghost use Rattle.shm_base.specs.declared.paging.TheConstants.{PAGE_SIZE};
 ghost use Rattle.shm_life.specs.SystemState.{Replied};
-ghost use Rattle.shm_machine.specs.Stretched.{StoppedAt, ReadTo, WrittenTo};
+ghost use Rattle.shm_machine.specs.Stretched.{next_len, StoppedAt, ReadTo, WrittenTo};
 
 use crate::machine::Machine;
 use crate::refusal::Refusal;
-use shm_base::{AccessLen, Call, Chunk, Errno, LONGEST_ACCESS};
+use shm_base::{Errno, PAGE_SIZE};
 
 /// How far an access came: how many bytes were done, and by what it was stopped where that is not all.
 #[derive(Clone, Copy, Debug, PartialEq, Eq)]
@@ -16,7 +17,7 @@ pub struct Progress {
     pub stopped: Option<Refusal>,
 }
 
-// Where a stretch goes on behind the bytes that were done. An address past 64 bits has no piece.
+// Where a stretch goes on after the bytes that were done. An address past 64 bits has no piece.
 fn next_address(addr: u64, done: usize) -> Result<u64, Refusal>
     ensures { MatchResult result (λ a. a ≡ addr + done) (λ e. (2 ^ 64 ≤ addr + done) × (e ≡ Refusal.Refused Errno.Sigsegv)) }
 {
@@ -24,47 +25,49 @@ fn next_address(addr: u64, done: usize) -> Result<u64, Refusal>
         .ok_or(Refusal::Refused(Errno::Sigsegv))
 }
 
+// How many of the bytes that are left the next call takes: as far as its page goes.
+fn next_len(addr: u64, done: usize, left: usize) -> usize
+    ensures { result ≡ next_len (addr + done) left }
+{
+    let within = (addr % PAGE_SIZE + done as u64 % PAGE_SIZE) % PAGE_SIZE;
+    left.min((PAGE_SIZE - within) as usize)
+}
+
 impl Machine {
-    // One call of a read: this many bytes, behind those that were done.
-    fn read_on(&mut self, pid: u32, addr: u64, done: usize, len: usize) -> Result<Chunk, Refusal>
-        requires { (1 ≤ len) × (len ≤ 64) }
-        ensures { MatchResult result (λ b. Replied self.old.system pid (call.Load (addr + done) len) (reply.Bytes b) self.new.system × (length b ≡ len)) (λ e. StoppedAt self.old.system pid (addr + done) (call.Load (addr + done) len) e self.new.system) }
+    // One call of a read: these bytes, after those that were done.
+    fn read_on(&mut self, pid: u32, addr: u64, done: usize, part: &mut [u8]) -> Result<(), Refusal>
+        requires { (1 ≤ length part.old) × (length part.old ≤ PAGE_SIZE) }
+        ensures read { let load = call.Load (addr + done) (length part.old) in
+            MatchResult result (λ _. Replied self.old.system pid load (reply.Bytes part.new) self.new.system) (λ e. StoppedAt self.old.system pid (addr + done) load e self.new.system) }
+        ensures kept { OnErr result (part.new ≡ part.old) }
     {
         let at = next_address(addr, done)?;
-        match AccessLen::new(len as u64) {
-            Some(len) => self.load(pid, at, len),
-            None => unreachable!(),
-        }
+        self.load_into(pid, at, part)
     }
 
-    // One call of a write: these bytes, behind those that were done.
+    // One call of a write: these bytes, after those that were done.
     fn write_on(&mut self, pid: u32, addr: u64, done: usize, bytes: &[u8]) -> Result<(), Refusal>
-        requires { (1 ≤ length bytes.now) × (length bytes.now ≤ 64) }
-        ensures { MatchResult result (λ _. Replied self.old.system pid (call.Store (addr + done) bytes.now) reply.Done self.new.system) (λ e. StoppedAt self.old.system pid (addr + done) (call.Store (addr + done) bytes.now) e self.new.system) }
+        requires { (1 ≤ length bytes.now) × (length bytes.now ≤ PAGE_SIZE) }
+        ensures { let store = call.Store (addr + done) bytes.now in
+            MatchResult result (λ _. Replied self.old.system pid store reply.Done self.new.system) (λ e. StoppedAt self.old.system pid (addr + done) store e self.new.system) }
     {
-        let addr = next_address(addr, done)?;
-        match Chunk::new(bytes) {
-            Some(chunk) => self.perform(pid, &Call::Store { addr, chunk }),
-            None => unreachable!(),
-        }
+        let at = next_address(addr, done)?;
+        self.store(pid, at, bytes)
     }
 
-    /// Reads attached memory from an address on, by loads of 64 bytes and a last one of the rest, until one is
-    /// not done. An address past 64 bits has no piece: Sigsegv, with no call.
+    /// Reads attached memory from an address on, page by page, until one call is not done. An address past 64 bits has no
+    /// piece: Sigsegv, with no call.
     pub fn read(&mut self, pid: u32, addr: u64, bytes: &mut [u8]) -> Progress
         ensures { ReadTo self.old.system pid addr bytes.old result bytes.new self.new.system }
     {
         let mut done = 0;
         while done < bytes.len() {
-            let len = (bytes.len() - done).min(LONGEST_ACCESS);
-            match self.read_on(pid, addr, done, len) {
-                Ok(chunk) => bytes[done..done + len].copy_from_slice(chunk.as_slice()),
-                Err(refusal) => {
-                    return Progress {
-                        done,
-                        stopped: Some(refusal),
-                    };
-                }
+            let len = next_len(addr, done, bytes.len() - done);
+            if let Err(refusal) = self.read_on(pid, addr, done, &mut bytes[done..done + len]) {
+                return Progress {
+                    done,
+                    stopped: Some(refusal),
+                };
             }
             done += len;
         }
@@ -74,23 +77,21 @@ impl Machine {
         }
     }
 
-    /// Replaces attached memory from an address on, by stores of 64 bytes and a last one of the rest, until one
-    /// is not done. An address past 64 bits has no piece: Sigsegv, with no call.
+    /// Replaces attached memory from an address on, page by page, until one call is not done. An address past 64 bits has
+    /// no piece: Sigsegv, with no call.
     pub fn write(&mut self, pid: u32, addr: u64, bytes: &[u8]) -> Progress
         ensures { WrittenTo self.old.system pid addr bytes.now result self.new.system }
     {
         let mut done = 0;
         while done < bytes.len() {
-            let len = (bytes.len() - done).min(LONGEST_ACCESS);
-            match self.write_on(pid, addr, done, &bytes[done..done + len]) {
-                Ok(()) => done += len,
-                Err(refusal) => {
-                    return Progress {
-                        done,
-                        stopped: Some(refusal),
-                    };
-                }
+            let len = next_len(addr, done, bytes.len() - done);
+            if let Err(refusal) = self.write_on(pid, addr, done, &bytes[done..done + len]) {
+                return Progress {
+                    done,
+                    stopped: Some(refusal),
+                };
             }
+            done += len;
         }
         Progress {
             done,

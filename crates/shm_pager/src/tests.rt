@@ -105,7 +105,7 @@ fn area(
     Ok(AreaPager::new(alloc, kind, 1, left, right)?)
 }
 
-// Whether a write and two reads behind it are done.
+// Whether a write and two reads after it are done.
 fn written_and_read(rt: &impl Abort, mut area: AreaPager) -> (bool, bool, bool) {
     assert_eq!(rt; area.slots(), 1);
     let mut page = zeros();
@@ -114,7 +114,7 @@ fn written_and_read(rt: &impl Abort, mut area: AreaPager) -> (bool, bool, bool) 
     (written, first, try_read(&mut area, 0, &mut page).is_ok())
 }
 
-// The calls of both sides that fail, and whether a write and two reads behind it are done.
+// The calls of both sides that fail, and whether a write and two reads after it are done.
 const MIRRORED: &[(&str, Calls<'_>, Calls<'_>, (bool, bool, bool))] = &[
     ("other reads", (&[1], &[]), (&[2], &[]), (true, true, true)),
     (

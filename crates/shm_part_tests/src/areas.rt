@@ -1,6 +1,5 @@
-use bitflags::Flags;
 use shm_areas::{Piece, Space};
-use shm_base::{AtFlags, END_ADDRESS, Errno, HostMemory, LOWEST_ADDRESS, PAGE_SIZE};
+use shm_base::{END_ADDRESS, HostMemory, LOWEST_ADDRESS, MOST_SHMALL, PAGE_SIZE};
 use std::alloc::Global;
 use std::process::Abort;
 
@@ -14,6 +13,10 @@ enum Act {
     PieceAt(u64, Option<Piece>),
     /// The address of the least gap for a page.
     Choose(u64),
+    /// Whether a piece has one of some pages.
+    Occupied(u64, u32, bool),
+    /// The segments of which a cut of a range would leave a part of a piece.
+    Rests(u64, u64, &'static [u32]),
     /// How many pieces meet a range, and how many there would be without it.
     Met(u64, u64, usize),
     Outside(u64, u64, usize),
@@ -65,6 +68,14 @@ fn cut(space: &mut Space, from: u64, to: u64) -> bool {
     true
 }
 
+/// Whether a piece has one of these pages, of which there are at most as many as a segment may have.
+fn occupies(space: &Space, base: u64, pages: u32) -> Option<bool> {
+    if pages < 1 || pages as u64 > MOST_SHMALL {
+        return None;
+    }
+    Some(space.is_occupied(base, pages))
+}
+
 fn byte_at(space: &Space, addr: u64) -> Option<(u32, u64, bool)> {
     let place = space.place(addr)?;
     Some((place.seg, place.at, place.writable))
@@ -77,6 +88,8 @@ fn answers(space: &mut Space, act: &Act) -> bool {
         Act::Byte(addr, byte) => byte_at(space, addr) == byte,
         Act::PieceAt(addr, piece) => space.piece_at(addr) == piece,
         Act::Choose(base) => space.choose(1) == Some(base),
+        Act::Occupied(base, pages, is) => occupies(space, base, pages) == Some(is),
+        Act::Rests(from, to, ids) => from < to && space.rests(from, to).segments() == ids,
         Act::Met(from, to, count) => from < to && space.met(from, to).len() == count,
         Act::Outside(from, to, count) => from < to && space.count_outside(from, to) == count,
         Act::Cut(from, to) => cut(space, from, to),
@@ -162,28 +175,69 @@ fn a_space_has_room_for_its_most(rt: HostRuntime) -> Result<(), HostMemory> {
     Ok(())
 }
 
-// A page of the space is occupied.
-fn checks_fixed(rt: &impl Abort, space: &mut Space) {
-    assert!(rt; put(space, 0x50000000, 0, 1));
-    let rows = [
-        (0x60000fff, AtFlags::RND, Ok(0x60000000)),
-        (0x50000000, AtFlags::empty(), Err(Errno::Einval)),
-        (0x50000fff, AtFlags::RND | AtFlags::REMAP, Ok(0x50000000)),
-        (0xfff, AtFlags::RND, Err(Errno::Einval)),
-        (0x7ffffffff000, AtFlags::empty(), Err(Errno::Einval)),
-        (0x7fffffffe000, AtFlags::empty(), Ok(0x7fffffffe000)),
-        (u64::MAX, AtFlags::RND, Err(Errno::Einval)),
-    ];
-    for (addr, flags, want) in rows {
-        assert!(rt; space.check_fixed(addr, 1, flags) == want, "at {addr}");
-    }
-}
+// A page of the space is occupied, and the last page of the addresses.
+const OCCUPIED: &[Act] = &[
+    Act::Put(0x50000000, 0, 1, true),
+    Act::Put(0x7fffffffe000, 0, 1, true),
+    Act::Occupied(0x50000000, 1, true),
+    Act::Occupied(0x4ffff000, 1, false),
+    Act::Occupied(0x4ffff000, 2, true),
+    Act::Occupied(0x50000fff, 1, true),
+    Act::Occupied(0x50001000, 1, false),
+    Act::Occupied(0, 0x50000, false),
+    Act::Occupied(0, 0x50001, true),
+    Act::Occupied(0x7fffffffd000, 1, false),
+    Act::Occupied(0x7fffffffefff, 0x10000000, true),
+    Act::Occupied(0x7ffffffff000, 0x10000000, false),
+    Act::Occupied(u64::MAX, 0x10000000, false),
+];
 
 #[test]
-fn fixed_addresses_are_checked(rt: HostRuntime) -> Result<(), HostMemory> {
-    let mut space = Space::new(rt.alloc(), 256)?;
-    checks_fixed(&rt, &mut space);
-    Ok(())
+fn ranges_are_occupied(rt: HostRuntime) -> Result<(), HostMemory> {
+    in_a_space(&rt, rt.alloc(), OCCUPIED)
+}
+
+// Three pieces side by side, and ranges that leave parts of none, of one or of two of them.
+const RESTS: &[Act] = &[
+    Act::Put(0x50000000, 7, 2, true),
+    Act::Put(0x50002000, 8, 1, true),
+    Act::Put(0x50003000, 9, 2, true),
+    Act::Rests(0x50000000, 0x50005000, &[]),
+    Act::Rests(0x50005000, 0x50006000, &[]),
+    Act::Rests(0x50000000, 0x50001000, &[7]),
+    Act::Rests(0x50001000, 0x50003000, &[7]),
+    Act::Rests(0x50002000, 0x50004000, &[9]),
+    Act::Rests(0x50001000, 0x50004000, &[7, 9]),
+    Act::Rests(0x50002000, 0x50003000, &[]),
+    Act::Rests(0x50002800, 0x50002900, &[8]),
+];
+
+#[test]
+fn ranges_leave_parts(rt: HostRuntime) -> Result<(), HostMemory> {
+    in_a_space(&rt, rt.alloc(), RESTS)
+}
+
+// A hole that comes between pieces side by side is the next choice.
+const HOLES: &[Act] = &[
+    Act::Put(0x40000000, 1, 1, true),
+    Act::Put(0x40001000, 2, 1, true),
+    Act::Put(0x40003000, 3, 1, true),
+    Act::Choose(0x40002000),
+    Act::Put(0x40002000, 4, 1, true),
+    Act::Choose(0x40004000),
+    Act::Cut(0x40001000, 0x40002000),
+    Act::Choose(0x40001000),
+    Act::Take(0x40000000, 1),
+    Act::Choose(0x40000000),
+    Act::Put(0x40000000, 1, 2, true),
+    Act::Choose(0x40004000),
+    Act::Take(0x40003000, 3),
+    Act::Choose(0x40003000),
+];
+
+#[test]
+fn holes_are_chosen_again(rt: HostRuntime) -> Result<(), HostMemory> {
+    in_a_space(&rt, rt.alloc(), HOLES)
 }
 
 const BELOW: Piece = Piece {
@@ -227,4 +281,26 @@ const CUT: &[Act] = &[
 #[test]
 fn a_cut_leaves_two_parts(rt: HostRuntime) -> Result<(), HostMemory> {
     in_a_space(&rt, rt.alloc(), CUT)
+}
+
+// Holes of one page are passed, and a hole of two that a cut makes among them is found.
+fn chooses_behind_holes(rt: &impl Abort, space: &mut Space) {
+    for k in 0..40u64 {
+        assert!(rt; put(space, 0x40000000 + 0x2000 * k, 0, 1), "at {k}");
+    }
+    for k in 0..40u64 {
+        let base = 0x4004f000 + 0x2000 * k;
+        assert!(rt; space.choose(2) == Some(base), "at {base}");
+        assert!(rt; put(space, base, 0, 2), "at {base}");
+    }
+    assert!(rt; cut(space, 0x40010000, 0x40011000));
+    assert!(rt; space.choose(2) == Some(0x4000f000));
+    assert!(rt; space.choose(4) == Some(0x4009f000));
+}
+
+#[test]
+fn small_holes_are_passed(rt: HostRuntime) -> Result<(), HostMemory> {
+    let mut space = Space::new(rt.alloc(), 256)?;
+    chooses_behind_holes(&rt, &mut space);
+    Ok(())
 }

@@ -42,6 +42,8 @@ pub(crate) enum Act {
     Protect(u64, u64, bool, Option<Errno>),
     /// The first address at which an access of a process fails, which writes or reads.
     Fails(u32, u64, u64, bool, Option<u64>),
+    /// The first address of an access of a process whose page has no frame.
+    Absent(u32, u64, u64, Option<u64>),
     /// The segments that lost pieces last.
     Lost(&'static [u32]),
 }
@@ -213,6 +215,7 @@ fn answers(spaces: &mut Spaces, store: &PageStore<RamPager>, act: &Act) -> bool 
         Act::Fails(pid, addr, len, write, first) => {
             spaces.failed_at(pid, addr, len, write) == first
         }
+        Act::Absent(pid, addr, len, first) => spaces.absent_at(pid, addr, len) == first,
         Act::Lost(lost) => spaces.lost() == lost,
     }
 }
@@ -378,6 +381,31 @@ const MOVES: &[Act] = &[
 #[test]
 fn moves_reach_each_piece_and_each_process(rt: HostRuntime) -> Result<(), HostMemory> {
     in_a_family(&rt, rt.alloc(), MOVES)
+}
+
+// Of three pages the first and the last are in memory. Where an address has no piece nothing is absent.
+const ABSENT: &[Act] = &[
+    Act::Attach(0, 0x40000000, 3, true),
+    Act::Absent(1, 0x40000ffe, 4, Some(0x40000ffe)),
+    Act::Absent(1, 0x40000ffe, 0, None),
+    Act::Note(&[PageMove::Came(FIRST, 5), PageMove::Came(LAST, 6)]),
+    Act::Absent(1, 0x40000ffe, 2, None),
+    Act::Absent(1, 0x40000ffe, 3, Some(0x40001000)),
+    Act::Absent(1, 0x40000000, u64::MAX, Some(0x40001000)),
+    Act::Absent(1, 0x40001801, 0x1000, Some(0x40001801)),
+    Act::Absent(1, 0x40002000, 0x1001, None),
+    Act::Absent(1, 0x3fffffff, 0x2000, None),
+    Act::Absent(1, u64::MAX, u64::MAX, None),
+    Act::Absent(2, 0x40001000, 1, None),
+    Act::Fork(2, true),
+    Act::Absent(2, 0x40001000, 1, Some(0x40001000)),
+    Act::Note(&[PageMove::Gone(LAST)]),
+    Act::Absent(2, 0x40002fff, 1, Some(0x40002fff)),
+];
+
+#[test]
+fn the_first_absent_page_is_told(rt: HostRuntime) -> Result<(), HostMemory> {
+    in_a_family(&rt, rt.alloc(), ABSENT)
 }
 
 const GONE: &[Act] = &[

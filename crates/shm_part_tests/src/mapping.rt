@@ -8,14 +8,17 @@ use shm_fault::{PageMove, PageStore};
 use shm_pager::RamPager;
 use std::process::Abort;
 
-// A border moves where a part joins its neighbour, and whole pieces do not join.
+// A border moves where a part joins its neighbour, and whole pieces do not join. A segment is noted where there are more
+// pieces then.
 const PROTECTED: &[Act] = &[
     Act::Attach(0, 0x50000000, 8, true),
     Act::Protect(0x50001000, 0x2000, false, None),
+    Act::Lost(&[0]),
     Act::Count(0, 3),
     Act::Fails(1, 0x50000000, 0x8000, true, Some(0x50001000)),
     Act::Fails(1, 0x50000000, 0x8000, false, None),
     Act::Protect(0x50001000, 0x1000, true, None),
+    Act::Lost(&[]),
     Act::Count(0, 3),
     Act::Fails(1, 0x50000000, 0x8000, true, Some(0x50002000)),
     Act::Protect(0x50001000, 0x2000, true, None),
@@ -24,12 +27,14 @@ const PROTECTED: &[Act] = &[
     Act::Protect(0x50000000, 0x8000, false, None),
     Act::Count(0, 3),
     Act::Protect(0x50006000, 1, true, None),
+    Act::Lost(&[0]),
     Act::Count(0, 5),
     Act::Protect(0x50005000, 0x1000, true, None),
     Act::Count(0, 5),
     Act::Fails(1, 0x50005000, 0x2000, true, None),
     Act::Fails(1, 0x50005000, 0x2001, true, Some(0x50007000)),
     Act::Protect(0x50007000, 0x1000, false, None),
+    Act::Lost(&[]),
     Act::Detach(0x50000000, Some(0)),
     Act::Count(0, 0),
 ];
@@ -55,11 +60,28 @@ const STOPPED: &[Act] = &[
     Act::Attach(0, 0x50008000, 8, false),
     Act::Count(0, 3),
     Act::Protect(0x50006000, 0x4000, true, Some(Errno::Eacces)),
+    Act::Lost(&[0]),
     Act::Count(0, 4),
     Act::Fails(1, 0x50005fff, 1, true, Some(0x50005fff)),
     Act::Fails(1, 0x50006000, 0x3000, true, Some(0x50008000)),
     Act::Fails(1, 0x50006000, 0xa001, false, Some(0x50010000)),
 ];
+
+// The segments of the first piece and of the last are noted in their order, and those of an earlier call are forgotten.
+const SPLIT: &[Act] = &[
+    Act::Attach(0, 0x50000000, 2, true),
+    Act::Attach(1, 0x50002000, 1, true),
+    Act::Attach(0, 0x50003000, 2, true),
+    Act::Protect(0x50001000, 0x3000, false, None),
+    Act::Lost(&[0, 0]),
+    Act::Protect(0x50001800, 0x1000, false, Some(Errno::Einval)),
+    Act::Lost(&[]),
+];
+
+#[test]
+fn split_pieces_are_noted(rt: HostRuntime) -> Result<(), HostMemory> {
+    in_a_family(&rt, rt.alloc(), SPLIT)
+}
 
 #[test]
 fn a_protection_stops_at_the_first_refusal(rt: HostRuntime) -> Result<(), HostMemory> {

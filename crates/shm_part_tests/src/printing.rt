@@ -26,7 +26,7 @@ fn printed_calls(rt: HostRuntime) -> Result<(), Fail> {
                 key: 0,
                 size: 1,
                 mode: 0o1004,
-                flags: GetFlags::all(),
+                flags: GetFlags::CREAT.union(GetFlags::EXCL),
             },
             "shmget 0x00000000 1 004,creat,excl",
         ),
@@ -42,7 +42,7 @@ fn printed_calls(rt: HostRuntime) -> Result<(), Fail> {
             Call::Shmat {
                 id: -1,
                 addr: 0,
-                flags: AtFlags::all(),
+                flags: AtFlags::RDONLY.union(AtFlags::RND).union(AtFlags::REMAP),
             },
             "shmat -1 null rnd,remap,rdonly",
         ),

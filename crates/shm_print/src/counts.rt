@@ -31,7 +31,7 @@ fn moves_line(alloc: Global, tally: &Tally) -> Result<String, AllocError>
 }
 
 /// The three lines of a machine's counts: events, segments and their pages; frames and slots in use, each
-/// behind how many there are; pager reads, pager writes, and pager failures.
+/// after how many there are; pager reads, pager writes, and pager failures.
 pub fn usage_text(alloc: Global, tally: &Tally) -> Result<String, AllocError>
     ensures { IfOk result (λ s. string_bytes s ≡ usage.usage_text tally.now) }
 {

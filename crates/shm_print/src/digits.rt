@@ -1,4 +1,4 @@
-//! Hexadecimal digits, put behind a text.
+//! Hexadecimal digits, appended to a text.
 ghost use Rattle.std.specs.Prelude.{◌≡◌, ◌<◌, ◌≤◌, ◌++◌, OnOk, false, string_bytes, drop};
 ghost use Rattle.std.specs.Fmt.{digits, digit_glyph};
 
@@ -37,7 +37,7 @@ fn fill_digits(number: u64, room: &mut [u8; MOST_DIGITS]) -> usize
     at
 }
 
-/// Puts the hexadecimal digits of a number behind a text, without leading zeros.
+/// Appends the hexadecimal digits of a number to a text, without leading zeros.
 pub(crate) fn push_digits(text: &mut String, number: u64) -> Result<(), AllocError>
     ensures { OnOk result (string_bytes text.new ≡ string_bytes text.old ++ digits 16 false number) }
 {

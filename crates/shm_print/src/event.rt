@@ -10,14 +10,14 @@ use itoa::Buffer;
 use shm_base::{Call, Event, Perm, Reply, ShmId, ShmidDs};
 use std::alloc::{AllocError, Global};
 
-// Puts a number in decimal behind a text.
+// Appends a number in decimal to a text.
 fn push_number(text: &mut String, number: u64) -> Result<(), AllocError>
     ensures { OnOk result (string_bytes text.new ≡ string_bytes text.old ++ decimal number) }
 {
     text.push_str(Buffer::new().format(number))
 }
 
-// Puts an address behind a text.
+// Appends an address to a text.
 fn push_address(text: &mut String, addr: u64) -> Result<(), AllocError>
     ensures { OnOk result (string_bytes text.new ≡ string_bytes text.old ++ printed.address_text addr) }
 {
@@ -28,7 +28,7 @@ fn push_address(text: &mut String, addr: u64) -> Result<(), AllocError>
     push_digits(text, addr)
 }
 
-// Puts bytes behind a text, two digits each.
+// Appends bytes to a text, two digits each.
 fn push_bytes(text: &mut String, bytes: &[u8]) -> Result<(), AllocError>
     requires { length bytes.now ≤ 64 }
     ensures { OnOk result (string_bytes text.new ≡ string_bytes text.old ++ encode_lower bytes.now) }
@@ -39,14 +39,14 @@ fn push_bytes(text: &mut String, bytes: &[u8]) -> Result<(), AllocError>
     text.push_str(str::from_utf8(digits).unwrap())
 }
 
-// Puts a word and an identifier behind a text.
+// Appends a word and an identifier to a text.
 fn push_id(text: &mut String, word: &str, id: ShmId) -> Result<(), AllocError>
     ensures { OnOk result (string_bytes text.new ≡ string_bytes text.old ++ (word.now ++ signed_decimal id)) }
 {
     write!(text, "{word}{id}")
 }
 
-// Puts a word and an address behind a text.
+// Appends a word and an address to a text.
 fn push_at(text: &mut String, word: &str, addr: u64) -> Result<(), AllocError>
     ensures { OnOk result (string_bytes text.new ≡ string_bytes text.old ++ (word.now ++ printed.address_text addr)) }
 {
@@ -54,7 +54,7 @@ fn push_at(text: &mut String, word: &str, addr: u64) -> Result<(), AllocError>
     push_address(text, addr)
 }
 
-// Puts a word and a number behind a text.
+// Appends a word and a number to a text.
 fn push_counted(text: &mut String, word: &str, number: u64) -> Result<(), AllocError>
     ensures { OnOk result (string_bytes text.new ≡ string_bytes text.old ++ (word.now ++ decimal number)) }
 {
@@ -62,7 +62,7 @@ fn push_counted(text: &mut String, word: &str, number: u64) -> Result<(), AllocE
     push_number(text, number)
 }
 
-// Puts the word of a call and its arguments behind a text.
+// Appends the word of a call and its arguments to a text.
 fn push_call(text: &mut String, call: &Call) -> Result<(), AllocError>
     ensures { OnOk result (string_bytes text.new ≡ string_bytes text.old ++ printed.call_text call.now) }
 {
@@ -143,7 +143,7 @@ fn push_stat(text: &mut String, shown: &ShmidDs) -> Result<(), AllocError>
     push_uses(text, shown)
 }
 
-// Puts a reply behind a text.
+// Appends a reply to a text.
 fn push_reply(text: &mut String, reply: &Reply) -> Result<(), AllocError>
     ensures { OnOk result (string_bytes text.new ≡ string_bytes text.old ++ printed.reply_text reply.now) }
 {
@@ -158,7 +158,7 @@ fn push_reply(text: &mut String, reply: &Reply) -> Result<(), AllocError>
     }
 }
 
-// Puts the place of an event and its process behind a text.
+// Appends the place of an event and its process to a text.
 fn push_place(text: &mut String, place: u64, pid: u32) -> Result<(), AllocError>
     ensures { OnOk result (string_bytes text.new ≡ string_bytes text.old ++ (decimal place ++ (codes " " ++ (decimal pid ++ codes " ")))) }
 {
@@ -167,7 +167,7 @@ fn push_place(text: &mut String, place: u64, pid: u32) -> Result<(), AllocError>
     text.push_str(" ")
 }
 
-/// Puts the line of an event behind a text: its place in the history from 1, the process, the call and the
+/// Appends the line of an event to a text: its place in the history from 1, the process, the call and the
 /// reply. Where memory is refused a part of the line may stand there.
 pub fn push_event(text: &mut String, place: u64, event: &Event) -> Result<(), AllocError>
     ensures { OnOk result (string_bytes text.new ≡ string_bytes text.old ++ printed.event_text place event.now) }

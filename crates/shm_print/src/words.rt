@@ -32,7 +32,7 @@ impl fmt::Display for Octal {
     }
 }
 
-/// The flags of shmget behind its mode.
+/// The flags of shmget after its mode.
 #[derive(Clone, Copy)]
 pub(crate) struct GetWord(pub(crate) GetFlags);
 

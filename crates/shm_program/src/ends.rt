@@ -27,7 +27,7 @@ fn is_asked_again(kind: ErrorKind) -> bool
     kind == ErrorKind::Interrupted
 }
 
-// Puts bytes behind those that were read.
+// Appends bytes to those that were read.
 fn keep(input: &mut Vec<u8>, bytes: &[u8]) -> Result<(), RunFault>
     ensures kept { OnOk result (input.new.items ≡ input.old.items ++ bytes.now) }
     ensures err { IfErr result (λ f. f ≡ RunFault.HostMemory) }

@@ -15,7 +15,7 @@ pub enum Action {
     Flush(u64, FlushReport),
 }
 
-// Puts the line of what a step did behind a text. A call stands at this place of the history.
+// Appends the line of what a step did to a text. A call stands at this place of the history.
 pub(crate) fn push_action(text: &mut String, place: u64, action: &Action) -> Result<(), AllocError>
     ensures { OnOk result (string_bytes text.new ≡ string_bytes text.old ++ action_text place action.now) }
 {

@@ -7,7 +7,7 @@ use shm_pager::Pager;
 use shm_print::{header_line, segment_line};
 use std::alloc::{AllocError, Global};
 
-// Puts the line of a segment behind a text, where there is one.
+// Appends the line of a segment to a text, where there is one.
 fn push_line(
     alloc: Global,
     text: &mut String,

@@ -11,7 +11,7 @@ use shm_pager::Pager;
 use shm_slots::Swap;
 use std::alloc::AllocError;
 
-// Puts the line of a frame behind a text, where a page owns it. This look at a referenced bit is none of the
+// Appends the line of a frame to a text, where a page owns it. This look at a referenced bit is none of the
 // clock's, and counts for itself.
 fn push_frame(text: &mut String, frames: &Frames, frame: u32) -> Result<(), AllocError>
     requires { frame < length frames.now }
@@ -38,7 +38,7 @@ fn push_owned(text: &mut String, frames: &Frames) -> Result<(), AllocError>
     Ok(())
 }
 
-// Puts the frames behind a text, with the place of the clock's hand.
+// Appends the frames to a text, with the place of the clock's hand.
 pub(crate) fn push_frames<P: Pager>(
     text: &mut String,
     store: &PageStore<P>,
@@ -74,7 +74,7 @@ fn push_slots(text: &mut String, area: u32, owners: &[Option<PageRef>]) -> Resul
     Ok(())
 }
 
-// Puts the lines of an area's owned slots behind a text.
+// Appends the lines of an area's owned slots to a text.
 fn push_owners<P: Pager>(text: &mut String, swap: &Swap<P>, area: u32) -> Result<(), AllocError>
     ensures { let owners = (area_at swap.now area).owners in
         OnOk result (string_bytes text.new ≡ string_bytes text.old ++ numbered (slot_line area) 0 owners) }
@@ -93,7 +93,7 @@ fn push_area<P: Pager>(text: &mut String, swap: &Swap<P>, area: u32) -> Result<(
     push_owners(text, swap, area)
 }
 
-// Puts the swap areas behind a text.
+// Appends the swap areas to a text.
 pub(crate) fn push_areas<P: Pager>(text: &mut String, swap: &Swap<P>) -> Result<(), AllocError>
     ensures { OnOk result (string_bytes text.new ≡ string_bytes text.old ++ areas_text swap.now) }
 {

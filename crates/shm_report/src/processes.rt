@@ -40,7 +40,7 @@ fn push_process(text: &mut String, spaces: &Spaces, pid: u32) -> Result<(), Allo
     push_pieces(text, spaces.space(&caller).pieces())
 }
 
-// Puts the lines of these processes behind a text.
+// Appends the lines of these processes to a text.
 pub(crate) fn push_processes(
     text: &mut String,
     spaces: &Spaces,

@@ -12,7 +12,7 @@ use shm_history::World;
 use shm_pager::Pager;
 use std::alloc::{AllocError, Global};
 
-// Puts the segments and the processes behind a text.
+// Appends the segments and the processes to a text.
 #[tactic(auto, unfolding(crate::specs::Record::machine_text))]
 fn push_machine<P: Pager>(
     alloc: Global,
@@ -25,7 +25,7 @@ fn push_machine<P: Pager>(
     push_processes(text, world.system().spaces(), &world.opening().processes)
 }
 
-// Puts the frames and the swap areas behind a text.
+// Appends the frames and the swap areas to a text.
 #[tactic(auto, unfolding(crate::specs::Record::memory_text))]
 fn push_memory<P: Pager>(text: &mut String, store: &PageStore<P>) -> Result<(), AllocError>
     ensures { OnOk result (string_bytes text.new ≡ string_bytes text.old ++ memory_text store.now) }
@@ -34,7 +34,7 @@ fn push_memory<P: Pager>(text: &mut String, store: &PageStore<P>) -> Result<(), 
     push_areas(text, store.swap())
 }
 
-// Puts the usage behind a text.
+// Appends the usage to a text.
 #[tactic(auto, unfolding(crate::specs::Record::counts_text))]
 fn push_counts<P: Pager>(
     alloc: Global,
@@ -46,7 +46,7 @@ fn push_counts<P: Pager>(
     text.push_str(&usage(alloc, world)?)
 }
 
-/// Puts the record of a step behind a text: its number, what it did, and how the world stands after it, as the
+/// Appends the record of a step to a text: its number, what it did, and how the world is after it, as the
 /// segments of the listing, the processes with their pieces, the frames, the swap areas and the usage. Each line
 /// begins with a word that says what it shows. Where memory is refused a part of the record may stand there.
 pub fn push_step<P: Pager>(

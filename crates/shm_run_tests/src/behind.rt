@@ -1,4 +1,4 @@
-//! What tests of runs share: a gate, worlds, and what is seen behind a run.
+//! What tests of runs share: a gate, worlds, and what is seen after a run.
 use shm_base::{AccessLen, Call, Reply, Tally};
 use shm_history::{System, World};
 use shm_pager::{Pager, RamPager};
@@ -46,7 +46,7 @@ pub(crate) enum Rule {
     Rounds(u64),
     /// Holds each of two processes until the other comes as far.
     Meet,
-    /// Holds process 1 behind its first call until process 2 has made one.
+    /// Holds process 1 after its first call until process 2 has made one.
     ChildFirst,
     /// Has process 2 make its call while process 1 is told of its own.
     WhileTold,
@@ -208,7 +208,7 @@ pub(crate) fn world_over<P: Pager>(
     Ok(World::new(alloc, system))
 }
 
-/// What a test looks at behind a run.
+/// What a test looks at after a run.
 #[derive(Clone, Copy)]
 pub(crate) struct Noted {
     pub(crate) events: usize,
@@ -221,7 +221,7 @@ pub(crate) struct Noted {
     pub(crate) tally: Tally,
     /// The last event's process and reply.
     pub(crate) last: Option<(u32, Reply)>,
-    /// What process 1 loads behind the run from where the first segment is attached.
+    /// What process 1 loads after the run from where the first segment is attached.
     pub(crate) loaded: Option<Reply>,
 }
 
@@ -284,7 +284,7 @@ pub(crate) fn ended(run: Result<Outcome<RamPager>, RunError>) -> Result<Noted, R
     Ok(look(&mut world, &transcripts))
 }
 
-/// What is seen behind a run of a script behind this gate, or why it has no outcome.
+/// What is seen after a run of a script with this gate, or why it has no outcome.
 pub(crate) fn run_script<R: Threads + Wait + Sync, G: Gate>(
     rt: &R,
     alloc: Global,
@@ -294,7 +294,7 @@ pub(crate) fn run_script<R: Threads + Wait + Sync, G: Gate>(
     run_over(rt, alloc, script, 64, gate)
 }
 
-// What is seen behind a run over an area of this many slots.
+// What is seen after a run over an area of this many slots.
 fn run_over<R: Threads + Wait + Sync, G: Gate>(
     rt: &R,
     alloc: Global,
@@ -316,7 +316,7 @@ pub(crate) fn fault_behind<R: Threads + Wait + Sync, G: Gate>(
     Ok(run_script(rt, alloc, script, gate)?.err())
 }
 
-/// What is seen behind a run of a text, or why it has no outcome.
+/// What is seen after a run of a text, or why it has no outcome.
 pub(crate) fn run_behind<R: Threads + Wait + Sync, G: Gate>(
     rt: &R,
     alloc: Global,
@@ -327,7 +327,7 @@ pub(crate) fn run_behind<R: Threads + Wait + Sync, G: Gate>(
     run_script(rt, alloc, &script, gate)
 }
 
-/// What is seen behind a run by this rule.
+/// What is seen after a run by this rule.
 pub(crate) fn seen_by<R: Threads + Wait + Sync>(
     rt: &R,
     alloc: Global,
@@ -337,7 +337,7 @@ pub(crate) fn seen_by<R: Threads + Wait + Sync>(
     Ok(run_behind(rt, alloc, text, &Ruled::by(rule))??)
 }
 
-/// What is seen behind a run by this rule over an area of this many slots.
+/// What is seen after a run by this rule over an area of this many slots.
 pub(crate) fn seen_over<R: Threads + Wait + Sync>(
     rt: &R,
     alloc: Global,

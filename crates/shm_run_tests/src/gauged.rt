@@ -19,7 +19,7 @@ struct Readings {
     ended: AtomicU64,
     /// How many were none that a world can have, or went back in events.
     wrong: AtomicU64,
-    /// How many of two pages rounds have written out behind four calls, as was read last.
+    /// How many of two pages rounds have written out after four calls, as was read last.
     flushed: AtomicU64,
     /// Whether the run has ended.
     done: AtomicU64,
@@ -179,7 +179,7 @@ fn readings_beside_four_that_count(rt: HostRuntime) -> Result<(), Fail> {
     Ok(())
 }
 
-/// Lets the flusher's rounds come behind process 1's fourth call, and holds the flusher after each until it is read that
+/// Lets the flusher's rounds come after process 1's fourth call, and holds the flusher after each until it is read that
 /// as many pages more were written out.
 struct UntilRead<'a> {
     behind: Ruled,

@@ -26,7 +26,7 @@ process 2 100 100\n\
 2 store b 2b\n";
 
 // Whether the run ended as it may: with an event of each call but a marked one, or before any call, or, where a thread
-// was refused, with no call of a process that is declared behind that one.
+// was refused, with no call of a process that is declared after that one.
 fn is_as_it_may(run: &Result<Noted, RunError>, gate: &Ruled) -> bool {
     let [_, _, parent, _, others, _, _] = gate.counts();
     match run {
@@ -45,7 +45,7 @@ fn opened(alloc: Global, script: &Script) -> Option<World<RamPager>> {
     Some(World::new(alloc, system))
 }
 
-// What is seen behind the run, or none where memory was refused before it.
+// What is seen after the run, or none where memory was refused before it.
 fn ran<R: Threads + Wait + Sync>(
     rt: &R,
     alloc: Global,

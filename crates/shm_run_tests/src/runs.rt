@@ -77,7 +77,7 @@ limits 65536 16 64 4 1\n\
 process 1 100 100\n\
 process 2 100 100\n";
 
-/// A head with lines that come this often behind it, the rule of the run, and what is seen behind it: this many events, and
+/// A head with lines that come this often after it, the rule of the run, and what is seen after it: this many events, and
 /// this many calls of each process.
 struct Whole {
     name: &'static str,
@@ -332,7 +332,7 @@ const ROUNDS: &[(u64, Tally)] = &[
     ),
 ];
 
-// What is counted behind the calls and a round of this many pages.
+// What is counted after the calls and a round of this many pages.
 fn counted_late<R: Threads + Wait + Sync>(
     rt: &R,
     alloc: Global,

@@ -92,7 +92,7 @@ fn run_in<T: Threads + Wait + Sync, W: Write, P: Pager + Send>(
 
 /// Writes what is printed of a run with threads, as `run_threaded` does; for whoever makes the run with a gate or a world of
 /// their own. The whole text is there before its first byte is written: it fails by `WriteFailed` where the writer does, and
-/// by `HostMemory` before the first byte, or behind the last one where the host refused memory to a call of the run.
+/// by `HostMemory` before the first byte, or after the last one where the host refused memory to a call of the run.
 pub fn write_outcome<W: Write, P: Pager>(
     alloc: Global,
     writer: &mut W,

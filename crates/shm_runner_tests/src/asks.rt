@@ -26,7 +26,7 @@ fn counted(alloc: Global, swaps: &[SwapWord], asks: &[Asks]) -> Result<Vec<Asked
     Ok(pagers)
 }
 
-// Puts a line with three numbers for each area behind a text.
+// Appends a line with three numbers for each area to a text.
 fn push_asks(text: &mut String, asks: &[Asks]) -> Result<(), AllocError> {
     text.push_str("asked")?;
     for its in asks {

@@ -143,7 +143,7 @@ fn run_lines<P: Pager>(alloc: Global, world: &mut World<P>, script: &Script) -> 
     Ok(())
 }
 
-// The world behind the script: run in the order of its lines, or with a thread for each process.
+// The world after the script: run in the order of its lines, or with a thread for each process.
 fn ran<R: Threads + Wait + Sync, P: Pager + Send>(
     rt: &R,
     alloc: Global,

@@ -65,7 +65,7 @@ fn opened(alloc: Global, script: &Script) -> Result<World<RamPager>, Fail> {
     Ok(open_world(alloc, script, pagers).ok().ok_or("it starts")?)
 }
 
-// The world behind the script.
+// The world after the script.
 fn ran<T: Threads + Wait + Sync>(rt: &T, alloc: Global) -> Result<World<RamPager>, Fail> {
     let script = script(alloc)?;
     let world = opened(alloc, &script)?;

@@ -1,5 +1,5 @@
 -- What is kept where a segment is made, destroyed, locked or written.
-use Rattle.shm_segments.proofs.Names.{locked_in_row, pages_in_row, ◌≡◌, ◌≢◌, ◌⊎◌, ℕ, pos, ℤ, ◌+◌, ◌-◌, ◌*◌, ◌/◌, ◌%◌, ◌<◌, ◌≤◌, Bool, false, if◌then◌else◌, List, Option, Some, None, refl, sym, ap, ◌∙◌, inl, inr, arith, cases_eq, none-some, pages_of, change, Row, entry_at, identifier, key_at, look, with_value, with_row, without_row, free_index-flat, destroyed_at-flat, Held, find_held, is_held, held_pages, pages_if_locked, with_zeros, without, with_lock, apart-push, apart-without, apart-lock, Head, joined_table, Agree, SizesFit, AreSegmentsSound, made, created, destroyed, nat_tests, common_steps, replicate, slice_set, Ok, option_map, Entry, free_index, id_at, live_row, relocked, MOST_SHMMAX, MOST_SHMALL}
+use Rattle.shm_segments.proofs.Names.{locked_in_row, pages_in_row, ◌≡◌, ◌≢◌, ◌⊎◌, ℕ, pos, ℤ, ◌+◌, ◌-◌, ◌*◌, ◌/◌, ◌%◌, ◌<◌, ◌≤◌, Bool, false, if◌then◌else◌, List, Option, Some, None, refl, sym, ap, ◌∙◌, inl, inr, arith, cases_eq, none-some, pages_of, change, Row, entry_at, identifier, key_at, look, with_value, with_row, without_row, free_index-flat, destroyed_at-flat, Held, find_held, is_held, held_pages, pages_if_locked, with_zeros, without, with_lock, apart-push, apart-without, apart-lock, Head, joined_table, Agree, SizesFit, AreSegmentsSound, made, created, destroyed, nat_tests, common_steps, replicate, slice_set, Ok, option_map, Entry, free_index, id_at, live_row, relocked, relocked_head, is_some, Segment, segment_of, bytes_of, MOST_SHMMAX, MOST_SHMALL}
 use Rattle.shm_base.specs.Identifier as flat
 use Rattle.shm_segments.proofs.Joins.{LiveAt, live-at, held-as}
 use Rattle.shm_segments.proofs.Edits.{look-live, other-value, agree-lock, joined-locked}
@@ -53,31 +53,47 @@ kept-without hs rows pages locks seg v k looked =
 
 -- LOCKED OR UNLOCKED
 
-pub kept-locked : (hs : List Held) (rows : List (Entry Head)) (pages locks seg : ℕ) (v : Head) (b : Bool) → AreSegmentsSound hs rows pages locks → look rows (pos seg) ≡ Ok v
-    → KeptAs (with_lock hs seg b) (with_value rows (seg % 32768) (record v { locked = b })) pages
-    (locks - (if v.locked then pages_of v.size else 0) + (if b then pages_of v.size else 0)) (change (joined_table hs rows) seg (relocked b))
-kept-locked hs rows pages locks seg v b k looked =
+pub relocked-size : (o : Option ℕ) (v : Head) → (relocked_head o v).size ≡ v.size
+relocked-size o v = grind (arith)
+
+pub relocked-locked : (o : Option ℕ) (v : Head) → (relocked_head o v).locked ≡ is_some o
+relocked-locked o v = grind (arith)
+
+relocked-seen : (o : Option ℕ) (r : Row Head) (bytes : List ℕ) → relocked o (segment_of r bytes) ≡ segment_of (record r { value = relocked_head o r.value }) bytes
+relocked-seen o r bytes = grind (arith)
+
+kept-relocked : (hs : List Held) (rows : List (Entry Head)) (pages locks seg : ℕ) (v w : Head) (f : Segment → Segment) → AreSegmentsSound hs rows pages locks → look rows (pos seg) ≡ Ok v
+    → w.size ≡ v.size → ((key : ℕ) (bytes : List ℕ) → f (segment_of (record { key = key; value = v }) bytes) ≡ segment_of (record { key = key; value = w }) bytes)
+    → KeptAs (with_lock hs seg w.locked) (with_value rows (seg % 32768) w) pages
+    (locks - (if v.locked then pages_of v.size else 0) + (if w.locked then pages_of v.size else 0)) (change (joined_table hs rows) seg f)
+kept-relocked hs rows pages locks seg v w f k looked size seen =
     let r : Row Head = record { key = key_at rows (seg % 32768); value = v } in
-    let w : Head = record v { locked = b } in
+    let b = w.locked in
     let lives : live_row rows seg ≡ Some r = look-live rows seg v looked in
     let range = k.sizes seg r lives in
     let loose = sum-other locked_in_row refl rows seg r (record r { value = w }) lives in
     let within = locked-within rows seg r lives in
+    let alike : (if w.locked then pages_of w.size else 0) ≡ (if w.locked then pages_of v.size else 0) = ap (λ n. if w.locked then pages_of n else 0) size in
     let here = held-here hs rows seg r k.agree lives in
     let more : (b : Bool) → (if b then held_pages here.g else 0) ≡ (if b then pages_of v.size else 0) = λ b. ap (λ n. if b then n else 0) here.pages in
     rw (other-value rows seg r w lives) (record {
       kept =
           record {
-            agree = agree-lock hs rows seg r w k.agree lives refl;
-            sizes = sizes-other rows seg r (record r { value = w }) lives k.sizes range;
-            reserved = k.reserved ∙ sym (pages-with_other rows seg r (record r { value = w }) lives refl);
-            locked = omega (arith, loose, within, k.locked);
+            agree = agree-lock hs rows seg r w k.agree lives size;
+            sizes = sizes-other rows seg r (record r { value = w }) lives k.sizes (rw size range);
+            reserved = k.reserved ∙ sym (pages-with_other rows seg r (record r { value = w }) lives size);
+            locked = omega (arith, loose, within, alike, k.locked);
             apart = apart-lock hs seg b k.apart;
             few_pages = omega (arith, pages-lock hs seg b, k.few_pages);
             few_locked = omega (arith, locks-lock hs seg b here.g k.apart here.is, here.locks, more b, k.few_locked);
           };
-      is = joined-locked hs rows seg r w (relocked b) lives refl;
+      is = joined-locked hs rows seg r w f lives (seen r.key (bytes_of hs seg));
     })
+
+pub kept-locked : (hs : List Held) (rows : List (Entry Head)) (pages locks seg : ℕ) (v : Head) (o : Option ℕ) → AreSegmentsSound hs rows pages locks → look rows (pos seg) ≡ Ok v
+    → KeptAs (with_lock hs seg (is_some o)) (with_value rows (seg % 32768) (relocked_head o v)) pages
+    (locks - (if v.locked then pages_of v.size else 0) + (if is_some o then pages_of v.size else 0)) (change (joined_table hs rows) seg (relocked o))
+kept-locked hs rows pages locks seg v o k looked = rw (relocked-locked o v) at (kept-relocked hs rows pages locks seg v (relocked_head o v) (relocked o) k looked (relocked-size o v) (λ key bytes. relocked-seen o (record { key = key; value = v }) bytes))
 
 -- MADE
 

@@ -6,13 +6,13 @@ pub use Rattle.std.proofs.lemmas.Grind.{common_steps, take-set_at}
 pub use Rattle.std.proofs.lemmas.List.{drop-set-lt, drop_more, length-replicate, map-append, set-get_or, take-append-drop}
 pub use Rattle.std.proofs.lemmas.List.Elements.{filter-append}
 pub use Rattle.std.proofs.lemmas.List.Filters.{sum_by-filter_both}
-pub use Rattle.std.proofs.lemmas.List.Sums.{get_or-le-sum_by, sum_by-append, sum_by-cons, sum_by-set, sum_by_push}
+pub use Rattle.std.proofs.lemmas.List.Sums.{get_or-le-sum_by, sum_by-append, sum_by-cons, sum_by-set, sum_by-take-le, sum_by_more, sum_by_push}
 pub use Rattle.std.proofs.lemmas.Option.{get_or_from_slice_get, none-some, slice_get-get_or, slice_get_within}
 pub use Rattle.std.specs.Int.{from_le_bytes, to_le_bytes, w64}
 pub use Rattle.std.specs.Prelude.{All, OnErr, OnOk, Result, slice_index, sum_by, slice_set}
 pub use Rattle.shm_base.specs.Access.{Place, bytes_at, bytes_at_entry, entry_byte_set, loaded, set_in, stored, with_byte}
 pub use Rattle.shm_base.specs.Identifier.{with_segment}
-pub use Rattle.shm_base.specs.Segments.{attached, change, detach_all, detached, locked, marked, reserved, segment_count, with_entry, pages_held, pages_locked}
+pub use Rattle.shm_base.specs.Segments.{attach_all, attached, change, change_all, detach_all, detached, locked, locked_by_user, marked, reserved, segment_count, with_entry, pages_held, pages_locked, pages_locked_by}
 pub use Rattle.shm_base.specs.Spans.{run, span_places}
 pub use Rattle.shm_base.specs.State.{Runner, Segment, pages_of, Entry as FlatEntry}
 pub use Rattle.shm_base.specs.declared.bounds.TheConstants.{MOST_SHMALL, MOST_SHMMAX}
@@ -41,10 +41,10 @@ pub use Rattle.shm_fault.proofs.Found.{bytes_of-lock, find-without_other, find-w
 pub use Rattle.shm_fault.proofs.Kept.{apart-lock, apart-push, apart-without, find-map, find_held-id}
 pub use Rattle.shm_fault.proofs.Pasted.{apart-pasted, bytes_of-pasted_other, bytes_of-pasted_same, fits-pasted}
 pub use Rattle.shm_fault.specs.Apart.{AreHeldApart}
-pub use Rattle.shm_fault.specs.Held.{FitsPage, Held, held_bytes, bytes_of, find_held, is_held, holds_locked, pages_if_locked, held_pages, paste, pasted, read_from, with_lock, with_zeros, without, written}
+pub use Rattle.shm_fault.specs.Held.{FitsPage, Held, held_bytes, bytes_of, find_held, is_held, holds_locked, locked_pages_in_store, pages_if_locked, held_pages, paste, pasted, read_from, with_lock, with_zeros, without, written}
 pub use Rattle.shm_slots.specs.Cause.{GoesOn}
 pub use Rattle.shm_slots.specs.View.{SwapView}
-pub use Rattle.shm_segments.specs.Joined.{Agree, Shape, joined_table, locked_in_row, locked_of_rows, pages_in_row, pages_of_rows, segment_of, shape_held, shape_row, whole, live_row}
+pub use Rattle.shm_segments.specs.Joined.{Agree, Shape, joined_table, locked_in_row, locked_of_rows, pages_in_row, pages_of_rows, segment_of, shape_held, shape_row, whole, live_row, relocked_head, locked_by_in_row, locked_by_of_rows}
 pub use Rattle.shm_segments.specs.Sound.{AreSegmentsSound, IsWhole, SizesFit}
 pub use Rattle.shm_segments.specs.Orphan.{id_in, is_orphan, orphan, orphan_in}
 pub use Rattle.shm_segments.specs.Table.{IsFound, SpanFits, created, destroyed, live_in, look_of, made, loaded_number, next_id, pages_at, refused_look, reowned, segment_seen, relocked}

@@ -1,5 +1,5 @@
 -- Changes of a table that leave alone how many pages each segment has, which are locked, and which are marked.
-use Rattle.shm_segments.proofs.Names.{◌≡◌, ℕ, ◌%◌, List, [], ◌∷◌, ◌∙◌, length, slice_get, Option, Some, None, refl, arith, cases_eq, Segment, Runner, Place, set_in, with_byte, entry_byte_set, stored, change, with_entry, reserved, locked, detached, detach_all, live_in, pages_at, is_orphan, orphan_in, orphan, id_in, nat_tests, common_steps, slice_set, is_some, option_map, pages_held, pages_locked}
+use Rattle.shm_segments.proofs.Names.{◌≡◌, ℕ, ◌%◌, List, [], ◌∷◌, ◌∙◌, length, slice_get, Option, Some, None, refl, arith, cases_eq, Segment, Runner, Place, set_in, with_byte, entry_byte_set, stored, change, change_all, with_entry, reserved, locked, attached, attach_all, detached, detach_all, live_in, pages_at, is_orphan, orphan_in, orphan, id_in, nat_tests, common_steps, slice_set, is_some, option_map, pages_held, pages_locked}
 use Rattle.shm_base.specs.State.{Entry}
 use Rattle.shm_segments.specs.Table.{live}
 use Rattle.shm_segments.specs.Orphan.{identifier_at}
@@ -95,10 +95,17 @@ module _ (f : Segment → Segment) where
 
 -- MANY CHANGES
 
--- the time and the pid of a detach
+pub change_all-same : (f : Segment → Segment) → ((s : Segment) → length (f s).bytes ≡ length s.bytes) → ((s : Segment) → (f s).locked ≡ s.locked) → ((s : Segment) → (f s).dest ≡ s.dest)
+    → (ids : List ℕ) (t : List Entry) → SameTable t (change_all f t ids)
+change_all-same f k l d [] t = same-refl t
+change_all-same f k l d (id ∷ ids) t = same-trans t _ _ (change-same f k l d t id) (change_all-same f k l d ids (change t id f))
+
+-- the time and the pid of a detach, or of an attach
 pub detach_all-same : (n pid : ℕ) (ids : List ℕ) (t : List Entry) → SameTable t (detach_all n pid t ids)
-detach_all-same n pid [] t = same-refl t
-detach_all-same n pid (id ∷ ids) t = same-trans t _ _ (change-same (detached n pid) (λ s. refl) (λ s. refl) (λ s. refl) t id) (detach_all-same n pid ids (change t id (detached n pid)))
+detach_all-same n pid = change_all-same (detached n pid) (λ s. refl) (λ s. refl) (λ s. refl)
+
+pub attach_all-same : (n pid : ℕ) (ids : List ℕ) (t : List Entry) → SameTable t (attach_all n pid t ids)
+attach_all-same n pid = change_all-same (attached n pid) (λ s. refl) (λ s. refl) (λ s. refl)
 
 byte-same : (t : List Entry) (i at b : ℕ) (o : Option Entry) → slice_get t i ≡ o → SameTable t (set_in t i (entry_byte_set at b) o)
 byte-same t i at b None is = same-refl t

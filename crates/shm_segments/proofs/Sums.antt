@@ -1,5 +1,5 @@
 -- Segments and pages counted over the rows.
-use Rattle.shm_segments.proofs.Names.{◌≡◌, ℕ, suc, ◌+◌, ◌*◌, ◌<◌, ◌≤◌, false, List, [], ◌∷◌, length, Option, Some, None, refl, arith, sum_by-cons, sum_by-set, sum_by_push, get_or-le-sum_by, sum_by, Segment, pages_of, reserved, locked, segment_count, Row, identifier, entry_at, with_row, without_row, row_count, option_map, flat_entry, flat_from, with_row-within, with_row-end, segment_count-flat, Held, bytes_of, Head, whole, joined_table, pages_in_row, locked_in_row, pages_of_rows, locked_of_rows, Agree, nat_tests, common_steps, FlatEntry, pages_held, pages_locked, Entry, live_row}
+use Rattle.shm_segments.proofs.Names.{◌≡◌, ℕ, suc, ◌+◌, ◌*◌, ◌<◌, ◌≤◌, false, List, [], ◌∷◌, length, Option, Some, None, refl, arith, sum_by-cons, sum_by-set, sum_by_push, sum_by_more, sum_by-take-le, get_or-le-sum_by, sum_by, take, unused, locked_by_user, pages_locked_by, locked_by_in_row, locked_by_of_rows, Segment, pages_of, reserved, locked, segment_count, Row, identifier, entry_at, with_row, without_row, row_count, option_map, flat_entry, flat_from, with_row-within, with_row-end, segment_count-flat, Held, bytes_of, Head, whole, joined_table, pages_in_row, locked_in_row, pages_of_rows, locked_of_rows, Agree, nat_tests, common_steps, FlatEntry, pages_held, pages_locked, Entry, live_row}
 use Rattle.shm_segments.proofs.Joins.{at-live, held-as, live-at}
 use Rattle.shm_segments.proofs.Edits.{with_other}
 use Rattle.shm_segments.proofs.Rows.{IsFree}
@@ -40,6 +40,34 @@ reserved-joined hs rows agree = sum-from pages_held pages_in_row hs (row-pages h
 
 pub locked-joined : (hs : List Held) (rows : List (Entry Head)) → Agree hs rows → locked (joined_table hs rows) ≡ locked_of_rows rows
 locked-joined hs rows agree = sum-from pages_locked locked_in_row hs (row-locked hs) 0 rows (all-whole hs rows agree)
+
+row-locked_by : (uid : ℕ) (hs : List Held) (id : ℕ) (o : Option (Row Head)) → ((r : Row Head) → o ≡ Some r → length (bytes_of hs id) ≡ 4096 * pages_of r.value.size)
+    → pages_locked_by uid (option_map (whole hs id) o) ≡ locked_by_in_row uid o
+row-locked_by uid hs id o whole = grind (arith, common_steps, nat_tests, whole)
+
+pub locked_by-joined : (uid : ℕ) (hs : List Held) (rows : List (Entry Head)) → Agree hs rows → locked_by_user uid (joined_table hs rows) ≡ locked_by_of_rows uid rows
+locked_by-joined uid hs rows agree = sum-from (pages_locked_by uid) (locked_by_in_row uid) hs (row-locked_by uid hs) 0 rows (all-whole hs rows agree)
+
+-- those that one user locked are among the locked ones
+locked_by-part : (uid : ℕ) (o : Option (Row Head)) → locked_by_in_row uid o ≤ locked_in_row o
+locked_by-part uid o = grind (arith, nat_tests)
+
+pub locked_by_more : (uid : ℕ) (rows : List (Entry Head)) (i : ℕ) → i < length rows → locked_by_of_rows uid (take (i + 1) rows) ≡ locked_by_of_rows uid (take i rows) + locked_by_in_row uid (entry_at rows i).row
+locked_by_more uid rows i lt = sum_by_more (λ (e : Entry Head). locked_by_in_row uid e.row) rows i unused lt
+
+pub locked_by-all : (uid : ℕ) (rows : List (Entry Head)) → locked_by_of_rows uid rows ≤ locked_of_rows rows
+locked_by-all uid [] = omega arith
+locked_by-all uid (e ∷ es) =
+    omega (arith, locked_by-part uid e.row, locked_by-all uid es, sum_by-cons (λ (x : Entry Head). locked_by_in_row uid x.row) e es, sum_by-cons (λ (x : Entry Head). locked_in_row x.row) e es)
+
+pub locked_by_more_le : (uid : ℕ) (rows : List (Entry Head)) (i : ℕ) → i < length rows → locked_by_of_rows uid (take i rows) + locked_by_in_row uid (entry_at rows i).row ≤ locked_of_rows rows
+locked_by_more_le uid rows i lt =
+    let more = locked_by_more uid rows i lt in
+    omega (arith, more, sum_by-take-le (λ (e : Entry Head). locked_by_in_row uid e.row) rows (i + 1), locked_by-all uid rows)
+
+-- nothing is locked by a user where nothing is locked
+pub locked_by-none : (uid : ℕ) (rows : List (Entry Head)) → locked_of_rows rows ≡ 0 → locked_by_of_rows uid rows ≡ 0
+locked_by-none uid rows none = omega (arith, locked_by-all uid rows, none)
 
 pub segment_count-joined : (hs : List Held) (rows : List (Entry Head)) → segment_count (joined_table hs rows) ≡ row_count rows
 segment_count-joined hs rows = segment_count-flat (whole hs) 0 rows

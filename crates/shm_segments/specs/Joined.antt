@@ -1,5 +1,5 @@
 -- The flat machine's table, joined from rows without bytes and from bytes that lie elsewhere.
-use Rattle.std.specs.Prelude.{ℕ, ◌≡◌, ◌*◌, ◌%◌, ◌≤◌, Bool, ◌==◌, if◌then◌else◌, List, length, Option, Some, None, option_map, sum_by}
+use Rattle.std.specs.Prelude.{ℕ, ◌≡◌, ◌*◌, ◌%◌, ◌≤◌, Bool, true, false, ◌&&◌, ◌==◌, if◌then◌else◌, List, length, Option, Some, None, option_map, sum_by}
 use Rattle.shm_base.specs.State.{Segment, Entry as FlatEntry, pages_of}
 use Rattle.shm_ids.specs.declared.table.Entry.{Entry}
 use Rattle.shm_ids.specs.declared.table.Row.{Row}
@@ -21,6 +21,7 @@ segment_of r bytes =
       lpid = r.value.lpid;
       dest = r.value.dest;
       locked = r.value.locked;
+      locker = r.value.locker;
       atime = r.value.atime;
       dtime = r.value.dtime;
       ctime = r.value.ctime;
@@ -37,10 +38,16 @@ head_of x =
       lpid = x.lpid;
       dest = x.dest;
       locked = x.locked;
+      locker = x.locker;
       atime = x.atime;
       dtime = x.dtime;
       ctime = x.ctime;
     }
+
+-- a head that a user locks, or that is unlocked
+abbrev pub relocked_head : Option ℕ → Head → Head
+relocked_head None h = record h { locked = false; locker = 0 }
+relocked_head (Some uid) h = if h.locked then h else record h { locked = true; locker = uid }
 
 -- the segment of a row, with the bytes that are held under its identifier
 abbrev pub whole : List Held → ℕ → Row Head → Segment
@@ -68,6 +75,14 @@ pages_of_rows rows = sum_by (λ (e : Entry Head). pages_in_row e.row) rows
 
 abbrev pub locked_of_rows : List (Entry Head) → ℕ
 locked_of_rows rows = sum_by (λ (e : Entry Head). locked_in_row e.row) rows
+
+abbrev pub locked_by_in_row : ℕ → Option (Row Head) → ℕ
+locked_by_in_row uid None = 0
+locked_by_in_row uid (Some r) = if r.value.locked && (r.value.locker == uid) then pages_of r.value.size else 0
+
+-- the pages of those that a user locked
+abbrev pub locked_by_of_rows : ℕ → List (Entry Head) → ℕ
+locked_by_of_rows uid rows = sum_by (λ (e : Entry Head). locked_by_in_row uid e.row) rows
 
 -- what rows and held segments both know of a segment
 pub record Shape : Type 0 where

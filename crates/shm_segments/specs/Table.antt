@@ -9,6 +9,7 @@ use Rattle.shm_base.specs.Identifier as flat
 use Rattle.shm_base.specs.Access.{Place, bytes_at, loaded, stored}
 use Rattle.shm_base.specs.Spans.{InPage, page_of}
 use Rattle.shm_base.specs.Segments.{pages_held}
+use Rattle.shm_base.specs.Locking.{locks_as, unlocked}
 use Rattle.shm_segments.specs.Joined.{segment_of}
 use Rattle.shm_segments.specs.declared.head.Head.{Head}
 use Rattle.shm_segments.specs.declared.head.Found.{Found}
@@ -83,9 +84,10 @@ destroyed table id = slice_set table (id % INDEXES) (record { destroyed = id / I
 abbrev pub reowned : ℕ → ℕ → ℕ → ℕ → Segment → Segment
 reowned n uid gid mode y = record y { perm = record y.perm { uid = uid; gid = gid; mode = mode % 512 }; ctime = n }
 
--- a segment that is locked or unlocked, as the step's `locks` and `unlocks` make it
-abbrev pub relocked : Bool → Segment → Segment
-relocked b y = record y { locked = b }
+-- a segment that a user locks, or that is unlocked
+abbrev pub relocked : Option ℕ → Segment → Segment
+relocked None y = unlocked y
+relocked (Some uid) y = locks_as uid y
 
 -- the little-endian number that stands at places, as the step's `xadd` reads it
 abbrev pub loaded_number : List Entry → List Place → ℕ

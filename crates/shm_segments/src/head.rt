@@ -5,7 +5,7 @@ ghost use Rattle.shm_base.specs.State as flat;
 
 use shm_base::{Perm, ShmId, pages_of};
 
-/// A segment without its key and its bytes.
+/// A segment without its key and its bytes. The user who locked it counts while it is locked, and is 0 else.
 #[derive(Clone, Copy, Debug, PartialEq, Eq)]
 pub struct Head {
     pub perm: Perm,
@@ -14,6 +14,7 @@ pub struct Head {
     pub lpid: u32,
     pub dest: bool,
     pub locked: bool,
+    pub locker: u32,
     pub atime: u64,
     pub dtime: u64,
     pub ctime: u64,

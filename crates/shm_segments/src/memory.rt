@@ -8,6 +8,7 @@ ghost use Rattle.shm_slots.specs.View.{swap_slots, sizes, area_at};
 ghost use Rattle.shm_slots.specs.Cause.{had_cause};
 ghost use Rattle.shm_fault.specs.Store.{Still};
 ghost use Rattle.shm_fault.specs.Access.{Accessed, NameFrames, IsUntouched, answer_of};
+ghost use Rattle.shm_segments.specs.Exchanged.{Swapped, are_expected};
 ghost use Rattle.shm_fault.specs.Flushing.{IsFlushed};
 ghost use Rattle.shm_segments.specs.Table.{SpanFits, loaded_number, added_at};
 ghost use Rattle.shm_segments.specs.View.{IsTableExact, KeepsMemory};
@@ -28,7 +29,7 @@ impl<P: Pager> Segments<P> {
 
     /// Copies the bytes of one or two spans, each with the frame that its page is in. Pages that are not
     /// resident come in. What is counted, and which pages moved, goes into `touched`. An error is a pager's,
-    /// and what is in `out` is unknown then.
+    /// and `out` is as it was then.
     #[inline(always)]
     pub fn read(
         &mut self,
@@ -40,6 +41,7 @@ impl<P: Pager> Segments<P> {
         requires frames { NameFrames self.old.memory spans.now }
         requires none { IsUntouched touched.old }
         ensures bytes { OnOk result (out.new ≡ loaded self.old.table (span_places false spans.now)) }
+        ensures kept { OnErr result (out.new ≡ out.old) }
         ensures table { self.new.table ≡ self.old.table }
         ensures access { Accessed spans.now self.old.memory self.new.memory (answer_of touched.new result) }
         ensures keeps { KeepsMemory self.old.memory self.new.memory }
@@ -88,6 +90,46 @@ impl<P: Pager> Segments<P> {
         ensures keeps { KeepsMemory self.old.memory self.new.memory }
     {
         self.store.add_with(spans, more, old, touched)
+    }
+
+    /// Copies the bytes of one or two spans into `before` and replaces them. Pages come in as for `read`, and on an error no
+    /// byte has changed.
+    pub fn exchange(
+        &mut self,
+        spans: &[Span],
+        bytes: &[u8],
+        before: &mut [u8],
+        touched: &mut Touched,
+    ) -> Result<(), PagerFault>
+        requires spans { IsAccess (SpanFits self.old.table) spans.now (length bytes.now) }
+        requires before { length before.old ≡ length bytes.now }
+        requires frames { NameFrames self.old.memory spans.now }
+        requires none { IsUntouched touched.old }
+        ensures { let answer = answer_of touched.new result in
+            Swapped true spans.now bytes.now before.old before.new self.old self.new result answer }
+    {
+        self.store.exchange_with(spans, bytes, before, touched)
+    }
+
+    /// As [`Segments::exchange`], but the bytes are replaced only if they are the expected ones.
+    pub fn compare_exchange(
+        &mut self,
+        spans: &[Span],
+        expected: &[u8],
+        bytes: &[u8],
+        before: &mut [u8],
+        touched: &mut Touched,
+    ) -> Result<(), PagerFault>
+        requires spans { IsAccess (SpanFits self.old.table) spans.now (length bytes.now) }
+        requires before { length before.old ≡ length bytes.now }
+        requires frames { NameFrames self.old.memory spans.now }
+        requires none { IsUntouched touched.old }
+        ensures { let answer = answer_of touched.new result in
+            let writes = are_expected self.old.table spans.now expected.now in
+            Swapped writes spans.now bytes.now before.old before.new self.old self.new result answer }
+    {
+        self.store
+            .compare_with(spans, expected, bytes, before, touched)
     }
 
     /// Writes the first `n` dirty frames of segments that are not locked out to their slots.

@@ -1,15 +1,16 @@
 //! The table of segments with their bytes.
-ghost use Rattle.std.specs.Prelude.{is_none, is_some, option_map, OnOk, if◌then◌else◌, IsOk, Ok, true, false, ◌≡◌, ◌≢◌, ℕ, ◌+◌, ◌*◌, ◌%◌, ◌≤◌, [], length, pos, IfOk, OnErr, IfErr, IfSome, IfNone, Some, None, map, slice_get};
+ghost use Rattle.std.specs.Prelude.{is_none, is_some, option_map, OnOk, if◌then◌else◌, IsOk, Ok, true, false, ◌≡◌, ◌≢◌, ◌<◌, ◌^◌, ◌==◌, ◌&&◌, ℕ, ◌+◌, ◌*◌, ◌%◌, ◌≤◌, [], length, pos, IfOk, OnErr, IfErr, IfSome, IfNone, Some, None, map, slice_get};
 ghost use Rattle.shm_base.specs.declared.bounds.TheConstants.{MOST_FRAMES, MOST_SHMALL, MOST_SHMMAX};
 ghost use Rattle.shm_base.specs.State as flat;
 ghost use Rattle.shm_base.specs.Identifier as flat_ids;
 ghost use Rattle.shm_base.specs.Segments.{reserved, segment_count, change, attached, detached, marked};
-ghost use Rattle.shm_base.specs.Segments.{locked as locked_pages};
+ghost use Rattle.shm_base.specs.Segments.{locked as locked_pages, locked_by_user};
 ghost use Rattle.shm_slots.specs.View.{swap_slots, sizes, owner_of};
 ghost use Rattle.shm_fault.specs.Segs.{with_seg_lock};
 ghost use Rattle.shm_fault.specs.Store.{Still, fresh_store, frame_of};
 ghost use Rattle.shm_segments.specs.View.{KeepsMemory};
 ghost use Rattle.shm_segments.specs.Table.{IsFound, IsLive, look_of, refused_look, live, segment_in, next_id, made, destroyed, reowned, relocked};
+ghost use Rattle.shm_segments.specs.Joined.{relocked_head, locked_of_rows, locked_by_of_rows};
 
 use crate::head::{Found, Head};
 use shm_base::{Errno, HostMemory, INDEXES, MODES, ShmId, pages_of};
@@ -62,6 +63,49 @@ fn pages_locked(head: &Head) -> u64
     if head.locked { pages_of(head.size) } else { 0 }
 }
 
+// The pages of a segment, if this user locked it.
+fn pages_locked_by(head: &Head, user: u32) -> u64
+    ensures { result ≡ (if head.now.locked && (head.now.locker == user) then flat.pages_of head.now.size else 0) }
+{
+    if head.locked && head.locker == user {
+        pages_of(head.size)
+    } else {
+        0
+    }
+}
+
+// The pages of the rows that a user locked.
+#[tactic(auto, using(crate::proofs::Sums::locked_by_more, crate::proofs::Sums::locked_by_more_le))]
+fn locked_in(table: &IdTable<Head>, user: u32) -> u64
+    requires { locked_of_rows table.now < 2 ^ 64 }
+    ensures { result ≡ locked_by_of_rows user table.now }
+{
+    let mut pages = 0;
+    for index in 0..table.indexes() {
+        if let Some((_, _, head)) = table.row_at(index as usize) {
+            pages += pages_locked_by(head, user);
+        }
+    }
+    pages
+}
+
+// Locks a segment for a user, or unlocks it.
+fn relock(head: &mut Head, locker: Option<u32>)
+    ensures { head.new ≡ relocked_head locker head.old }
+{
+    match locker {
+        Some(_) if head.locked => {}
+        Some(user) => {
+            head.locked = true;
+            head.locker = user;
+        }
+        None => {
+            head.locked = false;
+            head.locker = 0;
+        }
+    }
+}
+
 // What is found under an identifier, where it is live.
 fn found_under(table: &IdTable<Head>, id: ShmId) -> Result<Found, LookRefused>
     ensures id { IfOk result (λ f. f.id ≡ id) }
@@ -110,6 +154,18 @@ impl<P: Pager> Segments<P> {
         ensures { result ≡ locked_pages self.now.table }
     {
         self.locked
+    }
+
+    /// The pages of the segments that a user locked. It walks the indexes that were ever used, unless nothing is
+    /// locked.
+    pub fn locked_by(&self, user: u32) -> u64
+        ensures value { result ≡ locked_by_user user self.now.table }
+        ensures few { result ≤ locked_pages self.now.table }
+    {
+        if self.locked == 0 {
+            return 0;
+        }
+        locked_in(&self.table, user)
     }
 
     /// How many segments there are.
@@ -273,21 +329,21 @@ impl<P: Pager> Segments<P> {
         self.table.hide_key(seg);
     }
 
-    /// Locks or unlocks the segment's pages (SHM_LOCKED).
-    pub fn set_locked(&mut self, seg: u32, locked: bool)
+    /// Locks the segment's pages for a user, or unlocks them (SHM_LOCKED). A segment that is locked keeps its locker.
+    pub fn set_locked(&mut self, seg: u32, locker: Option<u32>)
         requires live { IsLive self.old.table seg }
         requires small { locked_pages self.old.table ≤ MOST_SHMALL }
-        requires few { locked ≡ true →
-            locked_pages (change self.old.table seg (relocked true)) + 2 ≤ length self.old.memory.frames }
-        ensures table { self.new.table ≡ change self.old.table seg (relocked locked) }
+        requires few { is_some locker ≡ true →
+            locked_pages (change self.old.table seg (relocked locker)) + 2 ≤ length self.old.memory.frames }
+        ensures table { self.new.table ≡ change self.old.table seg (relocked locker) }
         ensures only { self.new.memory ≡
-            record self.old.memory { segs = map (with_seg_lock seg locked) self.old.memory.segs } }
+            record self.old.memory { segs = map (with_seg_lock seg (is_some locker)) self.old.memory.segs } }
         ensures still { Still self.old.memory self.new.memory }
     {
         let head = self.table.value_mut(seg);
         let unlocked = self.locked - pages_locked(head);
-        head.locked = locked;
+        relock(head, locker);
         self.locked = unlocked + pages_locked(head);
-        self.store.set_locked(seg, locked);
+        self.store.set_locked(seg, locker.is_some());
     }
 }

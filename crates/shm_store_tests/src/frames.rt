@@ -103,3 +103,23 @@ fn frames_come_and_go(rt: HostRuntime) -> Result<(), Fail> {
     come_and_go(&rt, &mut frames);
     Ok(())
 }
+
+#[test]
+fn dirty_frames_are_found_in_each_block(rt: HostRuntime) -> Result<(), Fail> {
+    let mut frames = Frames::new(rt.alloc(), 200)?;
+    for seg in 0..131_u32 {
+        assert!(rt;
+            comes(&mut frames, seg, u64::from(seg) + 1),
+            "page of segment {seg}"
+        );
+    }
+    assert_eq!(rt; frames.next_dirty(0), None);
+    assert!(rt; set_bits(&mut frames, 130), "frame 130 is taken");
+    assert!(rt; set_bits(&mut frames, 65), "frame 65 is taken");
+    assert_eq!(rt; frames.next_dirty(0), Some(65));
+    assert_eq!(rt; frames.next_dirty(66), Some(130));
+    assert_eq!(rt; frames.next_dirty(131), None);
+    assert!(rt; empties(&mut frames, 65), "frame 65 is emptied");
+    assert_eq!(rt; frames.next_dirty(0), Some(130));
+    Ok(())
+}

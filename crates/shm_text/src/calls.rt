@@ -1,4 +1,4 @@
-//! The calls of a line: a word, and behind it the operands.
+//! The calls of a line: a word, and after it the operands.
 ghost use Rattle.std.specs.Prelude.{◌≡◌, ◌≤◌, ◌<◌, ◌+◌, length, take, drop, true, IfOk};
 ghost use Rattle.shm_text.specs.Form.{is_id, is_call, has_answer, is_answer_taken};
 ghost use Rattle.shm_text.specs.Calls.{verb_of, access_verb_of, control_verb_of, process_verb_of, operands, may_be_taken, id_operand, addr_operand, shmget_call, shmat_call, xadd_call, load_call, store_call, set_call, fork_call, swapoff_call, call_by, place_of, call_words};
@@ -51,7 +51,7 @@ impl Verb {
         }
     }
 
-    // The words of calls at an address, and those behind them.
+    // The words of calls at an address, and those after them.
     #[tactic(auto, unfolding(crate::specs::Calls::access_verb_of))]
     fn of_access(word: &[u8]) -> Option<Verb>
         ensures { result ≡ access_verb_of word.now }
@@ -67,7 +67,7 @@ impl Verb {
         }
     }
 
-    // The words of shmctl, and those behind them.
+    // The words of shmctl, and those after them.
     #[tactic(auto, unfolding(crate::specs::Calls::control_verb_of))]
     fn of_control(word: &[u8]) -> Option<Verb>
         ensures { result ≡ control_verb_of word.now }
@@ -105,7 +105,7 @@ impl Verb {
         }
     }
 
-    // How many operands stand behind the word.
+    // How many operands follow the word.
     fn operands(self) -> usize
         ensures { result ≡ operands self }
     {
@@ -156,7 +156,7 @@ fn mode_part(word: &[u8]) -> &[u8]
     &word[..word.len().min(3)]
 }
 
-// The part of a word behind its mode.
+// The part of a word after its mode.
 fn flags_part(word: &[u8]) -> &[u8]
     ensures { result.now ≡ drop 3 word.now }
 {
@@ -335,7 +335,7 @@ fn call_by(verb: Verb, words: &Words<'_>, index: usize) -> Result<LineCall, Faul
     }
 }
 
-// Where a call's word stands, behind a variable and `=` or not.
+// Where a call's word is, after a variable and `=` or not.
 fn place_of(taken: bool) -> usize
     ensures value { result ≡ place_of taken }
     ensures small { result ≤ 3 }

@@ -202,7 +202,7 @@ fn is_command(seen: &Seen, words: &Words<'_>) -> bool
     seen.has_limits() && !words.is(0, b"0") && !words.is(0, b"process") && !words.is(0, b"child")
 }
 
-// The command of a process, whose pid is tested behind the call. What it says is put together once, here.
+// The command of a process, whose pid is tested after the call. What it says is put together once, here.
 #[inline(always)]
 #[tactic(auto, using(crate::proofs::FirstWords::command_words))]
 fn command(seen: &Seen, words: &Words<'_>) -> Result<Option<Item>, FaultKind>

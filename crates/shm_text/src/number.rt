@@ -84,7 +84,7 @@ fn push(value: Number, radix: u32, digit: u32) -> Number
     }
 }
 
-/// Decimal digits, or hexadecimal ones behind `0x`.
+/// Decimal digits, or hexadecimal ones after `0x`.
 pub(crate) fn read_number(word: &[u8]) -> Option<Number>
     ensures { result ≡ number_of word.now }
 {

@@ -107,7 +107,7 @@ pub(crate) fn ranged_id(word: IdWord) -> Result<LineId, FaultKind>
     }
 }
 
-// The rest of a word behind its first two bytes.
+// The rest of a word after its first two bytes.
 fn behind_sign(word: &[u8]) -> &[u8]
     requires { 2 ≤ length word.now }
     ensures { result.now ≡ drop 2 word.now }
@@ -177,7 +177,7 @@ pub(crate) fn mode_word(word: &[u8]) -> Result<u16, FaultKind>
     }
 }
 
-/// What stands behind a mode: the flags of shmget, each at most once and behind a comma.
+/// What follows a mode: the flags of shmget, each at most once and after a comma.
 #[tactic(auto, unfolding(bitflags::proofs::OnLiterals::bitflags_on_literals))]
 pub(crate) fn get_flags_word(word: &[u8]) -> Result<GetFlags, FaultKind>
     ensures value { result ≡ get_flags_word word.now }
@@ -190,7 +190,7 @@ pub(crate) fn get_flags_word(word: &[u8]) -> Result<GetFlags, FaultKind>
     } else if is_word(word, b",excl") {
         Ok(GetFlags::EXCL)
     } else if is_word(word, b",creat,excl") || is_word(word, b",excl,creat") {
-        Ok(GetFlags::all())
+        Ok(GetFlags::CREAT.union(GetFlags::EXCL))
     } else {
         Err(FaultKind::BadLine)
     }
@@ -203,7 +203,7 @@ fn names(word: &[u8]) -> usize
     word.split(|b| *b == b',').count()
 }
 
-// How often a name stands in a list with commas.
+// How often a name is in a list with commas.
 fn times(word: &[u8], name: &[u8]) -> usize
     ensures { result ≡ times word.now name.now }
 {

@@ -180,7 +180,7 @@ fn room_wanted(bytes: &[u8]) -> usize
     (bytes.len() / SHORT_LINE).min(MOST_COMMANDS as usize)
 }
 
-// Puts what a line said behind what the lines above it said.
+// Appends what a line said to what the lines above it said.
 fn keep(
     processes: &mut Vec<Process>,
     kept: &mut Vec<Line>,

@@ -59,7 +59,7 @@ impl<'a> Words<'a> {
         }
     }
 
-    // Puts a word behind the others, where it has bytes and there is room.
+    // Appends a word to the others, where it has bytes and there is room.
     #[inline(always)]
     fn keep(&mut self, word: &'a [u8])
         ensures { self.new ≡ take MOST_WORDS (self.old ++ with_word word.now) }

@@ -2,8 +2,8 @@ ghost use Rattle.std.specs.Prelude.{◌≡◌};
 
 use bitflags::Flags;
 use shm_base::{
-    AccessLen, AtFlags, Call, Chunk, Cred, Errno, GetFlags, Limits, Process, Reply, Sizes, Step,
-    Tally,
+    AccessLen, AtFlags, Call, Chunk, Cred, Errno, GetFlags, Limits, Process, Reply, Rules, Sizes,
+    Step, Tally,
 };
 use shm_history::{Gauge, GaugeRefused, Keeper, ReaderSeat, Reading, System, World, gauge};
 use shm_pager::{FusePager, Pager, RamPager};
@@ -403,6 +403,7 @@ fn large(alloc: Global, frames: u64, shmall: u64) -> Result<World<RamPager>, Fai
         most_pieces: 8,
         most_processes: 1,
         most_slots: 64,
+        rules: Rules::PROFILE,
     };
     let limits = Limits::of(&sizes).ok().ok_or("the limits hold")?;
     opened(alloc, limits, vec![in alloc; RamPager::new(alloc, 64)?]?)

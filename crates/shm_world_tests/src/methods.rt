@@ -143,7 +143,7 @@ fn methods_answer(rt: HostRuntime) -> Result<(), Fail> {
     Ok(())
 }
 
-// 130 bytes over a page's seam: three calls each way, and the first byte behind the piece stops the fourth.
+// 130 bytes over the border of two pages: two calls each way. A read past the piece is stopped at its second call.
 fn each_way(machine: &mut Machine) -> Result<bool, Refusal> {
     let found = attached(machine, 8192)?;
     let at = 0x40000000;
@@ -168,7 +168,7 @@ fn each_way(machine: &mut Machine) -> Result<bool, Refusal> {
             && past[64] == 9
             && none.done == 0
             && none.stopped.is_none()
-            && machine.system.calls() == 10,
+            && machine.system.calls() == 8,
     )
 }
 

@@ -1,4 +1,4 @@
-//! The lines of a script are run, and the record of each step is put behind a text.
+//! The lines of a script are run, and the record of each step is appended to a text.
 ghost use Rattle.std.specs.Prelude.{◌≡◌, ◌++◌, List, ℕ, map, IfOk, OnOk, string_bytes};
 ghost use Rattle.shm_report.specs.declared.action.Action.TheVariants.{Start};
 ghost use Rattle.shm_laws.specs.Worlds.{IsWorldSound};
@@ -39,7 +39,7 @@ fn run_line<P: Pager>(
     }
 }
 
-// Puts the record of a step behind a text, where the step is to be shown.
+// Appends the record of a step to a text, where the step is to be shown.
 fn push_shown<P: Pager>(
     alloc: Global,
     text: &mut String,
@@ -59,7 +59,7 @@ fn push_shown<P: Pager>(
     Ok(())
 }
 
-// Runs the lines of a script in file order, and puts the records of their steps behind a text.
+// Runs the lines of a script in file order, and appends the records of their steps to a text.
 fn push_lines<P: Pager>(
     alloc: Global,
     text: &mut String,

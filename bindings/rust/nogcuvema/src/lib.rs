@@ -27,16 +27,50 @@ pub const PRIVATE: u32 = 0;
 pub const CREAT: u32 = 512;
 /// `IPC_EXCL`, for [`Machine::get`].
 pub const EXCL: u32 = 1024;
+/// `SHM_HUGETLB`, for [`Machine::get`]: it counts by [`rules::HUGE_IS_REFUSED`] alone.
+pub const HUGETLB: u32 = 2048;
+/// `SHM_NORESERVE`, for [`Machine::get`]: it counts only with [`HUGETLB`].
+pub const NORESERVE: u32 = 4096;
 /// `SHM_RDONLY`, for [`Machine::attach`].
 pub const RDONLY: u32 = 4096;
 /// `SHM_RND`, for [`Machine::attach`].
 pub const RND: u32 = 8192;
 /// `SHM_REMAP`, for [`Machine::attach`].
 pub const REMAP: u32 = 16384;
+/// `SHM_EXEC`, for [`Machine::attach`]: it counts by [`rules::EXEC_IS_ASKED`] alone.
+pub const EXEC: u32 = 32768;
 /// In [`Segment::status`]: the segment is marked, and goes with its last piece.
 pub const DEST: u32 = 512;
 /// In [`Segment::status`]: the segment's pages stay in their frames.
 pub const LOCKED: u32 = 1024;
+
+/// Rules of Linux where it answers otherwise than this project's profile, for [`Limits::rules`]. `docs/MACHINE.md` has each.
+pub mod rules {
+    /// EINVAL in place of EIDRM.
+    pub const REMOVED_IS_INVALID: u64 = 1;
+    /// [`get`](crate::Machine::get) of a segment that exists: an execute bit of the mode asks for one, EACCES.
+    pub const EXECUTE_IS_ASKED: u64 = 2;
+    /// A fork sets the attach time and the last pid of each segment that the child inherits.
+    pub const FORK_MARKS: u64 = 4;
+    /// What is left of a piece that is cut, and a part with another protection, is attached anew.
+    pub const REST_IS_ATTACHED: u64 = 8;
+    /// [`attach`](crate::Machine::attach): ENOMEM for a range that ends above `0x7ffffffff000`.
+    pub const END_IS_ENOMEM: u64 = 16;
+    /// [`attach`](crate::Machine::attach): EPERM below `0x10000` for all but user 0.
+    pub const LOW_IS_EPERM: u64 = 32;
+    /// [`set`](crate::Machine::set): EINVAL for user or group 2^32 - 1.
+    pub const NO_LAST_USER: u64 = 64;
+    /// [`attach`](crate::Machine::attach): ENOMEM in place of EMFILE, and wherever as many pieces exist as are allowed.
+    pub const PIECES_ARE_ENOMEM: u64 = 128;
+    /// [`lock`](crate::Machine::lock): `memlock` is a limit of each user but 0, EPERM where it is 0.
+    pub const LOCKS_BY_USER: u64 = 256;
+    /// [`attach`](crate::Machine::attach): [`EXEC`](crate::EXEC) asks for an execute bit, EACCES.
+    pub const EXEC_IS_ASKED: u64 = 512;
+    /// [`get`](crate::Machine::get): [`HUGETLB`](crate::HUGETLB) is EPERM, or ENOMEM for user 0 and group 0.
+    pub const HUGE_IS_REFUSED: u64 = 1024;
+    /// All of them.
+    pub const LINUX: u64 = 2047;
+}
 
 /// Why a call was not done. The number is that of the C header: errno(3)'s by Linux's numbers, 1007 for SIGBUS, 1011 for
 /// SIGSEGV, and from 2001 on what is no answer to a guest.
@@ -158,6 +192,8 @@ pub struct Limits {
     pub most_processes: u64,
     /// The most slots of a swap area, 1 to 2^28.
     pub most_slots: u64,
+    /// The rules of Linux that hold, a sum of [`rules`]; 0: none, the profile's.
+    pub rules: u64,
 }
 
 impl Default for Limits {
@@ -172,6 +208,7 @@ impl Default for Limits {
             most_pieces: 0,
             most_processes: 0,
             most_slots: 0,
+            rules: 0,
         }
     }
 }
@@ -339,7 +376,7 @@ impl Machine {
     /// Opens a machine with 1 to 8 swap areas. Its processes are declared here, children included.
     ///
     /// # Errors
-    /// 2011 to 2018 for the first limit that is out of its range; [`Errno::OUT_OF_RANGE`] for a failure of a side that is
+    /// 2011 to 2019 for the first limit that is out of its range; [`Errno::OUT_OF_RANGE`] for a failure of a side that is
     /// not there, or of call 0; 2021 to 2024 for areas and processes, as the C header says; [`Errno::NO_MEMORY`].
     pub fn open(limits: &Limits, areas: &[Area], processes: &[Process]) -> Answer<Machine> {
         let limits = raw::Limits {
@@ -351,6 +388,7 @@ impl Machine {
             most_pieces: limits.most_pieces,
             most_processes: limits.most_processes,
             most_slots: limits.most_slots,
+            rules: limits.rules,
         };
         let failures: Vec<raw::Failure> = (0_u32..)
             .zip(areas)
@@ -397,7 +435,7 @@ impl Machine {
     /// shmget(2): the identifier of the segment with this key, or of a new one.
     ///
     /// # Errors
-    /// EEXIST, EINVAL, EACCES, ENOENT, ENOSPC, ENOMEM, ESRCH.
+    /// EEXIST, EINVAL, EACCES, ENOENT, ENOSPC, ENOMEM, ESRCH, and EPERM by [`rules::HUGE_IS_REFUSED`].
     pub fn get(&mut self, pid: u32, key: u32, size: u64, mode: u32, flags: u32) -> Answer<i32> {
         let mut id = 0;
         done(unsafe { raw::nog_get(&mut self.handle, pid, key, size, mode, flags, &mut id) })?;
@@ -407,7 +445,7 @@ impl Machine {
     /// shmat(2): the address at which the segment is attached; where `addr` is 0 the machine chooses it.
     ///
     /// # Errors
-    /// EINVAL, EIDRM, EACCES, ENOMEM, EMFILE, ESRCH.
+    /// EINVAL, EIDRM, EACCES, ENOMEM, EMFILE, ESRCH, and EPERM by [`rules::LOW_IS_EPERM`].
     pub fn attach(&mut self, pid: u32, id: i32, addr: u64, flags: u32) -> Answer<u64> {
         let mut at = 0;
         done(unsafe { raw::nog_attach(&mut self.handle, pid, id, addr, flags, &mut at) })?;
@@ -490,6 +528,37 @@ impl Machine {
         Ok(before)
     }
 
+    /// Puts 1 to 64 bytes in the place of others in one step, and those into `before`, which has as many.
+    ///
+    /// # Errors
+    /// SIGSEGV, SIGBUS, ESRCH, and OUT_OF_RANGE for another length.
+    pub fn exchange(&mut self, pid: u32, addr: u64, bytes: &[u8], before: &mut [u8]) -> Answer<()> {
+        done(unsafe {
+            raw::nog_exchange(&mut self.handle, pid, addr, bytes.as_ptr(), bytes.len(), before.as_mut_ptr(), before.len())
+        })
+    }
+
+    /// As [`Machine::exchange`], but only if the bytes that are there are the expected ones. `before` shows those that were
+    /// there in both cases. The three have as many bytes.
+    ///
+    /// # Errors
+    /// SIGSEGV, SIGBUS, ESRCH, and OUT_OF_RANGE for another length.
+    pub fn compare_exchange(&mut self, pid: u32, addr: u64, expected: &[u8], bytes: &[u8], before: &mut [u8]) -> Answer<()> {
+        done(unsafe {
+            raw::nog_compare_exchange(
+                &mut self.handle,
+                pid,
+                addr,
+                expected.as_ptr(),
+                expected.len(),
+                bytes.as_ptr(),
+                bytes.len(),
+                before.as_mut_ptr(),
+                before.len(),
+            )
+        })
+    }
+
     /// fork(2): a declared child is born, with the caller's user, group and pieces.
     ///
     /// # Errors
@@ -563,7 +632,7 @@ impl Machine {
     /// mprotect(2): makes a range, rounded up to whole pages, writable or read-only. It is no call.
     ///
     /// # Errors
-    /// ESRCH, EINVAL, and ENOMEM or EACCES for a page; those below that page have changed then, as on Linux.
+    /// ESRCH, EINVAL, SPENT, and ENOMEM or EACCES for a page; those below that page have changed then, as on Linux.
     pub fn protect(&mut self, pid: u32, addr: u64, len: u64, is_writable: bool) -> Answer<()> {
         done(unsafe { raw::nog_protect(&mut self.handle, pid, addr, len, u32::from(is_writable)) })
     }
@@ -584,7 +653,7 @@ impl Machine {
         })
     }
 
-    /// Reads bytes of any length, by loads of 64 bytes.
+    /// Reads bytes of any length, by a load for each page.
     ///
     /// # Errors
     /// As [`Machine::load`], with how many bytes were read before.
@@ -594,13 +663,23 @@ impl Machine {
         stopped(code, count)
     }
 
-    /// Writes bytes of any length, by stores of 64 bytes.
+    /// Writes bytes of any length, by a store for each page.
     ///
     /// # Errors
     /// As [`Machine::store`], with how many bytes were written before: they stay written.
     pub fn write(&mut self, pid: u32, addr: u64, bytes: &[u8]) -> Result<(), Stopped> {
         let mut count = 0;
         let code = unsafe { raw::nog_write(&mut self.handle, pid, addr, bytes.as_ptr(), bytes.len(), &mut count) };
+        stopped(code, count)
+    }
+
+    /// Copies bytes of a process to a process, which may be the same; the ranges may overlap.
+    ///
+    /// # Errors
+    /// As [`Machine::store`], else as [`Machine::load`], with how many bytes were copied before; and NO_MEMORY, with none.
+    pub fn copy(&mut self, from: u32, from_addr: u64, to: u32, to_addr: u64, len: u64) -> Result<(), Stopped> {
+        let mut count = 0;
+        let code = unsafe { raw::nog_copy(&mut self.handle, from, from_addr, to, to_addr, len, &mut count) };
         stopped(code, count)
     }
 
@@ -702,6 +781,14 @@ impl Machine {
     pub fn failed_at(&mut self, pid: u32, addr: u64, len: u64, is_write: bool) -> Option<u64> {
         let mut at = 0;
         let code = unsafe { raw::nog_failed_at(&mut self.handle, pid, addr, len, u32::from(is_write), &mut at) };
+        (code == 0).then_some(at)
+    }
+
+    /// Where an access was a SIGBUS, asked right after it: the address of its first byte whose page is in no frame, if each
+    /// byte before it is attached. None where there is no such byte.
+    pub fn absent_at(&mut self, pid: u32, addr: u64, len: u64) -> Option<u64> {
+        let mut at = 0;
+        let code = unsafe { raw::nog_absent_at(&mut self.handle, pid, addr, len, &mut at) };
         (code == 0).then_some(at)
     }
 

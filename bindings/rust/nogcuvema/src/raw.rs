@@ -19,6 +19,7 @@ pub struct Limits {
     pub most_pieces: u64,
     pub most_processes: u64,
     pub most_slots: u64,
+    pub rules: u64,
 }
 
 #[repr(C)]
@@ -137,6 +138,8 @@ extern "C" {
     pub fn nog_load(machine: *mut Handle, pid: u32, addr: u64, bytes: *mut u8, len: usize) -> u32;
     pub fn nog_store(machine: *mut Handle, pid: u32, addr: u64, bytes: *const u8, len: usize) -> u32;
     pub fn nog_add(machine: *mut Handle, pid: u32, addr: u64, add: u64, before: *mut u64) -> u32;
+    pub fn nog_exchange(machine: *mut Handle, pid: u32, addr: u64, bytes: *const u8, len: usize, before: *mut u8, before_len: usize) -> u32;
+    pub fn nog_compare_exchange(machine: *mut Handle, pid: u32, addr: u64, expected: *const u8, expected_len: usize, bytes: *const u8, len: usize, before: *mut u8, before_len: usize) -> u32;
     pub fn nog_fork(machine: *mut Handle, pid: u32, child: u32) -> u32;
     pub fn nog_exec(machine: *mut Handle, pid: u32) -> u32;
     pub fn nog_exit(machine: *mut Handle, pid: u32) -> u32;
@@ -159,6 +162,8 @@ extern "C" {
     pub fn nog_piece_at(machine: *mut Handle, pid: u32, index: u32, piece: *mut Piece) -> u32;
     pub fn nog_process_at(machine: *mut Handle, index: u32, process: *mut Process) -> u32;
     pub fn nog_failed_at(machine: *mut Handle, pid: u32, addr: u64, len: u64, is_write: u32, at: *mut u64) -> u32;
+    pub fn nog_absent_at(machine: *mut Handle, pid: u32, addr: u64, len: u64, at: *mut u64) -> u32;
+    pub fn nog_copy(machine: *mut Handle, from: u32, from_addr: u64, to: u32, to_addr: u64, len: u64, done: *mut u64) -> u32;
     pub fn nog_calls(machine: *mut Handle, calls: *mut u64) -> u32;
     pub fn nog_text(code: u32, text: *mut u8, size: usize, len: *mut usize) -> u32;
     pub fn nog_version() -> u32;

@@ -1,6 +1,6 @@
 //! What the cover hands on, by the rules; and that its structs are the library's.
 use nogcuvema::{raw, Area, Errno, Failure, Limits, Machine, Piece, Process, Segment, State, Usage};
-use nogcuvema::{CREAT, EXCL, LOCKED, PRIVATE, RDONLY};
+use nogcuvema::{rules, CREAT, EXCL, EXEC, HUGETLB, LOCKED, NORESERVE, PRIVATE, RDONLY};
 use std::mem::size_of;
 
 fn machine() -> Machine {
@@ -37,7 +37,7 @@ macro_rules! same {
 #[test]
 fn the_structs_are_the_librarys() {
     same!(0, raw::Handle, is_open kept);
-    same!(1, raw::Limits, shmmax shmmni shmall frames memlock most_pieces most_processes most_slots);
+    same!(1, raw::Limits, shmmax shmmni shmall frames memlock most_pieces most_processes most_slots rules);
     same!(2, raw::Area, kind slots);
     same!(3, raw::Failure, area side is_write unused call);
     same!(4, raw::Process, pid is_born uid gid);
@@ -110,7 +110,7 @@ fn bytes_are_those_that_were_stored() {
     machine.store(1, at + 1, &[0xff]).unwrap();
     assert_eq!(machine.add(1, at, 0), Ok(0xff02));
     let stopped = machine.write(1, at + 8192 - 70, &[1; 100]).unwrap_err();
-    assert_eq!((stopped.errno, stopped.done), (Errno::SIGSEGV, 64));
+    assert_eq!((stopped.errno, stopped.done), (Errno::SIGSEGV, 70));
     assert_eq!(machine.load(1, at, &mut [0; 65]), Err(Errno::OUT_OF_RANGE));
 }
 
@@ -173,6 +173,9 @@ fn what_does_not_open_says_why() {
         (Limits { most_slots: 1, ..usual }, 2016),
         (Limits { most_pieces: 1, ..usual }, 2017),
         (Limits { most_pieces: 1, most_processes: 1, ..usual }, 2018),
+        (Limits { rules: 2048, ..usual }, 2019),
+        (Limits { rules: 1 << 63, ..usual }, 2019),
+        (Limits { shmmax: (1 << 24) + 1, rules: rules::LINUX, ..usual }, 2011),
     ];
     for (limits, code) in bad {
         assert_eq!(open(&limits, &area, &[]), Some(code));
@@ -240,6 +243,28 @@ fn a_range_is_unmapped() {
 }
 
 #[test]
+fn bytes_are_exchanged_and_copied() {
+    let (mut machine, _, at) = attached();
+    let mut before = [0; 4];
+    assert_eq!(machine.store(1, at, b"abcdefgh"), Ok(()));
+    assert_eq!(machine.exchange(1, at + 2, b"wxyz", &mut before), Ok(()));
+    assert_eq!(&before, b"cdef");
+    assert_eq!(machine.compare_exchange(1, at, b"abwx", b"0123", &mut before), Ok(()));
+    assert_eq!(&before, b"abwx");
+    assert_eq!(machine.compare_exchange(1, at, b"abwx", b"4567", &mut before), Ok(()));
+    assert_eq!(&before, b"0123");
+    assert_eq!(machine.exchange(1, at, b"abc", &mut before), Err(Errno::OUT_OF_RANGE));
+    assert_eq!(machine.exchange(1, at + 8 * PAGE, b"abcd", &mut before), Err(Errno::SIGSEGV));
+    assert_eq!(&before, b"0123");
+    assert_eq!(machine.copy(1, at, 1, at + 2, 6), Ok(()));
+    let mut found = [0; 8];
+    assert_eq!(machine.load(1, at, &mut found), Ok(()));
+    assert_eq!(&found, b"010123yz");
+    assert_eq!(machine.absent_at(1, at, 2 * PAGE), Some(at + PAGE));
+    assert_eq!(machine.absent_at(1, at, PAGE), None);
+}
+
+#[test]
 fn a_range_is_protected() {
     let (mut machine, id, at) = attached();
     assert_eq!(machine.protect(1, at + PAGE, PAGE, false), Ok(()));
@@ -248,6 +273,7 @@ fn a_range_is_protected() {
     assert_eq!(machine.failed_at(1, at + PAGE - 4, 8, true), Some(at + PAGE));
     assert_eq!(machine.failed_at(1, at + PAGE - 4, 8, false), None);
     assert_eq!(machine.failed_at(1, at, 9 * PAGE, false), Some(at + 8 * PAGE));
+    assert_eq!(machine.absent_at(1, at + 9 * PAGE, 1), None);
     assert_eq!(machine.protect(1, at + PAGE, PAGE, true), Ok(()));
     assert_eq!(machine.store(1, at + PAGE, &[1]), Ok(()));
     let other = machine.attach(1, id, 0, RDONLY).unwrap();
@@ -307,4 +333,103 @@ fn a_snapshot_goes_on_alone() {
     let mut bytes = [0; 6];
     saved.load(1, at, &mut bytes).unwrap();
     assert_eq!(&bytes, b"before");
+}
+
+fn machine_by(rules: u64) -> Machine {
+    let limits = Limits { rules, ..Limits::default() };
+    let processes = [Process::live(1, 100, 200), Process::live(2, 0, 0), Process::child(3), Process::live(4, 300, 300)];
+    Machine::open(&limits, &[Area::ram(64)], &processes).expect("such a machine opens")
+}
+
+/// In the profile, by one rule, and by all.
+fn each(rule: u64) -> [(Machine, bool); 3] {
+    [0, rule, rules::LINUX].map(|number| (machine_by(number), number != 0))
+}
+
+fn by<T>(holds: bool, rule: T, profile: T) -> T {
+    if holds {
+        rule
+    } else {
+        profile
+    }
+}
+
+#[test]
+fn a_destroyed_segment_is_invalid() {
+    for (mut machine, holds) in each(rules::REMOVED_IS_INVALID) {
+        let id = machine.get(1, PRIVATE, 1, 0o600, 0).unwrap();
+        machine.remove(1, id).unwrap();
+        assert_eq!(machine.stat(1, id), Err(by(holds, Errno::EINVAL, Errno::EIDRM)));
+    }
+}
+
+#[test]
+fn execution_is_asked_for() {
+    for (mut machine, holds) in each(rules::EXECUTE_IS_ASKED | rules::EXEC_IS_ASKED) {
+        let id = machine.get(1, 7, 1, 0o600, CREAT).unwrap();
+        assert_eq!(machine.get(1, 7, 1, 0o100, 0), by(holds, Err(Errno::EACCES), Ok(id)));
+        assert_eq!(machine.attach(1, id, 0, EXEC), by(holds, Err(Errno::EACCES), Ok(0x4000_0000)));
+        assert_eq!(machine.attach(2, id, 0, EXEC), Ok(0x4000_0000));
+    }
+}
+
+#[test]
+fn huge_pages_are_refused() {
+    for (mut machine, holds) in each(rules::HUGE_IS_REFUSED) {
+        assert_eq!(machine.get(1, PRIVATE, 1, 0o600, HUGETLB), by(holds, Err(Errno::EPERM), Ok(0)));
+        assert_eq!(machine.get(2, PRIVATE, 1, 0o600, HUGETLB), by(holds, Err(Errno::ENOMEM), Ok(1)));
+        assert_eq!(machine.get(2, PRIVATE, 1, 0o600, HUGETLB | NORESERVE), Ok(by(holds, 0, 2)));
+    }
+}
+
+#[test]
+fn addresses_out_of_range_are_named() {
+    for (mut machine, holds) in each(rules::LOW_IS_EPERM | rules::END_IS_ENOMEM) {
+        let id = machine.get(1, PRIVATE, 1, 0o600, 0).unwrap();
+        assert_eq!(machine.attach(1, id, 0x1000, 0), Err(by(holds, Errno::EPERM, Errno::EINVAL)));
+        assert_eq!(machine.attach(1, id, 0x7fff_ffff_f000, 0), Err(by(holds, Errno::ENOMEM, Errno::EINVAL)));
+    }
+}
+
+#[test]
+fn the_last_user_owns_nothing() {
+    for (mut machine, holds) in each(rules::NO_LAST_USER) {
+        let id = machine.get(1, PRIVATE, 1, 0o600, 0).unwrap();
+        assert_eq!(machine.set(1, id, u32::MAX, 100, 0o600), by(holds, Err(Errno::EINVAL), Ok(())));
+    }
+}
+
+#[test]
+fn each_user_has_a_limit_of_locks() {
+    for (mut machine, holds) in each(rules::LOCKS_BY_USER) {
+        let id = machine.get(1, PRIVATE, 1, 0o600, 0).unwrap();
+        let other = machine.get(4, PRIVATE, 1, 0o600, 0).unwrap();
+        assert_eq!(machine.lock(1, id), Ok(()));
+        assert_eq!(machine.lock(4, other), by(holds, Ok(()), Err(Errno::ENOMEM)));
+    }
+}
+
+#[test]
+fn too_many_pieces_are_no_memory() {
+    for (mut machine, holds) in each(rules::PIECES_ARE_ENOMEM) {
+        let id = machine.get(1, PRIVATE, 1, 0o600, 0).unwrap();
+        for _ in 0..256 {
+            machine.attach(1, id, 0, 0).unwrap();
+        }
+        assert_eq!(machine.attach(1, id, 0, 0), Err(by(holds, Errno::ENOMEM, Errno::EMFILE)));
+    }
+}
+
+#[test]
+fn a_fork_and_a_cut_attach_anew() {
+    for (mut machine, holds) in each(rules::FORK_MARKS | rules::REST_IS_ATTACHED) {
+        let id = machine.get(1, PRIVATE, 2 * PAGE, 0o600, 0).unwrap();
+        let at = machine.attach(1, id, 0, 0).unwrap();
+        machine.fork(1, 3).unwrap();
+        assert_eq!(machine.stat(1, id).unwrap().atime, by(holds, 3, 2));
+        machine.protect(1, at, PAGE, false).unwrap();
+        assert_eq!(machine.stat(1, id).unwrap().atime, by(holds, 5, 2));
+        machine.unmap(3, at, PAGE).unwrap();
+        assert_eq!(machine.stat(1, id).unwrap().atime, by(holds, 6, 2));
+    }
 }

@@ -73,6 +73,7 @@ returns-in-Range c =
     record {
       runners = rw c.in-Range.is ch.runners;
       count = ch.count;
+      others = ch.others;
       most = ch.most;
       sound = λ extra s.
           let counts = λ (id : ℕ). cut_counts from to (counted t id) (counted c.recount.new.tables id) id c.met.result.now w.space.pieces same (c.recount.ensures.counts id) in
@@ -126,6 +127,7 @@ returns-in-Attach c =
     record {
       runners = rw c.in-Attach.is ch.runners;
       count = ch.count;
+      others = ch.others;
       most = ch.most;
       sound = λ extra s.
           sound-changed extra es t c.release.new.self i w v f c.requires.there (stands b.After-index_mut) refl c.take_at.ensures.flat (ap (λ (s : SpaceView). s.most) c.take_at.ensures.kept) s

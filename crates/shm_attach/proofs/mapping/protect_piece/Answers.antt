@@ -1,10 +1,11 @@
-use Rattle.shm_attach.proofs.Names.{true≢false, most_at, ◌≡◌, ◌∙◌, ◌<◌, true, false, List, length, Some, get_or, ap, sym, subst, arith, common_steps, All, get, covering, cut, bare, runners_view, pieces_at, stored_at, size_in, HasTable}
+use Rattle.shm_attach.proofs.Names.{true≢false, most_at, ◌≡◌, ◌∙◌, ◌<◌, ◌+◌, length-map, option_to_list, ℕ, Option, bare_all, true, false, List, length, Some, get_or, ap, sym, subst, arith, common_steps, All, get, covering, cut, bare, runners_view, pieces_at, stored_at, size_in, HasTable}
 use Rattle.shm_base.specs.State.{Piece}
 use Rattle.shm_base.specs.Access.{end_of}
 use Rattle.shm_base.specs.Space.{inserted}
 use Rattle.shm_base.specs.Mapping.{has_protection, low_end, high_end, part_between, turned, replaced}
 use Rattle.shm_areas.specs.declared.piece.Piece.{Piece as Stored}
-use Rattle.shm_attach.specs.Mapping.{AreNow, KeepsOwn}
+use Rattle.shm_attach.specs.Mapping.{AreNow, KeepsOwn, noted, split_in}
+use Rattle.shm_attach.proofs.Growing.{never-fewer, length-turned, grows}
 use Rattle.shm_attach.proofs.HavingTables.{pieces_at-bare, has_table, tables-passes, tables-passed}
 use Rattle.shm_attach.proofs.Protecting.{replaced_by, IsTurnable, protects-refused, protects-turned, IsLow, IsHigh, now-same, pieces-now, low_is, high_is, sized_by, stretch_of, part_replaces}
 use Rattle.shm_attach.proofs.Renewed.{own-same, turned-named, turned-has}
@@ -25,8 +26,8 @@ returns-then-not-piece-clause-now c = same (goal.at.returns-then-not-piece-claus
 pub returns-then-piece-writable-clause-now : goal.returns-then-piece-writable-clause-now
 returns-then-piece-writable-clause-now c = same (goal.at.returns-then-piece-writable-clause-now c).Start
 
-pub returns-then-count_outside-most-clause-now : goal.returns-then-count_outside-most-clause-now
-returns-then-count_outside-most-clause-now c = same (goal.at.returns-then-count_outside-most-clause-now c).Start
+pub returns-then-left-most-clause-now : goal.returns-then-left-most-clause-now
+returns-then-left-most-clause-now c = same (goal.at.returns-then-left-most-clause-now c).Start
 
 pub returns-in_default-clause-own : goal.returns-in_default-clause-own
 returns-in_default-clause-own c = own-same (pieces_at (runners_view c.args.processes.now.entries) c.args.index)
@@ -37,8 +38,8 @@ returns-then-not-piece-clause-own c = own-same (pieces_at (runners_view c.args.p
 pub returns-then-piece-writable-clause-own : goal.returns-then-piece-writable-clause-own
 returns-then-piece-writable-clause-own c = own-same (pieces_at (runners_view c.args.processes.now.entries) c.args.index)
 
-pub returns-then-count_outside-most-clause-own : goal.returns-then-count_outside-most-clause-own
-returns-then-count_outside-most-clause-own c = own-same (pieces_at (runners_view c.args.processes.now.entries) c.args.index)
+pub returns-then-left-most-clause-own : goal.returns-then-left-most-clause-own
+returns-then-left-most-clause-own c = own-same (pieces_at (runners_view c.args.processes.now.entries) c.args.index)
 
 -- WHERE A PART CHANGES
 
@@ -98,15 +99,15 @@ low-value c = c.low_end-low.ensures ∙ ap (low_end c.args.writable c.args.at c.
 high-value : (c : After-high_end-high) → c.high_end-high.result ≡ high_end c.args.writable c.args.at c.args.to (bare c.in-Some.piece) (pieces_at (runners_view c.args.processes.now.entries) c.args.index)
 high-value c = c.high_end-high.ensures ∙ ap (high_end c.args.writable c.args.at c.args.to (bare c.in-Some.piece)) c.space_at-space.ensures.flat
 
-pub returns-then-count_outside-most-clause-protects : goal.returns-then-count_outside-most-clause-protects
-returns-then-count_outside-most-clause-protects c = λ next.
+pub returns-then-left-most-clause-protects : goal.returns-then-left-most-clause-protects
+returns-then-left-most-clause-protects c = λ next.
     let es = c.args.processes.now.entries in
     let i = c.args.index in
-    let b = (goal.at.returns-then-count_outside-most-clause-protects c).After-high_end-high in
-    let count = rw (low-value b, high-value b, c.space_at-space.ensures.flat) at c.count_outside.ensures in
+    let b = (goal.at.returns-then-left-most-clause-protects c).After-high_end-high in
+    let count = rw (low-value b, high-value b, c.space_at-space.ensures.flat) at c.count_outside-left.ensures in
     let most : c.most.result ≡ most_at es i = c.most.ensures ∙ c.space_at-space.ensures.most in
     protects-refused (most_at es i) c.args.writable c.args.at c.args.to (bare c.in-Some.piece) (pieces_at (runners_view es) i) next (turnable b)
-    (omega (arith, count, most, c.if-count_outside-most.true))
+    (omega (arith, count, most, c.if-left-most.true))
 
 pub returns-clause-now : goal.returns-clause-now
 returns-clause-now c =
@@ -142,6 +143,21 @@ returns-clause-own c =
       pages = λ seg page all. turned-has seg page c.args.writable c.args.at c.args.to p ps arranged (found b) c.requires.range.order c.requires.range.from_page c.requires.range.to_page all;
     }
 
+-- the segment that is named where the piece is split
+split : (c : After-high_end-high) (left : ℕ) (o : Option ℕ) → left ≡ length (cut c.low_end-low.result c.high_end-high.result (bare_all c.space_at-space.result.now.pieces))
+    → option_to_list o ≡ split_in c.in-Some.piece.seg (length c.space_at-space.result.now.pieces) (left + 1)
+    → option_to_list o
+    ≡ split_in c.in-Some.piece.seg (length (pieces_at (runners_view c.args.processes.now.entries) c.args.index))
+    (length (turned c.args.writable c.args.at c.args.to (bare c.in-Some.piece) (pieces_at (runners_view c.args.processes.now.entries) c.args.index)))
+split c left o count named =
+    let ps = pieces_at (runners_view c.args.processes.now.entries) c.args.index in
+    let p = bare c.in-Some.piece in
+    let all = turned c.args.writable c.args.at c.args.to p ps in
+    let cuts = rw (low-value c, high-value c, c.space_at-space.ensures.flat) at count in
+    let before : length c.space_at-space.result.now.pieces ≡ length ps = sym (length-map c.space_at-space.result.now.pieces bare) ∙ ap length c.space_at-space.ensures.flat in
+    let after : left + 1 ≡ length all = omega (arith, cuts, length-turned c.args.writable c.args.at c.args.to p ps) in
+    named ∙ ap (λ n. split_in p.seg n (left + 1)) before ∙ ap (λ n. split_in p.seg (length ps) n) after
+
 pub returns-clause-protects : goal.returns-clause-protects
 returns-clause-protects c = λ next.
     let es = c.args.processes.now.entries in
@@ -154,9 +170,31 @@ returns-clause-protects c = λ next.
     let at = c.low_end-low.result in
     let end = c.high_end-high.result in
     let b = (goal.at.returns-clause-protects c).After-high_end-high in
-    let count = rw (low-value b, high-value b, c.space_at-space.ensures.flat) at c.count_outside.ensures in
+    let count = rw (low-value b, high-value b, c.space_at-space.ensures.flat) at c.count_outside-left.ensures in
     let most : c.most.result ≡ most_at es i = c.most.ensures ∙ c.space_at-space.ensures.most in
     let now = pieces-now es fs t c.renew.new.tables i _ c.requires.there c.renew.ensures in
-    protects-turned (most_at es i) w c.args.at c.args.to p ps next (turnable b) (omega (arith, count, most, c.if-count_outside-most.false))
-    ∙ ap (λ n. next n (turned w c.args.at c.args.to p ps)) (sym c.end-2.ensures)
-    ∙ ap (λ qs. next c.end-2.result qs) (sym (now ∙ left b c.part_between-part.result c.part_between-part.ensures.flat))
+    let named = split b c.count_outside-left.result c.split_by-split.result c.count_outside-left.ensures c.split_by-split.ensures in
+    protects-turned (most_at es i) w c.args.at c.args.to p ps next (turnable b) (omega (arith, count, most, c.if-left-most.false))
+    ∙ ap (λ n. noted (split_in p.seg (length ps) (length (turned w c.args.at c.args.to p ps))) (next n (turned w c.args.at c.args.to p ps))) (sym c.end-2.ensures)
+    ∙ ap (λ qs. noted (split_in p.seg (length ps) (length (turned w c.args.at c.args.to p ps))) (next c.end-2.result qs)) (sym (now ∙ left b c.part_between-part.result c.part_between-part.ensures.flat))
+    ∙ ap (λ ids. noted ids (next c.end-2.result (pieces_at (runners_view fs) i))) (sym named)
+
+pub returns-then-piece-writable-clause-grows : goal.returns-then-piece-writable-clause-grows
+returns-then-piece-writable-clause-grows c = record { more = omega arith; room = tt }
+
+pub returns-clause-grows : goal.returns-clause-grows
+returns-clause-grows c =
+    let es = c.args.processes.now.entries in
+    let fs = c.renew.new.processes.entries in
+    let i = c.args.index in
+    let ps = pieces_at (runners_view es) i in
+    let w = c.args.writable in
+    let p = bare c.in-Some.piece in
+    let b = (goal.at.returns-clause-grows c).After-high_end-high in
+    let now = pieces-now es fs c.args.tables.now c.renew.new.tables i _ c.requires.there c.renew.ensures ∙ left b c.part_between-part.result c.part_between-part.ensures.flat in
+    let count = rw (low-value b, high-value b, c.space_at-space.ensures.flat) at c.count_outside-left.ensures in
+    let most : c.most.result ≡ most_at es i = c.most.ensures ∙ c.space_at-space.ensures.most in
+    let named = split b c.count_outside-left.result c.split_by-split.result c.count_outside-left.ensures c.split_by-split.ensures in
+    grows es fs i p.seg c.split_by-split.result (turned w c.args.at c.args.to p ps) named now
+    (never-fewer w c.args.at c.args.to p ps (c.requires.sound.exact.arranged i) (found b) c.requires.range.order)
+    (omega (arith, count, most, c.if-left-most.false, length-turned w c.args.at c.args.to p ps))

@@ -1,6 +1,6 @@
-use Rattle.shm_attach.proofs.Names.{◌≡◌, ℕ, ◌+◌, ◌-◌, ◌*◌, ◌%◌, ◌≤◌, runners_view, pieces_at, most_at}
+use Rattle.shm_attach.proofs.Names.{◌≡◌, ℕ, ◌+◌, ◌-◌, ◌*◌, ◌%◌, ◌≤◌, length, runners_view, pieces_at, most_at}
 use Rattle.shm_base.specs.Mapping.{protects_from}
-use Rattle.shm_attach.specs.Mapping.{protected_between, AreNow, KeepsOwn}
+use Rattle.shm_attach.specs.Mapping.{protected_between, AreNow, KeepsOwn, noted}
 use Rattle.shm_attach.proofs.mapping.protect_range.Given as goal
 
 -- there are pages enough that are not looked at, and what they come to is what the whole comes to
@@ -10,10 +10,13 @@ invariant-loop-at l =
       left : ℕ;
       enough : l.to ≤ l.at + 4096 * left;
       page : l.at % 4096 ≡ 0;
-      whole : protects_from left (most_at l.initial.processes.entries l.index) l.writable l.to l.at (pieces_at (runners_view l.processes.entries) l.index)
+      whole : noted l.lost.segments (protects_from left (most_at l.initial.processes.entries l.index) l.writable l.to l.at (pieces_at (runners_view l.processes.entries) l.index))
           ≡ protected_between l.initial.processes.entries l.index l.writable l.from l.to;
       own : KeepsOwn (pieces_at (runners_view l.initial.processes.entries) l.index) (pieces_at (runners_view l.processes.entries) l.index);
       now : AreNow l.initial.processes.entries l.processes.entries l.initial.tables l.tables l.index (pieces_at (runners_view l.processes.entries) l.index);
+      few : length l.lost.segments ≤ length (pieces_at (runners_view l.processes.entries) l.index);
+      room : length l.lost.segments ≤ l.lost.most;
+      most : l.lost.most ≡ l.initial.lost.most;
     }
 
 abbrev pub decreases-loop-at : goal.decreases-loop-at

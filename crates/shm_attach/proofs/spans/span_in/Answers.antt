@@ -1,4 +1,4 @@
-use Rattle.shm_attach.proofs.Names.{◌≡◌, ℕ, ◌+◌, ◌-◌, ◌/◌, ◌<◌, ◌∙◌, true, get_or, sym, arith, common_steps, true≢false, bare, bare_all, IsCovering, get, size_in, HasTable}
+use Rattle.shm_attach.proofs.Names.{◌≡◌, ℕ, ◌+◌, ◌-◌, ◌/◌, ◌<◌, ◌∙◌, true, get_or, refl, sym, arith, common_steps, true≢false, bare, bare_all, IsCovering, get, size_in, HasTable}
 use Rattle.shm_base.specs.State.{Piece}
 use Rattle.shm_attach.proofs.Accesses.{wanted_in-run, wanted_in-none, wanted_in-readonly, covering-passes, in_page}
 use Rattle.shm_attach.proofs.HavingTables.{has_table, tables-passes, tables-passed, frame-true}
@@ -11,38 +11,37 @@ returns-in_err-piece-clause-none c = grind (arith, common_steps, wanted_in-none)
 pub returns-then-not-piece-clause-none : goal.returns-then-not-piece-clause-none
 returns-then-not-piece-clause-none c = grind (arith, common_steps, wanted_in-readonly)
 
-pub returns-clause-places : goal.returns-clause-places
-returns-clause-places c =
-    let p = bare c.in_ok-piece.piece in
-    let within : IsCovering c.args.addr c.in_ok-piece.piece = c.in_ok-piece.ensures.within in
+pub returns-clause-some : goal.returns-clause-some
+returns-clause-some c =
+    let q = c.in_ok-piece.piece in
+    let p = bare q in
+    let t = c.args.tables.now.slab in
+    let ps = c.args.space.now.pieces in
+    let within : IsCovering c.args.addr q = c.in_ok-piece.ensures.within in
+    let page = c.byte_at-at.result / 4096 in
     let may : c.args.write ≡ true → p.writable ≡ true =
     elim c.else-write.branch [
       | else-write-via-then-write+else-not-piece w ↦ λ _. w.if-not-piece.false
       | else-write-via-else-write w ↦ λ writes. absurd (true≢false (sym writes ∙ w.if-write.false))
     ] in
-    rw c.byte_at-at.ensures
-    (wanted_in-run c.args.write (bare_all c.args.space.now.pieces) p c.args.addr c.args.len may within.from
-    (λ b from to.
-    c.in_ok-piece.ensures.whole b (omega (arith, within.from, from))
-    (in_page p.base p.pages c.args.addr b c.args.len within.fit.aligned within.from within.to c.requires.page to)))
-
-pub returns-clause-pages : goal.returns-clause-pages
-returns-clause-pages c = λ test all.
-    let p = bare c.in_ok-piece.piece in
-    let within : IsCovering c.args.addr c.in_ok-piece.piece = c.in_ok-piece.ensures.within in
-    let page : c.byte_at-at.result / 4096 ≡ p.first_page + (c.args.addr - p.base) / 4096 = omega arith in
-    let inside : (c.args.addr - p.base) / 4096 < p.pages = omega (arith, within.from, within.to) in
-    rw page
-    (covering-passes (λ (q : Piece). (j : ℕ) → j < q.pages → test q.seg (q.first_page + j) ≡ true) c.args.addr (bare_all c.args.space.now.pieces) p all
-    (sym c.in_ok-piece.ensures.value) ((c.args.addr - p.base) / 4096) inside)
-
-pub returns-clause-frames : goal.returns-clause-frames
-returns-clause-frames c = λ at all.
-    let p = c.in_ok-piece.piece in
-    let t = c.args.tables.now.slab in
-    let ps = c.args.space.now.pieces in
-    let within : IsCovering c.args.addr p = c.in_ok-piece.ensures.within in
-    let own : HasTable t p = tables-passed t p (c.in_ok-piece.ensures.among (has_table t) (λ k d lt. tables-passes t (get_or ps k d) (c.requires.tables k d lt))) in
-    let page = c.byte_at-at.result / 4096 in
-    let inside : page < size_in (get t p.key) = omega (arith, within.from, within.to, own.pages) in
-    c.frame.ensures ∙ frame-true at (get t p.key) p.seg page own.seg (all p.key) inside
+    record {
+      places =
+          rw c.byte_at-at.ensures
+          (wanted_in-run c.args.write (bare_all ps) p c.args.addr c.args.len may within.from
+          (λ b from to.
+          c.in_ok-piece.ensures.whole b (omega (arith, within.from, from))
+          (in_page p.base p.pages c.args.addr b c.args.len within.fit.aligned within.from within.to c.requires.page to)));
+      within = omega (arith, c.byte_at-at.ensures, within.from, within.fit.aligned, c.requires.page);
+      size = refl;
+      low = omega (arith, within.to, within.fit.within);
+      pages = λ test all.
+          let own : page ≡ p.first_page + (c.args.addr - p.base) / 4096 = omega arith in
+          let inside : (c.args.addr - p.base) / 4096 < p.pages = omega (arith, within.from, within.to) in
+          rw own
+          (covering-passes (λ (x : Piece). (j : ℕ) → j < x.pages → test x.seg (x.first_page + j) ≡ true) c.args.addr (bare_all ps) p all
+          (sym c.in_ok-piece.ensures.value) ((c.args.addr - p.base) / 4096) inside);
+      frames = λ at all.
+          let own : HasTable t q = tables-passed t q (c.in_ok-piece.ensures.among (has_table t) (λ k d lt. tables-passes t (get_or ps k d) (c.requires.tables k d lt))) in
+          let inside : page < size_in (get t q.key) = omega (arith, within.from, within.to, own.pages) in
+          c.frame.ensures ∙ frame-true at (get t q.key) q.seg page own.seg (all q.key) inside;
+    }

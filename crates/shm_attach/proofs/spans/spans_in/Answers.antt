@@ -19,6 +19,6 @@ returns-clause-spans c =
       sum = grind (arith, common_steps);
       pages = λ test all.
           let Pass : Span → Type 0 = λ s. test s.seg (page_of s) ≡ true in
-          All-cons Pass c.in-Some.first (c.in-Some-span_in.second ∷ []) (c.in-Some.ensures.pages test all)
-          (All-cons Pass c.in-Some-span_in.second [] (c.in-Some-span_in.ensures.pages test all) (All-nil Pass));
+          All-cons Pass c.in-Some.first (c.in-Some-span_in.second ∷ []) (c.in-Some.ensures.some.pages test all)
+          (All-cons Pass c.in-Some-span_in.second [] (c.in-Some-span_in.ensures.some.pages test all) (All-nil Pass));
     })

@@ -1,9 +1,50 @@
-use Rattle.shm_areas.proofs.Names.{arith, common_steps}
+use Rattle.shm_areas.proofs.Names.{◌≡◌, ◌∙◌, ◌-◌, arith, sym, ap, length, take, drop, take_all, length-drop, lowest_address, first_chosen, choose, gap_from, bare_all, List, Piece}
+use Rattle.shm_areas.specs.Arranged.{SpaceView}
+use Rattle.shm_areas.specs.Gap.{IsPassed}
 use Rattle.shm_areas.proofs.Gaps.{choose_is, gap_is_least}
+use Rattle.shm_areas.proofs.Filled.{arranged-drop, gap-behind, passed-start}
+use Rattle.shm_areas.proofs.space.Space.choose.Goals.{After-least_gap, After-start_of-start}
 use Rattle.shm_areas.proofs.space.Space.choose.Goals as goal
 
+pub least_gap-requires-clause-arranged : goal.least_gap-requires-clause-arranged
+least_gap-requires-clause-arranged c =
+    let n = c.run_in-run.result.first in
+    let ps = c.deref-2.result.now in
+    let own : ps ≡ c.self.inside.pieces.items = c.deref-2.ensures.value in
+    let rest : take (length ps - n) (drop n ps) ≡ drop n ps = take_all (length ps - n) (drop n ps) (omega (arith, length-drop n ps)) in
+    rw rest (arranged-drop lowest_address n ps (rw own c.self.invariant.0.arranged))
+
+-- where the walk begins
+start : (c : After-start_of-start) → IsPassed c.args.pages c.start_of-start.result c.self.inside.pieces.items
+start c =
+    let hint = c.self.inside.passed in
+    let known = c.self.invariant.4 in
+    rw c.start_of-start.ensures (passed-start hint.pages hint.to c.self.inside.filled c.args.pages c.self.inside.pieces.items c.requires.0 c.self.invariant.3 known.passed)
+
+pub least_gap-requires-clause-from : goal.least_gap-requires-clause-from
+least_gap-requires-clause-from c = (start (goal.at.least_gap-requires-clause-from c).After-start_of-start).high
+
+-- the walk finds what one from the first address on does
+found : (c : After-least_gap) → IsPassed c.args.pages c.start_of-start.result c.self.inside.pieces.items → c.least_gap.result ≡ gap_from c.args.pages first_chosen (bare_all c.self.inside.pieces.items)
+found c begins =
+    let n = c.run_in-run.result.first in
+    let from = c.start_of-start.result in
+    let all = c.self.inside.pieces.items in
+    let ps = c.deref-2.result.now in
+    let own : c.deref.result.now ≡ all = c.deref.ensures.value in
+    let rest : take (length ps - n) (drop n ps) ≡ drop n ps = take_all (length ps - n) (drop n ps) (omega (arith, length-drop n ps)) in
+    c.least_gap.ensures
+    ∙ ap (λ (xs : List Piece). gap_from c.args.pages from (bare_all xs)) (rest ∙ ap (λ (xs : List Piece). drop n xs) c.deref-2.ensures.value)
+    ∙ sym (gap-behind c.args.pages from c.run_in-run.result.last n all c.requires.0 c.self.invariant.0.arranged begins (rw own at c.run_in-run.ensures))
+
 pub returns-clause-value : goal.returns-clause-value
-returns-clause-value c = grind (arith, common_steps, choose_is)
+returns-clause-value c =
+    let all = c.self.inside.pieces.items in
+    found (goal.at.returns-clause-value c).After-least_gap (start (goal.at.returns-clause-value c).After-start_of-start)
+    ∙ choose_is (bare_all all) c.args.pages c.self.invariant.0.arranged
+    ∙ ap (λ (s : SpaceView). choose (bare_all s.pieces) c.args.pages) c.self.view_is
 
 pub returns-clause-least : goal.returns-clause-least
-returns-clause-least c = grind (arith, common_steps, gap_is_least)
+returns-clause-least c =
+    let all = c.self.inside.pieces.items in
+    rw (found (goal.at.returns-clause-least c).After-least_gap (start (goal.at.returns-clause-least c).After-start_of-start), ← c.self.view_is) (gap_is_least (bare_all all) c.args.pages c.self.invariant.0.arranged)

@@ -1,6 +1,8 @@
 use Rattle.shm_areas.proofs.Names.{ap, ◌∙◌, bare_all, arith, common_steps}
 use Rattle.shm_areas.specs.Arranged.{SpaceView}
 use Rattle.shm_areas.proofs.Edits.{bare_inserted, inserted_at, arranged_inserted, length_inserted}
+use Rattle.shm_areas.proofs.Filled.{filled-inserted, hint-inserted}
+use Rattle.shm_areas.proofs.Reaching.{within-more, within-inserted}
 use Rattle.shm_areas.proofs.space.Space.insert.Goals as goal
 
 pub returns-clause-kept : goal.returns-clause-kept
@@ -10,4 +12,12 @@ pub returns-clause-flat : goal.returns-clause-flat
 returns-clause-flat c = ap (λ (s : SpaceView). bare_all s.pieces) (returns-clause-kept c) ∙ bare_inserted c.args.piece c.args.self.now.pieces
 
 pub invariant_of-self : goal.invariant_of-self
-invariant_of-self c = grind (arith, common_steps, arranged_inserted, returns-clause-kept, length_inserted, returns-clause-flat)
+invariant_of-self c = (
+  grind (arith, common_steps, arranged_inserted, returns-clause-kept, length_inserted, returns-clause-flat),
+  grind (arith, common_steps),
+  rw (ap (λ (s : SpaceView). s.pieces) (returns-clause-kept c), ← c.self.view_is)
+      (within-inserted c.max-self-inside.result c.args.piece c.self.inside.pieces.items (omega (arith, c.max-self-inside.ensures))
+      (within-more c.self.inside.reach c.max-self-inside.result c.self.inside.pieces.items (omega (arith, c.max-self-inside.ensures)) c.self.invariant.2)),
+  rw (ap (λ (s : SpaceView). s.pieces) (returns-clause-kept c), ← c.self.view_is, c.raised-self-inside.ensures) (filled-inserted c.self.inside.filled c.args.piece c.self.inside.pieces.items c.requires.fit c.self.invariant.3),
+  rw (ap (λ (s : SpaceView). s.pieces) (returns-clause-kept c), ← c.self.view_is) (hint-inserted c.passed_with-self-inside.result c.args.piece c.self.inside.pieces.items (rw (← c.self.view_is) at c.passed_with-self-inside.ensures)),
+)

@@ -1,26 +1,41 @@
-use Rattle.shm_areas.proofs.Names.{ap, ◌∙◌, List, arith, rules, tests, not, lowest_address, Piece, bare_all, Arranged, stored_named}
+use Rattle.shm_areas.proofs.Names.{ap, ◌≡◌, ◌≤◌, ◌∙◌, length, List, arith, not, lowest_address, Piece, bare_all, stored_named, stored_without}
+use Rattle.std.proofs.lemmas.List.Elements.{All-filter}
+use Rattle.std.proofs.lemmas.List.Sums.{length-filter, count_by-le-length}
 use Rattle.shm_areas.specs.Arranged.{SpaceView}
 use Rattle.shm_areas.proofs.Edits.{arranged_filter, bare_filter}
-use Rattle.std.proofs.lemmas.Fn.{filter_same}
+use Rattle.shm_areas.proofs.Filled.{filled-without, hint-without}
+use Rattle.shm_areas.proofs.Origins.{taken-run}
+use Rattle.shm_areas.proofs.space.Space.take_at.Goals.{After-take_named}
 use Rattle.shm_areas.proofs.space.Space.take_at.Goals as goal
+
+-- what is left
+left : (c : After-take_named) → c.take_named.new.pieces.items ≡ stored_without c.args.addr c.args.seg c.self.inside.pieces.items
+left c =
+    let run = c.run_of_origin-run.result in
+    let own : c.deref.result.now ≡ c.self.inside.pieces.items = cc in
+    c.take_named.ensures.items
+    ∙ taken-run c.args.addr c.args.seg c.self.inside.reach run.first run.last c.self.inside.pieces.items c.self.invariant.2 (rw own at c.run_of_origin-run.ensures)
 
 pub returns-clause-kept : goal.returns-clause-kept
 returns-clause-kept c =
-    let rest = filter_same _ (λ (p : Piece). not (stored_named c.args.addr c.args.seg p)) _ (λ x b q k. search (rules, tests)) _ _ c.retain.ensures.filtered in
-    rw (← c.self.view_is) (ap (λ (ps : List Piece). record { pieces = ps; most = c.self.inside.most }) rest)
+    rw (← c.self.view_is) (ap (λ (ps : List Piece). record { pieces = ps; most = c.self.inside.most }) (left (goal.at.returns-clause-kept c).After-take_named))
 
 pub returns-clause-flat : goal.returns-clause-flat
 returns-clause-flat c = ap (λ (s : SpaceView). bare_all s.pieces) (returns-clause-kept c) ∙ (bare_filter c.args.addr c.args.seg c.args.self.now.pieces)
 
 pub invariant_of-self : goal.invariant_of-self
 invariant_of-self c =
-    let ar : Arranged lowest_address (bare_all c.args.self.now.pieces) = rw (← c.self.view_is) c.self.invariant.0.arranged in
-    let more = arranged_filter (λ (p : Piece). not (stored_named c.args.addr c.args.seg p)) lowest_address c.args.self.now.pieces ar in
-    let kept = ap (λ (s : SpaceView). s.pieces) (returns-clause-kept c) in (
+    let ps = c.self.inside.pieces.items in
+    let stays = λ (p : Piece). not (stored_named c.args.addr c.args.seg p) in
+    let fewer : length (stored_without c.args.addr c.args.seg ps) ≤ length ps = rw (length-filter stays ps) (count_by-le-length stays ps) in
+    rw (left (goal.at.invariant_of-self c).After-take_named) (
       record {
-        arranged = rw kept more;
-        few = omega (arith, c.retain.ensures.bound, c.self.invariant.0.few);
+        arranged = arranged_filter stays lowest_address ps c.self.invariant.0.arranged;
+        few = omega (arith, fewer, c.self.invariant.0.few);
         bound = c.self.invariant.0.bound;
       },
-      omega (arith, c.retain.ensures.capacity, c.self.invariant.1),
+      omega (arith, c.take_named.ensures.capacity, c.self.invariant.1),
+      All-filter stays (λ (p : Piece). p.first_page ≤ c.self.inside.reach) ps c.self.invariant.2,
+      rw c.lowered-self-inside.ensures (filled-without c.self.inside.filled c.args.addr c.args.seg ps c.self.invariant.3),
+      hint-without c.self.inside.passed c.lowered-self-inside-2.result c.args.addr c.args.seg ps c.lowered-self-inside-2.ensures.pages c.lowered-self-inside-2.ensures.to c.self.invariant.4,
     )

@@ -1,5 +1,5 @@
-use Rattle.shm_attach.proofs.Names.{LostView, ap, ◌≡◌, take, map, arith, common_steps, take_all, runner_at_start, runners_view}
-use Rattle.shm_attach.proofs.Starts.{room-more, IsExact-start, view-more, AllHaveTables-start}
+use Rattle.shm_attach.proofs.Names.{SpaceView, LostView, ap, ◌≡◌, take, map, arith, take_all, runner_at_start, runners_view}
+use Rattle.shm_attach.proofs.Starts.{started-room, IsExact-start, started, AllHaveTables-start}
 use Rattle.shm_attach.proofs.spaces.Spaces.new.Goals as goal
 
 pub invariant_of-result : goal.invariant_of-result
@@ -17,7 +17,9 @@ invariant_of-result c =
 
 pub loop-process-preserved : goal.loop-process-preserved
 loop-process-preserved c =
+    let none = ap (λ (s : SpaceView). s.pieces) c.in_ok-space.ensures in
+    let most = ap (λ (s : SpaceView). s.most) c.in_ok-space.ensures in
     record {
-      shown = grind (arith, common_steps, view-more, c.loop-process.invariant.shown);
-      room = grind (arith, common_steps, room-more, c.loop-process.invariant.room);
+      shown = started _ _ _ _ _ _ c.in_ok-insert.ensures.entries c.loop-process.invariant.shown (omega (arith, c.loop-process-test.true)) c.requires.apart c.born-life.ensures none;
+      room = started-room c.args.most _ _ _ _ c.in_ok-insert.ensures.entries c.loop-process.invariant.room most;
     }

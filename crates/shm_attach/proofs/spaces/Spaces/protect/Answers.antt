@@ -1,10 +1,10 @@
-use Rattle.shm_attach.proofs.Names.{subst, ◌∙◌, ◌≡◌, ◌<◌, refl, ap, arith, length, common_steps, runners_view, SpacesView, pieces_at, most_at, IsCaller}
+use Rattle.shm_attach.proofs.Names.{with_pieces, caller_seen, subst, sym, LostView, ◌∙◌, ◌≡◌, ◌<◌, refl, ap, arith, length, common_steps, runners_view, SpacesView, pieces_at, most_at, IsCaller}
 use Rattle.shm_base.specs.Mapping.{Protected}
 use Rattle.shm_attach.specs.Mapping.{protected_by, protected_between, KeepsOwn}
 use Rattle.shm_attach.proofs.Callers.{caller_within, caller_lives, with_pieces_now, with_pieces_own}
 use Rattle.shm_attach.proofs.Protecting.{protected-whole}
 use Rattle.shm_attach.proofs.Translations.{keeps}
-use Rattle.shm_attach.proofs.spaces.Spaces.protect.Goals.{Start, After-self}
+use Rattle.shm_attach.proofs.spaces.Spaces.protect.Goals.{After-self, In-Some}
 use Rattle.shm_attach.proofs.spaces.Spaces.protect.Goals as goal
 
 -- NOTHING IS PROTECTED
@@ -38,17 +38,18 @@ protect_range-requires-clause-most c =
     omega (arith, most, c.self.invariant.1.bound)
 
 -- what the pages come to is what the bytes come to
-whole : (c : After-self) → protected_between c.self.inside.processes.entries c.args.caller.now.index c.args.writable c.args.addr c.in-Some.to
+whole : (c : In-Some) → protected_between c.self.inside.processes.entries c.args.caller.now.index c.args.writable c.args.addr c.in-Some.to
     ≡ protected_by c.args.self.now c.args.caller.now c.args.writable c.args.addr c.args.len
 whole c =
     let i = c.args.caller.now.index in
     let es = c.self.inside.processes.entries in
-    let most : most_at es i ≡ c.self.inside.most = c.self.invariant.1.each i (within c) in
+    let there = caller_within c.args.caller.now es (rw (← c.self.view_is) at c.requires.live) in
+    let most : most_at es i ≡ c.self.inside.most = c.self.invariant.1.each i there in
     rw (most, ← c.self.view_is)
     (protected-whole c.self.inside.most c.args.writable c.args.addr c.args.len c.in-Some.to (pieces_at (runners_view es) i) c.if-addr-ne0.false c.if-len-eq0.false c.in-Some.ensures.1 c.in-Some.ensures.0)
 
 pub returns-clause-refusal : goal.returns-clause-refusal
-returns-clause-refusal c = c.protect_range.ensures.refusal ∙ ap (λ (x : Protected). x.refusal) (whole (goal.at.returns-clause-refusal c).After-self)
+returns-clause-refusal c = c.protect_range.ensures.refusal ∙ ap (λ (x : Protected). x.refusal) (whole (goal.at.returns-clause-refusal c).In-Some)
 
 pub returns-clause-runners : goal.returns-clause-runners
 returns-clause-runners c =
@@ -57,7 +58,8 @@ returns-clause-runners c =
     let b = (goal.at.returns-clause-runners c).After-self in
     c.protect_range.ensures.now.runners
     ∙ with_pieces_now c.args.caller.now rs rs _ refl (live b)
-    ∙ rw (whole b, ← c.self.view_is) refl
+    ∙ ap (λ (x : Protected). with_pieces rs (caller_seen c.args.caller.now rs) x.pieces) (whole (goal.at.returns-clause-runners c).In-Some)
+    ∙ rw (← c.self.view_is) refl
 
 pub returns-clause-translated : goal.returns-clause-translated
 returns-clause-translated c =
@@ -66,6 +68,16 @@ returns-clause-translated c =
 pub returns-clause-own : goal.returns-clause-own
 returns-clause-own c =
     let i = c.args.caller.now.index in
-    let b = (goal.at.returns-clause-own c).After-self in
+    let b = (goal.at.returns-clause-own c).In-Some in
     subst (λ ps. KeepsOwn ps (protected_by c.args.self.now c.args.caller.now c.args.writable c.args.addr c.args.len).pieces) (ap (λ (v : SpacesView). pieces_at v.runners i) c.self.view_is)
     (subst (KeepsOwn (pieces_at (runners_view c.self.inside.processes.entries) i)) (ap (λ (x : Protected). x.pieces) (whole b)) c.protect_range.ensures.own)
+
+-- THE SEGMENTS OF PIECES THAT ARE SPLIT
+
+pub protect_range-requires-clause-reserved : goal.protect_range-requires-clause-reserved
+protect_range-requires-clause-reserved c =
+    let most = c.self.invariant.1.each c.args.caller.now.index (within (goal.at.protect_range-requires-clause-reserved c).After-self) in
+    ap (λ (l : LostView). l.most) c.clear.ensures ∙ c.self.invariant.2 ∙ sym most
+
+pub returns-clause-lost : goal.returns-clause-lost
+returns-clause-lost c = c.protect_range.ensures.split ∙ ap (λ (x : Protected). x.split) (whole (goal.at.returns-clause-lost c).In-Some)

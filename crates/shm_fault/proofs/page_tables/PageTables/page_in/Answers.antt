@@ -1,8 +1,16 @@
-use Rattle.shm_fault.proofs.Names.{◌≡◌, ◌∙◌, arith, Some, sym, seg_at}
-use Rattle.shm_fault.proofs.Entries.{at-view, entry-from, find-entry}
+use Rattle.shm_fault.proofs.Names.{arith}
+use Rattle.shm_fault.proofs.Entries.{entry-from, find-entry}
+use Rattle.shm_fault.proofs.Order.{apart-stored, find-order}
 use Rattle.shm_fault.proofs.page_tables.PageTables.page_in.Goals as goal
 
-pub returns : goal.returns
-returns c =
-    let key : seg_at c.self.inside.by_id.entries c.args.table ≡ Some c.args.page.seg = sym (at-view c.self.inside.by_id.entries c.args.table) ∙ (rw (← c.self.view_is) at c.requires) in
-    grind (arith, entry-from, find-entry, key)
+pub returns-in-Some : goal.returns-in-Some
+returns-in-Some c =
+    let es = c.self.inside.by_id.entries in
+    let same = find-order es c.args.page.seg c.self.invariant.apart in
+    rw (← c.self.view_is, same) (grind (arith, entry-from, find-entry, apart-stored es c.self.invariant.apart))
+
+pub returns-in-None : goal.returns-in-None
+returns-in-None c =
+    let es = c.self.inside.by_id.entries in
+    let same = find-order es c.args.page.seg c.self.invariant.apart in
+    rw (← c.self.view_is, same) (grind arith)

@@ -40,8 +40,8 @@ pub relocate-requires-clause-room : goal.relocate-requires-clause-room
 relocate-requires-clause-room g c =
     has-room (seen c.self.inside) c.self.invariant c.args.slot c.args.page (own g (goal.at.relocate-requires-clause-room g c).After-self).1 (rw (← c.self.view_is) at c.requires.room)
 
-pub set_page-requires-clause-has : goal.set_page-requires-clause-has
-set_page-requires-clause-has g c = has g (goal.at.set_page-requires-clause-has g c).After-self
+pub set_page-requires : goal.set_page-requires
+set_page-requires g c = has g (goal.at.set_page-requires g c).After-self
 
 pub invariant_of-self-2 : goal.invariant_of-self-2
 invariant_of-self-2 g c = (kept g c).sound

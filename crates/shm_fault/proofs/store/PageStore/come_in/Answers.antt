@@ -25,9 +25,6 @@ settle-requires-clause-has g c = rw c.load.ensures.rest c.requires.has
 pub settle-requires-clause-away : goal.settle-requires-clause-away
 settle-requires-clause-away g c = rw c.load.ensures.rest c.requires.away
 
-pub settle-requires-clause-at : goal.settle-requires-clause-at
-settle-requires-clause-at g c = rw (c.load.ensures.rest, ← c.self.view_is) c.table_of-table.ensures
-
 pub settle-requires-clause-bytes : goal.settle-requires-clause-bytes
 settle-requires-clause-bytes g c =
     rw (c.in_ok-load.ensures.bytes, c.in_ok-load.ensures.swap, c.page_in-slot.ensures, ap (λ (v : StoreView). v.segs) c.load.ensures.rest, ← c.self.view_is) refl

@@ -1,45 +1,75 @@
-use Rattle.shm_fault.proofs.Names.{◌≡◌, ◌<◌, ◌+◌, true, length, sym, ◌∙◌, arith, may_flush, common_steps, nat_tests}
-use Rattle.shm_fault.proofs.Bringing.{kept-locked}
-use Rattle.shm_fault.proofs.Flushes.{flushed-none, flushed-enough, flushed-not, flushed-more, flushed-all}
+use Rattle.shm_fault.proofs.Names.{◌≡◌, ◌<◌, ◌≤◌, ◌+◌, ◌-◌, ℕ, List, true, false, length, ap, sym, ◌∙◌, refl, arith, Frame, frame_at, StoreView, may_flush}
+use Rattle.shm_fault.proofs.Flushes.{Flushed, flushed-none, flushed-not, flushed-more, flushed-past, flushed-full, flushed-all}
 use Rattle.shm_fault.proofs.Seen.{seen}
-use Rattle.shm_fault.proofs.store.PageStore.flush.Goals.{then-report-n+then-is_flushable, else-report-n, else-report-n-via-then-report-n+else-is_flushable, else-report-n-via-else-report-n}
+use Rattle.shm_fault.proofs.store.PageStore.flush.Given as given
 use Rattle.shm_fault.proofs.store.PageStore.flush.Goals as goal
+use Rattle.shm_fault.proofs.store.PageStore.flush.Goals.{In-loop-from, After-next_dirty, then-is_flushable, else-is_flushable}
 
-pub loop-frame-init : goal.loop-frame-init
-loop-frame-init g c = rw (← c.self.view_is) (flushed-none c.args.n (seen c.self.inside) c.self.invariant)
+-- the store once a dirty frame was looked for, and that it is as before
+abbrev after : (g : given.Over) (c : After-next_dirty g) → StoreView
+after g c = record (seen c.self-in-loop-from.inside) { frames = c.next_dirty.new.self }
 
-pub loop-frame-preserved : goal.loop-frame-preserved
-loop-frame-preserved g c =
+same : (g : given.Over) (c : After-next_dirty g) → after g c ≡ c.loop-from.self
+same g c = ap (λ (fs : List Frame). record (seen c.self-in-loop-from.inside) { frames = fs }) c.next_dirty.ensures.same ∙ c.self-in-loop-from.view_is
+
+-- what was flushed, up to a frame below which none of those that follow is dirty
+past : (g : given.Over) (c : After-next_dirty g) (last : ℕ) → c.loop-from.from ≤ last → ((i : ℕ) → c.loop-from.from ≤ i → i < last → (frame_at c.self-in-loop-from.inside.frames i).dirty ≡ false)
+    → Flushed c.args.n c.args.self.now last (after g c) c.loop-from.report.written c.loop-from.report.failed
+past g c last le clean =
     let s = c.args.self.now in
-    let t = c.loop-frame.self in
-    let i = c.loop-frame.frame in
-    let count : c.count-frame-end.result ≡ length s.frames = rw (← c.self.view_is) c.count-frame-end.ensures.size in
-    let d = c.loop-frame.invariant in
-    let there : i < length t.frames = omega (arith, c.loop-frame-test.true, count, d.goes.size) in
-    elim c.if-report-n.branch [
-      | then-report-n+then-is_flushable w ↦
-          let lt : c.loop-frame.report.written + c.loop-frame.report.failed < c.args.n = w.if-report-n.true in
-          let may : may_flush t i ≡ true = sym w.is_flushable.ensures ∙ w.if-is_flushable.true in
+    let t = c.loop-from.self in
+    let from = c.loop-from.from in
+    let off : (i : ℕ) → from ≤ i → i < last → (frame_at t.frames i).dirty ≡ false = rw (← c.self-in-loop-from.view_is) clean in
+    let sum : from + (last - from) ≡ last = omega (arith, le) in
+    rw (same g c) (rw sum at (flushed-past c.args.n s from (last - from) t c.loop-from.report.written c.loop-from.report.failed (λ i past lt. off i past (omega (arith, lt, le))) c.loop-from.invariant.0))
+
+pub loop-from-init : goal.loop-from-init
+loop-from-init g c = rw (← c.self.view_is) (flushed-none c.args.n (seen c.self.inside) c.self.invariant, omega arith)
+
+pub loop-from-preserved : goal.loop-from-preserved
+loop-from-preserved g c =
+    let o = (goal.at.loop-from-preserved g c).After-next_dirty in
+    let n = c.args.n in
+    let s = c.args.self.now in
+    let u = after g o in
+    let i = c.in-Some.frame in
+    let wrote = c.loop-from.report.written in
+    let failed = c.loop-from.report.failed in
+    let found = c.in-Some.ensures.some in
+    let d : Flushed n s i u wrote failed = past g o i found.past c.in-Some.ensures.least in
+    let there : i < length u.frames = rw c.next_dirty.ensures.same found.there in
+    let within : i + 1 ≤ length s.frames = omega (arith, there, d.goes.size) in
+    elim c.if-is_flushable.branch [
+      | then-is_flushable w ↦
           let e = w.flush_frame.ensures in
-          rw (w.self-is, w.report-is) (flushed-more c.args.n s i t c.loop-frame.report.written c.loop-frame.report.failed d w.flush_frame.new.self w.flush_frame.new.report.written w.flush_frame.new.report.failed lt may there e.frames e.goes e.still e.sound e.sum e.failed e.counted e.written_out e.rest e.placed)
-      | else-report-n w ↦ rw (w.self-is, w.report-is) (elim w.else-report-n.branch [
-        | else-report-n-via-then-report-n+else-is_flushable v ↦
-            flushed-not c.args.n s i t c.loop-frame.report.written c.loop-frame.report.failed d (sym v.is_flushable.ensures ∙ v.if-is_flushable.false)
-        | else-report-n-via-else-report-n v ↦
-            flushed-enough c.args.n s i t c.loop-frame.report.written c.loop-frame.report.failed d (v.if-report-n.false)
-      ])
+          let may : may_flush u i ≡ true = sym c.is_flushable.ensures ∙ w.if-is_flushable.true in
+          let new = w.flush_frame.new in
+          rw (w.self-is, w.report-is)
+          (flushed-more n s i u wrote failed d new.self new.report.written new.report.failed c.if-report-n.true may there e.frames e.goes e.still e.sound e.sum e.failed e.counted e.written_out e.rest e.placed, within)
+      | else-is_flushable w ↦
+          let may : may_flush u i ≡ false = sym c.is_flushable.ensures ∙ w.if-is_flushable.false in
+          rw (w.self-is, w.report-is) (flushed-not n s i u wrote failed d may, within)
     ]
 
-pub returns-clause-flushed : goal.returns-clause-flushed
-returns-clause-flushed g c =
+pub returns-in_default-clause-flushed : goal.returns-in_default-clause-flushed
+returns-in_default-clause-flushed g c =
+    let o = (goal.at.returns-in_default-clause-flushed g c).After-next_dirty in
     let s = c.args.self.now in
-    let count : c.count-frame-end.result ≡ length s.frames = rw (← c.self.view_is) c.count-frame-end.ensures.size in
-    let d = c.loop-frame.invariant in
-    let last : c.loop-frame.frame ≡ length s.frames = omega (arith, c.loop-frame-test.false, c.loop-frame.auto.frame-end, count) in
-    flushed-all c.args.n s c.loop-frame.frame c.loop-frame.self c.loop-frame.report.written c.loop-frame.report.failed last d
+    let last = length s.frames in
+    flushed-all c.args.n s last (after g o) c.loop-from.report.written c.loop-from.report.failed refl (past g o last c.loop-from.invariant.1 (λ i le lt. c.in_default.ensures.least i le))
 
-pub returns-clause-still : goal.returns-clause-still
-returns-clause-still g c = c.loop-frame.invariant.still
+pub returns-else-report-n-clause-flushed : goal.returns-else-report-n-clause-flushed
+returns-else-report-n-clause-flushed g c =
+    let s = c.args.self.now in
+    let t = c.loop-from.self in
+    let from = c.loop-from.from in
+    let wrote = c.loop-from.report.written in
+    let failed = c.loop-from.report.failed in
+    let sum : from + (length s.frames - from) ≡ length s.frames = omega (arith, c.loop-from.invariant.1) in
+    flushed-all c.args.n s (from + (length s.frames - from)) t wrote failed sum (flushed-full c.args.n s from (length s.frames - from) t wrote failed c.if-report-n.false c.loop-from.invariant.0)
 
-pub returns-clause-kept : goal.returns-clause-kept
-returns-clause-kept g c = grind (arith, nat_tests, common_steps, c.loop-frame.invariant, kept-locked, c.args.self.now, c.loop-frame.self)
+pub returns-after-loop-from-clause-flushed : goal.returns-after-loop-from-clause-flushed
+returns-after-loop-from-clause-flushed g c =
+    let s = c.args.self.now in
+    let count : c.count-count.result ≡ length s.frames = rw (← c.self.view_is) c.count-count.ensures.size in
+    flushed-all c.args.n s c.loop-from.from c.loop-from.self c.loop-from.report.written c.loop-from.report.failed (omega (arith, count, c.loop-from-test.false, c.loop-from.invariant.1)) c.loop-from.invariant.0

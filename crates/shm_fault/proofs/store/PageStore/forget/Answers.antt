@@ -1,8 +1,9 @@
-use Rattle.shm_fault.proofs.Names.{arith, common_steps, refl, rec_by, Given}
+use Rattle.shm_fault.proofs.Names.{◌≡◌, ◌∙◌, sym, arith, common_steps, refl, no_page, rec_by, with_rec, Given, IsSteady, AtRest}
 use Rattle.shm_fault.proofs.Seen.{seen}
-use Rattle.shm_fault.proofs.Sound.{frame-own, slot-own}
-use Rattle.shm_fault.proofs.Drops.{with-same, Forgets, forgets}
-use Rattle.shm_fault.proofs.Forgets.{forget-is}
+use Rattle.shm_fault.proofs.Sound.{frame-own, slot-own, GoesOn-refl}
+use Rattle.shm_fault.proofs.Drops.{with-is, with-same, Forgets, forgets}
+use Rattle.shm_fault.proofs.Forgets.{forget-is, forget-nowhere}
+use Rattle.shm_fault.proofs.Untouched.{nowhere}
 use Rattle.shm_fault.proofs.store.PageStore.forget.Given as given
 use Rattle.shm_fault.proofs.store.PageStore.forget.Goals as goal
 use Rattle.shm_fault.proofs.store.PageStore.forget.Goals.{After-set_page}
@@ -40,4 +41,24 @@ returns g c =
       rest = record { hand = refl; ins = refl; outs = refl };
       placed = rw (c.set_page.ensures, c.empty_frame.ensures, c.page_in-place.ensures) (forget-is (seen i) c.args.page c.free_slot.new.swap slot);
       nowhere = grind (arith, common_steps, with-same);
+    })
+
+pub returns-then-eq : goal.returns-then-eq
+returns-then-eq g c =
+    let s = seen c.self.inside in
+    let place : c.page_in-place.result ≡ no_page = nowhere _ c.page_in-place.result (sym c.eq.ensures ∙ c.if-eq.true) in
+    let at : rec_by s.segs c.args.page ≡ no_page = sym c.page_in-place.ensures ∙ place in
+    let same : with_rec s.segs c.args.page no_page ≡ s.segs = with-is s.segs c.args.page no_page c.self.invariant.apart at in
+    let steady : IsSteady s.swap s.swap = record { goes_on = GoesOn-refl s.swap; failures = refl; same_sizes = refl } in
+    let rest : AtRest s s = record { hand = refl; ins = refl; outs = refl } in
+    rw (← c.self.view_is) (record {
+      segs = sym same;
+      held = refl;
+      frames = λ f. refl;
+      slots = λ k. refl;
+      size = refl;
+      steady = steady;
+      rest = rest;
+      placed = forget-nowhere s c.args.page same at;
+      nowhere = λ none. refl;
     })

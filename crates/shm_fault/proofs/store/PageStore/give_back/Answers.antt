@@ -28,8 +28,8 @@ set_dirty-requires-clause-there g c =
     let o = (goal.at.set_dirty-requires-clause-there g c).After-self in
     (frame-own (seen c.self.inside) c.self.invariant c.args.page c.args.frame (ap (λ (p : PageRec). p.frame) (place g o))).0
 
-pub set_page-requires-clause-has : goal.set_page-requires-clause-has
-set_page-requires-clause-has g c = has g (goal.at.set_page-requires-clause-has g c).After-self
+pub set_page-requires : goal.set_page-requires
+set_page-requires g c = has g (goal.at.set_page-requires g c).After-self
 
 pub invariant_of-self : goal.invariant_of-self
 invariant_of-self g c = (kept g c).sound

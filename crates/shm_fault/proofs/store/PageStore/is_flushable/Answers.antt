@@ -3,8 +3,8 @@ use Rattle.shm_fault.proofs.Seen.{seen}
 use Rattle.shm_fault.proofs.Flushes.{flushable}
 use Rattle.shm_fault.proofs.store.PageStore.is_flushable.Goals as goal
 
-pub returns-then-is_dirty : goal.returns-then-is_dirty
-returns-then-is_dirty g c =
+pub returns-in-Some : goal.returns-in-Some
+returns-in-Some g c =
     let owner : (frame_at c.self.inside.frames c.args.frame).owner ≡ Some c.in-Some.page = sym c.owner.ensures ∙ c.in-Some.is in
-    let dirty : (frame_at c.self.inside.frames c.args.frame).dirty ≡ true = sym c.is_dirty.ensures ∙ c.if-is_dirty.true in
+    let dirty : (frame_at c.self.inside.frames c.args.frame).dirty ≡ true = rw (← c.self.view_is) at c.requires.dirty in
     ap not c.is_locked.ensures ∙ rw (← c.self.view_is) (flushable (seen c.self.inside) c.args.frame c.in-Some.page owner dirty)

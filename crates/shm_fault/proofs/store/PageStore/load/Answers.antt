@@ -1,4 +1,5 @@
-use Rattle.shm_fault.proofs.Names.{ℕ, refl, frame_at}
+use Rattle.std.proofs.lemmas.Result.{MatchResult-from_err}
+use Rattle.shm_fault.proofs.Names.{ℕ, refl, arith, common_steps, nat_tests, frame_at}
 use Rattle.shm_fault.proofs.Seen.{seen}
 use Rattle.shm_fault.proofs.Visits.{IsStep, step-load}
 use Rattle.shm_fault.proofs.Placed.{owners-kept}
@@ -21,23 +22,41 @@ invariant_of-self-2 g c = (step g (goal.at.invariant_of-self-2 g c).After-fill_f
 pub invariant_of-self : goal.invariant_of-self
 invariant_of-self g c = (step g (goal.at.invariant_of-self g c).After-fill_from c.self.inside.ins).sound
 
-pub returns-clause-visits : goal.returns-clause-visits
-returns-clause-visits g c =
-    rw (← c.self.view_is) (step g (goal.at.returns-clause-visits g c).After-fill_from c.saturating_add-self-inside.result).visits
-
-pub returns-in_err-fill_from-clause-visits : goal.returns-in_err-fill_from-clause-visits
-returns-in_err-fill_from-clause-visits g c = rw (← c.self.view_is) (step g (goal.at.returns-in_err-fill_from-clause-visits g c).After-fill_from c.self.inside.ins).visits
-
-pub returns-clause-placed : goal.returns-clause-placed
-returns-clause-placed g c =
+pub returns : goal.returns
+returns g c =
     let s = seen c.self.inside in
+    let t = record s { frames = c.fill_from.new.frames; swap = c.fill_from.new.swap; ins = c.saturating_add-self-inside.result } in
+    let e = c.in_ok-fill_from.ensures in
+    let k = step g (goal.at.returns g c).After-fill_from c.saturating_add-self-inside.result in
     rw (← c.self.view_is)
-    (same-places s (record s { frames = c.fill_from.new.frames; swap = c.fill_from.new.swap; ins = c.saturating_add-self-inside.result }) c.args.frame (frame_at c.fill_from.new.frames c.args.frame).bytes refl refl
-    (owners-kept s.swap c.fill_from.new.swap c.fill_from.ensures.kept) c.fill_from.ensures.frames)
+    (record {
+      bytes = e.bytes;
+      swap = e.swap;
+      rest = refl;
+      ins = grind (arith, nat_tests, common_steps);
+      free = grind (arith, common_steps);
+      placed = same-places s t c.args.frame (frame_at c.fill_from.new.frames c.args.frame).bytes refl refl (owners-kept s.swap c.fill_from.new.swap c.fill_from.ensures.kept) c.fill_from.ensures.frames;
+      slot = tt;
+      visits = k.visits;
+      cause = tt;
+    })
 
-pub returns-in_err-fill_from-clause-placed : goal.returns-in_err-fill_from-clause-placed
-returns-in_err-fill_from-clause-placed g c =
+pub returns-in_err-fill_from : goal.returns-in_err-fill_from
+returns-in_err-fill_from g c =
     let s = seen c.self.inside in
+    let t = record s { frames = c.fill_from.new.frames; swap = c.fill_from.new.swap } in
+    let e = c.in_err-fill_from.ensures in
+    let from = c.from_residual.ensures.0 in
+    let k = step g (goal.at.returns-in_err-fill_from g c).After-fill_from c.self.inside.ins in
     rw (← c.self.view_is)
-    (same-places s (record s { frames = c.fill_from.new.frames; swap = c.fill_from.new.swap }) c.args.frame (frame_at c.fill_from.new.frames c.args.frame).bytes refl refl
-    (owners-kept s.swap c.fill_from.new.swap c.fill_from.ensures.kept) c.fill_from.ensures.frames)
+    (record {
+      bytes = grind (arith, common_steps);
+      swap = grind (arith, common_steps);
+      rest = refl;
+      ins = grind (arith, common_steps);
+      free = grind (arith, common_steps);
+      placed = same-places s t c.args.frame (frame_at c.fill_from.new.frames c.args.frame).bytes refl refl (owners-kept s.swap c.fill_from.new.swap c.fill_from.ensures.kept) c.fill_from.ensures.frames;
+      slot = MatchResult-from_err _ _ _ from λ _. e.slot;
+      visits = k.visits;
+      cause = MatchResult-from_err _ _ _ from λ _. e.cause;
+    })

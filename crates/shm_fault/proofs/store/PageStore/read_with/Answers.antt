@@ -5,8 +5,8 @@ use Rattle.shm_fault.proofs.Bringing.{accessed, accessed-failed}
 use Rattle.shm_fault.proofs.Dirtied.{none-in, none-stopped}
 use Rattle.shm_fault.proofs.store.PageStore.read_with.Goals as goal
 
-pub returns : goal.returns
-returns g c =
+pub returns-clause-reads : goal.returns-clause-reads
+returns-clause-reads g c =
     let s = c.args.self.now in
     let t = c.bring_spans.new.self in
     let e = c.in_ok-here.ensures in
@@ -19,8 +19,8 @@ returns g c =
       places = e.placed;
     }
 
-pub returns-in_err-here : goal.returns-in_err-here
-returns-in_err-here g c =
+pub returns-in_err-here-clause-reads : goal.returns-in_err-here-clause-reads
+returns-in_err-here-clause-reads g c =
     let s = c.args.self.now in
     let t = c.bring_spans.new.self in
     let failed : is_ok c.from_residual.result ≡ false = search rules in

@@ -1,4 +1,4 @@
-use Rattle.shm_fault.proofs.Names.{◌∙◌, refl, length, may_go, two_eligible, OwnedBelow, unlocked}
+use Rattle.shm_fault.proofs.Names.{◌∙◌, refl, arith, common_steps, length, may_go, two_eligible, OwnedBelow, unlocked}
 use Rattle.shm_fault.proofs.Seen.{seen}
 use Rattle.shm_fault.proofs.Clock.{clock-alike, next-lt, two_unlocked}
 use Rattle.shm_fault.proofs.Changes.{Keeps, keeps-alike}
@@ -15,17 +15,6 @@ kept g c =
     let hand = next-lt i.frames c.choose.new.frames c.choose.result clock.size clock.there c.choose.ensures.hand in
     keeps-alike (seen i) c.self.invariant c.choose.new.frames c.choose.new.hand clock.size alike hand
 
-pub returns-clause-there : goal.returns-clause-there
-returns-clause-there g c = rw (← c.self.view_is) c.choose.ensures.clock.there
-
-pub returns-clause-alike : goal.returns-clause-alike
-returns-clause-alike g c =
-    let i = c.self.inside in
-    rw (← c.self.view_is) (clock-alike (may_go (unlocked i.segs) c.args.pinned i.frames) i.hand i.frames c.choose.result c.choose.new.frames c.choose.ensures.clock)
-
-pub returns-clause-victim : goal.returns-clause-victim
-returns-clause-victim g c = rw (← c.self.view_is) c.choose.ensures.victim
-
 pub choose-requires-clause-one : goal.choose-requires-clause-one
 choose-requires-clause-one g c =
     let i = c.self.inside in
@@ -35,14 +24,22 @@ choose-requires-clause-one g c =
 pub invariant_of-self : goal.invariant_of-self
 invariant_of-self g c = (kept g c).sound
 
-pub returns-clause-goes : goal.returns-clause-goes
-returns-clause-goes g c = rw (← c.self.view_is) (kept g c).goes
-
-pub returns-clause-placed : goal.returns-clause-placed
-returns-clause-placed g c =
+pub returns : goal.returns
+returns g c =
     let s = seen c.self.inside in
+    let i = c.self.inside in
+    let clock = c.choose.ensures.clock in
+    let k = kept g (goal.at.returns g c).After-choose in
     rw (← c.self.view_is)
-    (turn-is s (record s { frames = c.choose.new.frames; hand = c.choose.new.hand }) c.args.pinned refl refl c.choose.ensures.bits (rw (← c.choose.ensures.victim) c.choose.ensures.hand))
-
-pub returns-clause-chosen : goal.returns-clause-chosen
-returns-clause-chosen g c = rw (← c.self.view_is) (c.choose.ensures.victim ∙ victim-place (seen c.self.inside) c.args.pinned)
+    (record {
+      there = clock.there;
+      may = clock.eligible;
+      alike = clock-alike (may_go (unlocked i.segs) c.args.pinned i.frames) i.hand i.frames c.choose.result c.choose.new.frames clock;
+      pin = grind (arith, common_steps);
+      rest = refl;
+      victim = c.choose.ensures.victim;
+      hand = rw (← c.choose.ensures.victim) c.choose.ensures.hand;
+      placed = turn-is s (record s { frames = c.choose.new.frames; hand = c.choose.new.hand }) c.args.pinned refl refl c.choose.ensures.bits (rw (← c.choose.ensures.victim) c.choose.ensures.hand);
+      chosen = c.choose.ensures.victim ∙ victim-place s c.args.pinned;
+      goes = k.goes;
+    })

@@ -18,18 +18,20 @@ kept g c =
 pub invariant_of-self : goal.invariant_of-self
 invariant_of-self g c = (kept g c).sound
 
-pub returns-clause-goes : goal.returns-clause-goes
-returns-clause-goes g c = rw (← c.self.view_is) (kept g c).goes
-
-pub returns-clause-sound : goal.returns-clause-sound
-returns-clause-sound g c = (kept g c).sound
-
-pub returns-clause-was : goal.returns-clause-was
-returns-clause-was g c = grind (arith, nat_tests, common_steps, c.self.invariant.tied, c.self.view_is, c.resident_page-page.result, c.args.frame, owned)
-
-pub returns-clause-placed : goal.returns-clause-placed
-returns-clause-placed g c =
+pub returns : goal.returns
+returns g c =
     let s = seen c.self.inside in
+    let k = kept g (goal.at.returns g c).After-set_page in
+    let page = c.resident_page-page.result in
     rw (← c.self.view_is)
-    (vacated-is s (record s { segs = c.set_page.new.self; frames = c.empty.new.self }) c.args.frame c.resident_page-page.result (frame_at s.frames c.args.frame).bytes c.resident_page-page.ensures refl refl
-    (rw (c.set_page.ensures, c.page_in-place.ensures) refl) c.empty.ensures)
+    (record {
+      page = c.resident_page-page.ensures;
+      was = grind (arith, nat_tests, common_steps, c.self.invariant.tied, page, c.args.frame, owned);
+      frames = c.empty.ensures;
+      segs = rw (c.set_page.ensures, c.page_in-place.ensures) refl;
+      rest = refl;
+      placed = vacated-is s (record s { segs = c.set_page.new.self; frames = c.empty.new.self }) c.args.frame page (frame_at s.frames c.args.frame).bytes c.resident_page-page.ensures refl refl
+          (rw (c.set_page.ensures, c.page_in-place.ensures) refl) c.empty.ensures;
+      goes = k.goes;
+      sound = k.sound;
+    })

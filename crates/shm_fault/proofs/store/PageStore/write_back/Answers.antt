@@ -65,40 +65,44 @@ write_slot-requires g c = there g (goal.at.write_slot-requires g c).After-self
 pub invariant_of-self-2 : goal.invariant_of-self-2
 invariant_of-self-2 g c = (wrote g (goal.at.invariant_of-self-2 g c).After-saturating_add-self-inside).sound
 
-pub returns-clause-sound : goal.returns-clause-sound
-returns-clause-sound g c = invariant_of-self-2 g c
-
-pub returns-clause-goes : goal.returns-clause-goes
-returns-clause-goes g c = rw (← c.self.view_is) (wrote g (goal.at.returns-clause-goes g c).After-saturating_add-self-inside).goes
-
-pub returns-clause-counted : goal.returns-clause-counted
-returns-clause-counted g c = grind (arith, nat_tests, common_steps, there, c.write_slot.new.self, c.self.inside.swap, c.in_ok-write_slot.ensures.ok, total-written, c.args.slot, c.self.view_is)
-
 pub invariant_of-self : goal.invariant_of-self
 invariant_of-self g c = (unwritten g c).sound
 
-pub returns-in_err-write_slot-clause-sound : goal.returns-in_err-write_slot-clause-sound
-returns-in_err-write_slot-clause-sound g c = (unwritten g c).sound
-
-pub returns-in_err-write_slot-clause-goes : goal.returns-in_err-write_slot-clause-goes
-returns-in_err-write_slot-clause-goes g c = rw (← c.self.view_is) (unwritten g c).goes
-
-pub returns-in_err-write_slot-clause-counted : goal.returns-in_err-write_slot-clause-counted
-returns-in_err-write_slot-clause-counted g c =
-    let at = there g (goal.at.returns-in_err-write_slot-clause-counted g c).After-self in
-    λ unspent. rw ((err_from_is_err_and c.from_residual.result c.from_residual.ensures.1).1, ← c.self.view_is) (total-fault c.self.inside.swap c.write_slot.new.self c.args.slot c.self.invariant.swap at c.write_slot.ensures.others c.in_err-write_slot.ensures.err unspent)
-
-pub returns-clause-placed : goal.returns-clause-placed
-returns-clause-placed g c =
+pub returns : goal.returns
+returns g c =
     let s = seen c.self.inside in
+    let t = record s { frames = c.set_dirty.new.self; swap = c.write_slot.new.self; outs = c.saturating_add-self-inside.result } in
+    let k = wrote g (goal.at.returns g c).After-saturating_add-self-inside in
+    let at = there g (goal.at.returns g c).After-self in
     rw (← c.self.view_is)
-    (bit-set s (record s { frames = c.set_dirty.new.self; swap = c.write_slot.new.self; outs = c.saturating_add-self-inside.result }) c.args.frame false refl refl
-    (rw c.in_ok-write_slot.ensures.ok (owners-page s.swap c.args.slot c.bytes.result.now)) (rw c.set_dirty.ensures refl))
+    (record {
+      frames = c.set_dirty.ensures;
+      rest = refl;
+      outs = grind (arith, nat_tests, common_steps);
+      goes = k.goes;
+      cause = tt;
+      counted = grind (arith, nat_tests, common_steps, at, c.write_slot.new.self, c.self.inside.swap, c.in_ok-write_slot.ensures.ok, total-written, c.args.slot);
+      placed = bit-set s t c.args.frame false refl refl (rw c.in_ok-write_slot.ensures.ok (owners-page s.swap c.args.slot c.bytes.result.now)) (rw c.set_dirty.ensures refl);
+      sound = k.sound;
+    })
 
-pub returns-in_err-write_slot-clause-placed : goal.returns-in_err-write_slot-clause-placed
-returns-in_err-write_slot-clause-placed g c =
+pub returns-in_err-write_slot : goal.returns-in_err-write_slot
+returns-in_err-write_slot g c =
     let s = seen c.self.inside in
-    rw ((err_from_is_err_and c.from_residual.result c.from_residual.ensures.1).1, ← c.self.view_is)
-    (bit-set s (record s { swap = c.write_slot.new.self }) c.args.frame true refl refl
-    (owners-fault s.swap c.write_slot.new.self c.args.slot c.write_slot.ensures.others c.in_err-write_slot.ensures.err)
-    (rw (dirty-same s.frames c.args.frame true (rw (← c.self.view_is) at c.requires.dirty)) refl))
+    let t = record s { swap = c.write_slot.new.self } in
+    let k = unwritten g (goal.at.returns-in_err-write_slot g c).After-from_residual in
+    let at = there g (goal.at.returns-in_err-write_slot g c).After-self in
+    let dirty : (frame_at s.frames c.args.frame).dirty ≡ true = rw (← c.self.view_is) at c.requires.dirty in
+    let failed = (err_from_is_err_and c.from_residual.result c.from_residual.ensures.1).1 in
+    rw (failed, ← c.self.view_is)
+    (record {
+      frames = sym (dirty-same s.frames c.args.frame true dirty);
+      rest = refl;
+      outs = refl;
+      goes = k.goes;
+      cause = c.in_err-write_slot.ensures.cause;
+      counted = λ unspent. total-fault s.swap t.swap c.args.slot c.self.invariant.swap at c.write_slot.ensures.others c.in_err-write_slot.ensures.err unspent;
+      placed = bit-set s t c.args.frame true refl refl (owners-fault s.swap t.swap c.args.slot c.write_slot.ensures.others c.in_err-write_slot.ensures.err)
+          (rw (dirty-same s.frames c.args.frame true dirty) refl);
+      sound = k.sound;
+    })

@@ -1,4 +1,4 @@
-use Rattle.shm_life.proofs.Names.{◌∙◌, ◌≡◌, ap, sym, subst, ℕ, ◌≤◌, arith, AreTrue}
+use Rattle.shm_life.proofs.Names.{◌∙◌, ap, sym, subst, arith, AreTrue}
 use Rattle.std.specs.Prelude.{List}
 use Rattle.shm_attach.specs.Spaces.{SpacesView, Translation}
 use Rattle.shm_life.proofs.Changed.{forked-kept}

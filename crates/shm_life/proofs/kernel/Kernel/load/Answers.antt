@@ -1,6 +1,4 @@
-use Rattle.shm_life.proofs.Names.{rules, ◌≡◌, length, refl, arith, common_steps, false, Some, sym, ap, ◌∙◌, loaded, span_places, Machine, gives, Bytes, IsCaller, pieces_at, wanted, load-wanted, sizes, SameTable, same-refl, IsWell}
-use Rattle.std.proofs.Math.Seq.{take-append_seam}
-use Rattle.shm_base.proofs.Padded.{padded}
+use Rattle.shm_life.proofs.Names.{rules, length, refl, arith, common_steps, false, Some, sym, ap, ◌≡◌, ◌∙◌, span_places, Machine, gives, Bytes, IsCaller, pieces_at, wanted, load-wanted, sizes, SameTable, same-refl, IsWell}
 use Rattle.shm_life.proofs.Settled.{noted-well, moved-by}
 use Rattle.shm_life.proofs.Changed.{spans-there, asked}
 use Rattle.shm_life.proofs.Running.{granted, kept_refl, ok_fact}
@@ -10,31 +8,19 @@ use Rattle.shm_life.proofs.kernel.Kernel.load.Goals.{After-note}
 
 pub read-read-requires-clause-spans : goal.read-read-requires-clause-spans
 read-read-requires-clause-spans g c =
-    rw c.as_slice.ensures.value (spans-there _ _ c.args.caller.now c.in-Ok.spans _ (rw (← c.self.view_is) at c.requires) c.self.invariant.0.kept.pieces (rw c.as_slice.ensures.value at c.as_slice.ensures.few.1) c.in-Ok.ensures.spans.within (grind (arith, common_steps, c.in-Ok.ensures.spans.sum)) c.in-Ok.ensures.spans.pages)
+    rw c.as_slice.ensures.value (spans-there _ _ c.args.caller.now c.in-Ok.spans _ (rw (← c.self.view_is) at c.requires.caller) c.self.invariant.0.kept.pieces (rw c.as_slice.ensures.value at c.as_slice.ensures.few.1) c.in-Ok.ensures.spans.within (grind (arith, common_steps, c.in-Ok.ensures.spans.sum)) c.in-Ok.ensures.spans.pages)
 
--- as many bytes were read as were asked for
-size : (g : Over) (c : After-note g) → c.args.len ≡ length c.read-read.new.out
-size g c = let kept = c.read-read.auto.out in grind (arith, common_steps)
-
-pub from_array-requires : goal.from_array-requires
-from_array-requires g c =
-    let read = size g (goal.at.from_array-requires g c).After-note in
-    let at : c.get-2.result ≡ length c.read-read.new.out = c.get-2.ensures.value ∙ read in
-    record { zeros = rw at (padded c.read-read.new.out c.read-read.new.out c.args.len read (rw c.get-2.ensures.value at c.get-2.ensures.range.1) refl).1 }
-
-pub returns : goal.returns
-returns g c = λ n.
+pub returns-clause-served : goal.returns-clause-served
+returns-clause-served g c = λ n.
     let rs = c.self.inside.spaces.runners in
     let m : Machine = record { limits = c.self.inside.limits; areas = sizes c.self.inside.segments.memory.swap; table = c.self.inside.segments.table; runners = rs } in
     let caller = c.args.caller.now in
     let spans = span_places false c.in-Ok.spans in
-    let is : IsCaller caller rs = rw (← c.self.view_is) at c.requires in
-    let places : wanted false caller.pid c.args.addr c.args.len rs ≡ Some spans = rw c.get.ensures.value at c.in-Ok.ensures.spans.places in
-    let step = load-wanted m (pieces_at rs caller.index) c.args.addr c.args.len spans (asked false rs caller c.args.addr c.args.len _ is places) in
+    let is : IsCaller caller rs = rw (← c.self.view_is) at c.requires.caller in
+    let places : wanted false caller.pid c.args.addr (length c.args.out.now) rs ≡ Some spans = c.in-Ok.ensures.spans.places in
+    let step = load-wanted m (pieces_at rs caller.index) c.args.addr (length c.args.out.now) spans (asked false rs caller c.args.addr (length c.args.out.now) _ is places) in
     let out = ok_fact c.read-read.result _ (sym c.is_err.ensures.value ∙ c.if-is_err.false) c.read-read.ensures.bytes in
-    let read = size g (goal.at.returns g c).After-note in
-    let bytes : c.from_array.result ≡ loaded m.table spans = c.from_array.ensures ∙ rw read (take-append_seam c.read-read.new.out _) ∙ rw c.as_slice.ensures.value at out in
-    granted _ _ _ _ _ (rw (← c.self.view_is, c.note.ensures.runners, c.read-read.ensures.table, c.read-read.ensures.access.same_sizes) (step ∙ ap (λ bs. gives m (Bytes bs)) (sym bytes))) refl (search (rules, kept_refl))
+    granted _ _ _ _ _ (rw (← c.self.view_is, c.note.ensures.runners, c.read-read.ensures.table, c.read-read.ensures.access.same_sizes) (step ∙ ap (λ bs. gives m (Bytes bs)) (rw c.as_slice.ensures.value at (sym out)))) refl (search (rules, kept_refl))
 
 -- done or not
 well : (g : Over) (c : After-note g) → IsWell c.self.inside.limits c.read-read.new.self.table c.note.new.self.runners c.note.new.self.translations c.read-read.new.self.memory

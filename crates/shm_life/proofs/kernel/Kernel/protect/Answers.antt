@@ -1,7 +1,21 @@
 use Rattle.std.proofs.Common.{rules}
-use Rattle.shm_life.proofs.Names.{◌∙◌, IsCaller}
-use Rattle.shm_life.proofs.Going.{renewed-kept}
+use Rattle.shm_life.proofs.Names.{◌∙◌, refl, [], All, Piece, IsCaller, IsLive, PieceFits, pieces_at, SameTable}
+use Rattle.std.proofs.lemmas.List.Elements.{All-weaker}
+use Rattle.shm_base.specs.Rules.{rest_is_attached}
+use Rattle.shm_life.proofs.Going.{renewed, renewed-kept, renewed-same}
+use Rattle.shm_life.proofs.Settled.{caller-fits, still-well}
+use Rattle.shm_life.proofs.Splitting.{split-own}
 use Rattle.shm_life.proofs.kernel.Kernel.protect.Goals as goal
+
+pub attach_rests-requires : goal.attach_rests-requires
+attach_rests-requires g c =
+    let t = c.self.inside.segments.table in
+    let rs = c.self.inside.spaces.runners in
+    let caller = c.in_ok-caller.caller in
+    let is : IsCaller caller rs = search rules in
+    let own : All (λ (p : Piece). IsLive t p.seg) (pieces_at rs caller.index) =
+    All-weaker (PieceFits t) (λ (p : Piece). IsLive t p.seg) (λ p h. h.0) (pieces_at rs caller.index) (caller-fits t caller rs is c.self.invariant.0.kept.pieces) in
+    rw (c.lost.ensures.value, c.protect-protected.ensures.lost) (split-own (IsLive t) _ c.args.writable c.args.addr c.args.len (pieces_at rs caller.index) own)
 
 pub invariant_of-self : goal.invariant_of-self
 invariant_of-self g c = (
@@ -10,12 +24,16 @@ invariant_of-self g c = (
       let caller = c.in_ok-caller.caller in
       let is : IsCaller caller rs = search rules in
       let w = c.self.invariant.0 in
-      let e = c.protect.ensures in
-      record {
+      let e = c.protect-protected.ensures in
+      let translated = e.translated c.self.inside.segments.memory w.translated in
+      let same : SameTable t (renewed (rest_is_attached c.rules.result) c.args.time caller.pid t c.lost.result.now) = renewed-same (rest_is_attached c.rules.result) c.args.time caller.pid t c.lost.result.now in
+      rw c.attach_rests.ensures
+      (still-well {lost = []} _ _ _ _ _ _ _ _
+      (record {
         kept = rw e.runners (renewed-kept c.self.inside.limits t rs caller w.kept is _ e.own);
         frames = w.frames;
         room = w.room;
-        translated = e.translated c.self.inside.segments.memory w.translated;
-      }),
-  c.protect.ensures.most ∙ c.self.invariant.1,
+        translated = translated;
+      }) same refl translated)),
+  c.protect-protected.ensures.most ∙ c.self.invariant.1,
 )

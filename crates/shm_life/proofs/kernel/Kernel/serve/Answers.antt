@@ -17,13 +17,13 @@ returns-in-Unlock-clause-served g c =
     rw c.in-Unlock.is (rw signed at (c.unlock-served.ensures c.args.time))
 
 pub returns-in-Store-clause-served : goal.returns-in-Store-clause-served
-returns-in-Store-clause-served g c = rw c.in-Store.is (c.store-served.ensures c.args.time)
+returns-in-Store-clause-served g c = rw c.in-Store.is (rw c.as_slice.ensures.value at (c.store-served.ensures c.args.time))
 
 pub returns-in-Load-clause-served : goal.returns-in-Load-clause-served
-returns-in-Load-clause-served g c = rw c.in-Load.is (c.load-served.ensures c.args.time)
+returns-in-Load-clause-served g c = rw c.in-Load.is (c.load_reply-served.ensures c.args.time)
 
 pub returns-in-Fork-clause-served : goal.returns-in-Fork-clause-served
-returns-in-Fork-clause-served g c = rw c.in-Fork.is (c.fork-served.ensures c.args.time)
+returns-in-Fork-clause-served g c = rw c.in-Fork.is c.fork-served.ensures
 
 pub returns-in-Swapoff-clause-served : goal.returns-in-Swapoff-clause-served
 returns-in-Swapoff-clause-served g c = rw c.in-Swapoff.is (c.swapoff-served.ensures c.args.time)

@@ -8,13 +8,13 @@ use Rattle.shm_life.proofs.kernel.Kernel.store.Goals.{After-note}
 
 pub write-written-requires-clause-spans : goal.write-written-requires-clause-spans
 write-written-requires-clause-spans g c =
-    rw c.as_slice.ensures.value (spans-there _ _ c.args.caller.now c.in-Ok.spans _ (rw (← c.self.view_is) at c.requires) c.self.invariant.0.kept.pieces (rw c.as_slice.ensures.value at c.as_slice.ensures.few.1) c.in-Ok.ensures.spans.within (grind (arith, common_steps, c.in-Ok.ensures.spans.sum)) c.in-Ok.ensures.spans.pages)
+    rw c.as_slice.ensures.value (spans-there _ _ c.args.caller.now c.in-Ok.spans _ (rw (← c.self.view_is) at c.requires.caller) c.self.invariant.0.kept.pieces (rw c.as_slice.ensures.value at c.as_slice.ensures.few.1) c.in-Ok.ensures.spans.within (grind (arith, common_steps, c.in-Ok.ensures.spans.sum)) c.in-Ok.ensures.spans.pages)
 
 -- done or not
 well : (g : Over) (c : After-note g) → IsWell c.self.inside.limits c.write-written.new.self.table c.note.new.self.runners c.note.new.self.translations c.write-written.new.self.memory
 well g c =
     let t = c.self.inside.segments.table in
-    let same : SameTable t c.write-written.new.self.table = either-same c.write-written.result t _ _ c.write-written.ensures.written c.write-written.ensures.same (stored-same (span_places false c.as_slice.result.now) c.as_slice-bytes.result.now t) in
+    let same : SameTable t c.write-written.new.self.table = either-same c.write-written.result t _ _ c.write-written.ensures.written c.write-written.ensures.same (stored-same (span_places false c.as_slice.result.now) c.args.bytes.now t) in
     noted-well _ _ _ _ _ _ _ _ _ c.write-written.new.touched.moved.items c.self.invariant.0 same c.write-written.ensures.keeps.frames c.note.ensures.runners (rw c.as_slice-2.ensures.value at c.note.ensures.translated) (moved-by _ _ _ _ c.write-written.result c.write-written.ensures.access)
 
 pub invariant_of-self : goal.invariant_of-self
@@ -34,9 +34,9 @@ returns g c = λ n.
     let rs = c.self.inside.spaces.runners in
     let m : Machine = record { limits = c.self.inside.limits; areas = sizes c.self.inside.segments.memory.swap; table = c.self.inside.segments.table; runners = rs } in
     let caller = c.args.caller.now in
-    let bytes = c.as_slice-bytes.result.now in
+    let bytes = c.args.bytes.now in
     let spans = span_places false c.in-Ok.spans in
-    let is : IsCaller caller rs = rw (← c.self.view_is) at c.requires in
+    let is : IsCaller caller rs = rw (← c.self.view_is) at c.requires.caller in
     let step = store-wanted m (pieces_at rs caller.index) c.args.addr bytes spans (asked true rs caller c.args.addr (length bytes) _ is c.in-Ok.ensures.spans.places) in
     let written = ok_fact c.write-written.result _ (sym c.is_err.ensures.value ∙ c.if-is_err.false) c.write-written.ensures.written in
-    granted _ _ _ _ _ (rw (← c.self.view_is, ← c.as_slice-bytes.ensures.value) (step ∙ rw (c.note.ensures.runners, written, c.write-written.ensures.access.same_sizes, c.as_slice.ensures.value) refl)) refl (search (rules, kept_refl))
+    granted _ _ _ _ _ (rw (← c.self.view_is) (step ∙ rw (c.note.ensures.runners, written, c.write-written.ensures.access.same_sizes, c.as_slice.ensures.value) refl)) refl (search (rules, kept_refl))

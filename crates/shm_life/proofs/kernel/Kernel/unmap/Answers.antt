@@ -1,27 +1,59 @@
 use Rattle.std.proofs.Common.{rules}
-use Rattle.shm_life.proofs.Names.{◌∙◌, IsCaller}
-use Rattle.shm_life.proofs.Going.{Goes, range-goes, well-gone}
+use Rattle.shm_life.proofs.Names.{◌∙◌, ◌≡◌, ap, IsCaller, SameTable, pieces_at, rest_segments, detach_all, swept, SegmentsView}
+use Rattle.shm_base.specs.Rules.{rest_is_attached}
+use Rattle.shm_life.proofs.Going.{Goes, range-goes, renewed, renewed-first, renewed-same, well-gone}
+use Rattle.shm_life.proofs.Settled.{caller-fits, lives-rest, settled-table}
 use Rattle.shm_life.proofs.kernel.Kernel.unmap.Given.{Over}
 use Rattle.shm_life.proofs.kernel.Kernel.unmap.Goals as goal
-use Rattle.shm_life.proofs.kernel.Kernel.unmap.Goals.{After-lost}
+use Rattle.shm_life.proofs.kernel.Kernel.unmap.Goals.{After-lost, After-segments}
 
-goes : (g : Over) (c : After-lost g) → Goes c.self.inside.limits c.self.inside.segments.table c.unmap.new.self.runners c.lost.result.now
+-- the segments of which a part is left
+kept : (g : Over) (c : After-segments g) → c.segments.result.now ≡ rest_segments c.args.addr c.in_ok-to.to (pieces_at c.self.inside.spaces.runners c.in_ok-caller.caller.index)
+kept g c = c.segments.ensures.value ∙ c.rests-rests.ensures ∙ ap (rest_segments c.args.addr c.in_ok-to.to) c.space.ensures.pieces
+
+pub attach_rests-requires : goal.attach_rests-requires
+attach_rests-requires g c =
+    let t = c.self.inside.segments.table in
+    let rs = c.self.inside.spaces.runners in
+    let caller = c.in_ok-caller.caller in
+    let is : IsCaller caller rs = search rules in
+    rw (kept g c) (lives-rest t c.args.addr c.in_ok-to.to (pieces_at rs caller.index) (caller-fits t caller rs is c.self.invariant.0.kept.pieces))
+
+goes : (g : Over) (c : After-lost g) → Goes c.self.inside.limits c.attach_rests.new.segments.table c.unmap.new.self.runners c.lost.result.now
 goes g c =
     let caller = c.in_ok-caller.caller in
+    let t = c.self.inside.segments.table in
     let rs = c.self.inside.spaces.runners in
     let is : IsCaller caller rs = search rules in
     let e = c.in_ok-unmap.ensures in
-    rw (c.lost.ensures.value, e.lost, e.runners) (range-goes c.self.inside.limits c.self.inside.segments.table rs caller c.self.invariant.0.kept is c.args.addr c.in_ok-to.to)
+    let same : SameTable t (renewed (rest_is_attached c.rules.result) c.args.time caller.pid t c.segments.result.now) = renewed-same (rest_is_attached c.rules.result) c.args.time caller.pid t c.segments.result.now in
+    rw (c.attach_rests.ensures, c.lost.ensures.value, e.lost, e.runners)
+    (range-goes c.self.inside.limits _ rs caller (settled-table c.self.inside.limits t _ rs c.self.invariant.0.kept same) is c.args.addr c.in_ok-to.to)
 
 pub after_detach-requires-clause-live : goal.after_detach-requires-clause-live
-after_detach-requires-clause-live g c = (goes g (goal.at.after_detach-requires-clause-live g c).After-lost).live
+after_detach-requires-clause-live g c = (goes g c).live
+
+pub after_detach-requires-clause-few : goal.after_detach-requires-clause-few
+after_detach-requires-clause-few g c = (goes g c).kept.few
 
 pub after_detach-requires-clause-orphans : goal.after_detach-requires-clause-orphans
-after_detach-requires-clause-orphans g c = (goes g (goal.at.after_detach-requires-clause-orphans g c).After-lost).kept.orphans
+after_detach-requires-clause-orphans g c = (goes g c).kept.orphans
 
 pub invariant_of-self-2 : goal.invariant_of-self-2
 invariant_of-self-2 g c = (
-  (let translated = c.unmap.ensures.translated c.self.inside.segments.memory c.self.invariant.0.translated in
-      c.after_detach.ensures.well c.self.inside.limits (well-gone _ _ _ _ _ _ _ _ c.self.invariant.0 (goes g (goal.at.invariant_of-self-2 g c).After-lost) translated)),
+  (let m = c.self.inside.segments.memory in
+      let same : c.attach_rests.new.segments.memory ≡ m = ap (λ (v : SegmentsView). v.memory) c.attach_rests.ensures in
+      let translated = c.unmap.ensures.translated m c.self.invariant.0.translated in
+      c.after_detach.ensures.well c.self.inside.limits (rw same (well-gone _ _ _ _ _ _ _ _ c.self.invariant.0 (goes g (goal.at.invariant_of-self-2 g c).After-lost) translated))),
   c.unmap.ensures.most ∙ c.self.invariant.1,
 )
+
+pub returns-clause-outcome : goal.returns-clause-outcome
+returns-clause-outcome g c =
+    let kept = kept g (goal.at.returns-clause-outcome g c).After-segments in
+    let e = c.in_ok-unmap.ensures in
+    let table = c.after_detach.ensures.table
+    ∙ ap (λ (v : SegmentsView). swept c.unmap.new.self.runners (detach_all c.args.time c.in_ok-caller.caller.pid v.table c.lost.result.now)) c.attach_rests.ensures
+    ∙ ap (swept c.unmap.new.self.runners) (renewed-first (rest_is_attached c.rules.result) c.args.time c.in_ok-caller.caller.pid c.segments.result.now c.lost.result.now c.self.inside.segments.table) in
+    let left = rw (kept, c.rules.ensures.value, c.lost.ensures.value, e.lost, e.runners) at table in
+    search (rules, left)

@@ -18,9 +18,9 @@ pub invariant_of-kernel : goal.invariant_of-kernel
 invariant_of-kernel g c = (
   record {
     kept = rw (c.in_ok-new-2.ensures.table, c.in_ok-new-3.ensures.runners) (let it = is_open c.args.limits (λ p. length (g.P.Pager.content p)) c.args.pagers.items c.args.processes.now (rw c.most_processes.ensures.value at c.most_processes.ensures.range.1) (rw c.most_slots.ensures.value at c.most_slots.ensures.range.1) c.requires.none in
-        fresh-kept c.args.limits c.args.processes.now (rw c.shmall.ensures.value at c.shmall.ensures.range) (rw c.memlock.ensures.value at c.memlock.ensures.range) it.declared it.apart);
+        fresh-kept c.args.limits c.args.processes.now (rw c.shmall.ensures.value at c.shmall.ensures.range) (rw c.lockable.ensures.value at c.lockable.ensures.range) it.declared it.apart);
     frames = c.in_ok-new-2.ensures.frames ∙ c.frames.ensures.value;
-    room = rw c.memlock.ensures.value at c.memlock.ensures.room;
+    room = rw c.lockable.ensures.value at c.lockable.ensures.room;
     translated = rw c.in_ok-new-3.ensures.translations (λ k d lt. absurd (omega (arith, lt)));
   },
   c.in_ok-new-3.ensures.most ∙ c.most_pieces.ensures.value,

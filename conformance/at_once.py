@@ -1,0 +1,407 @@
+"""Scripts whose processes run at once on the running kernel, and the judge of what each run answered.
+
+The peer makes each script's calls many times, every process alone from a common start. ./shmcheck judge says of each different
+log whether some order of the calls has its replies under Linux's rules. Linux makes shmat and the end of a segment in several
+steps, so that another process may meet the middle of one: EXPLANATIONS names what can be seen there, and a log that has only
+that is explained.
+"""
+
+import itertools
+import os
+import random
+import re
+import subprocess
+import tempfile
+from collections import Counter
+from dataclasses import dataclass, field, replace
+
+from running import TOP, Stopped, end_group
+from script import DECLARATIONS
+
+JUDGES = ("crates/shmcheck/out/shmcheck", "build/unproved/shmcheck")
+# how far the judge searches, where the order of a log's lines is not one that has its replies
+MOST, SECONDS = 4000, 60
+LINE = re.compile(r"(\d+) ([a-z]+)((?: \S+)*) = (\S.*)")
+SPAN = re.compile(r"# (\d+) (\d+)")
+# how many orders of a log's lines are tried before a search
+ORDERS = 40
+# how many changed logs are tried for one explanation, by the order of their lines and by a search
+TRIES, SEARCHES = 12, 4
+
+
+class Skipped(Exception):
+    """The peer can't make a script here."""
+
+
+@dataclass
+class Log:
+    """What each process was answered, in the order in which the calls ended, and when each call began and ended."""
+
+    lines: list = field(default_factory=list)
+    spans: list = field(default_factory=list)
+
+    @property
+    def by_process(self):
+        """The same for all logs with the same replies of each process."""
+        return tuple(sorted(self.lines, key=pid_of))
+
+    def orders(self):
+        """Orders that the times allow: by the ends, and some by chance, the same at each run."""
+        yield self.lines
+        chance = random.Random(0)
+        for _ in range(ORDERS - 1):
+            yield [self.lines[place] for place in self.order_by(chance)]
+
+    def order_by(self, chance):
+        """A call is next if it is its process's first that is left, and no other one ended before it began."""
+        left, order = {}, []
+        for place, line in enumerate(self.lines):
+            left.setdefault(pid_of(line), []).append(place)
+        while left:
+            end = min(self.spans[places[0]][1] for places in left.values())
+            pid = chance.choice([it for it, places in left.items() if self.spans[places[0]][0] <= end])
+            order.append(left[pid].pop(0))
+            left = {it: places for it, places in left.items() if places}
+        return order
+
+
+# ---- scripts ----
+
+USERS = ((0, 0), (100, 100), (100, 200), (200, 100))
+BASES = (0x50000000, 0x50004000, 0x50008000)
+KEYS = ("0x10", "0x11")
+# the most lines of each process, by how many processes there are: the judge searches an order of them all
+LINES = {2: 6, 3: 4, 4: 3}
+WORDS = ("01", "0203", "04050607", "0102030405060708")
+
+
+class Generator:
+    """Processes that ask for the same keys and use what they get. An identifier is only used as a variable, and an address that
+    the system chooses comes once in a process, since both differ from system to system."""
+
+    def __init__(self, seed):
+        self.random = random.Random(seed)
+        self.users = USERS if self.one_in(4) else (self.random.choice(USERS),)
+        self.keys = KEYS[:1 + self.one_in(4)]
+
+    def one_in(self, number):
+        return self.random.randrange(number) == 0
+
+    def pick(self, *values):
+        return self.random.choice(values)
+
+    def mode(self):
+        return self.pick("600", "600", "660", "640", "444") if len(self.users) == 1 else self.pick("600", "660", "666", "644", "660")
+
+    def make_shmget(self, _own):
+        flags = self.pick(",creat", ",creat", ",creat", ",creat,excl", ",creat,excl", "")
+        size = self.pick(4096, 4096, 4096, 4096, 4096, 8192, 1, 0)
+        return f"s = shmget {self.random.choice(self.keys)} {size} {self.mode()}{flags}"
+
+    def make_shmat(self, own):
+        flags = self.pick("-", "-", "-", "rdonly")
+        if "a" not in own and self.one_in(4):
+            own.append("a")
+            return f"a = shmat s null {flags}"
+        base = self.random.choice(BASES)
+        own.append(base)
+        return f"shmat s {base + 100:#x} rnd" if self.one_in(10) else f"shmat s {base:#x} {flags}"
+
+    def address(self, own, offset=0):
+        at = self.random.choice(own or BASES)
+        return (f"a+{offset}" if offset else "a") if at == "a" else f"{at + offset:#x}"
+
+    def make_shmdt(self, own):
+        return f"shmdt {self.address(own)}"
+
+    def make_load(self, own):
+        return f"load {self.address(own, self.pick(0, 8))} {self.pick(1, 2, 4, 8, 8)}"
+
+    def make_store(self, own):
+        return f"store {self.address(own, self.pick(0, 8))} {self.random.choice(WORDS)}"
+
+    def make_xadd(self, own):
+        return f"xadd {self.address(own, self.pick(0, 0, 8))} {self.pick(1, 1, 255, 2 ** 64 - 1)}"
+
+    def make_stat(self, _own):
+        return "stat s"
+
+    def make_set(self, _own):
+        uid, gid = self.random.choice(self.users)
+        return f"set s {uid} {gid} {self.mode()}"
+
+    def make_rmid(self, _own):
+        return "rmid s"
+
+    def lines(self, pid, count):
+        """The lines of a process; `own` is where it may have attached."""
+        own, lines = [], []
+        for number in range(count):
+            makes = ((self.make_shmget, 1), (self.make_stat, 3), (self.make_set, 1), (self.make_rmid, 2),
+                     (self.make_shmat, 2 if own else 8), (self.make_shmdt, 2 if own else 0), (self.make_load, 4 if own else 0),
+                     (self.make_store, 4 if own else 0), (self.make_xadd, 4 if own else 0))
+            make = self.random.choices([m for m, _ in makes], [w for _, w in makes])[0] if number else self.make_shmget
+            lines.append(f"{pid} {make(own)}")
+        return lines
+
+    def script(self):
+        pids = range(1, self.pick(2, 2, 3, 3, 4) + 1)
+        most = LINES[len(pids)]
+        users = [self.random.choice(self.users) for _ in pids]
+        heads = ["limits 65536 16 64 16 4"] + [f"process {pid} {uid} {gid}" for pid, (uid, gid) in zip(pids, users)]
+        return "\n".join(heads + [line for pid in pids for line in self.lines(pid, self.random.randint(3, most))]) + "\n"
+
+
+def make_script(seed, number):
+    """The script with this number of this seed: the same at each run."""
+    return Generator(f"at once/{seed}/{number}").script()
+
+
+def calls_of(text):
+    """How many lines each process of a script has."""
+    firsts = [line.split()[0] for line in text.splitlines() if line.split() and not line.startswith("#")]
+    return Counter(first for first in firsts if first not in (*DECLARATIONS, "0"))
+
+
+# ---- the peer ----
+
+class RacingPeer:
+    """A command that makes a script's calls at once."""
+
+    def __init__(self, words, runs, limit):
+        self.words = [*words, "--limit", str(limit), "--at-once", str(runs)]
+        self.runs, self.limit = runs, limit
+
+    def run(self, text):
+        """The logs of a script, one for each run."""
+        process = subprocess.Popen(self.words, stdin=subprocess.PIPE, stdout=subprocess.PIPE, stderr=subprocess.PIPE,
+                                   start_new_session=True)
+        try:
+            said, errors = process.communicate(text.encode(), timeout=(self.runs + 1) * self.limit)
+        except subprocess.TimeoutExpired:
+            raise Stopped(f"the peer did not end in {(self.runs + 1) * self.limit} seconds") from None
+        finally:
+            end_group(process)
+        message = [line for line in errors.decode(errors="replace").splitlines() if " note: " not in line][-1:] or ["nothing was said"]
+        if process.returncode == 4 and "skipped: " in message[0]:
+            raise Skipped(message[0].partition("skipped: ")[2])
+        if process.returncode:
+            raise Stopped(f"the peer ended with status {process.returncode}: {message[0]}")
+        return self.read(said.decode("ascii", "replace"), calls_of(text))
+
+    def read(self, said, calls):
+        logs = []
+        for line in said.splitlines():
+            span = SPAN.fullmatch(line)
+            if line == f"# run {len(logs) + 1}":
+                logs.append(Log())
+            elif logs and span:
+                logs[-1].spans.append((int(span[1]), int(span[2])))
+            elif logs and LINE.fullmatch(line):
+                logs[-1].lines.append(line)
+            else:
+                raise Stopped(f"the peer printed no line of a log: {line[:80]!r}")
+        if len(logs) != self.runs:
+            raise Stopped(f"the peer printed {len(logs)} logs of {self.runs} runs")
+        for log in logs:
+            if Counter(pid_of(line) for line in log.lines) != calls or len(log.spans) != len(log.lines):
+                raise Stopped(f"the peer printed a log that has not each line of the script once: {log.lines}")
+        return logs
+
+
+def pid_of(line):
+    return line.split()[0]
+
+
+def reply_of(line):
+    return line.rpartition(" = ")[2] if "key=" not in line else line.partition(" = ")[2]
+
+
+# ---- the judge ----
+
+def find_judge(command):
+    """The judge's words, or none where it was not built."""
+    if command:
+        return command.split()
+    return next(([path] for path in (os.path.join(TOP, it) for it in JUDGES) if os.path.isfile(path)), None)
+
+
+class Judge:
+    """./shmcheck judge, or another command that takes its words."""
+
+    def __init__(self, words):
+        self.words = words
+
+    def verdict(self, text, lines, most=MOST):
+        """`legal`, `illegal` or `undecided`, and what the judge said. It tries the order of the lines first."""
+        with tempfile.NamedTemporaryFile("w", encoding="ascii", prefix="conform.") as file:
+            file.write("\n".join(lines) + "\n")
+            file.flush()
+            words = [*self.words, "judge", file.name, "--rules", "linux", "--at-most", str(most)]
+            try:
+                done = subprocess.run(words, input=text.encode(), capture_output=True, timeout=SECONDS, check=False)
+            except subprocess.TimeoutExpired:
+                return "undecided", f"no answer in {SECONDS} seconds"
+            except OSError as error:
+                raise Stopped(f"the judge was not started: {error}") from None
+        said, errors = (it.decode(errors="replace") for it in (done.stdout, done.stderr))
+        word = {0: "legal", 5: "undecided", 6: "illegal"}.get(done.returncode)
+        if word is None or not is_verdict(word, said, lines):
+            raise Stopped(f"the judge ended with status {done.returncode}: {(errors or said).strip()[:300]!r}")
+        return word, said
+
+    def find_order(self, text, log):
+        """What the judge said of a log if one of the orders that its times allow is legal; or nothing."""
+        tried = (self.verdict(text, lines, 1) for lines in log.orders())
+        return next((said for word, said in tried if word == "legal"), "")
+
+
+def is_verdict(word, said, lines):
+    """Whether the judge's output is one for its status: behind `legal` comes an order of all lines of the log."""
+    if word == "legal":
+        order = re.fullmatch(r"legal\nschedule((?: \d+)*)\n", said)
+        return order is not None and Counter(order[1].split()) == Counter(pid_of(line) for line in lines)
+    return said.startswith("illegal\n") if word == "illegal" else said == ""
+
+
+# ---- what Linux shows of a call under way ----
+
+def attachers(lines, but):
+    """How many other processes attach a segment that they were given."""
+    calls = {(pid_of(line), LINE.fullmatch(line)[2], reply_of(line) == "?") for line in lines}
+    attaching = {pid for pid, call, _ in calls if call == "shmat"}
+    return len(attaching & {pid for pid, call, is_given in calls if call == "shmget" and is_given} - {but})
+
+
+def has_removal(lines, but):
+    return any(LINE.fullmatch(line)[2] == "rmid" and pid_of(line) != but for line in lines)
+
+
+def with_fewer_attached(line, lines):
+    """The reply of a stat with each smaller nattch that attaches under way explain."""
+    found = re.fullmatch(r"(.* nattch=)(\d+)( .*)", line)
+    if not found:
+        return [line]
+    return [f"{found[1]}{int(found[2]) - less}{found[3]}" for less in range(min(attachers(lines, pid_of(line)), int(found[2])) + 1)]
+
+
+def with_any_segment(line, lines):
+    """A segment that is marked and nowhere attached: it is there while a shmat of it is under way."""
+    if " status=dest" in line and attachers(lines, pid_of(line)):
+        return [line, line.partition(" = ")[0] + " = ?"]
+    return [line]
+
+
+def with_no_identifier(line, lines):
+    """EIDRM tells that the segment went between two steps of the call."""
+    if line.endswith(" = EIDRM") and has_removal(lines, pid_of(line)):
+        return [line, line.replace(" = EIDRM", " = EINVAL")]
+    return [line]
+
+
+EXPLANATIONS = (
+    ("nattch counts an attach under way", with_fewer_attached),
+    ("removed between two steps of a call", with_no_identifier),
+    ("marked while an attach is under way", with_any_segment),
+)
+
+
+def changed_logs(log, changes_of):
+    """The log with replies that an explanation allows, those with few changes first."""
+    choices = [changes_of(line, log.lines) for line in log.lines]
+    places = sorted(itertools.islice(itertools.product(*(range(len(it)) for it in choices)), 1000), key=sum)
+    for chosen in places[1:]:
+        yield replace(log, lines=[it[place] for it, place in zip(choices, chosen)])
+
+
+def explanation_of(text, log, tries, is_legal):
+    """The name of what explains a log, or nothing: a legal log that differs from it only so."""
+    for name, changes_of in EXPLANATIONS:
+        if any(is_legal(text, other) for other in itertools.islice(changed_logs(log, changes_of), tries)):
+            return name
+    return ""
+
+
+def judge_log(judge, text, log):
+    """The verdict on a log, its explanation, and what the judge said. Orders that the times allow are tried first, since an
+    order is judged at once: a search of all orders takes seconds."""
+    said = judge.find_order(text, log)
+    if said:
+        return "legal", "", said
+    name = explanation_of(text, log, TRIES, judge.find_order)
+    if name:
+        return "explained", name, ""
+    word, said = judge.verdict(text, log.lines)
+    if word != "legal":
+        name = explanation_of(text, log, SEARCHES, lambda text, other: judge.verdict(text, other.lines)[0] == "legal")
+    return "explained" if name else word.replace("illegal", "ILLEGAL"), name, said
+
+
+# ---- all scripts ----
+
+class Tally:
+    """What was counted."""
+
+    def __init__(self):
+        self.scripts = self.runs = 0
+        self.logs, self.judged = Counter(), Counter()
+        self.explained, self.skipped = Counter(), Counter()
+
+    def take(self, word, runs):
+        self.logs[word] += 1
+        self.judged[word] += runs
+
+    def lines(self):
+        words = ("legal", "explained", "ILLEGAL", "undecided", "skipped")
+        for title, counts in (("runs", self.judged), ("different logs", self.logs)):
+            yield f"{title}: {sum(counts.values())}, " + ", ".join(f"{word} {counts[word]}" for word in words)
+        for title, counts in (("explained", self.explained), ("skipped", self.skipped)):
+            for name, count in sorted(counts.items()):
+                yield f"  {title}: {name}: {count}"
+
+    @property
+    def status(self):
+        return 1 if self.logs["ILLEGAL"] or self.logs["undecided"] else 0
+
+
+def told(title, text, lines, said):
+    """A log that is not legal, with its script and what the judge said."""
+    parts = (("the script", text.splitlines()), ("the log", lines), ("the judge", said.splitlines()))
+    return "\n".join([title] + [line for name, lines in parts for line in (f"  {name}:", *("    " + it for it in lines))])
+
+
+def judge_script(tally, peer, judge, title, text):
+    """Runs one script and judges each different log."""
+    logs, runs = {}, Counter()
+    for log in peer.run(text):
+        logs.setdefault(log.by_process, log)
+        runs[log.by_process] += 1
+    for key, log in logs.items():
+        unmade = next((line for line in log.lines if reply_of(line).startswith("skipped: ")), "")
+        if unmade:
+            tally.take("skipped", runs[key])
+            tally.skipped[reply_of(unmade)[len("skipped: "):]] += 1
+            continue
+        word, name, said = judge_log(judge, text, log)
+        tally.take(word, runs[key])
+        if name:
+            tally.explained[name] += 1
+        elif word != "legal":
+            print(told(f"{title}: {word}", text, log.lines, said), flush=True)
+
+
+def run_at_once(peer, judge, count, seed):
+    """Judges so many random scripts; the exit status."""
+    tally = Tally()
+    for number in range(count):
+        title = f"script {number} of seed {seed}"
+        try:
+            judge_script(tally, peer, judge, title, make_script(seed, number))
+            tally.scripts += 1
+        except Skipped as reason:
+            tally.skipped[f"{reason}, whole scripts"] += 1
+        except Stopped as error:
+            raise Stopped(f"{title}: {error}") from None
+    print(f"scripts: {tally.scripts} run, {count - tally.scripts} skipped")
+    print("\n".join(tally.lines()))
+    return tally.status

@@ -1,0 +1,225 @@
+"""Reads what strace -f prints: calls with the lines of their entry and return, and the ends of processes.
+
+strace handles one stop after the other, so the order of its lines is the order in time: a call whose line is complete overlaps
+with no other, and one that is unfinished overlaps with those up to the line where it is resumed.
+"""
+
+from __future__ import annotations
+
+import re
+from dataclasses import dataclass, field
+
+TIME = r"(?:\d\d:\d\d:\d\d(?:\.\d+)?|\d+\.\d+)"
+PREFIX = re.compile(rf"(?:\[pid\s+(\d+)\]\s+|(\d+)\s+)?(?:{TIME}\s+)?(?:\(\+\s+\d+\.\d+\)\s+)?(.*)")
+NOTE = re.compile(r"(?:\S*/)?strace: (.*)")
+INTERRUPTED = re.compile(r"(.*\S.*?)((?:/\S*/)?strace: Process \d+ attached)")
+ATTACHED = re.compile(r"Process (\d+) attached")
+END = re.compile(r"\+\+\+ (exited with \d+|killed by \w+(?: \(core dumped\))?) \+\+\+")
+SUPERSEDED = re.compile(r"\+\+\+ superseded by execve in pid (\d+) \+\+\+")
+SIGNAL = re.compile(r"--- .* ---")
+UNFINISHED = re.compile(r"(\w+)\((.*?)\s*<unfinished \.\.\.>(?:\)\s*= \?)?")
+RESUMED = re.compile(r"<\.\.\. (\w+) resumed>(.*)")
+WHOLE = re.compile(r"(\w+)\((.*)\)\s*= (\S+)(?: (E[A-Z0-9]+) \(.*\))?(?: \(.*\))?(?: <[^<>]*>)?")
+MADE_BY = ("clone", "clone3", "fork", "vfork")
+
+
+class BadTrace(Exception):
+    """A line that can't be read, by its number; 0 is the whole."""
+
+    def __init__(self, line, cause):
+        super().__init__(f"line {line}: {cause}" if line else cause)
+
+
+@dataclass
+class Call:
+    """A call of a thread. Without `last` it never returned. The end of a thread is `+++`, or `superseded` by another's execve."""
+
+    thread: str
+    name: str
+    text: str
+    first: int
+    last: int | None = None
+    value: str = "?"
+    error: str = ""
+
+    @property
+    def thread_and_line(self):
+        return self.thread, self.name == "+++", self.first
+
+    @property
+    def is_refused(self):
+        return self.value == "-1" and self.error != ""
+
+    @property
+    def words(self):
+        return split_words(self.text)
+
+
+@dataclass
+class Thread:
+    """One life of a number of a thread; numbers come again."""
+
+    name: str
+    number: int
+    first: int
+    open: Call | None = None
+
+
+@dataclass
+class Trace:
+    calls: list = field(default_factory=list)
+    threads: dict = field(default_factory=dict)     # by name, in the order of their first lines
+    lives: dict = field(default_factory=dict)       # of each number, the names of its threads
+
+
+def split_words(text):
+    """The operands of a call: what is between the commas outside of brackets and strings."""
+    words, depth, start, is_string, place = [], 0, 0, False, 0
+    while place < len(text):
+        letter = text[place]
+        if is_string:
+            place += letter == "\\"
+            is_string = letter != '"'
+        elif letter == '"':
+            is_string = True
+        elif letter in "([{":
+            depth += 1
+        elif letter in ")]}":
+            depth -= 1
+        elif letter == "," and depth == 0:
+            words.append(text[start:place].strip())
+            start = place + 1
+        place += 1
+    last = text[start:].strip()
+    return words + [last] if last or words else []
+
+
+class Reader:
+    """Reads a trace, line by line."""
+
+    def __init__(self):
+        self.trace = Trace()
+        self.live = {}          # by number
+        self.unnamed = None     # the thread of the lines that name none
+        self.announced = set()  # numbers of threads that were made
+
+    def thread_of(self, number, line):
+        if number is None:
+            return self.only_thread(line)
+        if number not in self.live:
+            if number not in self.announced and self.unnamed and self.unnamed.number == 0:
+                return self.name_unnamed(number)
+            self.begin(number, line)
+        return self.live[number]
+
+    def begin(self, number, line):
+        lives = self.trace.lives.setdefault(number, [])
+        thread = Thread(f"{number}#{len(lives)}", number, line)
+        lives.append(thread.name)
+        self.trace.threads[thread.name] = thread
+        self.live[number] = thread
+        return thread
+
+    def only_thread(self, line):
+        """strace without -o names no process where it traces one."""
+        if not self.trace.threads:
+            self.unnamed = self.begin(0, line)
+        if len(self.live) != 1:
+            raise BadTrace(line, "it does not say of which process it is; strace -f -o FILE names each")
+        return next(iter(self.live.values()))
+
+    def name_unnamed(self, number):
+        """The first number that nothing made is that of the process whose lines had none."""
+        thread = self.unnamed
+        thread.number = number
+        self.trace.lives[number] = self.trace.lives.pop(0)
+        self.live[number] = self.live.pop(0)
+        return thread
+
+    def take(self, line, text):
+        note = NOTE.fullmatch(text)
+        if note:
+            attached = ATTACHED.match(note[1])
+            if attached and int(attached[1]) not in self.live and self.trace.threads:
+                self.begin(int(attached[1]), line)
+                self.announced.add(int(attached[1]))
+            return
+        bracketed, plain, rest = PREFIX.fullmatch(text).groups()
+        number = bracketed or plain
+        if not rest or not self.is_form(rest):
+            raise BadTrace(line, f"no line of strace -f: {text[:60]!r}")
+        self.take_rest(self.thread_of(int(number) if number else None, line), line, rest)
+
+    @staticmethod
+    def is_form(rest):
+        return any(form.fullmatch(rest) for form in (END, SUPERSEDED, SIGNAL, UNFINISHED, RESUMED, WHOLE))
+
+    def take_rest(self, thread, line, rest):
+        if END.fullmatch(rest) or SUPERSEDED.fullmatch(rest):
+            self.end(thread, line, rest)
+        elif SIGNAL.fullmatch(rest):
+            pass
+        elif RESUMED.fullmatch(rest):
+            self.resume(thread, line, *RESUMED.fullmatch(rest).groups())
+        elif UNFINISHED.fullmatch(rest):
+            name, text = UNFINISHED.fullmatch(rest).groups()
+            if thread.open:
+                raise BadTrace(line, f"process {thread.number} is in a call already, of line {thread.open.first}")
+            thread.open = Call(thread.name, name, text, line)
+            self.trace.calls.append(thread.open)
+        else:
+            call = Call(thread.name, "", "", line)
+            self.trace.calls.append(call)
+            self.finish(call, line, WHOLE.fullmatch(rest).groups())
+
+    def resume(self, thread, line, name, rest):
+        call = thread.open
+        if call is None or call.name != name:
+            raise BadTrace(line, f"process {thread.number} has no unfinished {name}")
+        whole = WHOLE.fullmatch(f"{name}({call.text}{rest}")
+        if whole is None:
+            raise BadTrace(line, f"no end of a call: {rest[:60]!r}")
+        thread.open = None
+        self.finish(call, line, whole.groups())
+
+    def finish(self, call, line, parts):
+        call.name, call.text, call.value, error = parts
+        call.error = error or ""
+        call.last = line
+        if call.name in MADE_BY and call.value.isdigit():
+            self.announced.add(int(call.value))
+
+    def end(self, thread, line, rest):
+        del self.live[thread.number]
+        self.announced.discard(thread.number)
+        superseded = SUPERSEDED.fullmatch(rest)
+        self.trace.calls.append(Call(thread.name, "superseded" if superseded else "+++", "", line, line))
+        if superseded and int(superseded[1]) in self.live:
+            # the thread that made the execve goes on under this number
+            heir = self.live.pop(int(superseded[1]))
+            heir.number = thread.number
+            self.live[thread.number] = heir
+
+
+def read_trace(lines):
+    """The trace that these lines are."""
+    reader = Reader()
+    begun = None
+    for line, text in enumerate(lines, 1):
+        text = text.rstrip()
+        if not text:
+            continue
+        interrupted = INTERRUPTED.fullmatch(text)
+        if begun:
+            # strace without -o says within a call's line that a process is attached, and goes on in the next line
+            first, head, note = begun
+            reader.take(first, head + text)
+            reader.take(line, note)
+            begun = None
+        elif interrupted:
+            begun = (line, *interrupted.groups())
+        else:
+            reader.take(line, text)
+    if begun:
+        raise BadTrace(begun[0], "the line goes on in the next one, which is missing")
+    return reader.trace

@@ -1,0 +1,184 @@
+"""Segments and attachments as a trace tells of them: what is where in the process, and where the script's machine has it."""
+
+from __future__ import annotations
+
+from dataclasses import dataclass, field
+
+PAGE = 4096
+FIRST_CHOSEN = 0x40000000       # the machine's first address where the caller names none
+LAST = 0x7ffffffff000
+INDEXES = 32768                 # an identifier of the machine is its index, and this times how often the index came before
+NEVER_ISSUED = 2147483647
+
+
+def pages_of(size):
+    return -(-size // PAGE)
+
+
+@dataclass
+class Segment:
+    identifier: int             # of the trace
+    number: int                 # of the machine, in the order of the trace
+    key: int
+    size: int                   # of the script
+    real_size: int
+    is_marked: bool = False
+    out: str = ""               # why it is left out of the script
+    pieces: int = 0
+    made_key: int = 0
+    is_touched: bool = False    # by calls that the script has not
+
+
+@dataclass
+class Attach:
+    """One shmat that succeeded."""
+
+    segment: Segment
+    address: int                # of the trace
+    number: int                 # of the machine
+    is_literal: bool            # the machine has it where the script says
+    stays: bool = False         # a child does not inherit it (MADV_DONTFORK)
+
+
+@dataclass(frozen=True)
+class Piece:
+    attach: Attach
+    first: int                  # bytes from the origin of the attach to where it begins
+    end: int                    # and to where it ends
+
+    @property
+    def start(self):
+        return self.attach.address + self.first
+
+    @property
+    def stop(self):
+        return self.attach.address + self.end
+
+    @property
+    def machine_start(self):
+        return self.attach.number + self.first
+
+    @property
+    def machine_stop(self):
+        """A segment may be smaller in the script."""
+        most = pages_of(self.attach.segment.size) * PAGE
+        return self.attach.number + min(self.end, max(most, self.first))
+
+
+def without(piece, start, stop):
+    """What is left of a piece outside of a range of the trace."""
+    if piece.stop <= start or stop <= piece.start:
+        return [piece]
+    parts = []
+    if piece.start < start:
+        parts.append(Piece(piece.attach, piece.first, start - piece.attach.address))
+    if stop < piece.stop:
+        parts.append(Piece(piece.attach, stop - piece.attach.address, piece.end))
+    return parts
+
+
+@dataclass
+class Memory:
+    """The segments, in the order of the trace."""
+
+    live: dict = field(default_factory=dict)        # by identifier
+    gone: dict = field(default_factory=dict)        # the last segment that had an identifier
+    indexes: set = field(default_factory=set)       # those that a segment holds
+    lives: dict = field(default_factory=dict)       # how many segments an index had
+    pages: int = 0
+    most_pages: int = 0
+    most_segments: int = 0
+    created: int = 0
+    changes: list = field(default_factory=list)     # of attachments, since they were last taken
+
+    def create(self, identifier, key, size, real_size, out):
+        if identifier in self.live:
+            self.destroy(self.live[identifier])
+        number = NEVER_ISSUED
+        if not out:
+            index = next(it for it in range(INDEXES) if it not in self.indexes)
+            self.indexes.add(index)
+            number = index + INDEXES * self.lives.get(index, 0)
+            self.created += 1
+            self.pages += pages_of(size)
+            self.most_pages = max(self.most_pages, self.pages)
+        segment = Segment(identifier, number, key, size, real_size, out=out, made_key=key)
+        self.live[identifier] = segment
+        self.most_segments = max(self.most_segments, len(self.indexes))
+        return segment
+
+    def destroy(self, segment):
+        if self.live.get(segment.identifier) is not segment:
+            return
+        del self.live[segment.identifier]
+        self.gone[segment.identifier] = segment
+        if not segment.out:
+            index = segment.number % INDEXES
+            self.indexes.discard(index)
+            self.lives[index] = self.lives.get(index, 0) + 1
+            self.pages -= pages_of(segment.size)
+
+    def remove(self, segment):
+        segment.is_marked = True
+        segment.key = 0
+        self.destroy_unattached(segment)
+
+    def take_changes(self):
+        changes, self.changes = self.changes, []
+        return [(segment, change) for segment, change in changes if not segment.out]
+
+    def destroy_unattached(self, segment):
+        if segment.is_marked and segment.pieces == 0:
+            self.destroy(segment)
+
+    def known(self, identifier):
+        """The segment of an identifier; one that is gone, because a call that overlaps with its end may come before it."""
+        return self.live.get(identifier) or self.gone.get(identifier)
+
+    def had_key(self, key):
+        return any(it.made_key == key != 0 for it in (*self.live.values(), *self.gone.values()))
+
+    def by_key(self, key):
+        return next((it for it in self.live.values() if it.key == key and key != 0), None)
+
+    def put(self, process, pieces):
+        """The process has other pieces now."""
+        before = process.pieces
+        process.pieces = pieces
+        kept = {id(it) for it in before} & {id(it) for it in pieces}
+        self.changes += [(it.attach.segment, 1) for it in pieces if id(it) not in kept]
+        self.changes += [(it.attach.segment, -1) for it in before if id(it) not in kept]
+        for piece in pieces:
+            piece.attach.segment.pieces += 1
+        for piece in before:
+            piece.attach.segment.pieces -= 1
+        for piece in before:
+            self.destroy_unattached(piece.attach.segment)
+
+
+@dataclass
+class Process:
+    name: str                   # of its first thread
+    pid: int
+    pieces: list = field(default_factory=list)
+    threads: set = field(default_factory=set)
+    program: str = ""
+
+    def at(self, start, stop):
+        """The first piece in a range of the trace."""
+        inside = [it for it in self.pieces if it.start < stop and start < it.stop]
+        return min(inside, key=lambda it: it.start, default=None)
+
+    def of_origin(self, address):
+        return [it for it in self.pieces if it.attach.address == address]
+
+    def gap(self, size):
+        """Where the machine attaches that many bytes if it may choose."""
+        start = FIRST_CHOSEN
+        for piece in sorted(self.pieces, key=lambda it: it.machine_start):
+            if piece.attach.segment.out or piece.machine_stop <= start:
+                continue
+            if start + size <= piece.machine_start:
+                break
+            start = max(start, piece.machine_stop)
+        return start

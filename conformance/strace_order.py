@@ -1,0 +1,199 @@
+"""Looks for an order of the calls that overlap in which Linux would give the replies of the trace.
+
+It is the order that the judge tries first, so a wrong one costs time and nothing else. A call with no effect is made as soon as
+its reply fits. Runs in which each process is as far, and the last pids are the same, go on alike.
+"""
+
+from __future__ import annotations
+
+import re
+
+from strace_model import Segment
+
+MOST_STEPS = 200_000
+SHOWN = re.compile(r"status=(\S+) .* lpid=(\d+) nattch=(\d+) atime=(\w+) dtime=(\w+)")
+OF_ONE = ("stat", "rmid", "set", "lock", "unlock")
+
+
+class State:
+    """What replies depend on: of each segment the attachments, the last pid, how often it was attached and detached, and whether
+    it is there and marked."""
+
+    def __init__(self, slack=None):
+        self.slack = slack or {}        # by how much the attach count of a stat may be too high
+        self.counts, self.pids = {}, {}
+        self.attached, self.detached = {}, {}
+        self.there, self.marked = set(), set()
+        self.keys = {}
+
+    def fits(self, command):
+        """Whether Linux could answer this now; what is not looked at fits."""
+        if command.word == "shmget":
+            return self.fits_get(command)
+        segment = command.parts[0] if command.parts and isinstance(command.parts[0], Segment) else None
+        if segment is None:
+            return True
+        is_there = id(segment) in self.there
+        if command.reply in ("EINVAL", "EIDRM"):
+            return not is_there or command.word not in OF_ONE
+        shown = SHOWN.search(command.reply) if command.word == "stat" else None
+        if shown is None or not is_there:
+            return is_there
+        name = id(segment)
+        times = [("set" if counts.get(name, 0) else "0") for counts in (self.attached, self.detached)]
+        return (("dest" in shown[1]) == (name in self.marked) and int(shown[2]) == self.pids.get(name, 0)
+                and 0 <= int(shown[3]) - self.counts.get(name, 0) <= self.slack.get(id(command), 0)
+                and [shown[4], shown[5]] == times)
+
+    def fits_get(self, command):
+        found = self.keys.get(command.key)
+        if command.result is not None:
+            return found is None if command.is_new else found is command.result
+        if command.reply in ("EEXIST", "EACCES"):
+            return found is not None
+        return found is None or command.reply != "ENOENT"
+
+    def make(self, command):
+        """Makes a call; what was before, for `undo`."""
+        touched = [segment for segment, _ in command.effects]
+        touched += [it for it in (command.result, *command.parts) if isinstance(it, Segment)]
+        before = [(it, self.counts.get(id(it), 0), self.pids.get(id(it), 0), id(it) in self.there, id(it) in self.marked,
+                   self.keys.get(it.made_key) is it) for it in touched]
+        if command.reply.startswith("E"):
+            return before
+        for segment, change in command.effects:
+            self.counts[id(segment)] = self.counts.get(id(segment), 0) + change
+            self.pids[id(segment)] = command.process.pid
+            self.count_time(segment, change, 1)
+        if command.is_new:
+            self.there.add(id(command.result))
+            if command.key:
+                self.keys[command.key] = command.result
+        if command.word == "rmid":
+            self.marked.add(id(command.parts[0]))
+            self.drop_key(command.parts[0])
+        for segment in touched:
+            if id(segment) in self.marked and not self.counts.get(id(segment), 0):
+                self.there.discard(id(segment))
+        return before
+
+    def count_time(self, segment, change, step):
+        counts = self.attached if change > 0 else self.detached
+        counts[id(segment)] = counts.get(id(segment), 0) + step
+
+    def drop_key(self, segment):
+        if self.keys.get(segment.made_key) is segment:
+            del self.keys[segment.made_key]
+
+    def undo(self, before):
+        for segment, count, pid, is_there, is_marked, has_key in reversed(before):
+            self.counts[id(segment)], self.pids[id(segment)] = count, pid
+            (self.there.add if is_there else self.there.discard)(id(segment))
+            (self.marked.add if is_marked else self.marked.discard)(id(segment))
+            if has_key:
+                self.keys[segment.made_key] = segment
+            else:
+                self.drop_key(segment)
+
+
+def unexplained(commands):
+    """The calls whose replies do not fit in this order."""
+    state, found = State(), []
+    for command in commands:
+        if not state.fits(command):
+            found.append(command)
+        state.make(command)
+    return found
+
+
+def slack_of(commands):
+    """Linux raises the attach count by two in a shmat, and lowers it by one at its end: a stat between may show that."""
+    attaches = [it for it in commands if it.word == "shmat" and it.result is not None]
+    return {id(stat): sum(it.first < stat.last and stat.first < it.last and it.process is not stat.process for it in attaches)
+            for stat in commands if stat.word == "stat"}
+
+
+class Search:
+    """A search in depth, with the calls of each process in their order and no call before one that had returned."""
+
+    def __init__(self, commands, slack=None):
+        self.own, self.state = {}, State(slack)
+        for command in commands:
+            self.own.setdefault(command.process.name, []).append(command)
+        self.places = dict.fromkeys(self.own, 0)
+        self.count = len(commands)
+        self.parent = {it.child.name: it for it in commands if it.child}
+        self.made, self.done, self.longest = [], set(), []
+        self.failed = set()
+
+    def offered(self):
+        """The calls that may be next, those that began first before others."""
+        heads = [self.own[name][place] for name, place in self.places.items() if place < len(self.own[name])]
+        heads = [it for it in heads if it.process.name not in self.parent or id(self.parent[it.process.name]) in self.done]
+        end = min((it.last for it in heads), default=0)
+        return sorted((it for it in heads if it.first < end or it.last == end), key=lambda it: (it.middle, it.first))
+
+    def key(self):
+        return tuple(self.places.values()), tuple(sorted(self.state.pids.items()))
+
+    def take(self, command):
+        before = self.state.make(command)
+        self.places[command.process.name] += 1
+        self.made.append((command, before))
+        self.done.add(id(command))
+
+    def back(self):
+        command, before = self.made.pop()
+        self.done.discard(id(command))
+        self.places[command.process.name] -= 1
+        self.state.undo(before)
+        if not command.reply.startswith("E"):
+            for segment, change in command.effects:
+                self.state.count_time(segment, change, -1)
+
+    def choices(self):
+        """A call without effects is the only choice if its reply fits."""
+        fitting = [it for it in self.offered() if self.state.fits(it)]
+        quiet = next((it for it in fitting if it.is_quiet), None)
+        return [quiet] if quiet else fitting
+
+    def run(self):
+        """Whether an order was found, which is then the longest beginning."""
+        stack, steps = [iter(self.choices())], 0
+        while stack and steps < MOST_STEPS:
+            steps += 1
+            if len(self.made) > len(self.longest):
+                self.longest = [command for command, _ in self.made]
+            if len(self.longest) == self.count:
+                return True
+            command = next(stack[-1], None)
+            if command is None:
+                stack.pop()
+                self.failed.add(self.key())
+                if self.made:
+                    self.back()
+                continue
+            self.take(command)
+            if self.key() in self.failed:
+                self.back()
+            else:
+                stack.append(iter(self.choices()))
+        return False
+
+
+def better_order(commands):
+    """An order of the commands, those whose replies may be any in it, and whether that explains all.
+
+    It is this order or another one in which all replies fit; or one in which those of some stats fit but for the attach count while
+    a shmat overlaps; or one with the longest beginning that was met.
+    """
+    if not unexplained(commands):
+        return commands, [], True
+    search = Search(commands)
+    if search.run():
+        return search.longest, [], True
+    loose = Search(commands, slack_of(commands))
+    if loose.run():
+        return loose.longest, unexplained(loose.longest), True
+    begun = {id(command) for command in search.longest}
+    return search.longest + [command for command in commands if id(command) not in begun], [], False

@@ -1,0 +1,96 @@
+//! Exchanges, and compares with exchange.
+ghost use Rattle.std.specs.Prelude.{◌≡◌, ◌≢◌, ◌≤◌, ◌&&◌, ◌==◌, length};
+ghost use Rattle.shm_base.specs.Bounds.{within};
+ghost use Rattle.shm_base.specs.Exchange.{compares, exchanges};
+ghost use Rattle.shm_base.specs.State.{Machine as Flat};
+ghost use Rattle.nogcuvema.specs.Exchanges.{ExchangesFor, ExchangesWhere};
+
+use crate::access::is_size;
+use crate::code::{CLOSED, DONE, OUT_OF_RANGE, refusal_code};
+use crate::handle::Handle;
+use shm_machine::Machine;
+use std::alloc::Global;
+
+#[tactic(auto, using(crate::proofs::Answering::not_exchanged))]
+fn exchange(machine: &mut Machine, pid: u32, addr: u64, bytes: &[u8], before: &mut [u8]) -> u32
+    requires size { (1 ≤ length bytes.now) × (length bytes.now ≤ 64) }
+    requires before { length before.old ≡ length bytes.now }
+    ensures answers { ExchangesFor (λ (s : Flat). exchanges s pid addr bytes.now) machine.old before.new result machine.new }
+    ensures before { result ≢ 0 → before.new ≡ before.old }
+{
+    match machine.exchange(pid, addr, bytes, before) {
+        Ok(()) => DONE,
+        Err(refusal) => refusal_code(refusal),
+    }
+}
+
+#[tactic(auto, using(crate::proofs::Answering::not_exchanged))]
+fn compare(
+    machine: &mut Machine,
+    pid: u32,
+    addr: u64,
+    expected: &[u8],
+    bytes: &[u8],
+    before: &mut [u8],
+) -> u32
+    requires size { (1 ≤ length bytes.now) × (length bytes.now ≤ 64) }
+    requires before { length before.old ≡ length bytes.now }
+    ensures answers { ExchangesFor (λ (s : Flat). compares s pid addr expected.now bytes.now) machine.old before.new result machine.new }
+    ensures before { result ≢ 0 → before.new ≡ before.old }
+{
+    match machine.compare_exchange(pid, addr, expected, bytes, before) {
+        Ok(()) => DONE,
+        Err(refusal) => refusal_code(refusal),
+    }
+}
+
+/// Puts 1 to 64 bytes in the place of others, in one step; `before`, which has as many, shows those.
+#[unsafe(no_mangle)]
+pub extern "C" fn nog_exchange(
+    alloc: Global,
+    handle: &mut Handle,
+    pid: u32,
+    addr: u64,
+    bytes: &[u8],
+    before: &mut [u8],
+) -> u32
+    ensures answers { let fit = within 1 64 (length bytes.now) && (length before.old == length bytes.now) in
+        ExchangesWhere fit (λ (s : Flat). exchanges s pid addr bytes.now) handle.old.kept.value before.new result handle.new.kept.value }
+    ensures before { result ≢ 0 → before.new ≡ before.old }
+{
+    if !is_size(bytes.len()) || before.len() != bytes.len() {
+        return OUT_OF_RANGE;
+    }
+    let Some(mut machine) = handle.take(alloc) else {
+        return CLOSED;
+    };
+    let code = exchange(&mut machine, pid, addr, bytes, before);
+    handle.put(machine);
+    code
+}
+
+/// As nog_exchange, but the bytes are replaced only if they are the expected ones, of which there are as many.
+#[unsafe(no_mangle)]
+pub extern "C" fn nog_compare_exchange(
+    alloc: Global,
+    handle: &mut Handle,
+    pid: u32,
+    addr: u64,
+    expected: &[u8],
+    bytes: &[u8],
+    before: &mut [u8],
+) -> u32
+    ensures answers { let fit = within 1 64 (length bytes.now) && (length before.old == length bytes.now) && (length expected.now == length bytes.now) in
+        ExchangesWhere fit (λ (s : Flat). compares s pid addr expected.now bytes.now) handle.old.kept.value before.new result handle.new.kept.value }
+    ensures before { result ≢ 0 → before.new ≡ before.old }
+{
+    if !is_size(bytes.len()) || before.len() != bytes.len() || expected.len() != bytes.len() {
+        return OUT_OF_RANGE;
+    }
+    let Some(mut machine) = handle.take(alloc) else {
+        return CLOSED;
+    };
+    let code = compare(&mut machine, pid, addr, expected, bytes, before);
+    handle.put(machine);
+    code
+}

@@ -1,0 +1,243 @@
+-- Where no gap begins that is large enough, the walk to the least gap may begin behind.
+use Rattle.shm_areas.proofs.Names.{◌≡◌, ℕ, zero, suc, ◌+◌, ◌*◌, ◌-◌, ◌%◌, ◌<◌, ◌≤◌, ◌⊎◌, inl, inr, true, false, List, [], ◌∷◌, ◌++◌, length, get_or, drop, max, refl, sym, ap, ◌∙◌, arith, common_steps, lt-leb, cases_lt, cases_Bool, both_ways, false_from_ne_true, is_gap, end_address, end_of, meets, parts, occupied, inserted, cut, without_named, first_chosen, lowest_address, gap_from, leb-true, stored_inserted, stored_cut, stored_without, IsPieceRange, Piece, bare, bare_all, Arranged, IsFit}
+use Rattle.std.specs.Prelude.{min, if◌then◌else◌, nat_le}
+use Rattle.shm_base.specs.State as flat
+use Rattle.shm_areas.specs.Gap.{IsFilled, IsPassed, IsHint, IsLeastGap}
+use Rattle.shm_areas.specs.declared.filling.Passed.{Passed}
+use Rattle.shm_areas.proofs.Edits.{lower, bare_inserted, bare_cut, bare_filter, end_upto}
+use Rattle.std.proofs.lemmas.List.Concat.{flat_map-cons}
+use Rattle.shm_areas.proofs.Gaps.{free_below, left_past, low_gap, too_high, gap_here}
+
+-- THE WALK
+
+-- pieces from a place on lie in order too
+pub arranged-drop : (low n : ℕ) (ps : List Piece) → Arranged low (bare_all ps) → Arranged low (bare_all (drop n ps))
+arranged-drop low zero ps ar = ar
+arranged-drop low (suc n) [] ar = ar
+arranged-drop low (suc n) (p ∷ ps) ar = arranged-drop low n ps (lower low (end_of (bare p)) (bare_all ps) (omega (arith, ar.0, ar.1.0.some)) ar.1.1)
+
+-- the first piece begins below the end of each range that a piece meets
+first-begins : (low a b : ℕ) (p : Piece) (ps : List Piece) → Arranged low (bare_all (p ∷ ps)) → occupied (bare_all (p ∷ ps)) a b ≡ true → p.base < b
+first-begins low a b p ps ar full = elim (cases_lt p.base b) [
+  | inl lt ↦ lt
+  | inr le ↦ absurd (both_ways _ (free_below p.base a b (bare_all (p ∷ ps)) (omega arith, ar.1) le) full)
+]
+
+-- what meets a range meets a longer one
+pub occupied-longer : (ps : List flat.Piece) (a b c : ℕ) → b ≤ c → occupied ps a b ≡ true → occupied ps a c ≡ true
+occupied-longer [] a b c le full = absurd (both_ways false refl full)
+occupied-longer (p ∷ ps) a b c le full = grind (arith, common_steps, full, le, occupied-longer ps a b c le)
+
+-- a piece that begins below a range is passed
+passed : (pages base : ℕ) (p : Piece) (ps : List Piece) → p.base < base + 4096 * pages → gap_from pages base (bare_all (p ∷ ps)) ≡ gap_from pages (max base (end_of (bare p))) (bare_all ps)
+passed pages base p ps below = rw (lt-leb (base + 4096 * pages) p.base below) refl
+
+pub skip : (pages filled low base n : ℕ) (ps : List Piece) → 1 ≤ pages → base ≤ filled → Arranged low (bare_all ps)
+    → ((a : ℕ) → base ≤ a → a < filled → occupied (bare_all ps) a (a + 4096 * pages) ≡ true)
+    → ((k : ℕ) (d : Piece) → k < n → end_of (bare (get_or ps k d)) ≤ filled)
+    → ((k : ℕ) (d : Piece) → n ≤ k → k < length ps → filled < end_of (bare (get_or ps k d)))
+    → gap_from pages base (bare_all ps) ≡ gap_from pages filled (bare_all (drop n ps))
+skip pages filled low base n [] some le ar full before after = elim (cases_lt base filled) [
+  | inl lt ↦ absurd (both_ways false refl (full base (omega arith) lt))
+  | inr ge ↦ let same : base ≡ filled = omega (arith, le, ge) in grind (arith, common_steps, same)
+]
+skip pages filled low base zero (p ∷ ps) some le ar full before after = elim (cases_lt base filled) [
+  | inl lt ↦
+      let begins = first-begins low base (base + 4096 * pages) p ps ar (full base (omega arith) lt) in
+      let ends = after 0 p (omega arith) (omega arith) in
+      let here : max base (end_of (bare p)) ≡ end_of (bare p) = omega (arith, ends, lt) in
+      let there : max filled (end_of (bare p)) ≡ end_of (bare p) = omega (arith, ends) in
+      passed pages base p ps begins ∙ ap (λ (b : ℕ). gap_from pages b (bare_all ps)) (here ∙ sym there) ∙ sym (passed pages filled p ps (omega (arith, begins, lt, some)))
+  | inr ge ↦ let same : base ≡ filled = omega (arith, le, ge) in rw same refl
+]
+skip pages filled low base (suc n) (p ∷ ps) some le ar full before after =
+    let ends = before 0 p (omega arith) in
+    let begins : p.base < base + 4096 * pages = elim (cases_lt base filled) [
+      | inl lt ↦ first-begins low base (base + 4096 * pages) p ps ar (full base (omega arith) lt)
+      | inr ge ↦ omega (arith, ge, ends, some)
+    ] in
+    passed pages base p ps begins
+    ∙ skip pages filled (end_of (bare p)) (max base (end_of (bare p))) n ps some (omega (arith, le, ends)) ar.1.1
+    (λ a from to. sym (left_past (bare_all ps) (bare p) a (a + 4096 * pages) (omega (arith, from))) ∙ full a (omega (arith, from)) to)
+    (λ k d lt. before (suc k) d (omega (arith, lt)))
+    (λ k d ge lt. after (suc k) d (omega (arith, ge)) (omega (arith, lt)))
+
+-- WHAT STAYS FILLED
+
+occupied-own : (from to : ℕ) (p : flat.Piece) (ps : List flat.Piece) → meets from to p ≡ true → occupied (inserted p ps) from to ≡ true
+occupied-own from to p [] m = rw m refl
+occupied-own from to p (q ∷ qs) m = grind (arith, common_steps, m, occupied-own from to p qs m)
+
+occupied-more : (from to : ℕ) (p : flat.Piece) (ps : List flat.Piece) → occupied ps from to ≡ true → occupied (inserted p ps) from to ≡ true
+occupied-more from to p [] full = absurd (both_ways false refl full)
+occupied-more from to p (q ∷ qs) full = grind (arith, common_steps, full, occupied-more from to p qs)
+
+occupied-either : (xs ys : List flat.Piece) (from to : ℕ) → (occupied xs from to ≡ true) ⊎ (occupied ys from to ≡ true) → occupied (xs ++ ys) from to ≡ true
+occupied-either [] ys from to (inl h) = absurd (both_ways false refl h)
+occupied-either [] ys from to (inr h) = h
+occupied-either (x ∷ xs) ys from to h = grind (arith, common_steps, h, occupied-either xs ys from to)
+
+-- the part of a piece below a range still has the addresses that it had there
+own-part : (a b from to : ℕ) (p : flat.Piece) → IsFit p → from % 4096 ≡ 0 → a < b → b ≤ from → meets a b p ≡ true → occupied (parts from to p) a b ≡ true
+own-part a b from to p fit page lt le m = grind (arith, common_steps, m, end_upto from p fit page)
+
+occupied-cut_below : (low a b from to : ℕ) (ps : List flat.Piece) → Arranged low ps → from % 4096 ≡ 0 → a < b → b ≤ from → occupied ps a b ≡ true → occupied (cut from to ps) a b ≡ true
+occupied-cut_below low a b from to [] ar page lt le full = full
+occupied-cut_below low a b from to (p ∷ ps) ar page lt le full =
+    rw (flat_map-cons (parts from to) p ps)
+    (occupied-either (parts from to p) (cut from to ps) a b
+    (elim (cases_Bool (meets a b p)) [
+      | inl h ↦ inl (own-part a b from to p ar.1.0 page lt le h)
+      | inr h ↦ inr (occupied-cut_below (end_of p) a b from to ps ar.1.1 page lt le (rw h at full))
+    ]))
+
+occupied-without : (a b addr seg : ℕ) (ps : List flat.Piece) → b ≤ addr → occupied ps a b ≡ true → occupied (without_named addr seg ps) a b ≡ true
+occupied-without a b addr seg [] le full = full
+occupied-without a b addr seg (p ∷ ps) le full = grind (arith, common_steps, full, le, occupied-without a b addr seg ps le)
+
+-- THROUGH THE CHANGES
+
+pub filled-inserted : (filled : ℕ) (p : Piece) (ps : List Piece) → IsFit (bare p) → IsFilled filled ps
+    → IsFilled (if nat_le p.base filled then max filled (end_of (bare p)) else filled) (stored_inserted p ps)
+filled-inserted filled p ps fit f = elim (cases_Bool (nat_le p.base filled)) [
+  | inl h ↦
+      let near : p.base ≤ filled = leb-true p.base filled h in
+      rw h
+      record {
+        first = omega (arith, f.first);
+        high = omega (arith, f.high, fit.within);
+        full = λ a from to.
+            rw (bare_inserted p ps)
+            (elim (cases_lt a filled) [
+              | inl lt ↦ occupied-more a (a + 1) (bare p) (bare_all ps) (f.full a from lt)
+              | inr ge ↦ occupied-own a (a + 1) (bare p) (bare_all ps) (grind (arith, common_steps, ge, near, to))
+            ]);
+      }
+  | inr h ↦ rw h
+      record {
+        first = f.first;
+        high = f.high;
+        full = λ a from to. rw (bare_inserted p ps) (occupied-more a (a + 1) (bare p) (bare_all ps) (f.full a from to));
+      }
+]
+
+lowered-filled : (filled from : ℕ) (ps qs : List Piece) → IsFilled filled ps
+    → ((a : ℕ) → a < from → occupied (bare_all ps) a (a + 1) ≡ true → occupied (bare_all qs) a (a + 1) ≡ true) → IsFilled (min filled (max from first_chosen)) qs
+lowered-filled filled from ps qs f kept =
+    record {
+      first = omega (arith, f.first);
+      high = omega (arith, f.high);
+      full = λ a ge lt. kept a (omega (arith, ge, lt)) (f.full a ge (omega (arith, lt)));
+    }
+
+pub filled-cut : (filled from to : ℕ) (ps : List Piece) → Arranged lowest_address (bare_all ps) → from % 4096 ≡ 0 → IsFilled filled ps → IsFilled (min filled (max from first_chosen)) (stored_cut from to ps)
+filled-cut filled from to ps ar page f =
+    lowered-filled filled from ps (stored_cut from to ps) f
+    (λ a lt full. rw (bare_cut from to ps) (occupied-cut_below lowest_address a (a + 1) from to (bare_all ps) ar page (omega arith) (omega (arith, lt)) full))
+
+pub filled-without : (filled addr seg : ℕ) (ps : List Piece) → IsFilled filled ps → IsFilled (min filled (max addr first_chosen)) (stored_without addr seg ps)
+filled-without filled addr seg ps f =
+    lowered-filled filled addr ps (stored_without addr seg ps) f
+    (λ a lt full. rw (bare_filter addr seg ps) (occupied-without a (a + 1) addr seg (bare_all ps) (omega (arith, lt)) full))
+
+-- WHERE NO GAP OF SO MANY PAGES BEGINS
+
+pub passed-more : (few pages to : ℕ) (ps : List Piece) → few ≤ pages → IsPassed few to ps → IsPassed pages to ps
+passed-more few pages to ps le f =
+    record {
+      first = f.first;
+      high = f.high;
+      none = λ a from lt. occupied-longer (bare_all ps) a (a + 4096 * few) (a + 4096 * pages) (omega (arith, le)) (f.none a from lt);
+    }
+
+filled-passed : (pages filled : ℕ) (ps : List Piece) → 1 ≤ pages → IsFilled filled ps → IsPassed pages filled ps
+filled-passed pages filled ps some f =
+    record {
+      first = f.first;
+      high = f.high;
+      none = λ a from lt. occupied-longer (bare_all ps) a (a + 1) (a + 4096 * pages) (omega (arith, some)) (f.full a from lt);
+    }
+
+-- where a walk may begin
+pub passed-start : (few to filled pages : ℕ) (ps : List Piece) → 1 ≤ pages → IsFilled filled ps → IsPassed few to ps
+    → IsPassed pages (if nat_le few pages then max filled to else filled) ps
+passed-start few to filled pages ps some f g = elim (cases_Bool (nat_le few pages)) [
+  | inl h ↦ rw h (elim (cases_lt filled to) [
+    | inl lt ↦ let same : max filled to ≡ to = omega (arith, lt) in rw same (passed-more few pages to ps (leb-true few pages h) g)
+    | inr le ↦ let same : max filled to ≡ filled = omega (arith, le) in rw same (filled-passed pages filled ps some f)
+  ])
+  | inr h ↦ rw h (filled-passed pages filled ps some f)
+]
+
+high_gap : (all : List flat.Piece) (pages b : ℕ) → is_gap all pages b ≡ true → (end_address < b + 4096 * pages) ⊎ (b + 4096 * pages ≤ end_address) → b ≤ end_address
+high_gap all pages b gap (inl h) = absurd (both_ways (is_gap all pages b) (too_high all pages b h) gap)
+high_gap all pages b gap (inr h) = omega (arith, h)
+
+below_gap : (all : List flat.Piece) (pages base a : ℕ) → is_gap all pages base ≡ true → first_chosen ≤ a → a < base → is_gap all pages a ≡ false → occupied all a (a + 4096 * pages) ≡ true
+below_gap all pages base a gap from lt none = elim (cases_lt end_address (base + 4096 * pages)) [
+  | inl h ↦ absurd (both_ways (is_gap all pages base) (too_high all pages base h) gap)
+  | inr h ↦ elim (cases_Bool (occupied all a (a + 4096 * pages))) [
+    | inl full ↦ full
+    | inr free ↦ absurd (both_ways (is_gap all pages a) none (gap_here all all pages a from (omega (arith, lt, h)) free))
+  ]
+]
+
+-- below the least gap none begins
+pub passed-least : (pages base : ℕ) (ps : List Piece) → IsLeastGap (bare_all ps) pages base → IsPassed pages base ps
+passed-least pages base ps g =
+    record {
+      first = low_gap (bare_all ps) pages base g.gap (cases_lt base first_chosen);
+      high = high_gap (bare_all ps) pages base g.gap (cases_lt end_address (base + 4096 * pages));
+      none = λ a from lt.
+          below_gap (bare_all ps) pages base a g.gap from lt
+          (false_from_ne_true (is_gap (bare_all ps) pages a) (λ here. absurd (omega (arith, lt, g.least a here))));
+    }
+
+passed-inserted : (pages to : ℕ) (p : Piece) (ps : List Piece) → IsPassed pages to ps → IsPassed pages to (stored_inserted p ps)
+passed-inserted pages to p ps f =
+    record {
+      first = f.first;
+      high = f.high;
+      none = λ a from lt. rw (bare_inserted p ps) (occupied-more a (a + 4096 * pages) (bare p) (bare_all ps) (f.none a from lt));
+    }
+
+lowered-passed : (pages to from : ℕ) (ps qs : List Piece) → IsPassed pages to ps
+    → ((a : ℕ) → a + 4096 * pages < from → occupied (bare_all ps) a (a + 4096 * pages) ≡ true → occupied (bare_all qs) a (a + 4096 * pages) ≡ true)
+    → IsPassed pages (min to (max (from - 4096 * pages) first_chosen)) qs
+lowered-passed pages to from ps qs f kept =
+    record {
+      first = omega (arith, f.first);
+      high = omega (arith, f.high);
+      none = λ a ge lt. kept a (omega (arith, ge, lt)) (f.none a ge (omega (arith, lt)));
+    }
+
+pub hint-inserted : (h : Passed) (p : Piece) (ps : List Piece) → IsHint h ps → IsHint h (stored_inserted p ps)
+hint-inserted h p ps f = record { some = f.some; few = f.few; passed = passed-inserted h.pages h.to p ps f.passed }
+
+passed-cut : (pages to from last : ℕ) (ps : List Piece) → 1 ≤ pages → Arranged lowest_address (bare_all ps) → from % 4096 ≡ 0 → IsPassed pages to ps
+    → IsPassed pages (min to (max (from - 4096 * pages) first_chosen)) (stored_cut from last ps)
+passed-cut pages to from last ps some ar page f =
+    lowered-passed pages to from ps (stored_cut from last ps) f
+    (λ a lt full.
+    rw (bare_cut from last ps)
+    (occupied-cut_below lowest_address a (a + 4096 * pages) from last (bare_all ps) ar page (omega (arith, some)) (omega (arith, lt)) full))
+
+passed-without : (pages to addr seg : ℕ) (ps : List Piece) → IsPassed pages to ps → IsPassed pages (min to (max (addr - 4096 * pages) first_chosen)) (stored_without addr seg ps)
+passed-without pages to addr seg ps f =
+    lowered-passed pages to addr ps (stored_without addr seg ps) f
+    (λ a lt full. rw (bare_filter addr seg ps) (occupied-without a (a + 4096 * pages) addr seg (bare_all ps) (omega (arith, lt)) full))
+
+pub hint-cut : (h after : Passed) (from last : ℕ) (ps : List Piece) → Arranged lowest_address (bare_all ps) → from % 4096 ≡ 0 → after.pages ≡ h.pages
+    → after.to ≡ min h.to (max (from - 4096 * h.pages) first_chosen) → IsHint h ps → IsHint after (stored_cut from last ps)
+hint-cut h after from last ps ar page same to f =
+    record { some = rw same f.some; few = rw same f.few; passed = rw (same, to) (passed-cut h.pages h.to from last ps f.some ar page f.passed) }
+
+pub hint-without : (h after : Passed) (addr seg : ℕ) (ps : List Piece) → after.pages ≡ h.pages
+    → after.to ≡ min h.to (max (addr - 4096 * h.pages) first_chosen) → IsHint h ps → IsHint after (stored_without addr seg ps)
+hint-without h after addr seg ps same to f =
+    record { some = rw same f.some; few = rw same f.few; passed = rw (same, to) (passed-without h.pages h.to addr seg ps f.passed) }
+
+-- the walk that begins there finds the least gap
+pub gap-behind : (pages to last n : ℕ) (ps : List Piece) → 1 ≤ pages → Arranged lowest_address (bare_all ps) → IsPassed pages to ps → IsPieceRange to (to + 1) ps n last
+    → gap_from pages first_chosen (bare_all ps) ≡ gap_from pages to (bare_all (drop n ps))
+gap-behind pages to last n ps some ar f r = skip pages to lowest_address first_chosen n ps some f.first ar f.none r.before r.after

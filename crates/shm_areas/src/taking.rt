@@ -1,0 +1,25 @@
+//! Taking out what is left of an attach.
+ghost use Rattle.std.specs.Prelude.{◌≡◌, ◌≤◌, length, vec_capacity};
+ghost use Rattle.shm_areas.specs.Edit.{taken_between};
+
+use crate::piece::Piece;
+use crate::search::PieceRange;
+
+/// Takes the pieces of a segment that would begin at an address out of a run. What stays of the run moves down piece by
+/// piece, and what lies after it at once.
+pub(crate) fn take_named(pieces: &mut Vec<Piece>, run: PieceRange, addr: u64, seg: u32)
+    requires order { run.first ≤ run.last }
+    requires bound { run.last ≤ length pieces.old.items }
+    ensures items { pieces.new.items ≡ taken_between addr seg pieces.old.items run.first run.last }
+    ensures capacity { vec_capacity pieces.old ≤ vec_capacity pieces.new }
+{
+    let mut kept = run.first;
+    for k in run.first..run.last {
+        let piece = pieces[k];
+        if !piece.is_named(addr, seg) {
+            pieces[kept] = piece;
+            kept += 1;
+        }
+    }
+    pieces.drain(kept..run.last);
+}

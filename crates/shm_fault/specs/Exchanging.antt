@@ -1,0 +1,32 @@
+-- What an exchange of the bytes of spans leaves: others in their place, or those that were there.
+use Rattle.std.specs.Prelude.{ℕ, ◌≡◌, Bool, true, false, if◌then◌else◌, List, Result, OnOk, OnErr}
+use Rattle.shm_base.specs.Exchange.{same_bytes}
+use Rattle.shm_base.specs.declared.paging.Span.{Span}
+use Rattle.shm_fault.specs.declared.touched.Touched.{Touched}
+use Rattle.shm_fault.specs.declared.touched.PagerFailed.{PagerFailed}
+use Rattle.shm_fault.specs.Access.{Accessed}
+use Rattle.shm_fault.specs.Held.{Held, read_from, written}
+use Rattle.shm_fault.specs.Placing.{NoneDirtied, AreDirtied}
+use Rattle.shm_fault.specs.Store.{StoreView, held}
+
+-- the bytes of the spans are the expected ones
+abbrev pub holds : List Held → List Span → List ℕ → Bool
+holds hs ps expected = same_bytes (read_from hs ps) expected
+
+-- the frames of the spans are dirty if they were written, and else as they were
+abbrev pub DirtiedIf : Bool → List Span → StoreView → StoreView → Type 0
+DirtiedIf true ps s t = AreDirtied ps s t
+DirtiedIf false ps s t = NoneDirtied s.frames t.frames
+
+-- the bytes that were there were read, and replaced if `writes` says so; where a pager failed nothing was read, and they
+-- are as before
+pub record Swaps
+    {A E : Type 0} (writes : Bool) (ps : List Span) (bytes before after : List ℕ) (s t : StoreView)
+    (result : Result A E) (answer : Result Touched PagerFailed) : Type 0 where
+  pub there : OnOk result (after ≡ read_from (held s) ps)
+  pub kept : OnErr result (after ≡ before)
+  pub written : OnOk result (held t ≡ (if writes then written (held s) ps bytes else held s))
+  pub same : OnErr result (held t ≡ held s)
+  pub access : Accessed ps s t answer
+  pub dirtied : OnOk result (DirtiedIf writes ps s t)
+  pub clean : OnErr result (NoneDirtied s.frames t.frames)

@@ -1,0 +1,154 @@
+//! The page table of one segment: whether it is locked, and where its pages are. Its number says how many tables
+//! were made before it.
+//!
+//! Room for the records of all its pages is reserved when the table is made. A record is written once its page is
+//! somewhere, together with those of the pages before it. So pages that nobody touches cost nothing, neither when the
+//! table is made nor when it goes.
+ghost use Rattle.std.specs.Prelude.{◌≡◌, ℕ, ◌+◌, ◌<◌, ◌≤◌, ◌^◌, length, count_by, set, replicate, vec_capacity, false, IfOk};
+ghost use Rattle.shm_pager.specs.Padded.{padded};
+ghost use Rattle.shm_fault.specs.Segs.{rec_at, no_page};
+ghost use Rattle.shm_fault.specs.Store.{is_swapped};
+
+use crate::page_tables::PageRec;
+use std::alloc::{AllocError, Global};
+use std::marker::Model;
+
+/// Whether a segment is locked, and where its pages are.
+pub(crate) struct PageTable {
+    number: u64,
+    locked: bool,
+    // How many pages the segment has, and the records of the first of them. The other pages are nowhere.
+    count: u32,
+    pages: Vec<PageRec>,
+}
+
+impl Drop for PageTable {
+    fn drop(self) {
+        let PageTable {
+            number: _,
+            locked: _,
+            count: _,
+            pages: _,
+        } = self;
+    }
+}
+
+impl Model for PageTable {
+    ghost use Rattle.std.specs.Prelude.{◌<◌, ◌≤◌, ◌^◌, length, vec_capacity};
+    ghost use Rattle.shm_pager.specs.Padded.{padded};
+    ghost use Rattle.shm_fault.specs.Segs.{TableView, no_page};
+
+    ghost Value = { TableView };
+
+    ghost view = { λ t. record { number = t.number; locked = t.locked; pages = padded t.pages.items t.count no_page } };
+
+    ghost invariant = { λ t. (length t.pages.items ≤ t.count) × (t.count ≤ vec_capacity t.pages) × (t.count < 2 ^ 32) };
+}
+
+impl Clone for PageTable {
+    ghost is_clone = { λ table copy. copy ≡ table };
+
+    fn clone(&self) -> Result<PageTable, AllocError> {
+        let mut pages = Vec::with_capacity(*self.pages.allocator(), self.count as usize)?;
+        pages.extend_from_slice(&self.pages)?;
+        Ok(PageTable {
+            number: self.number,
+            locked: self.locked,
+            count: self.count,
+            pages,
+        })
+    }
+}
+
+// Writes the records of the pages up to this one. Kept out of line, so that a page that has a record costs one
+// comparison.
+#[inline(never)]
+fn reach(pages: &mut Vec<PageRec>, page: u32)
+    requires new { length pages.old.items ≤ page }
+    requires room { page < vec_capacity pages.old }
+    ensures pages { pages.new.items ≡ padded pages.old.items (page + 1) no_page }
+    ensures room { vec_capacity pages.new ≡ vec_capacity pages.old }
+{
+    for _page in pages.len()..page as usize + 1 {
+        pages.push_reserved(PageRec::NOWHERE);
+    }
+}
+
+// How many of these pages are in a slot and in no frame.
+fn swapped_in(pages: &Vec<PageRec>) -> u32
+    requires { length pages.now.items < 2 ^ 32 }
+    ensures { result ≡ count_by is_swapped pages.now.items }
+{
+    let mut count = 0;
+    for page in pages {
+        if page.frame.is_none() && page.slot.is_some() {
+            count += 1;
+        }
+    }
+    count
+}
+
+impl PageTable {
+    /// A table of this many pages, all nowhere, which is not locked.
+    pub(crate) fn new(alloc: Global, number: u64, count: u32) -> Result<PageTable, AllocError>
+        ensures { let pages = replicate count no_page in
+            IfOk result (λ table. table ≡ record { number = number; locked = false; pages = pages }) }
+    {
+        Ok(PageTable {
+            number,
+            locked: false,
+            count,
+            pages: Vec::with_capacity(alloc, count as usize)?,
+        })
+    }
+
+    /// Whether the segment is locked.
+    pub(crate) fn is_locked(&self) -> bool
+        ensures { result ≡ self.now.locked }
+    {
+        self.locked
+    }
+
+    /// Locks or unlocks the segment.
+    pub(crate) fn set_locked(&mut self, locked: bool)
+        ensures { self.new ≡ record self.old { locked = locked } }
+    {
+        self.locked = locked;
+    }
+
+    /// How many of the first pages may be somewhere. All after them are nowhere.
+    pub(crate) fn touched(&self) -> u32
+        ensures few { result ≤ length self.now.pages }
+        ensures rest { (page : ℕ) → result ≤ page → rec_at self.now.pages page ≡ no_page }
+    {
+        self.pages.len() as u32
+    }
+
+    /// How many pages are in a slot and in no frame. Walks those that may be somewhere.
+    pub(crate) fn swapped(&self) -> u32
+        ensures { result ≡ count_by is_swapped self.now.pages }
+    {
+        swapped_in(&self.pages)
+    }
+
+    /// Where a page is.
+    pub(crate) fn page(&self, page: u32) -> PageRec
+        ensures { result ≡ rec_at self.now.pages page }
+    {
+        self.pages
+            .get(page as usize)
+            .copied()
+            .unwrap_or(PageRec::NOWHERE)
+    }
+
+    /// Notes where a page is.
+    pub(crate) fn set_page(&mut self, page: u32, rec: PageRec)
+        requires { page < length self.old.pages }
+        ensures { self.new ≡ record self.old { pages = set self.old.pages page rec } }
+    {
+        if page as usize >= self.pages.len() {
+            reach(&mut self.pages, page);
+        }
+        self.pages[page as usize] = rec;
+    }
+}

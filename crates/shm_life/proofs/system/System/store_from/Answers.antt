@@ -1,0 +1,10 @@
+use Rattle.shm_life.proofs.Names.{refl}
+use Rattle.shm_base.specs.declared.call.Call.TheVariants as call
+use Rattle.shm_life.specs.SystemState.{time_by}
+use Rattle.shm_life.proofs.Running.{replied_as}
+use Rattle.shm_life.proofs.system.System.store_from.Goals as goal
+
+pub returns : goal.returns
+returns g c =
+    rw (← c.self.view_is)
+    (replied_as _ _ c.args.pid (call.Store c.args.addr c.args.bytes.now) _ (rw (← c.self.view_is) at c.requires.room) (c.store_by-stored.ensures (time_by c.self.inside.clock c.self.inside.calls)) refl)

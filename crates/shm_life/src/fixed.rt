@@ -1,0 +1,126 @@
+//! The refusals of an address that the caller of shmat gives.
+ghost use Rattle.std.specs.Prelude.{◌≡◌, ◌*◌, ◌+◌, ◌%◌, ◌≤◌, nat_lt, true, IfOk};
+ghost use Rattle.shm_base.specs.Rules as flat_rules;
+ghost use Rattle.shm_base.specs.Space.{end_address};
+ghost use Rattle.shm_base.specs.Space as flat_space;
+ghost use Rattle.shm_base.specs.State.{pages_of};
+ghost use Rattle.shm_attach.specs.Place.{IsRange};
+ghost use Rattle.shm_base.specs.Step as flat;
+ghost use Rattle.shm_base.specs.declared.bounds.TheConstants.{MOST_SHMALL};
+ghost use Rattle.shm_base.specs.declared.paging.TheConstants.{PAGE_SIZE};
+ghost use Rattle.shm_attach.specs.Spaces.{IsCaller, caller_seen};
+ghost use Rattle.shm_segments.specs.Table.{IsFound, segment_seen};
+ghost use Rattle.shm_life.specs.Placing.{fixed, within_addresses};
+
+use crate::kernel::Kernel;
+use bitflags::Flags;
+use shm_attach::Caller;
+use shm_base::{AtFlags, END_ADDRESS, Errno, LOWEST_ADDRESS, PAGE_SIZE, Rules};
+use shm_pager::Pager;
+use shm_segments::Found;
+
+/// The refusal of too many pieces.
+pub(crate) fn pieces_errno(rules: Rules) -> Errno
+    ensures { result ≡ flat_rules.pieces_errno rules }
+{
+    if rules.contains(Rules::PIECES_ARE_ENOMEM) {
+        Errno::Enomem
+    } else {
+        Errno::Emfile
+    }
+}
+
+fn end_errno(rules: Rules) -> Errno
+    ensures { result ≡ flat_rules.end_errno rules }
+{
+    if rules.contains(Rules::END_IS_ENOMEM) {
+        Errno::Enomem
+    } else {
+        Errno::Einval
+    }
+}
+
+// Whether a range of this many pages ends beyond the last address.
+fn is_beyond(base: u64, pages: u32) -> bool
+    requires { pages ≤ MOST_SHMALL }
+    ensures { result ≡ nat_lt end_address (base + PAGE_SIZE * pages) }
+{
+    base > END_ADDRESS || base + PAGE_SIZE * pages as u64 > END_ADDRESS
+}
+
+impl<P: Pager> Kernel<P> {
+    // Whether a range may not be taken: it meets a piece, or its bytes reach 2^64.
+    fn is_taken(&self, caller: &Caller, found: &Found, flags: AtFlags, base: u64) -> bool
+        requires caller { IsCaller caller.now self.now.flat.runners }
+        requires found { IsFound self.now.flat.table found.now }
+        ensures { result ≡ flat.is_taken self.now.flat (caller_seen caller.now self.now.flat.runners) (segment_seen self.now.flat.table found.now) flags base }
+    {
+        if flags.contains(AtFlags::REMAP) {
+            return false;
+        }
+        if self.limits.rules().contains(Rules::LOW_IS_EPERM) && base == 0 {
+            return false;
+        }
+        base.checked_add(found.head.size).is_none()
+            || self.spaces.space(caller).is_occupied(base, found.pages())
+    }
+
+    // Whether nothing more is attached, not even by a remap.
+    fn is_full(&self, caller: &Caller) -> bool
+        requires { IsCaller caller.now self.now.flat.runners }
+        ensures { result ≡ flat.is_full self.now.flat (caller_seen caller.now self.now.flat.runners) }
+    {
+        self.limits.rules().contains(Rules::PIECES_ARE_ENOMEM)
+            && self.spaces.space(caller).pieces().len() >= self.limits.most_pieces() as usize
+    }
+
+    fn low_errno(&self, caller: &Caller) -> Errno
+        ensures { result ≡ flat.low_errno self.now.flat (caller_seen caller.now self.now.flat.runners) }
+    {
+        if self.limits.rules().contains(Rules::LOW_IS_EPERM) && caller.cred.uid != 0 {
+            Errno::Eperm
+        } else {
+            Errno::Einval
+        }
+    }
+
+    // The base, if this many pages from it lie within the addresses; else why its end or its beginning is refused.
+    fn inside(&self, caller: &Caller, base: u64, pages: u32) -> Result<u64, Errno>
+        requires { pages ≤ MOST_SHMALL }
+        ensures value { result ≡ within_addresses self.now.flat (caller_seen caller.now self.now.flat.runners) base pages }
+        ensures lies { IfOk result (λ b. (b ≡ base) × (flat_space.inside base pages ≡ true)) }
+    {
+        if is_beyond(base, pages) {
+            return Err(end_errno(self.limits.rules()));
+        }
+        if base < LOWEST_ADDRESS {
+            return Err(self.low_errno(caller));
+        }
+        Ok(base)
+    }
+
+    /// A base that the caller gives, or its refusal. Einval where the range meets a piece that SHM_REMAP does not put
+    /// away, or reaches 2^64; Enomem where the process is full; and where it does not lie within the addresses, 0x10000 up to
+    /// 0x7ffffffff000, the refusals of its end and of its beginning, which are Einval in the profile.
+    pub(crate) fn fixed(
+        &self,
+        caller: &Caller,
+        found: &Found,
+        flags: AtFlags,
+        base: u64,
+    ) -> Result<u64, Errno>
+        requires caller { IsCaller caller.now self.now.flat.runners }
+        requires found { IsFound self.now.flat.table found.now }
+        requires page { base % 4096 ≡ 0 }
+        ensures range { IfOk result (IsRange (pages_of found.now.head.size)) }
+        ensures value { result ≡ fixed self.now.flat (caller_seen caller.now self.now.flat.runners) (segment_seen self.now.flat.table found.now) flags base }
+    {
+        if self.is_taken(caller, found, flags, base) {
+            return Err(Errno::Einval);
+        }
+        if self.is_full(caller) {
+            return Err(Errno::Enomem);
+        }
+        self.inside(caller, base, found.pages())
+    }
+}

@@ -1,0 +1,33 @@
+//! Copies within a machine.
+ghost use Rattle.std.specs.Prelude.{IfOk, OnErr, ◌≡◌};
+ghost use Rattle.shm_machine.specs.Stretched.{CopiedTo};
+
+use crate::machine::Machine;
+use crate::stretch::Progress;
+use shm_base::HostMemory;
+use std::alloc::Global;
+
+impl Machine {
+    /// Copies attached memory of one process to that of another, or of the same one, as one load of all bytes that can be
+    /// read and then one store of them: ranges may overlap. What stops the store is told before what stopped the load. The
+    /// bytes wait in a buffer between the two, and out of memory comes before anything is read.
+    pub fn copy(
+        &mut self,
+        alloc: Global,
+        from: (u32, u64),
+        to: (u32, u64),
+        len: usize,
+    ) -> Result<Progress, HostMemory>
+        ensures ok { IfOk result (λ p. CopiedTo self.old.system from to len p self.new.system) }
+        ensures err { OnErr result (self.new ≡ self.old) }
+    {
+        let mut bytes = Vec::with_capacity(alloc, len)?;
+        bytes.resize(len, 0)?;
+        let read = self.read(from.0, from.1, &mut bytes);
+        let written = self.write(to.0, to.1, &bytes[..read.done]);
+        Ok(Progress {
+            done: written.done,
+            stopped: written.stopped.or(read.stopped),
+        })
+    }
+}

@@ -1,0 +1,9 @@
+use Rattle.std.proofs.Common.{◌≡◌, ◌++◌, ◌+◌, drop}
+use Rattle.shm_outcomes.specs.Text.{findings_text}
+use Rattle.shm_outcomes.proofs.text.outcomes_text.Given as goal
+
+abbrev pub invariant-loop-finding : goal.invariant-loop-finding
+invariant-loop-finding l = record {
+  number : l.number ≡ l.finding-index + 1;
+  text : l.text.items ++ findings_text l.script l.number (drop l.finding-index l.found) ≡ findings_text l.script 1 l.found;
+}

@@ -1,0 +1,6 @@
+use Rattle.std.proofs.Common.{◌≡◌, ◌++◌, take, flat_map}
+use Rattle.shm_outcomes.specs.Text.{process_text}
+use Rattle.shm_outcomes.proofs.text.put_processes.Given as goal
+
+abbrev pub invariant-loop-process : goal.invariant-loop-process
+invariant-loop-process l = l.text.items ≡ l.initial.text.items ++ flat_map (process_text l.events) (take l.process-index l.script.processes)

@@ -1,0 +1,26 @@
+-- Runs that are told apart by no schedule that goes on from them.
+use Rattle.std.specs.Prelude.{◌≡◌, ◌&&◌, Bool, true, false, not, List, filter, length}
+use Rattle.shm_base.specs.History.{is_refusal}
+use Rattle.shm_base.specs.declared.call.Call.{Call}
+use Rattle.shm_base.specs.declared.call.Call.TheVariants.{Load, Stat}
+use Rattle.shm_base.specs.declared.call.Event.{Event}
+use Rattle.shm_outcomes.specs.Search.{Finding}
+
+-- calls that change nothing
+abbrev pub looks : Call → Bool
+looks (Load addr len) = true
+looks (Stat id) = true
+looks _ = false
+
+-- a call that may have changed the machine
+abbrev pub is_change : Event → Bool
+is_change e = not (is_refusal e.reply) && not (looks e.call)
+
+abbrev pub changes : List Event → List Event
+changes events = filter is_change events
+
+-- as many calls, of which the same changed the machine in the same order, and each process was told the same but for times
+pub record AreAlike (f g : Finding) : Type 0 where
+  pub count : length f.events ≡ length g.events
+  pub told : f.outcome ≡ g.outcome
+  pub changes : changes f.events ≡ changes g.events

@@ -1,0 +1,12 @@
+pub mod Schedules
+pub mod Outcomes
+pub mod Times
+pub mod Search
+pub mod Logs
+pub mod Text
+pub mod Alike
+pub mod Stuck
+pub mod Judge
+pub mod Reading
+pub mod Refusals
+pub mod Report

@@ -1,0 +1,70 @@
+-- What is printed of outcomes.
+use Rattle.std.specs.Prelude.{ℕ, ◌+◌, ◌-◌, ◌==◌, if◌then◌else◌, List, [], ◌∷◌, ◌++◌, codes, drop, take, flat_map, length}
+use Rattle.std.specs.Fmt.{decimal}
+use Rattle.shm_base.specs.History.{own_part}
+use Rattle.shm_base.specs.declared.call.Event.{Event}
+use Rattle.shm_base.specs.declared.call.Process.{Process}
+use Rattle.shm_base.specs.declared.call.Reply.{Reply}
+use Rattle.shm_base.specs.declared.call.Reply.TheVariants as replies
+use Rattle.shm_base.specs.declared.call.ShmidDs.{ShmidDs}
+use Rattle.shm_print.specs.Text.{event_text, reply_text}
+use Rattle.shm_text.specs.Script.{ScriptView}
+use Rattle.shm_outcomes.specs.Schedules.{schedule_of}
+use Rattle.shm_outcomes.specs.Search.{Finding}
+
+-- 0 is never, and any other time is `set`
+abbrev pub time_text : ℕ → List ℕ
+time_text time = if time == 0 then codes "0" else codes "set"
+
+-- the end of a line that shows a segment
+abbrev pub times_text : ShmidDs → List ℕ
+times_text ds = codes " atime=" ++ (time_text ds.atime ++ (codes " dtime=" ++ (time_text ds.dtime ++ (codes " ctime=" ++ time_text ds.ctime))))
+
+abbrev pub without_times : ShmidDs → ShmidDs
+without_times ds = record ds { atime = 0; dtime = 0; ctime = 0 }
+
+-- an event line without its place, which is 1
+abbrev pub placeless : Event → List ℕ
+placeless e = drop 2 (event_text 1 e)
+
+-- a line without its last bytes
+abbrev pub without_last : ℕ → List ℕ → List ℕ
+without_last n line = take (length line - n) line
+
+-- the line of a call: where it shows a segment, its times, with zeros 25 bytes, are as above
+abbrev pub line_by : Event → Reply → List ℕ
+line_by e (replies.Stat ds) = without_last 25 (placeless (record e { reply = replies.Stat (without_times ds) })) ++ (times_text ds ++ codes "\n")
+line_by e _ = placeless e
+
+abbrev pub line_text : Event → List ℕ
+line_text e = line_by e e.reply
+
+-- the words of a reply; of what stat shows, the times, with zeros 24 bytes, are as above
+abbrev pub reply_words : Reply → List ℕ
+reply_words (replies.Stat ds) = without_last 24 (reply_text (replies.Stat (without_times ds))) ++ times_text ds
+reply_words reply = reply_text reply
+
+-- the lines of one process
+abbrev pub process_text : List Event → Process → List ℕ
+process_text events p = flat_map line_text (own_part p.pid events)
+
+abbrev pub pid_text : ℕ → List ℕ
+pid_text pid = codes " " ++ decimal pid
+
+-- a schedule is the pids in order
+abbrev pub schedule_text : List Event → List ℕ
+schedule_text events = codes "schedule" ++ (flat_map pid_text (schedule_of events) ++ codes "\n")
+
+-- an outcome: its number, the lines of each process, and a schedule that has it
+abbrev pub finding_text : ScriptView → ℕ → Finding → List ℕ
+finding_text script n f =
+    codes "outcome " ++ (decimal n ++ (codes "\n" ++ (flat_map (process_text f.events) script.processes ++ schedule_text f.events)))
+
+-- the outcomes from a number on
+abbrev pub findings_text : ScriptView → ℕ → List Finding → List ℕ
+findings_text script n [] = []
+findings_text script n (f ∷ found) = finding_text script n f ++ findings_text script (n + 1) found
+
+-- all outcomes, and how many there are
+abbrev pub outcomes_text : ScriptView → List Finding → List ℕ
+outcomes_text script found = findings_text script 1 found ++ (codes "outcomes " ++ (decimal (length found) ++ codes "\n"))

@@ -1,0 +1,265 @@
+//! The judge: a search for a schedule that has the replies of a log. It goes on from a run only if its replies begin the log,
+//! and if none like it was met.
+ghost use Rattle.std.specs.Prelude.{◌≡◌, ◌≢◌, ◌++◌, ◌∷◌, [], ◌↔◌, ◌⊎◌, ◌+◌, ◌<◌, ◌≤◌, ℕ, IfErr, IfOk, IsTrue, OnOk, length};
+ghost use Rattle.shm_outcomes.specs.Alike.{AreAlike, changes, is_change, looks};
+ghost use Rattle.shm_outcomes.specs.Judge.{AreSeen, IsDoubt, IsLonger, IsMet, IsRight, IsTaken, IsTooMany, newest, stuck_at};
+ghost use Rattle.shm_outcomes.specs.Logs.{AllFill};
+ghost use Rattle.shm_outcomes.specs.Schedules.{fresh};
+ghost use Rattle.shm_base.specs.State.{Machine};
+ghost use Rattle.shm_outcomes.specs.Search.{finding_of};
+
+use crate::engine::{Engine, EngineError};
+use crate::log::{Log, is_refusal};
+use crate::outcome::{Outcome, is_same_reply};
+use crate::search::{Finding, Node, SearchError, push_followers};
+use crate::verdict::{Stuck, Verdict};
+use shm_base::{Call, Event};
+use shm_text::Script;
+use std::alloc::Global;
+
+fn looks(call: &Call) -> bool
+    ensures { result ≡ looks call.now }
+{
+    match call {
+        Call::Load { .. } | Call::Stat { .. } => true,
+        _ => false,
+    }
+}
+
+fn is_change(event: &Event) -> bool
+    ensures { result ≡ is_change event.now }
+{
+    !is_refusal(&event.reply) && !looks(&event.call)
+}
+
+// The calls that may have changed the machine.
+fn changes(alloc: Global, events: &[Event]) -> Result<Vec<Event>, EngineError>
+    ensures { IfOk result (λ v. v.items ≡ changes events.now) }
+{
+    let mut found = Vec::new(alloc);
+    for event in events {
+        if is_change(event) {
+            found.push(*event)?;
+        }
+    }
+    Ok(found)
+}
+
+fn is_same_call(call: &Call, other: &Call) -> bool
+    ensures { IsTrue result ↔ call.now ≡ other.now }
+{
+    call == other
+}
+
+fn is_same_event(event: &Event, other: &Event) -> bool
+    ensures { IsTrue result ↔ event.now ≡ other.now }
+{
+    event.pid == other.pid
+        && is_same_call(&event.call, &other.call)
+        && is_same_reply(&event.reply, &other.reply)
+}
+
+fn are_same_events(events: &[Event], others: &[Event]) -> bool
+    ensures { IsTrue result ↔ events.now ≡ others.now }
+{
+    if events.len() != others.len() {
+        return false;
+    }
+    for (index, event) in events.iter().enumerate() {
+        if !is_same_event(event, &others[index]) {
+            return false;
+        }
+    }
+    true
+}
+
+// Whether two runs are alike.
+fn are_alike(alloc: Global, finding: &Finding, other: &Finding) -> Result<bool, EngineError>
+    ensures { IfOk result (λ r. IsTrue r ↔ AreAlike finding.now other.now) }
+{
+    if finding.events.len() != other.events.len() || !finding.outcome.is_same(&other.outcome) {
+        return Ok(false);
+    }
+    let own = changes(alloc, &finding.events)?;
+    let others = changes(alloc, &other.events)?;
+    Ok(are_same_events(&own, &others))
+}
+
+// Whether a run like this one was met.
+fn is_met(alloc: Global, seen: &[Finding], found: &Finding) -> Result<bool, EngineError>
+    ensures { IfOk result (λ r. IsTrue r ↔ IsMet seen.now found.now) }
+{
+    for finding in seen {
+        if are_alike(alloc, finding, found)? {
+            return Ok(true);
+        }
+    }
+    Ok(false)
+}
+
+fn finding_at<M: Engine>(
+    alloc: Global,
+    script: &Script,
+    run: &Node<M>,
+) -> Result<Finding, EngineError>
+    ensures { IfOk result (λ f. f ≡ finding_of script.now run.now.events) }
+{
+    let outcome = Outcome::of(alloc, script, run.events())?;
+    let events = Vec::from_slice(alloc, run.events())?;
+    Ok(Finding { events, outcome })
+}
+
+// The run, and how it goes on.
+fn stuck_at<M: Engine>(alloc: Global, script: &Script, run: &Node<M>) -> Result<Stuck, EngineError>
+    ensures { IfOk result (λ s. s ≡ stuck_at script.now run.now) }
+{
+    let mut offered = Vec::new(alloc);
+    push_followers(alloc, script, run, &mut offered)?;
+    let mut next = Vec::new(alloc);
+    for node in &offered {
+        next.extend_from_slice(newest(run, node))?;
+    }
+    let events = Vec::from_slice(alloc, run.events())?;
+    Ok(Stuck { events, next })
+}
+
+// What a run has behind the events of one that it goes on from.
+fn newest<'a, M: Engine>(run: &Node<M>, next: &'a Node<M>) -> &'a [Event]
+    ensures { result.now ≡ newest run.now next.now }
+{
+    let from = run.events().len();
+    let events = next.events();
+    if from > events.len() {
+        return &[];
+    }
+    &events[from..]
+}
+
+// Whether some schedule of a script has the replies of a log. The machine has answered no call yet. At most `most` beginnings
+// of schedules are looked at, of which no two are alike.
+pub(crate) fn judge<M: Engine>(
+    alloc: Global,
+    script: &Script,
+    log: &Log,
+    machine: M,
+    most: u64,
+) -> Result<Verdict, SearchError>
+    requires new { M.calls machine ≡ 0 }
+    ensures ok { IfOk result (IsRight script.now log.now (fresh (M.flat machine))) }
+    ensures err { IfErr result (IsDoubt script.now log.now (fresh (M.flat machine)) most) }
+{
+    let first = Node::first(alloc, machine);
+    let mut stuck = stuck_at(alloc, script, &first)?;
+    let mut seen = Vec::new(alloc);
+    let mut runs = Vec::new(alloc);
+    if let Err(error) = take_in_one(alloc, script, log, most, first, &mut runs, &mut seen) {
+        return Err(error);
+    }
+    let mut visited = 0u64;
+    'runs: while let Some(run) = runs.pop() {
+        let mut offered = Vec::new(alloc);
+        push_followers(alloc, script, &run, &mut offered)?;
+        if is_whole(alloc, script, log, &run, &offered)? {
+            return Ok(Verdict::Legal(run.into_events()));
+        }
+        keep_longest(alloc, script, &run, &mut stuck)?;
+        if let Err(error) = take_in(alloc, script, log, most, &mut offered, &mut runs, &mut seen) {
+            return Err(error);
+        }
+        visited += 1;
+    }
+    Ok(Verdict::Illegal(stuck))
+}
+
+// Whether a run goes on to none of these, and has all the replies of the log.
+pub(crate) fn is_whole<M: Engine>(
+    alloc: Global,
+    script: &Script,
+    log: &Log,
+    run: &Node<M>,
+    offered: &[Node<M>],
+) -> Result<bool, EngineError>
+    ensures { IfOk result (λ r.
+        IsTrue r ↔ (offered.now ≡ []) × AllFill script.now log.now run.now.events) }
+{
+    if !offered.is_empty() {
+        return Ok(false);
+    }
+    let told = log.is_told(alloc, script, run.events())?;
+    Ok(told)
+}
+
+// Keeps the longer one of two beginnings.
+fn keep_longest<M: Engine>(
+    alloc: Global,
+    script: &Script,
+    run: &Node<M>,
+    stuck: &mut Stuck,
+) -> Result<(), EngineError>
+    ensures { OnOk result (IsLonger script.now run.now stuck.old stuck.new) }
+{
+    if run.events().len() > stuck.events.len() {
+        *stuck = stuck_at(alloc, script, run)?;
+    }
+    Ok(())
+}
+
+// Takes in each of these runs.
+fn take_in<M: Engine>(
+    alloc: Global,
+    script: &Script,
+    log: &Log,
+    most: u64,
+    offered: &mut Vec<Node<M>>,
+    runs: &mut Vec<Node<M>>,
+    seen: &mut Vec<Finding>,
+) -> Result<(), SearchError>
+    requires few { length seen.old.items ≤ most }
+    ensures kept { OnOk result ((machine : Machine) (longest : ℕ) →
+        AreSeen script.now log.now (fresh machine) seen.old.items runs.old.items offered.old.items longest →
+        AreSeen script.now log.now (fresh machine) seen.new.items runs.new.items [] longest) }
+    ensures count { OnOk result (
+        length runs.new.items + length seen.old.items ≡ length runs.old.items + length seen.new.items) }
+    ensures few { OnOk result (length seen.new.items ≤ most) }
+    ensures err { IfErr result (λ e. (machine : Machine) (longest : ℕ) →
+        AreSeen script.now log.now (fresh machine) seen.old.items runs.old.items offered.old.items longest →
+        IsDoubt script.now log.now (fresh machine) most e) }
+{
+    while let Some(run) = offered.pop() {
+        if let Err(error) = take_in_one(alloc, script, log, most, run, runs, seen) {
+            return Err(error);
+        }
+    }
+    Ok(())
+}
+
+// Puts a run behind those to be visited, if it begins the log and none like it was met.
+fn take_in_one<M: Engine>(
+    alloc: Global,
+    script: &Script,
+    log: &Log,
+    most: u64,
+    run: Node<M>,
+    runs: &mut Vec<Node<M>>,
+    seen: &mut Vec<Finding>,
+) -> Result<(), SearchError>
+    requires few { length seen.old.items ≤ most }
+    ensures taken { OnOk result (
+        IsTaken script.now log.now run seen.old.items seen.new.items runs.old.items runs.new.items) }
+    ensures few { OnOk result (length seen.new.items ≤ most) }
+    ensures err { IfErr result (IsTooMany script.now log.now run seen.old.items most) }
+{
+    if !log.begins(alloc, script, run.events())? {
+        return Ok(());
+    }
+    let found = finding_at(alloc, script, &run)?;
+    if is_met(alloc, seen, &found)? {
+        return Ok(());
+    }
+    if seen.len() as u64 >= most {
+        return Err(SearchError::Bound);
+    }
+    seen.push(found)?;
+    runs.push(run)?;
+    Ok(())
+}

@@ -1,0 +1,30 @@
+//! Every outcome that a script can have, whatever the order of its processes.
+#![tactic(auto)]
+
+mod engine;
+mod fault;
+mod judging;
+mod laws;
+mod lines;
+mod log;
+mod ordered;
+mod outcome;
+mod reading;
+mod report;
+mod search;
+mod simulated;
+mod text;
+mod verdict;
+
+pub use engine::{Engine, EngineError};
+pub use fault::{LogFault, LogFaultKind, LogRefused};
+pub use laws::times_reach_times;
+pub use log::{Answer, Answers, Entry, Log};
+pub use ordered::judge_log;
+pub use outcome::{Outcome, Told};
+pub use reading::{log_of, read_log};
+pub use report::verdict_text;
+pub use search::{Finding, SearchError, outcomes};
+pub use simulated::Simulated;
+pub use text::{outcomes_text, put_schedule};
+pub use verdict::{Stuck, Verdict};

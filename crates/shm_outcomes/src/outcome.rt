@@ -1,0 +1,165 @@
+//! The replies that each process gets in a run, with times of stat masked.
+ghost use Rattle.std.specs.Prelude.{◌≡◌, ◌↔◌, IfOk, IsTrue, List, map};
+ghost use Rattle.shm_base.specs.declared.call.Process.{Process as FlatProcess};
+ghost use Rattle.shm_base.specs.declared.call.Reply.{Reply as FlatReply};
+ghost use Rattle.shm_outcomes.specs.Outcomes.{masked, masked_ds, masked_time, told, outcome_of};
+
+use shm_base::{Event, Process, Reply, ShmidDs};
+use shm_text::Script;
+use std::alloc::{AllocError, Global};
+use std::marker::Model;
+
+fn masked_time(time: u64) -> u64
+    ensures { result ≡ masked_time time }
+{
+    if time == 0 { 0 } else { 1 }
+}
+
+fn masked_ds(ds: &ShmidDs) -> ShmidDs
+    ensures { result ≡ masked_ds ds.now }
+{
+    ShmidDs {
+        key: ds.key,
+        perm: ds.perm,
+        status: ds.status,
+        size: ds.size,
+        cpid: ds.cpid,
+        lpid: ds.lpid,
+        nattch: ds.nattch,
+        atime: masked_time(ds.atime),
+        dtime: masked_time(ds.dtime),
+        ctime: masked_time(ds.ctime),
+    }
+}
+
+pub(crate) fn masked(reply: &Reply) -> Reply
+    ensures { result ≡ masked reply.now }
+{
+    match reply {
+        Reply::Stat(ds) => Reply::Stat(masked_ds(ds)),
+        _ => *reply,
+    }
+}
+
+/// The replies to one process, in order. A time is 0, or 1 where it is set.
+#[derive(Drop)]
+pub struct Told {
+    replies: Vec<Reply>,
+}
+
+impl Model for Told {
+    ghost use Rattle.std.specs.Prelude.{List};
+    ghost use Rattle.shm_base.specs.declared.call.Reply.{Reply};
+
+    ghost Value = { List Reply };
+
+    ghost view = { λ t. t.replies.items };
+}
+
+impl Told {
+    /// The replies.
+    pub fn replies(&self) -> &[Reply]
+        ensures { result.now ≡ self.now }
+    {
+        self.replies.as_slice()
+    }
+
+    fn is_same(&self, other: &Told) -> bool
+        ensures { IsTrue result ↔ self.now ≡ other.now }
+    {
+        are_same_replies(&self.replies, &other.replies)
+    }
+}
+
+pub(crate) fn is_same_reply(reply: &Reply, other: &Reply) -> bool
+    ensures { IsTrue result ↔ reply.now ≡ other.now }
+{
+    reply == other
+}
+
+fn are_same_replies(replies: &[Reply], others: &[Reply]) -> bool
+    ensures { IsTrue result ↔ replies.now ≡ others.now }
+{
+    if replies.len() != others.len() {
+        return false;
+    }
+    for (index, reply) in replies.iter().enumerate() {
+        if !is_same_reply(reply, &others[index]) {
+            return false;
+        }
+    }
+    true
+}
+
+// The replies to one process in these events.
+fn told_in(alloc: Global, events: &[Event], process: &Process) -> Result<Told, AllocError>
+    ensures { IfOk result (λ t. t ≡ told events.now process.now) }
+{
+    let mut replies = Vec::new(alloc);
+    for event in events {
+        if event.pid == process.pid {
+            replies.push(masked(&event.reply))?;
+        }
+    }
+    Ok(Told { replies })
+}
+
+/// The replies to each declared process, in the script's order of processes.
+#[derive(Drop)]
+pub struct Outcome {
+    told: Vec<Told>,
+}
+
+impl Model for Outcome {
+    ghost use Rattle.std.specs.Prelude.{List};
+    ghost use Rattle.shm_base.specs.declared.call.Reply.{Reply};
+
+    ghost Value = { List (List Reply) };
+
+    ghost view = { λ o. o.told.items };
+}
+
+fn are_same_told(told: &[Told], others: &[Told]) -> bool
+    ensures { IsTrue result ↔ told.now ≡ others.now }
+{
+    if told.len() != others.len() {
+        return false;
+    }
+    for (index, one) in told.iter().enumerate() {
+        if !one.is_same(&others[index]) {
+            return false;
+        }
+    }
+    true
+}
+
+impl Outcome {
+    /// What each process is told.
+    pub fn told(&self) -> &[Told]
+        ensures { result.now ≡ self.now }
+    {
+        self.told.as_slice()
+    }
+
+    /// The outcome of these events.
+    pub(crate) fn of(
+        alloc: Global,
+        script: &Script,
+        events: &[Event],
+    ) -> Result<Outcome, AllocError>
+        ensures { IfOk result (λ o. o ≡ outcome_of script.now events.now) }
+    {
+        let mut all = Vec::new(alloc);
+        for process in &script.processes {
+            let one = told_in(alloc, events, process)?;
+            all.push(one)?;
+        }
+        Ok(Outcome { told: all })
+    }
+
+    pub(crate) fn is_same(&self, other: &Outcome) -> bool
+        ensures { IsTrue result ↔ self.now ≡ other.now }
+    {
+        are_same_told(&self.told, &other.told)
+    }
+}

@@ -1,0 +1,45 @@
+-- A verdict from a machine as a script opens it.
+use Rattle.std.specs.Prelude.{◌≡◌, ℕ, Bool, List, Ok}
+use Rattle.std.proofs.Common.{subst, sym}
+use Rattle.shm_base.specs.State.{Machine}
+use Rattle.shm_text.specs.Script.{ScriptView}
+use Rattle.shm_outcomes.specs.Judge.{IsDoubt, IsRight}
+use Rattle.shm_outcomes.specs.Logs.{Answer, Entry}
+use Rattle.shm_outcomes.specs.Reading.{entries_of, log_of}
+use Rattle.shm_outcomes.specs.Report.{verdict_text}
+use Rattle.shm_outcomes.specs.Schedules.{fresh, start}
+use Rattle.shm_outcomes.specs.declared.engine.EngineError.TheVariants as engines
+use Rattle.shm_outcomes.specs.declared.search.SearchError.{SearchError}
+use Rattle.shm_outcomes.specs.declared.search.SearchError.TheVariants as searches
+use Rattle.shm_outcomes.specs.declared.verdict.Verdict.{Verdict}
+use Rattle.shmcheck.specs.Judged.{IsJudgedText, IsStopIn, doubt_of, is_legal}
+
+from-start :
+    (script : ScriptView) (log : List ℕ) (entries : List Entry) (areas : List ℕ) (most : ℕ) (error : SearchError)
+    → entries_of script log ≡ Ok entries → IsDoubt script (log_of script entries) (start script areas) most error → IsStopIn (doubt_of error most) log areas script
+from-start script log entries areas most (searches.Engine engines.HostMemory) read h = tt
+from-start script log entries areas most (searches.Engine engines.PagerFailed) read h = tt
+from-start script log entries areas most searches.Bound read h = (entries, read, h)
+
+pub doubt-stop :
+    (script : ScriptView) (log : List ℕ) (entries : List Entry) (answered : List (List Answer)) (areas : List ℕ) (machine : Machine) (most : ℕ) (error : SearchError)
+    → entries_of script log ≡ Ok entries → answered ≡ log_of script entries → machine ≡ (start script areas).machine
+    → IsDoubt script answered (fresh machine) most error → IsStopIn (doubt_of error most) log areas script
+doubt-stop script log entries answered areas machine most error read is at h =
+    from-start script log entries areas most error read
+    (subst (λ (l : List (List Answer)). IsDoubt script l (start script areas) most error) is (subst (λ (m : Machine). IsDoubt script answered (fresh m) most error) at h))
+
+pub judged-text :
+    (script : ScriptView) (log : List ℕ) (entries : List Entry) (answered : List (List Answer)) (areas : List ℕ) (machine : Machine) (verdict : Verdict) (legal : Bool) (text : List ℕ)
+    → entries_of script log ≡ Ok entries → answered ≡ log_of script entries → machine ≡ (start script areas).machine
+    → IsRight script answered (fresh machine) verdict → legal ≡ is_legal verdict → text ≡ verdict_text script answered verdict → IsJudgedText log legal script areas text
+judged-text script log entries answered areas machine verdict legal text read is at right same written = (
+  entries,
+  read,
+  (
+    verdict,
+    subst (λ (l : List (List Answer)). IsRight script l (start script areas) verdict) is (subst (λ (m : Machine). IsRight script answered (fresh m) verdict) at right),
+    sym same,
+    subst (λ (l : List (List Answer)). text ≡ verdict_text script l verdict) is written,
+  ),
+)

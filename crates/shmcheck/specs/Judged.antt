@@ -1,0 +1,49 @@
+-- A verdict that the program writes, and why it writes none.
+use Rattle.std.specs.Prelude.{◌≡◌, ℕ, Bool, true, false, List, Ok, Err}
+use Rattle.shm_text.specs.Script.{ScriptView}
+use Rattle.shm_program.specs.declared.fault.RunFault.TheVariants.{HostMemory}
+use Rattle.shm_outcomes.specs.Judge.{AreMore, IsRight}
+use Rattle.shm_outcomes.specs.Logs.{Entry}
+use Rattle.shm_outcomes.specs.Reading.{entries_of, log_of}
+use Rattle.shm_outcomes.specs.Report.{verdict_text}
+use Rattle.shm_outcomes.specs.Schedules.{start}
+use Rattle.shm_outcomes.specs.declared.engine.EngineError.TheVariants as engines
+use Rattle.shm_outcomes.specs.declared.fault.LogRefused.{LogRefused}
+use Rattle.shm_outcomes.specs.declared.fault.LogRefused.TheVariants as refusals
+use Rattle.shm_outcomes.specs.declared.search.SearchError.{SearchError}
+use Rattle.shm_outcomes.specs.declared.search.SearchError.TheVariants as searches
+use Rattle.shm_outcomes.specs.declared.verdict.Verdict.{Verdict}
+use Rattle.shm_outcomes.specs.declared.verdict.Verdict.TheVariants.{Legal, Illegal}
+use Rattle.shmcheck.specs.declared.stop.Stop.{Stop}
+use Rattle.shmcheck.specs.declared.stop.Stop.TheVariants.{Fault, PagerFailed, BadLog, Doubt}
+
+abbrev pub is_legal : Verdict → Bool
+is_legal (Legal events) = true
+is_legal (Illegal stuck) = false
+
+-- the text of a right verdict on the log, and whether it is legal
+abbrev pub IsJudgedText : List ℕ → Bool → ScriptView → List ℕ → List ℕ → Type 0
+IsJudgedText log legal script areas text =
+    (entries : List Entry)
+    × (entries_of script log ≡ Ok entries)
+    × ((verdict : Verdict)
+    × IsRight script (log_of script entries) (start script areas) verdict
+    × (is_legal verdict ≡ legal)
+    × (text ≡ verdict_text script (log_of script entries) verdict))
+
+-- a log's refusal, as a stop
+abbrev pub log_stop : LogRefused → Stop
+log_stop (refusals.Fault fault) = BadLog fault
+log_stop refusals.HostMemory = Fault HostMemory
+
+-- why there is no verdict, as a stop
+abbrev pub doubt_of : SearchError → ℕ → Stop
+doubt_of (searches.Engine engines.HostMemory) most = Fault HostMemory
+doubt_of (searches.Engine engines.PagerFailed) most = PagerFailed
+doubt_of searches.Bound most = Doubt most
+
+-- the log's first fault; or the log has more beginnings than the bound, no two of them alike
+abbrev pub IsStopIn : Stop → List ℕ → List ℕ → ScriptView → Type 0
+IsStopIn (BadLog fault) log areas script = entries_of script log ≡ Err fault
+IsStopIn (Doubt most) log areas script = (entries : List Entry) × (entries_of script log ≡ Ok entries) × AreMore script (log_of script entries) (start script areas) most
+IsStopIn _ log areas script = Unit {0}

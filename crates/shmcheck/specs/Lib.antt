@@ -1,0 +1,3 @@
+pub mod Printed
+pub mod Stop
+pub mod Judged

@@ -1,0 +1,72 @@
+-- Why the program stops: its text, its exit status, and what it says of the input.
+use Rattle.std.specs.Prelude.{◌≡◌, ◌<◌, ℕ, List, ◌++◌, codes, Ok}
+use Rattle.std.specs.Fmt.{decimal}
+use Rattle.std.specs.Io.KnownBytes.{Keeps}
+use Rattle.std.specs.Prelude.{Option}
+use Rattle.std.specs.declared.io.ErrorKind.{ErrorKind}
+use Rattle.std.specs.declared.io.ErrorKind.TheVariants.{OutOfMemory}
+use Rattle.shm_text.specs.Reading.{script_of}
+use Rattle.shm_text.specs.Script.{ScriptView}
+use Rattle.shm_program.specs.Faults.{fault_text, exit_status}
+use Rattle.shm_program.specs.Runs.{IsCause, IsSilent}
+use Rattle.shm_program.specs.declared.fault.RunFault.TheVariants.{HostMemory}
+use Rattle.shm_outcomes.specs.declared.engine.EngineError.TheVariants as engines
+use Rattle.shm_outcomes.specs.declared.search.SearchError.{SearchError}
+use Rattle.shm_outcomes.specs.declared.search.SearchError.TheVariants.{Engine}
+use Rattle.shm_outcomes.specs.declared.search.SearchError.TheVariants as searches
+use Rattle.shm_outcomes.specs.Schedules.{start}
+use Rattle.shm_outcomes.specs.Search.{count_from}
+use Rattle.shm_outcomes.specs.declared.fault.LogFaultKind.{LogFaultKind}
+use Rattle.shm_outcomes.specs.declared.fault.LogFaultKind.TheVariants.{BadLine, UnknownProcess}
+use Rattle.shmcheck.specs.declared.stop.Stop.{Stop}
+use Rattle.shmcheck.specs.declared.stop.Stop.TheVariants.{Usage, Fault, PagerFailed, Bound, LogUnread, BadLog, Doubt}
+
+abbrev pub kind_name : LogFaultKind → List ℕ
+kind_name BadLine = codes "bad line"
+kind_name UnknownProcess = codes "unknown process"
+
+abbrev pub stop_text : Stop → List ℕ
+stop_text Usage = codes "usage: shmcheck outcomes|judge LOG [--at-most N]"
+stop_text (Fault fault) = fault_text fault
+stop_text PagerFailed = codes "a pager failed"
+stop_text (Bound most) = codes "undecided: more than " ++ (decimal most ++ codes " schedules and beginnings of schedules")
+stop_text LogUnread = codes "the log can't be read"
+stop_text (BadLog fault) = codes "log line " ++ (decimal fault.line ++ (codes ": " ++ kind_name fault.kind))
+stop_text (Doubt most) = codes "undecided: more than " ++ (decimal most ++ codes " beginnings of the log")
+
+-- 1 is a fault of the log, 5 the bound
+abbrev pub stop_status : Stop → ℕ
+stop_status Usage = 2
+stop_status (Fault fault) = exit_status fault
+stop_status PagerFailed = 3
+stop_status (Bound most) = 5
+stop_status LogUnread = 3
+stop_status (BadLog fault) = 1
+stop_status (Doubt most) = 5
+
+-- words that were not read: the host refused memory, or a word is no text
+abbrev pub io_stop : ErrorKind → Stop
+io_stop OutOfMemory = Fault HostMemory
+io_stop _ = Usage
+
+-- why a search has no answer, as a stop
+abbrev pub stop_of : SearchError → ℕ → Stop
+stop_of (Engine engines.HostMemory) most = Fault HostMemory
+stop_of (Engine engines.PagerFailed) most = PagerFailed
+stop_of searches.Bound most = Bound most
+
+-- at the bound the script has more schedules and beginnings of schedules
+abbrev pub IsCauseIn : Stop → List ℕ → ScriptView → Type 0
+IsCauseIn (Bound most) areas script = most < count_from script most (start script areas)
+IsCauseIn _ areas script = Unit {0}
+
+-- the same of an input; a script fault is the input's
+abbrev pub IsStopOf : Stop → List ℕ → List ℕ → Type 0
+IsStopOf (Bound most) areas input = (script : ScriptView) × (script_of input ≡ Ok script) × (most < count_from script most (start script areas))
+IsStopOf (Fault fault) areas input = IsCause fault areas input
+IsStopOf _ areas input = Unit {0}
+
+-- nothing is written, but by a writer that failed
+abbrev pub WritesNothing : Stop → Option (List ℕ) → Option (List ℕ) → Type 0
+WritesNothing (Fault fault) old new = IsSilent fault old new
+WritesNothing _ old new = Keeps old new

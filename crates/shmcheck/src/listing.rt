@@ -1,0 +1,85 @@
+//! Every outcome of a script: a script comes from a reader, and its outcomes go to a writer.
+ghost use Rattle.std.specs.Prelude.{◌≡◌, length, map, OnOk, IfErr, IfSome};
+ghost use Rattle.std.specs.Io.KnownBytes.{Appends, IsAtEnd};
+ghost use Rattle.shm_program.specs.Faults.{stopped_as};
+ghost use Rattle.shm_program.specs.Runs.{Prints, IsWritten};
+ghost use Rattle.shmcheck.specs.Printed.{IsOutcomesText};
+ghost use Rattle.shmcheck.specs.Stop.{IsCauseIn, stop_of};
+
+use crate::stop::Stop;
+use shm_life::StartError;
+use shm_outcomes::{EngineError, SearchError, Simulated, outcomes, outcomes_text};
+use shm_pager::ClonePager;
+use shm_program::{RunFault, whole_script, write_output};
+use shm_text::Script;
+use std::alloc::Global;
+use std::io::{Read, Write};
+
+/// Writes every outcome of the script that the reader gives, over swap areas behind these pagers. Before the first byte is
+/// written all outcomes are there.
+pub(crate) fn list_outcomes<R: Read, W: Write, P: ClonePager>(
+    alloc: Global,
+    reader: &mut R,
+    writer: &mut W,
+    pagers: Vec<P>,
+    most: u64,
+) -> Result<(), Stop>
+    ensures ok { let areas = map (λ p. length (P.content p)) pagers.items in
+        OnOk result (IfSome (R.remaining reader.old) (λ input.
+        Prints IsOutcomesText (W.contents writer.old) (W.contents writer.new) areas input)) }
+    ensures whole { OnOk result (IsAtEnd (R.remaining reader.new)) }
+{
+    match whole_script(alloc, reader) {
+        Ok(script) => list_script(alloc, writer, &script, pagers, most),
+        Err(fault) => Err(Stop::Fault(fault)),
+    }
+}
+
+// Writes every outcome of a script.
+fn list_script<W: Write, P: ClonePager>(
+    alloc: Global,
+    writer: &mut W,
+    script: &Script,
+    pagers: Vec<P>,
+    most: u64,
+) -> Result<(), Stop>
+    ensures ok { let areas = map (λ p. length (P.content p)) pagers.items in
+        OnOk result (IsWritten (IsOutcomesText script.now areas) (W.contents writer.old) (W.contents writer.new)) }
+    ensures cause { let areas = map (λ p. length (P.content p)) pagers.items in
+        IfErr result (λ s. IsCauseIn s areas script.now) }
+{
+    let machine = match Simulated::open(alloc, script, pagers) {
+        Ok(machine) => machine,
+        Err(error) => return Err(Stop::Fault(refused(error))),
+    };
+    let found = match outcomes(alloc, script, machine, most) {
+        Ok(found) => found,
+        Err(error) => return Err(stopped(error, most)),
+    };
+    let text = outcomes_text(alloc, script, &found)?;
+    match write_output(writer, &text) {
+        Ok(()) => Ok(()),
+        Err(_) => Err(Stop::Fault(RunFault::WriteFailed)),
+    }
+}
+
+// Why a script does not open.
+pub(crate) fn refused(error: StartError) -> RunFault
+    ensures { result ≡ stopped_as error }
+{
+    match error {
+        StartError::HostMemory => RunFault::HostMemory,
+        _ => RunFault::StartRefused(error.number()),
+    }
+}
+
+// Why a search has no answer.
+fn stopped(error: SearchError, most: u64) -> Stop
+    ensures { result ≡ stop_of error most }
+{
+    match error {
+        SearchError::Engine(EngineError::HostMemory) => Stop::Fault(RunFault::HostMemory),
+        SearchError::Engine(EngineError::PagerFailed) => Stop::PagerFailed,
+        SearchError::Bound => Stop::Bound(most),
+    }
+}

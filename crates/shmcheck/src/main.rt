@@ -1,0 +1,72 @@
+//! The checker: a script of processes and calls goes in on standard input. Every outcome that it can have comes out, or a
+//! verdict on a log of what a system answered.
+#![tactic(auto)]
+
+mod command;
+mod judging;
+mod listing;
+mod stop;
+
+use command::{Asked, read_command};
+use judging::judge_script;
+use listing::list_outcomes;
+use shm_program::{SwapWord, areas_of};
+use std::alloc::Global;
+use std::process::ExitCode;
+use std::rt::{Env, Files};
+use std::{fs, io};
+use stop::Stop;
+
+// The swap area is one of memory.
+const AREA: SwapWord = SwapWord::Sparse(64);
+
+/// The exit status where no schedule has the log's replies.
+const ILLEGAL: u8 = 6;
+
+// The whole file.
+fn read_file<R: Files + AllocGlobal>(rt: &R, path: &str) -> Result<Vec<u8>, Stop> {
+    match fs::read(rt, path) {
+        Ok(text) => Ok(text),
+        Err(_) => Err(Stop::LogUnread),
+    }
+}
+
+// Writes a verdict on a log.
+fn judge<R: Files + Input + Print + AllocGlobal>(
+    rt: &R,
+    alloc: Global,
+    path: &str,
+    most: u64,
+) -> Result<u8, Stop> {
+    let log = read_file(rt, path)?;
+    let pagers = areas_of(alloc, &[AREA])?;
+    let (mut reader, mut writer) = (rt.reader(), io::writer(rt));
+    let legal = judge_script(alloc, &mut reader, &mut writer, pagers, &log, most)?;
+    Ok(if legal { 0 } else { ILLEGAL })
+}
+
+// Writes every outcome.
+fn list<R: Input + Print + AllocGlobal>(rt: &R, alloc: Global, most: u64) -> Result<u8, Stop> {
+    let pagers = areas_of(alloc, &[AREA])?;
+    let (mut reader, mut writer) = (rt.reader(), io::writer(rt));
+    list_outcomes(alloc, &mut reader, &mut writer, pagers, most)?;
+    Ok(0)
+}
+
+fn run<R: Env + Files + Input + Print + AllocGlobal>(rt: &R) -> Result<u8, Stop> {
+    let alloc = rt.alloc();
+    match read_command(rt, alloc)? {
+        Asked::Outcomes(most) => list(rt, alloc, most),
+        Asked::Judge(path, most) => judge(rt, alloc, path.as_str(), most),
+    }
+}
+
+fn main(rt: HostRuntime) -> io::Result<ExitCode> {
+    match run(&rt) {
+        Ok(status) => Ok(ExitCode::from(status)),
+        Err(stop) => {
+            eprintln!(rt; "shmcheck: {stop}")?;
+            Ok(ExitCode::from(stop.status()))
+        }
+    }
+}

@@ -1,0 +1,112 @@
+//! Why the program stops.
+ghost use Rattle.std.specs.Prelude.{◌≡◌, Some};
+ghost use Rattle.std.specs.IoError.{error_kind};
+ghost use Rattle.shm_program.specs.declared.fault.RunFault.TheVariants as faults;
+ghost use Rattle.shmcheck.specs.declared.stop.Stop.TheVariants as stops;
+ghost use Rattle.shmcheck.specs.Stop.{kind_name, stop_text, stop_status, io_stop};
+
+use shm_base::HostMemory;
+use shm_outcomes::{LogFault, LogFaultKind};
+use shm_program::RunFault;
+use std::alloc::{AllocError, AllocFailed};
+use std::{fmt, io};
+
+/// Why the program stops: wrong words on the command line, a fault of the run, a pager that failed, or more schedules than
+/// the bound. Of a log also: its file can't be read, a line has a fault, or it has more beginnings than the bound.
+#[derive(Clone, Copy, Debug, PartialEq, Eq)]
+pub(crate) enum Stop {
+    Usage,
+    Fault(RunFault),
+    PagerFailed,
+    Bound(u64),
+    LogUnread,
+    BadLog(LogFault),
+    Doubt(u64),
+}
+
+impl Stop {
+    /// The exit status: 1 for a fault of the log, 2 for usage, 5 at the bound, 3 for a pager or a file that can't be read, else
+    /// that of the fault.
+    pub(crate) fn status(self) -> u8
+        ensures { result ≡ stop_status self }
+    {
+        match self {
+            Stop::Usage => 2,
+            Stop::Fault(fault) => fault.status(),
+            Stop::PagerFailed => 3,
+            Stop::Bound(_) | Stop::Doubt(_) => 5,
+            Stop::LogUnread => 3,
+            Stop::BadLog(_) => 1,
+        }
+    }
+}
+
+// What is wrong with a line of a log.
+fn kind_name(kind: LogFaultKind) -> &'static str
+    ensures { result.now ≡ kind_name kind }
+{
+    match kind {
+        LogFaultKind::BadLine => "bad line",
+        LogFaultKind::UnknownProcess => "unknown process",
+    }
+}
+
+impl fmt::Display for Stop {
+    ghost output = { λ s. Some (stop_text s) };
+
+    fn fmt<W: fmt::Write>(&self, f: &mut fmt::Formatter<W>) -> fmt::Result {
+        match self {
+            Stop::Usage => f.write_str("usage: shmcheck outcomes|judge LOG [--at-most N]"),
+            Stop::Fault(fault) => write!(f, "{fault}"),
+            Stop::PagerFailed => f.write_str("a pager failed"),
+            Stop::Bound(most) => {
+                write!(
+                    f,
+                    "undecided: more than {most} schedules and beginnings of schedules"
+                )
+            }
+            Stop::LogUnread => f.write_str("the log can't be read"),
+            Stop::BadLog(fault) => {
+                let (line, kind) = (fault.line, kind_name(fault.kind));
+                write!(f, "log line {line}: {kind}")
+            }
+            Stop::Doubt(most) => { write!(f, "undecided: more than {most} beginnings of the log") }
+        }
+    }
+}
+
+impl From<AllocError> for Stop {
+    ghost from_gives = { λ _ r. r ≡ stops.Fault faults.HostMemory };
+
+    fn from(_e: AllocError) -> Stop {
+        Stop::Fault(RunFault::HostMemory)
+    }
+}
+
+impl From<HostMemory> for Stop {
+    ghost from_gives = { λ _ r. r ≡ stops.Fault faults.HostMemory };
+
+    fn from(_e: HostMemory) -> Stop {
+        Stop::Fault(RunFault::HostMemory)
+    }
+}
+
+impl<T: Drop> From<AllocFailed<T>> for Stop {
+    ghost from_gives = { λ _ r. r ≡ stops.Fault faults.HostMemory };
+
+    fn from(_e: AllocFailed<T>) -> Stop {
+        Stop::Fault(RunFault::HostMemory)
+    }
+}
+
+// A word that is no text is a usage fault.
+impl From<io::Error> for Stop {
+    ghost from_gives = { λ e r. r ≡ io_stop (error_kind e) };
+
+    fn from(e: io::Error) -> Stop {
+        match e.kind() {
+            io::ErrorKind::OutOfMemory => Stop::Fault(RunFault::HostMemory),
+            _ => Stop::Usage,
+        }
+    }
+}
