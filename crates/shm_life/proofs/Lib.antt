@@ -18,3 +18,4 @@ pub mod Reserved
 pub mod Joining
 pub mod Peopled
 pub mod Exchanging
+pub mod Pids

@@ -1,17 +1,19 @@
 //! What a system starts from, and why a start is refused.
-ghost use Rattle.std.specs.Prelude.{◌≡◌, ℕ, [], length, map};
+ghost use Rattle.std.specs.Prelude.{◌≡◌, ℕ, [], length, map, IfOk};
 ghost use Rattle.std.specs.Fn.{FnReturnsAt};
 ghost use Rattle.shm_base.specs.Bounds.{within};
 ghost use Rattle.shm_life.specs.Start.{start_error, are_pids, error_number};
 
-use shm_base::{LAST_PID, Limits, MOST_AREAS, Process, has_pid};
+use shm_base::{LAST_PID, Limits, MOST_AREAS, PROFILE_PROCESSES, Process, has_pid};
 use shm_pager::Pager;
+use std::alloc::{AllocError, Global};
+use std::collections::HashSet;
 use thiserror::Error;
 
 /// Why a system did not start: the first of these that holds, in this order (this project's profile).
 /// `Areas`: there are not 1 to 8 swap areas. `AreaSize`: an area has no slot, or more than the limits allow
-/// (65536 in the profile). `Processes`: there are more than the limits allow (64 in the profile). `Pid`: a pid
-/// is 0, above 2147483647, or is there twice. `HostMemory`: the host refused memory.
+/// (65536 in the profile). `Processes`: there are more than the limits allow (64 in the profile). `Pid`: a
+/// pid is 0, above 2147483647, or is there twice. `HostMemory`: the host refused memory.
 #[derive(Clone, Copy, Debug, PartialEq, Eq, Error)]
 pub enum StartError {
     #[error("not 1 to 8 swap areas")]
@@ -48,8 +50,8 @@ fn is_area_size(limits: &Limits, slots: u32) -> bool
     slots >= 1 && slots <= limits.most_slots()
 }
 
-/// The first start error of swap areas that holds, where `slots` gives an area's slots: `Areas` where there are not 1
-/// to 8, else `AreaSize` where one has no slot, or more than the most. It takes no memory.
+/// The first start error of swap areas that holds, where `slots` gives an area's slots: `Areas` where there
+/// are not 1 to 8, else `AreaSize` where one has no slot, or more than the most. It takes no memory.
 pub fn first_area_error<A, F: Fn(&A) -> u32>(
     limits: &Limits,
     areas: &[A],
@@ -70,22 +72,61 @@ pub fn first_area_error<A, F: Fn(&A) -> u32>(
     None
 }
 
-fn are_pids_sound(processes: &[Process]) -> bool
+fn is_pid(pid: u32) -> bool
+    ensures { result ≡ within 1 LAST_PID pid }
+{
+    pid >= 1 && pid <= LAST_PID
+}
+
+// Whether each pid is in its range, and none stands twice: each is compared with each.
+fn are_compared_pids_sound(processes: &[Process]) -> bool
     ensures { result ≡ are_pids processes.now }
 {
     for (index, process) in processes.iter().enumerate() {
-        if process.pid < 1
-            || process.pid > LAST_PID
-            || has_pid(&processes[index + 1..], process.pid)
-        {
+        if !is_pid(process.pid) || has_pid(&processes[index + 1..], process.pid) {
             return false;
         }
     }
     true
 }
 
-/// The first start error that holds, out of memory aside. It takes no memory.
+// The same by a set of the pids, from the last one on.
+fn are_listed_pids_sound(alloc: Global, processes: &[Process]) -> Result<bool, AllocError>
+    ensures { IfOk result (λ sound. sound ≡ are_pids processes.now) }
+{
+    let mut later = HashSet::with_capacity(alloc, processes.len())?;
+    let mut index = processes.len();
+    while index > 0 {
+        index -= 1;
+        let pid = processes[index].pid;
+        if !is_pid(pid) {
+            return Ok(false);
+        }
+        if !later.insert(pid)? {
+            return Ok(false);
+        }
+    }
+    Ok(true)
+}
+
+// Whether each pid is in its range, and none stands twice. Up to the profile's number they are compared, and
+// more of them where the host has no memory for a set.
+fn are_pids_sound(alloc: Global, processes: &[Process]) -> bool
+    ensures { result ≡ are_pids processes.now }
+{
+    if processes.len() <= PROFILE_PROCESSES {
+        return are_compared_pids_sound(processes);
+    }
+    match are_listed_pids_sound(alloc, processes) {
+        Ok(sound) => sound,
+        Err(_) => are_compared_pids_sound(processes),
+    }
+}
+
+/// The first start error that holds, out of memory aside. It takes no memory for as many processes as the
+/// profile has.
 pub(crate) fn first_error<P: Pager>(
+    alloc: Global,
     limits: &Limits,
     pagers: &[P],
     processes: &[Process],
@@ -98,7 +139,7 @@ pub(crate) fn first_error<P: Pager>(
     if processes.len() > limits.most_processes() as usize {
         return Some(StartError::Processes);
     }
-    if !are_pids_sound(processes) {
+    if !are_pids_sound(alloc, processes) {
         return Some(StartError::Pid);
     }
     None

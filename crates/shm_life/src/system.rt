@@ -44,8 +44,8 @@ impl Model for Opening {
     ghost view = { λ o. record { limits = o.limits; areas = o.areas.items; processes = o.processes.items } };
 }
 
-/// A machine over swap areas. It is seen as how it opened, how many calls it answered, and the flat machine; before
-/// the first call that is as the opening says, unless its host changed it.
+/// A machine over swap areas. It is seen as how it opened, how many calls it answered, and the flat machine;
+/// before the first call that is as the opening says, unless its host changed it.
 pub struct System<P: Pager> {
     pub(crate) opening: Opening,
     pub(crate) calls: u64,
@@ -75,9 +75,17 @@ impl<P: Pager> Model for System<P> {
 
     ghost Value = { SystemState };
 
-    ghost view = { λ s. record { opening = s.opening; calls = s.calls; clock = s.clock; only_calls = s.only_calls; machine = s.kernel.flat; memory = s.kernel.memory } };
+    ghost view = { λ s. record {
+      opening = s.opening;
+      calls = s.calls;
+      clock = s.clock;
+      only_calls = s.only_calls;
+      machine = s.kernel.flat;
+      memory = s.kernel.memory;
+    } };
 
-    ghost invariant = { λ s. s.only_calls ≡ true → (s.clock ≡ None) × (s.calls ≡ 0 → s.kernel.flat ≡ start_of s.opening) };
+    ghost invariant = { λ s. s.only_calls ≡ true
+        → (s.clock ≡ None) × (s.calls ≡ 0 → s.kernel.flat ≡ start_of s.opening) };
 }
 
 // The slot counts of the areas.
@@ -92,20 +100,24 @@ fn sizes_of<P: Pager>(alloc: Global, pagers: &[P]) -> Result<Vec<u32>, AllocErro
 }
 
 impl<P: Pager> System<P> {
-    /// A machine as it opens, with the areas' slot counts from the pagers. Nothing is read or written yet: the
-    /// pagers' pages and counts are as they were handed in. It refuses by the first start error that holds,
-    /// and the pagers are dropped then.
+    /// A machine as it opens, with the areas' slot counts from the pagers. Nothing is read or written yet:
+    /// the pagers' pages and counts are as they were handed in. It refuses by the first start error that
+    /// holds, and the pagers are dropped then.
     pub fn start(
         alloc: Global,
         limits: Limits,
         pagers: Vec<P>,
         processes: &[Process],
     ) -> Result<System<P>, StartError>
-        ensures started { IfOk result (λ s. IsStarted limits (map (λ p. length (P.content p)) pagers.items) (map (λ p. fresh (pager_seen P.content P.failed p)) pagers.items) processes.now s) }
-        ensures ok { OnOk result (start_error limits (map (λ p. length (P.content p)) pagers.items) processes.now ≡ None) }
-        ensures err { IfErr result (λ e. IsFirstError e (start_error limits (map (λ p. length (P.content p)) pagers.items) processes.now)) }
+        ensures started { let sizes = map (λ p. length (P.content p)) pagers.items in
+            let areas = map (λ p. fresh (pager_seen P.content P.failed p)) pagers.items in
+            IfOk result (λ s. IsStarted limits sizes areas processes.now s) }
+        ensures ok { let sizes = map (λ p. length (P.content p)) pagers.items in
+            OnOk result (start_error limits sizes processes.now ≡ None) }
+        ensures err { let sizes = map (λ p. length (P.content p)) pagers.items in
+            IfErr result (λ e. IsFirstError e (start_error limits sizes processes.now)) }
     {
-        if let Some(error) = first_error(&limits, &pagers, processes) {
+        if let Some(error) = first_error(alloc, &limits, &pagers, processes) {
             return Err(error);
         }
         match System::open(alloc, limits, pagers, processes) {
@@ -121,8 +133,11 @@ impl<P: Pager> System<P> {
         pagers: Vec<P>,
         processes: &[Process],
     ) -> Result<System<P>, HostMemory>
-        requires none { start_error limits (map (λ p. length (P.content p)) pagers.items) processes.now ≡ None }
-        ensures { IfOk result (λ s. IsStarted limits (map (λ p. length (P.content p)) pagers.items) (map (λ p. fresh (pager_seen P.content P.failed p)) pagers.items) processes.now s) }
+        requires none { let sizes = map (λ p. length (P.content p)) pagers.items in
+            start_error limits sizes processes.now ≡ None }
+        ensures { let sizes = map (λ p. length (P.content p)) pagers.items in
+            let areas = map (λ p. fresh (pager_seen P.content P.failed p)) pagers.items in
+            IfOk result (λ s. IsStarted limits sizes areas processes.now s) }
     {
         // What is read has a proof know its range.
         let (_, _) = (limits.shmall(), limits.lockable());
@@ -179,9 +194,10 @@ impl<P: Pager> System<P> {
         }
     }
 
-    /// One call of a process, at the time that its host gave, else at its place among the calls. Where memory is out, nothing
-    /// changes and the call is not counted; that comes only at a call that takes memory, and where the flat machine
-    /// refuses nothing. Where a pager fails the reply says so in place of the flat machine's, and nothing else changes.
+    /// One call of a process, at the time that its host gave, else at its place among the calls. Where memory
+    /// is out, nothing changes and the call is not counted; that comes only at a call that takes memory, and
+    /// where the flat machine refuses nothing. Where a pager fails the reply says so in place of the flat
+    /// machine's, and nothing else changes.
     pub fn call(&mut self, pid: u32, call: &Call) -> Result<Reply, HostMemory>
         requires room { self.old.calls < most_calls }
         ensures ok { IfOk result (λ r. Replied self.old pid call.now r self.new) }
@@ -193,8 +209,8 @@ impl<P: Pager> System<P> {
     }
 
     #[tactic(auto, using(crate::proofs::Running::kept_refl))]
-    /// As [`System::call`], with the reply put where the caller wants it, which is unknown where memory is out.
-    /// A reply has 88 bytes, and each hand that takes it would clear and copy them.
+    /// As [`System::call`], with the reply put where the caller wants it, which is unknown where memory is
+    /// out. A reply has 88 bytes, and each hand that takes it would clear and copy them.
     #[inline(always)]
     pub fn call_into(&mut self, pid: u32, call: &Call, reply: &mut Reply) -> Result<(), HostMemory>
         requires room { self.old.calls < most_calls }
