@@ -18,8 +18,12 @@ use Rattle.shm_segments.specs.Table as table
 use Rattle.shm_life.specs.Sound.{AreProcesses}
 use Rattle.shm_life.proofs.Leaving.{orphans-among}
 use Rattle.shm_life.proofs.Pieces.{fit-set, fit-same}
-use Rattle.shm_life.proofs.Settled.{caller-fits}
-use Rattle.shm_life.proofs.Running.{true_still, kept-by}
+use Rattle.shm_base.specs.History.{is_refusal}
+use Rattle.shm_base.specs.declared.call.Reply.{Reply}
+use Rattle.shm_life.specs.MachineView.{Answered, MachineView}
+use Rattle.shm_life.proofs.Names.{is_err, sizes, Accessed, AreTrue, KeepsMemory, MovesLead, Touched, answer_of}
+use Rattle.shm_life.proofs.Settled.{caller-fits, moved-by, noted-well}
+use Rattle.shm_life.proofs.Running.{granted, ok_fact, true_still, kept-by}
 
 -- LOCKED
 
@@ -119,9 +123,26 @@ pub asked : (write : Bool) (rs : List Runner) (c : Caller) (addr len : ℕ) (r :
 asked write rs c addr len r is found = rw (pieces_by-caller c.pid rs (caller_seen c rs) is) at found
 
 -- a table that was written, or stayed
-pub either-same : {A E : Type 0} (r : Result A E) (t u w : List Entry) → OnOk r (u ≡ w) → OnErr r (u ≡ t) → SameTable t w → SameTable t u
+either-same : {A E : Type 0} (r : Result A E) (t u w : List Entry) → OnOk r (u ≡ w) → OnErr r (u ≡ t) → SameTable t w → SameTable t u
 either-same (Ok a) t u w written same alike = rw written alike
 either-same (Err e) t u w written same alike = rw same (same-refl t)
+
+-- an access that wrote or failed leaves all well, once its moves were noted
+pub written-well : {A E : Type 0} (r : Result A E) (limits : Bounds) (t u w : List Entry) (rs after : List Runner) (ts us : List Translation) (m n : StoreView) (ps : List Span) (touched : Touched) → IsWell limits t rs ts m → SameTable t w
+    → OnOk r (u ≡ w) → OnErr r (u ≡ t) → length n.frames ≡ length m.frames → Accessed ps m n (answer_of touched r) → after ≡ rs → ((a b : StoreView) → AreTrue ts a → MovesLead touched.moved.items a b → AreTrue us b)
+    → IsWell limits u after us n
+written-well r limits t u w rs after ts us m n ps touched well same written kept frames accessed runners noted =
+    noted-well limits t u rs after ts us m n touched.moved.items well (either-same r t u w written kept same) frames runners noted (moved-by ps m n touched r accessed)
+
+abbrev view_with : Bounds → List Entry → List Runner → StoreView → MachineView
+view_with limits t rs m = record { flat = record { limits = limits; areas = sizes m.swap; table = t; runners = rs }; memory = m }
+
+-- one that wrote is answered as the flat machine does
+pub written-granted : {A E : Type 0} (r : Result A E) (o : Outcome) (reply : Reply) (limits : Bounds) (t u w : List Entry) (rs after : List Runner) (m n : StoreView)
+    → o ≡ gives (record { limits = limits; areas = sizes m.swap; table = w; runners = rs }) reply → is_err r ≡ false → OnOk r (u ≡ w) → after ≡ rs → sizes n.swap ≡ sizes m.swap → is_refusal reply ≡ false → KeepsMemory m n
+    → Answered o false false reply (view_with limits t rs m) (view_with limits u after n)
+written-granted r o reply limits t u w rs after m n step fine written runners areas none keeps =
+    granted o reply false (view_with limits t rs m) (view_with limits u after n) (step ∙ rw (runners, ok_fact r (u ≡ w) fine written, areas) refl) none keeps
 
 -- FORK
 

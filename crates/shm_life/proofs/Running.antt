@@ -12,13 +12,12 @@ use Rattle.shm_base.specs.declared.call.Reply.TheVariants.{Refused}
 use Rattle.shm_base.specs.declared.errno.Errno.{Errno}
 use Rattle.shm_life.specs.Sound.{AreProcesses}
 use Rattle.shm_life.specs.MachineView.{MachineView, Answered, IsFailed, names_failure}
-use Rattle.std.specs.Prelude.{Result, Ok, Err}
+use Rattle.std.specs.Prelude.{Option, Result, Ok, Err}
 use Rattle.shm_base.specs.declared.call.Call.{Call}
-use Rattle.shm_base.specs.Exchange.{compares, compares_of, exchanges, exchanges_of}
 use Rattle.shm_attach.specs.Spaces.{IsCaller, caller_seen}
 use Rattle.shm_attach.specs.declared.process.Caller.{Caller}
 use Rattle.shm_life.specs.MachineView.{AnsweredBy, Served}
-use Rattle.shm_life.specs.Exchanged.{seen}
+use Rattle.shm_life.specs.Exchanged.{IsExchange, seen, swaps, swaps_of}
 use Rattle.shm_life.specs.SystemState.{SystemState, Replied, most_calls, time_of}
 use Rattle.shm_base.specs.History.{IsMove, is_failure}
 use Rattle.std.proofs.Common.{inl, inr}
@@ -89,13 +88,9 @@ replied_as s t pid call reply room a rest = record {
     by true h = inr (record { failure = h; instead = (a.failed h).instead; unchanged = (a.failed h).unchanged })
 
 -- an exchange of a live process is served
-pub exchanged : (s : MachineView) (pid : ℕ) (caller : Caller) (addr : ℕ) (bytes : List ℕ) (names locks : Bool) (reply : Reply) (t : MachineView) → caller.pid ≡ pid → IsCaller caller s.flat.runners
-    → Answered (exchanges_of s.flat addr bytes (Some (caller_seen caller s.flat.runners))) names locks reply s t → Answered (exchanges s.flat pid addr bytes) names locks reply s t
-exchanged s pid caller addr bytes names locks reply t same is served = rw (← same, is) served
-
-pub compared : (s : MachineView) (pid : ℕ) (caller : Caller) (addr : ℕ) (expected bytes : List ℕ) (names locks : Bool) (reply : Reply) (t : MachineView) → caller.pid ≡ pid → IsCaller caller s.flat.runners
-    → Answered (compares_of s.flat addr expected bytes (Some (caller_seen caller s.flat.runners))) names locks reply s t → Answered (compares s.flat pid addr expected bytes) names locks reply s t
-compared s pid caller addr expected bytes names locks reply t same is served = rw (← same, is) served
+pub exchanged : (s : MachineView) (pid : ℕ) (caller : Caller) (addr : ℕ) (expected : Option (List ℕ)) (bytes : List ℕ) (reply : Reply) (t : MachineView) → caller.pid ≡ pid → IsCaller caller s.flat.runners
+    → IsExchange (swaps_of s.flat addr expected bytes (Some (caller_seen caller s.flat.runners))) reply s t → IsExchange (swaps s.flat pid addr expected bytes) reply s t
+exchanged s pid caller addr expected bytes reply t same is served = rw (← same, is) served
 
 -- translations stay true where no page moves
 pub true_still : (ts : List Translation) (a b : StoreView) → ((s page : ℕ) → frame_of b s page ≡ frame_of a s page) → AreTrue ts a → AreTrue ts b

@@ -1,7 +1,9 @@
 -- What an exchange leaves of a system: as an addition does, but no history has it.
-use Rattle.std.specs.Prelude.{◌≡◌, ◌<◌, ◌+◌, false}
+use Rattle.std.specs.Prelude.{ℕ, ◌≡◌, ◌<◌, ◌+◌, false, List, Option, Some, None}
 use Rattle.shm_base.specs.declared.call.Reply.{Reply}
-use Rattle.shm_base.specs.Step.{Outcome}
+use Rattle.shm_base.specs.Exchange.{exchanges_of, compares_of}
+use Rattle.shm_base.specs.State.{Machine}
+use Rattle.shm_base.specs.Step.{Caller, Outcome, caller_of}
 use Rattle.shm_life.specs.MachineView.{MachineView, Answered, names_failure}
 use Rattle.shm_life.specs.SystemState.{SystemState, most_calls}
 
@@ -9,9 +11,23 @@ use Rattle.shm_life.specs.SystemState.{SystemState, most_calls}
 abbrev pub seen : SystemState → MachineView
 seen s = record { flat = s.machine; memory = s.memory }
 
--- where the flat machine has this outcome: that reply and that state, or a pager's failure in their place. It is counted as
--- a call
+-- an exchange, or, where bytes are expected, a compare and exchange
+abbrev pub swaps_of : Machine → ℕ → Option (List ℕ) → List ℕ → Option Caller → Outcome
+swaps_of s addr None bytes c = exchanges_of s addr bytes c
+swaps_of s addr (Some expected) bytes c = compares_of s addr expected bytes c
+
+abbrev pub swaps : Machine → ℕ → ℕ → Option (List ℕ) → List ℕ → Outcome
+swaps s pid addr expected bytes = swaps_of s addr expected bytes (caller_of s pid)
+
+-- where the flat machine has this outcome: that reply and that state, or a pager's failure in their place
+abbrev pub IsExchange : Outcome → Reply → MachineView → MachineView → Type 0
+IsExchange o reply s t = Answered o (names_failure reply) false reply s t
+
+-- it is counted as a call
+abbrev pub counted : SystemState → MachineView → SystemState
+counted s t = record s { calls = s.calls + 1; only_calls = false; machine = t.flat; memory = t.memory }
+
 pub record Exchanged (o : Outcome) (before : SystemState) (reply : Reply) (after : SystemState) : Type 0 where
   pub room : before.calls < most_calls
-  pub answered : Answered o (names_failure reply) false reply (seen before) (seen after)
-  pub rest : after ≡ record before { calls = before.calls + 1; only_calls = false; machine = after.machine; memory = after.memory }
+  pub answered : IsExchange o reply (seen before) (seen after)
+  pub rest : after ≡ counted before (seen after)

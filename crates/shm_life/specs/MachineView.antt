@@ -35,7 +35,8 @@ pub record KeepsOn (before after : StoreView) : Type 0 where
 
 -- what is locked afterwards was locked before
 abbrev pub LocksNothing : StoreView → StoreView → Type 0
-LocksNothing before after = (seg : ℕ) → holds_locked (held after) seg ≡ true → holds_locked (held before) seg ≡ true
+LocksNothing before after =
+    (seg : ℕ) → holds_locked (held after) seg ≡ true → holds_locked (held before) seg ≡ true
 
 abbrev pub is_lock : Call → Bool
 is_lock (Lock id) = true
@@ -69,9 +70,9 @@ done _ = Done
 abbrev pub reply_in : Reply → Result (Unit {0}) Errno → Reply
 reply_in reply result = replied (λ _. reply) result
 
--- What an answer leaves where the flat machine has this outcome: that reply and that state, or, where the reply names a
--- pager's failure, the state as it was. The memory keeps on, every other refusal leaves it as it was, and no call but a lock
--- locks a segment
+-- What an answer leaves where the flat machine has this outcome: that reply and that state, or, where the
+-- reply names a pager's failure, the state as it was. The memory keeps on, every other refusal leaves it as
+-- it was, and no call but a lock locks a segment
 pub record Answered (o : Outcome) (names locks : Bool) (reply : Reply) (s t : MachineView) : Type 0 where
   pub step : names ≡ false → o ≡ record { reply = reply; state = t.flat }
   pub failed : names ≡ true → IsFailed o s t
@@ -79,22 +80,27 @@ pub record Answered (o : Outcome) (names locks : Bool) (reply : Reply) (s t : Ma
   pub locked : locks ≡ false → LocksNothing s.memory t.memory
   pub still : StillIfRefused reply s.memory t.memory
 
+-- what an answer to a call leaves
+abbrev pub AnsweredTo : Outcome → Call → Reply → MachineView → MachineView → Type 0
+AnsweredTo o call reply s t = Answered o (is_failure call reply) (is_lock call) reply s t
+
 -- what serving a caller's call at place n leaves
 abbrev pub Served : MachineView → ℕ → Caller → Call → Reply → MachineView → Type 0
-Served s n caller call reply t = Answered (acts s.flat n (caller_seen caller s.flat.runners) call) (is_failure call reply) (is_lock call) reply s t
+Served s n caller call reply t =
+    AnsweredTo (acts s.flat n (caller_seen caller s.flat.runners) call) call reply s t
 
 -- what a process's call at place n leaves, whether it is live or not
 abbrev pub AnsweredBy : MachineView → ℕ → ℕ → Call → Reply → MachineView → Type 0
-AnsweredBy s n pid call reply t = Answered (step s.flat n pid call) (is_failure call reply) (is_lock call) reply s t
+AnsweredBy s n pid call reply t = AnsweredTo (step s.flat n pid call) call reply s t
 
 -- no memory was left for a call that the flat machine does not refuse, and nothing changed
 pub record IsWithoutMemory (o : Outcome) (s t : MachineView) : Type 0 where
   pub unchanged : t ≡ s
   pub instead : is_refusal o.reply ≡ false
 
--- The memory shows the flat machine and is sound, and no count is out of its bound: the slots that are used are
--- no more than the pages of all segments, these no more than the slots that are there, nor than the limit. There are as many
--- processes as there may be, no two with one pid
+-- The memory shows the flat machine and is sound, and no count is out of its bound: the slots that are used
+-- are no more than the pages of all segments, these no more than the slots that are there, nor than the
+-- limit. There are as many processes as there may be, no two with one pid
 pub record IsExactly (m : Machine) (memory : StoreView) : Type 0 where
   pub sound : IsStoreSound memory
   pub shows : ShowsTable m.table memory

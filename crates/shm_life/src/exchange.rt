@@ -1,12 +1,12 @@
-//! Exchanges and compares with exchange: a guest's locked instructions beside the addition. None of them is a call of the
-//! script language.
-ghost use Rattle.std.specs.Prelude.{◌≡◌, ◌<◌, ◌≤◌, Some, false, length, OnErr};
-ghost use Rattle.shm_base.specs.Exchange.{compares, compares_of, exchanges, exchanges_of};
+//! Exchanges and compares with exchange: a guest's locked instructions, as the addition is one. None of them
+//! is a call of the script language.
+ghost use Rattle.std.specs.Prelude.{◌≡◌, ◌<◌, ◌≤◌, Some, length, option_copied, OnErr};
+ghost use Rattle.shm_base.specs.Exchange.{compares, exchanges};
 ghost use Rattle.shm_base.specs.declared.call.Reply.TheVariants.{Bytes};
 ghost use Rattle.shm_base.specs.declared.paging.TheConstants.{PAGE_SIZE};
 ghost use Rattle.shm_attach.specs.Spaces.{IsCaller, caller_seen};
-ghost use Rattle.shm_life.specs.Exchanged.{Exchanged};
-ghost use Rattle.shm_life.specs.MachineView.{Answered, names_failure, reply_in};
+ghost use Rattle.shm_life.specs.Exchanged.{Exchanged, IsExchange, swaps, swaps_of};
+ghost use Rattle.shm_life.specs.MachineView.{reply_in};
 ghost use Rattle.shm_life.specs.SystemState.{most_calls};
 
 use crate::kernel::Kernel;
@@ -18,10 +18,12 @@ use shm_pager::Pager;
 
 impl<P: Pager> Kernel<P> {
     #[tactic(auto, using(crate::proofs::Running::kept_refl))]
+    // Where bytes are expected, the others are put in their place only if they are those.
     fn exchange(
         &mut self,
         caller: &Caller,
         addr: u64,
+        expected: Option<&[u8]>,
         bytes: &[u8],
         before: &mut [u8],
     ) -> Result<(), Errno>
@@ -29,8 +31,9 @@ impl<P: Pager> Kernel<P> {
         requires size { (1 ≤ length bytes.now) × (length bytes.now ≤ PAGE_SIZE) }
         requires before { length before.old ≡ length bytes.now }
         ensures answered { let seen = caller_seen caller.now self.old.flat.runners in
-            let reply = reply_in (Bytes before.new) result in
-            Answered (exchanges_of self.old.flat addr bytes.now (Some seen)) (names_failure reply) false reply self.old self.new }
+            let wanted = option_copied expected.entry in
+            let outcome = swaps_of self.old.flat addr wanted bytes.now (Some seen) in
+            IsExchange outcome (reply_in (Bytes before.new) result) self.old self.new }
         ensures kept { OnErr result (before.new ≡ before.old) }
     {
         let Ok(spans) = self.spaces.spans_of(caller, addr, bytes.len() as u64, true) else {
@@ -39,42 +42,10 @@ impl<P: Pager> Kernel<P> {
         let mut touched = Touched::none();
         let exchanged = self
             .segments
-            .exchange(spans.as_slice(), bytes, before, &mut touched);
+            .exchange(spans.as_slice(), expected, bytes, before, &mut touched);
         // Where a pager failed pages may have moved before.
         self.spaces.note(touched.moved.as_slice());
         if exchanged.is_err() {
-            return Err(Errno::Sigbus);
-        }
-        Ok(())
-    }
-
-    #[tactic(auto, using(crate::proofs::Running::kept_refl))]
-    fn compare_exchange(
-        &mut self,
-        caller: &Caller,
-        addr: u64,
-        expected: &[u8],
-        bytes: &[u8],
-        before: &mut [u8],
-    ) -> Result<(), Errno>
-        requires caller { IsCaller caller.now self.old.flat.runners }
-        requires size { (1 ≤ length bytes.now) × (length bytes.now ≤ PAGE_SIZE) }
-        requires before { length before.old ≡ length bytes.now }
-        ensures answered { let seen = caller_seen caller.now self.old.flat.runners in
-            let reply = reply_in (Bytes before.new) result in
-            Answered (compares_of self.old.flat addr expected.now bytes.now (Some seen)) (names_failure reply) false reply self.old self.new }
-        ensures kept { OnErr result (before.new ≡ before.old) }
-    {
-        let Ok(spans) = self.spaces.spans_of(caller, addr, bytes.len() as u64, true) else {
-            return Err(Errno::Sigsegv);
-        };
-        let mut touched = Touched::none();
-        let compared = self
-            .segments
-            .compare_exchange(spans.as_slice(), expected, bytes, before, &mut touched);
-        // Where a pager failed pages may have moved before.
-        self.spaces.note(touched.moved.as_slice());
-        if compared.is_err() {
             return Err(Errno::Sigbus);
         }
         Ok(())
@@ -85,47 +56,29 @@ impl<P: Pager> Kernel<P> {
         &mut self,
         pid: u32,
         addr: u64,
+        expected: Option<&[u8]>,
         bytes: &[u8],
         before: &mut [u8],
     ) -> Result<(), Errno>
         requires size { (1 ≤ length bytes.now) × (length bytes.now ≤ PAGE_SIZE) }
         requires before { length before.old ≡ length bytes.now }
-        ensures answered { let reply = reply_in (Bytes before.new) result in
-            Answered (exchanges self.old.flat pid addr bytes.now) (names_failure reply) false reply self.old self.new }
+        ensures answered { let wanted = option_copied expected.entry in
+            let outcome = swaps self.old.flat pid addr wanted bytes.now in
+            IsExchange outcome (reply_in (Bytes before.new) result) self.old self.new }
         ensures kept { OnErr result (before.new ≡ before.old) }
     {
         let Some(caller) = self.spaces.caller(pid) else {
             return Err(Errno::Esrch);
         };
-        self.exchange(&caller, addr, bytes, before)
-    }
-
-    #[tactic(auto, using(crate::proofs::Running::kept_refl))]
-    fn compare_exchange_by(
-        &mut self,
-        pid: u32,
-        addr: u64,
-        expected: &[u8],
-        bytes: &[u8],
-        before: &mut [u8],
-    ) -> Result<(), Errno>
-        requires size { (1 ≤ length bytes.now) × (length bytes.now ≤ PAGE_SIZE) }
-        requires before { length before.old ≡ length bytes.now }
-        ensures answered { let reply = reply_in (Bytes before.new) result in
-            Answered (compares self.old.flat pid addr expected.now bytes.now) (names_failure reply) false reply self.old self.new }
-        ensures kept { OnErr result (before.new ≡ before.old) }
-    {
-        let Some(caller) = self.spaces.caller(pid) else {
-            return Err(Errno::Esrch);
-        };
-        self.compare_exchange(&caller, addr, expected, bytes, before)
+        self.exchange(&caller, addr, expected, bytes, before)
     }
 }
 
 impl<P: Pager> System<P> {
-    /// Puts 1 to 4,096 bytes in the place of others, which `before` shows then, in one step (xchg). Esrch where the process
-    /// is not live, Sigsegv where an address has no piece, or one that is read-only, Sigbus where a pager failed; then no
-    /// byte has changed, nor has `before`. The system counts from then on as changed by other than calls.
+    /// Puts 1 to 4,096 bytes in the place of others, which `before` shows then, in one step (xchg). Esrch
+    /// where the process is not live, Sigsegv where an address has no piece, or one that is read-only, Sigbus
+    /// where a pager failed; then no byte has changed, nor has `before`. The system counts from then on as
+    /// changed by other than calls.
     pub fn exchange(
         &mut self,
         pid: u32,
@@ -140,14 +93,14 @@ impl<P: Pager> System<P> {
             Exchanged (exchanges self.old.machine pid addr bytes.now) self.old reply self.new }
         ensures kept { OnErr result (before.new ≡ before.old) }
     {
-        let exchanged = self.kernel.exchange_by(pid, addr, bytes, before);
+        let exchanged = self.kernel.exchange_by(pid, addr, None, bytes, before);
         self.calls += 1;
         self.only_calls = false;
         exchanged
     }
 
-    /// As [`System::exchange`], but the bytes are replaced only if they are the expected ones (cmpxchg). `before` shows
-    /// those that were there in both cases, so that the caller knows which it was.
+    /// As [`System::exchange`], but the bytes are replaced only if they are the expected ones (cmpxchg).
+    /// `before` shows those that were there in both cases, so that the caller knows which it was.
     pub fn compare_exchange(
         &mut self,
         pid: u32,
@@ -165,7 +118,7 @@ impl<P: Pager> System<P> {
     {
         let compared = self
             .kernel
-            .compare_exchange_by(pid, addr, expected, bytes, before);
+            .exchange_by(pid, addr, Some(expected), bytes, before);
         self.calls += 1;
         self.only_calls = false;
         compared

@@ -1,37 +1,65 @@
 -- What is kept where bytes are exchanged, or stay as the expected ones are not there.
-use Rattle.shm_segments.proofs.Names.{◌≡◌, ℕ, false, List, length, refl, sym, ap, ◌∙◌, arith, All, Result, OnOk, OnErr, Ok, Err, sum_by, Span, StoreView, LockedPagesStay, IsStoreSound, GoesOn, Head, joined_table, KeepsMemory, IsWhole, stored, span_places, SpanFits, common_steps, Entry}
-use Rattle.std.specs.Prelude.{Bool, true, if◌then◌else◌}
-use Rattle.shm_fault.specs.Held.{Held, written, read_from}
-use Rattle.shm_fault.specs.Store.{held}
-use Rattle.shm_segments.proofs.Bytes.{len_of}
+use Rattle.shm_segments.proofs.Names.{◌≡◌, ℕ, Bool, true, false, List, length, refl, ap, All, Result, OnOk, OnErr, Ok, Err, Some, Span, Held, StoreView, Head, held, joined_table, read_from, SegmentsView, KeepsMemory, IsWhole, loaded, span_places, SpanFits, Entry, Agree}
+use Rattle.shm_base.specs.Exchange.{same_bytes}
+use Rattle.shm_fault.specs.Allowed.{IsAccess}
+use Rattle.shm_fault.specs.Exchanging.{Swaps, holds}
+use Rattle.shm_fault.specs.declared.touched.PagerFailed.{PagerFailed}
+use Rattle.shm_fault.specs.declared.touched.Touched.{Touched}
+use Rattle.shm_segments.specs.Exchanged.{Swapped, left_by, replaces}
 use Rattle.shm_segments.proofs.Remembered.{Wrote, wrote, memory-same}
+use Rattle.shm_segments.proofs.Shown.{load_shown}
+use Rattle.shm_segments.proofs.Spanning.{spans-fit}
 
--- done or not, all is whole, and the table shows what was done
-pub record Swapped {A E : Type 0} (r : Result A E) (writes : Bool) (s n : StoreView) (rows : List (Entry Head)) (pages locks : ℕ) (ps : List Span) (new : List ℕ) : Type 0 where
+-- the bytes of the spans, as the table shows them
+loads : (hs : List Held) (rows : List (Entry Head)) (ps : List Span) → Agree hs rows → All (SpanFits (joined_table hs rows)) ps → loaded (joined_table hs rows) (span_places false ps) ≡ read_from hs ps
+loads hs rows ps agree fit = load_shown hs rows false ps agree (spans-fit hs rows ps agree fit)
+
+-- they are the expected ones where the store finds those
+pub expects : (hs : List Held) (rows : List (Entry Head)) (ps : List Span) (expected : List ℕ) → Agree hs rows → All (SpanFits (joined_table hs rows)) ps
+    → replaces (joined_table hs rows) (span_places false ps) (Some expected) ≡ holds hs ps expected
+expects hs rows ps expected agree fit = ap (λ (bs : List ℕ). same_bytes bs expected) (loads hs rows ps agree fit)
+
+-- the table and the memory then
+record Kept {A E : Type 0} (r : Result A E) (writes : Bool) (s n : StoreView) (rows : List (Entry Head)) (pages locks : ℕ) (ps : List Span) (new : List ℕ) : Type 0 where
   pub whole : IsWhole n rows pages locks
   pub keeps : KeepsMemory s n
-  pub written : OnOk r (joined_table (held n) rows ≡ (if writes then stored (joined_table (held s) rows) (span_places false ps) new else joined_table (held s) rows))
+  pub written : OnOk r (joined_table (held n) rows ≡ left_by writes (joined_table (held s) rows) (span_places false ps) new)
   pub same : OnErr r (joined_table (held n) rows ≡ joined_table (held s) rows)
 
-unwritten : {A E : Type 0} (r : Result A E) (s n : StoreView) (rows : List (Entry Head)) (pages locks : ℕ) (ps : List Span) (new : List ℕ) → IsWhole s rows pages locks
-    → held n ≡ held s → IsStoreSound n → LockedPagesStay s n → GoesOn s.swap n.swap → length n.frames ≡ length s.frames → Swapped r false s n rows pages locks ps new
-unwritten (Ok a) s n rows pages locks ps new w is sound kept goes frames = record {
-  whole = record { kept = rw is w.kept; sound = sound };
-  keeps = memory-same s n is kept goes frames;
-  written = rw is refl;
+kept : {A E : Type 0} (r : Result A E) (writes : Bool) (s n : StoreView) (rows : List (Entry Head)) (pages locks : ℕ) (ps : List Span) (new before after : List ℕ) (answer : Result Touched PagerFailed) → IsWhole s rows pages locks
+    → IsAccess (SpanFits (joined_table (held s) rows)) ps (length new) → Swaps writes ps new before after s n r answer → Kept r writes s n rows pages locks ps new
+kept r true s n rows pages locks ps new before after answer w a e =
+    let all : Wrote r s n rows pages locks ps new = wrote r s n rows pages locks ps new w a.fit a.sum e.written e.same e.access.sound e.access.kept e.access.counts e.access.size in
+    record { whole = all.whole; keeps = all.keeps; written = all.written; same = all.same }
+kept (Ok x) false s n rows pages locks ps new before after answer w a e = record {
+  whole = record { kept = rw e.written w.kept; sound = e.access.sound };
+  keeps = memory-same s n e.written e.access.kept e.access.counts e.access.size;
+  written = rw e.written refl;
   same = tt;
 }
-unwritten (Err e) s n rows pages locks ps new w is sound kept goes frames = record {
-  whole = record { kept = rw is w.kept; sound = sound };
-  keeps = memory-same s n is kept goes frames;
+kept (Err x) false s n rows pages locks ps new before after answer w a e = record {
+  whole = record { kept = rw e.same w.kept; sound = e.access.sound };
+  keeps = memory-same s n e.same e.access.kept e.access.counts e.access.size;
   written = tt;
-  same = rw is refl;
+  same = rw e.same refl;
 }
 
-pub swapped : {A E : Type 0} (r : Result A E) (writes : Bool) (s n : StoreView) (rows : List (Entry Head)) (pages locks : ℕ) (ps : List Span) (new : List ℕ) → IsWhole s rows pages locks → All (SpanFits (joined_table (held s) rows)) ps → sum_by len_of ps ≡ length new
-    → OnOk r (held n ≡ (if writes then written (held s) ps new else held s)) → OnErr r (held n ≡ held s) → IsStoreSound n → LockedPagesStay s n → GoesOn s.swap n.swap → length n.frames ≡ length s.frames → Swapped r writes s n rows pages locks ps new
-swapped r true s n rows pages locks ps new w fits size is same sound kept goes frames =
-    let all : Wrote r s n rows pages locks ps new = wrote r s n rows pages locks ps new w fits size is same sound kept goes frames in
-    record { whole = all.whole; keeps = all.keeps; written = all.written; same = all.same }
-swapped (Ok a) false s n rows pages locks ps new w fits size is same sound kept goes frames = unwritten (Ok a) s n rows pages locks ps new w is sound kept goes frames
-swapped (Err e) false s n rows pages locks ps new w fits size is same sound kept goes frames = unwritten (Err e) s n rows pages locks ps new w same sound kept goes frames
+abbrev seen : StoreView → List (Entry Head) → SegmentsView
+seen m rows = record { table = joined_table (held m) rows; memory = m }
+
+-- done or not, all is whole, and the table shows what was done
+pub swapped : {A E : Type 0} (r : Result A E) (writes : Bool) (s n : StoreView) (rows : List (Entry Head)) (pages locks : ℕ) (ps : List Span) (new before after : List ℕ) (answer : Result Touched PagerFailed) → IsWhole s rows pages locks
+    → IsAccess (SpanFits (joined_table (held s) rows)) ps (length new) → Swaps writes ps new before after s n r answer
+    → IsWhole n rows pages locks × Swapped writes ps new before after (seen s rows) (seen n rows) r answer
+swapped r writes s n rows pages locks ps new before after answer w a e =
+    let all = kept r writes s n rows pages locks ps new before after answer w a e in (
+      all.whole,
+      record {
+        there = rw (loads (held s) rows ps w.kept.agree a.fit) e.there;
+        kept = e.kept;
+        written = all.written;
+        same = all.same;
+        access = e.access;
+        keeps = all.keeps;
+      },
+    )

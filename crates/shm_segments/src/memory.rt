@@ -1,5 +1,5 @@
 //! The bytes of the segments, and the pages that they lie in.
-ghost use Rattle.std.specs.Prelude.{◌≡◌, ◌≤◌, ◌+◌, ℕ, OnOk, OnErr, length, set, None, true, false};
+ghost use Rattle.std.specs.Prelude.{◌≡◌, ◌≤◌, ◌+◌, ℕ, OnOk, OnErr, length, option_copied, set, None, true, false};
 ghost use Rattle.shm_base.specs.Access.{loaded, stored};
 ghost use Rattle.shm_base.specs.Segments.{reserved};
 ghost use Rattle.shm_base.specs.Spans.{span_places};
@@ -8,7 +8,7 @@ ghost use Rattle.shm_slots.specs.View.{swap_slots, sizes, area_at};
 ghost use Rattle.shm_slots.specs.Cause.{had_cause};
 ghost use Rattle.shm_fault.specs.Store.{Still};
 ghost use Rattle.shm_fault.specs.Access.{Accessed, NameFrames, IsUntouched, answer_of};
-ghost use Rattle.shm_segments.specs.Exchanged.{Swapped, are_expected};
+ghost use Rattle.shm_segments.specs.Exchanged.{Swapped, replaces};
 ghost use Rattle.shm_fault.specs.Flushing.{IsFlushed};
 ghost use Rattle.shm_segments.specs.Table.{SpanFits, loaded_number, added_at};
 ghost use Rattle.shm_segments.specs.View.{IsTableExact, KeepsMemory};
@@ -92,11 +92,12 @@ impl<P: Pager> Segments<P> {
         self.store.add_with(spans, more, old, touched)
     }
 
-    /// Copies the bytes of one or two spans into `before` and replaces them. Pages come in as for `read`, and on an error no
-    /// byte has changed.
+    /// Copies the bytes of one or two spans into `before` and replaces them; where bytes are expected, only
+    /// if they are those. Pages come in as for `read`, and on an error no byte has changed.
     pub fn exchange(
         &mut self,
         spans: &[Span],
+        expected: Option<&[u8]>,
         bytes: &[u8],
         before: &mut [u8],
         touched: &mut Touched,
@@ -106,30 +107,16 @@ impl<P: Pager> Segments<P> {
         requires frames { NameFrames self.old.memory spans.now }
         requires none { IsUntouched touched.old }
         ensures { let answer = answer_of touched.new result in
-            Swapped true spans.now bytes.now before.old before.new self.old self.new result answer }
-    {
-        self.store.exchange_with(spans, bytes, before, touched)
-    }
-
-    /// As [`Segments::exchange`], but the bytes are replaced only if they are the expected ones.
-    pub fn compare_exchange(
-        &mut self,
-        spans: &[Span],
-        expected: &[u8],
-        bytes: &[u8],
-        before: &mut [u8],
-        touched: &mut Touched,
-    ) -> Result<(), PagerFault>
-        requires spans { IsAccess (SpanFits self.old.table) spans.now (length bytes.now) }
-        requires before { length before.old ≡ length bytes.now }
-        requires frames { NameFrames self.old.memory spans.now }
-        requires none { IsUntouched touched.old }
-        ensures { let answer = answer_of touched.new result in
-            let writes = are_expected self.old.table spans.now expected.now in
+            let places = span_places false spans.now in
+            let writes = replaces self.old.table places (option_copied expected.entry) in
             Swapped writes spans.now bytes.now before.old before.new self.old self.new result answer }
     {
-        self.store
-            .compare_with(spans, expected, bytes, before, touched)
+        match expected {
+            Some(expected) => self
+                .store
+                .compare_with(spans, expected, bytes, before, touched),
+            None => self.store.exchange_with(spans, bytes, before, touched),
+        }
     }
 
     /// Writes the first `n` dirty frames of segments that are not locked out to their slots.

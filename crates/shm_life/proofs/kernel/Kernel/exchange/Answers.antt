@@ -1,8 +1,9 @@
-use Rattle.shm_life.proofs.Names.{rules, arith, common_steps, true, false, length, refl, sym, ◌∙◌, span_places, Machine, IsCaller, pieces_at, sizes, SameTable, stored-same, IsWell}
-use Rattle.shm_life.proofs.Settled.{noted-well, moved-by}
-use Rattle.shm_life.proofs.Changed.{spans-there, asked, either-same}
-use Rattle.shm_life.proofs.Exchanging.{exchange-wanted}
-use Rattle.shm_life.proofs.Running.{granted, kept_refl, ok_fact}
+use Rattle.shm_life.proofs.Names.{arith, common_steps, true, false, length, refl, sym, ◌∙◌, span_places, Machine, IsCaller, caller_seen, sizes, IsWell}
+use Rattle.std.specs.Prelude.{option_copied}
+use Rattle.shm_segments.specs.Exchanged.{replaces}
+use Rattle.shm_life.proofs.Changed.{spans-there, asked, written-well, written-granted}
+use Rattle.shm_life.proofs.Exchanging.{swap-wanted, left-same}
+use Rattle.shm_life.proofs.Running.{ok_fact}
 use Rattle.shm_life.proofs.kernel.Kernel.exchange.Given.{Over}
 use Rattle.shm_life.proofs.kernel.Kernel.exchange.Goals as goal
 use Rattle.shm_life.proofs.kernel.Kernel.exchange.Goals.{After-note}
@@ -14,9 +15,11 @@ exchange-exchanged-requires-clause-spans g c =
 -- done or not
 well : (g : Over) (c : After-note g) → IsWell c.self.inside.limits c.exchange-exchanged.new.self.table c.note.new.self.runners c.note.new.self.translations c.exchange-exchanged.new.self.memory
 well g c =
+    let e = c.exchange-exchanged.ensures in
     let t = c.self.inside.segments.table in
-    let same : SameTable t c.exchange-exchanged.new.self.table = either-same c.exchange-exchanged.result t _ _ c.exchange-exchanged.ensures.written c.exchange-exchanged.ensures.same (stored-same (span_places false c.as_slice.result.now) c.args.bytes.now t) in
-    noted-well _ _ _ _ _ _ _ _ _ c.exchange-exchanged.new.touched.moved.items c.self.invariant.0 same c.exchange-exchanged.ensures.keeps.frames c.note.ensures.runners (rw c.as_slice-2.ensures.value at c.note.ensures.translated) (moved-by _ _ _ _ c.exchange-exchanged.result c.exchange-exchanged.ensures.access)
+    let places = span_places false c.as_slice.result.now in
+    written-well c.exchange-exchanged.result _ _ _ _ _ _ _ _ _ _ _ c.exchange-exchanged.new.touched c.self.invariant.0 (left-same (replaces t places (option_copied c.args.expected)) places c.args.bytes.now t)
+    e.written e.same e.keeps.frames e.access c.note.ensures.runners (rw c.as_slice-2.ensures.value at c.note.ensures.translated)
 
 pub invariant_of-self : goal.invariant_of-self
 invariant_of-self g c = (
@@ -38,8 +41,9 @@ returns-clause-answered g c =
     let bytes = c.args.bytes.now in
     let spans = span_places false c.in-Ok.spans in
     let is : IsCaller caller rs = rw (← c.self.view_is) at c.requires.caller in
-    let step = exchange-wanted m (pieces_at rs caller.index) c.args.addr bytes spans (asked true rs caller c.args.addr (length bytes) _ is c.in-Ok.ensures.spans.places) in
+    let step = swap-wanted m (caller_seen caller rs) c.args.addr (option_copied c.args.expected) bytes spans (asked true rs caller c.args.addr (length bytes) _ is c.in-Ok.ensures.spans.places) in
+    let e = c.exchange-exchanged.ensures in
     let fine = sym c.is_err.ensures.value ∙ c.if-is_err.false in
-    let written = ok_fact c.exchange-exchanged.result _ fine c.exchange-exchanged.ensures.written in
-    let there = ok_fact c.exchange-exchanged.result _ fine c.exchange-exchanged.ensures.there in
-    granted _ _ _ _ _ (rw (← c.self.view_is) (step ∙ rw (c.note.ensures.runners, written, there, c.exchange-exchanged.ensures.access.same_sizes, c.as_slice.ensures.value) refl)) refl (search (rules, kept_refl))
+    let there = rw c.as_slice.ensures.value at (ok_fact c.exchange-exchanged.result _ fine e.there) in
+    rw (← c.self.view_is, there)
+    (written-granted c.exchange-exchanged.result _ _ _ _ _ _ _ _ _ _ step fine (rw c.as_slice.ensures.value at e.written) c.note.ensures.runners e.access.same_sizes refl e.keeps)

@@ -1,7 +1,5 @@
-use Rattle.shm_life.proofs.Names.{rules, arith, common_steps, true, false, length, refl, sym, ◌∙◌, span_places, Machine, IsCaller, pieces_at, store-wanted, sizes, SameTable, stored-same, IsWell}
-use Rattle.shm_life.proofs.Settled.{noted-well, moved-by}
-use Rattle.shm_life.proofs.Changed.{spans-there, asked, either-same}
-use Rattle.shm_life.proofs.Running.{granted, kept_refl, ok_fact}
+use Rattle.shm_life.proofs.Names.{arith, common_steps, true, false, length, refl, sym, ◌∙◌, span_places, Machine, IsCaller, pieces_at, store-wanted, sizes, stored-same, IsWell}
+use Rattle.shm_life.proofs.Changed.{spans-there, asked, written-well, written-granted}
 use Rattle.shm_life.proofs.kernel.Kernel.store.Given.{Over}
 use Rattle.shm_life.proofs.kernel.Kernel.store.Goals as goal
 use Rattle.shm_life.proofs.kernel.Kernel.store.Goals.{After-note}
@@ -13,9 +11,10 @@ write-written-requires-clause-spans g c =
 -- done or not
 well : (g : Over) (c : After-note g) → IsWell c.self.inside.limits c.write-written.new.self.table c.note.new.self.runners c.note.new.self.translations c.write-written.new.self.memory
 well g c =
+    let e = c.write-written.ensures in
     let t = c.self.inside.segments.table in
-    let same : SameTable t c.write-written.new.self.table = either-same c.write-written.result t _ _ c.write-written.ensures.written c.write-written.ensures.same (stored-same (span_places false c.as_slice.result.now) c.args.bytes.now t) in
-    noted-well _ _ _ _ _ _ _ _ _ c.write-written.new.touched.moved.items c.self.invariant.0 same c.write-written.ensures.keeps.frames c.note.ensures.runners (rw c.as_slice-2.ensures.value at c.note.ensures.translated) (moved-by _ _ _ _ c.write-written.result c.write-written.ensures.access)
+    written-well c.write-written.result _ _ _ _ _ _ _ _ _ _ _ c.write-written.new.touched c.self.invariant.0 (stored-same (span_places false c.as_slice.result.now) c.args.bytes.now t)
+    e.written e.same e.keeps.frames e.access c.note.ensures.runners (rw c.as_slice-2.ensures.value at c.note.ensures.translated)
 
 pub invariant_of-self : goal.invariant_of-self
 invariant_of-self g c = (
@@ -38,5 +37,7 @@ returns g c = λ n.
     let spans = span_places false c.in-Ok.spans in
     let is : IsCaller caller rs = rw (← c.self.view_is) at c.requires.caller in
     let step = store-wanted m (pieces_at rs caller.index) c.args.addr bytes spans (asked true rs caller c.args.addr (length bytes) _ is c.in-Ok.ensures.spans.places) in
-    let written = ok_fact c.write-written.result _ (sym c.is_err.ensures.value ∙ c.if-is_err.false) c.write-written.ensures.written in
-    granted _ _ _ _ _ (rw (← c.self.view_is) (step ∙ rw (c.note.ensures.runners, written, c.write-written.ensures.access.same_sizes, c.as_slice.ensures.value) refl)) refl (search (rules, kept_refl))
+    let e = c.write-written.ensures in
+    let fine = sym c.is_err.ensures.value ∙ c.if-is_err.false in
+    rw (← c.self.view_is)
+    (written-granted c.write-written.result _ _ _ _ _ _ _ _ _ _ step fine (rw c.as_slice.ensures.value at e.written) c.note.ensures.runners e.access.same_sizes refl e.keeps)

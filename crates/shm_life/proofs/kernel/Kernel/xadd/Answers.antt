@@ -1,6 +1,5 @@
-use Rattle.shm_life.proofs.Names.{◌∙◌, arith, common_steps, false, span_places, SameTable, stored-same, IsWell}
-use Rattle.shm_life.proofs.Settled.{noted-well, moved-by}
-use Rattle.shm_life.proofs.Changed.{spans-there, either-same}
+use Rattle.shm_life.proofs.Names.{◌∙◌, arith, common_steps, false, span_places, stored-same, IsWell}
+use Rattle.shm_life.proofs.Changed.{spans-there, written-well}
 use Rattle.shm_life.proofs.kernel.Kernel.xadd.Given.{Over}
 use Rattle.shm_life.proofs.kernel.Kernel.xadd.Goals as goal
 use Rattle.shm_life.proofs.kernel.Kernel.xadd.Goals.{After-note}
@@ -12,9 +11,9 @@ add-added-requires-clause-spans g c =
 -- done or not
 well : (g : Over) (c : After-note g) → IsWell c.self.inside.limits c.add-added.new.self.table c.note.new.self.runners c.note.new.self.translations c.add-added.new.self.memory
 well g c =
-    let t = c.self.inside.segments.table in
-    let same : SameTable t c.add-added.new.self.table = either-same c.add-added.result t _ _ c.add-added.ensures.written c.add-added.ensures.same (stored-same (span_places false c.as_slice.result.now) _ t) in
-    noted-well _ _ _ _ _ _ _ _ _ c.add-added.new.touched.moved.items c.self.invariant.0 same c.add-added.ensures.keeps.frames c.note.ensures.runners (rw c.as_slice-2.ensures.value at c.note.ensures.translated) (moved-by _ _ _ _ c.add-added.result c.add-added.ensures.access)
+    let e = c.add-added.ensures in
+    written-well c.add-added.result _ _ _ _ _ _ _ _ _ _ _ c.add-added.new.touched c.self.invariant.0 (stored-same (span_places false c.as_slice.result.now) _ c.self.inside.segments.table)
+    e.written e.same e.keeps.frames e.access c.note.ensures.runners (rw c.as_slice-2.ensures.value at c.note.ensures.translated)
 
 pub invariant_of-self : goal.invariant_of-self
 invariant_of-self g c = (
