@@ -12,7 +12,8 @@ use Rattle.shm_attach.specs.Mapping.{KeepsOwn}
 use Rattle.shm_segments.specs.Table.{live, page_there}
 use Rattle.std.specs.Prelude.{is_some}
 use Rattle.shm_life.proofs.Peopled.{set-apart}
-use Rattle.shm_life.proofs.Pieces.{pass-cut, pass-inserted, pass-without, piece-same, fit-set}
+use Rattle.shm_areas.proofs.Passing.{all-inserted}
+use Rattle.shm_life.proofs.Pieces.{pass-cut, pass-without, piece-same, fit-set}
 use Rattle.shm_life.proofs.Settled.{settled-table, caller-runner, caller-fits, lives-map, lives-cut, lives-origin}
 
 -- the processes with the caller's place taken
@@ -80,7 +81,7 @@ module _ (limits : Bounds) (t : List Entry) (rs : List Runner) (c : Caller) (k :
       let to = p.base + 4096 * p.pages in
       record {
         live = lives-cut t from to ps own;
-        kept = going (Live c.cred) (pieces_after ps flags p) (lost_to ps p) (pass-inserted t (piece_for flags p) (cut from to ps) fits (pass-cut t from to ps own)) (keeps-cut from to (piece_for flags p) ps);
+        kept = going (Live c.cred) (pieces_after ps flags p) (lost_to ps p) (all-inserted (PieceFits t) (piece_for flags p) (cut from to ps) fits (pass-cut t from to ps own)) (keeps-cut from to (piece_for flags p) ps);
       }
 
 -- exec and exit, with the pages where they were

@@ -1,7 +1,8 @@
 -- Pieces whose pages are there, through the changes that calls make to them.
-use Rattle.shm_life.proofs.Names.{Bool, false, if◌then◌else◌, refl, ◌≡◌, ℕ, zero, suc, ◌+◌, ◌-◌, ◌/◌, ◌<◌, true, not, nat_lt, List, [], ◌∷◌, length, get_or, Some, ap, ◌∙◌, arith, All-nil, All-filter, All-append, flat_map-cons, common_steps, All, Piece, Entry, Runner, end_of, meets, part_below, part_above, parts, cut, inserted, is_named, without_named, live, pages_at, SamePages, PieceFits, PiecesFit}
+use Rattle.shm_life.proofs.Names.{Bool, false, if◌then◌else◌, refl, ◌≡◌, ℕ, zero, suc, ◌+◌, ◌-◌, ◌/◌, ◌<◌, true, not, nat_lt, List, [], ◌∷◌, length, get_or, Some, ap, ◌∙◌, arith, All-nil, All-filter, common_steps, All, Piece, Entry, Runner, end_of, meets, part_below, part_above, parts, cut, is_named, without_named, live, pages_at, SamePages, PieceFits, PiecesFit}
 pub use Rattle.std.proofs.lemmas.List.Elements.{All-cons as all-cons, All-head as all-head, All-tail as all-tail}
 use Rattle.std.proofs.Common.{slice_get, slice_set}
+use Rattle.shm_areas.proofs.Passing.{all-cut}
 use Rattle.std.specs.Prelude.{is_some}
 
 -- ALL OF A LIST
@@ -43,17 +44,10 @@ module _ (table : List Entry) where
   parts-pass from to p h = grind (arith, above-passes)
 
   pub pass-cut : (from to : ℕ) (ps : List Piece) → All (PieceFits table) ps → All (PieceFits table) (cut from to ps)
-  pass-cut from to [] h = h
-  pass-cut from to (p ∷ ps) h =
-      let rest = pass-cut from to ps (all-tail (PieceFits table) p ps h) in
-      rw (flat_map-cons (parts from to) p ps) (All-append (PieceFits table) (parts from to p) (cut from to ps) (parts-pass from to p (h 0 p (omega arith))) rest)
+  pass-cut from to ps all = all-cut (PieceFits table) from to (parts-pass from to) ps all
 
   pub pass-without : (addr seg : ℕ) (ps : List Piece) → All (PieceFits table) ps → All (PieceFits table) (without_named addr seg ps)
   pass-without addr seg ps h = All-filter (λ p. not (is_named addr seg p)) (PieceFits table) ps h
-
-  pub pass-inserted : (p : Piece) (ps : List Piece) → PieceFits table p → All (PieceFits table) ps → All (PieceFits table) (inserted p ps)
-  pass-inserted p [] h hs = all-cons (PieceFits table) p [] h hs
-  pass-inserted p (q ∷ qs) h hs = grind (arith, all-head (PieceFits table) q qs hs, pass-inserted p qs h (all-tail (PieceFits table) q qs hs))
 
 -- PROCESSES
 
