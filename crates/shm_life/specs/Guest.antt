@@ -1,4 +1,5 @@
--- What a host does to a system between calls: processes that it admits and dismisses, credentials that it sets.
+-- What a host does to a system between calls: processes that it admits and dismisses, credentials that it
+-- sets.
 use Rattle.std.specs.Prelude.{ℕ, ◌≡◌, true, false, Result, OnOk, OnErr, is_ok, is_some}
 use Rattle.shm_base.specs.declared.call.Process.{Process}
 use Rattle.shm_base.specs.declared.errno.Errno.{Errno}
@@ -9,9 +10,11 @@ use Rattle.shm_base.specs.State.{Machine}
 use Rattle.shm_base.specs.Guest.{admits, dismisses, recredits, standing, left_by}
 use Rattle.shm_life.specs.SystemState.{SystemState}
 
--- the machine is what the change leaves, or all is as it was where that is refused. It is no call: the memory, the opening
--- and the clock stay, and the system is no more one that only calls changed
-pub record IsChanged {T E : Type 0} (before : SystemState) (change : Result Machine E) (result : Result T E) (after : SystemState) : Type 0 where
+-- the machine is what the change leaves, or all is as it was where that is refused. It is no call: the
+-- memory, the opening and the clock stay, and the system is no more one that only calls changed
+pub record IsChanged
+    {T E : Type 0} (before : SystemState) (change : Result Machine E) (result : Result T E)
+    (after : SystemState) : Type 0 where
   pub outcome : change ≡ left_by result after.machine
   pub rest : after ≡ record before { machine = after.machine; only_calls = after.only_calls }
   pub changed : OnOk result (after.only_calls ≡ false)

@@ -39,7 +39,9 @@ pub record Sums (m : Machine) (memory : StoreView) (info : ShmInfo) : Type 0 whe
 
 abbrev pub stat_segment : Machine → Caller → ℕ → Option Segment → Result (ℤ × ShmidDs) Errno
 stat_segment s c id None = Err Einval
-stat_segment s c id (Some x) = if not (grants c.cred x.perm (record { read = true; write = false; execute = false })) then Err Eacces else Ok (pos id, shown s id x)
+stat_segment s c id (Some x) =
+    if not (grants c.cred x.perm (record { read = true; write = false; execute = false })) then Err Eacces else
+    Ok (pos id, shown s id x)
 
 abbrev pub stat_entry : Machine → Caller → ℕ → Option Entry → Result (ℤ × ShmidDs) Errno
 stat_entry s c i None = Err Einval

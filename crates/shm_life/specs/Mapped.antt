@@ -7,19 +7,26 @@ use Rattle.shm_attach.specs.Mapping.{refusal_in}
 use Rattle.shm_life.specs.MachineView.{KeepsOn, LocksNothing}
 use Rattle.shm_life.specs.SystemState.{SystemState, time_of, most_calls}
 
--- the machine is what the unmap leaves, or all is as it was where that is refused. It is no call. Pages of destroyed segments
--- go; else no page moves, and no bit changes
-pub record Unmapped (before : SystemState) (pid addr len : ℕ) (result : Result (Unit {0}) Errno) (after : SystemState) : Type 0 where
+-- the machine is what the unmap leaves, or all is as it was where that is refused. It is no call. Pages of
+-- destroyed segments go; else no page moves, and no bit changes
+pub record Unmapped
+    (before : SystemState) (pid addr len : ℕ) (result : Result (Unit {0}) Errno) (after : SystemState)
+    : Type 0 where
   pub room : before.calls < most_calls
   pub outcome : unmaps before.machine (time_of before) pid addr len ≡ left_by result after.machine
-  pub rest : after ≡ record before { machine = after.machine; memory = after.memory; only_calls = after.only_calls }
+  pub rest :
+      after ≡ record before { machine = after.machine; memory = after.memory; only_calls = after.only_calls }
   pub changed : OnOk result (after.only_calls ≡ false)
   pub refused : OnErr result (after ≡ before)
   pub keeps : KeepsOn before.memory after.memory
   pub locked : LocksNothing before.memory after.memory
 
 -- the machine is what the protection leaves, also where it was refused on its way
-pub record IsProtected (before : SystemState) (pid addr len : ℕ) (w : Bool) (result : Result (Unit {0}) Errno) (after : SystemState) : Type 0 where
+pub record IsProtected
+    (before : SystemState) (pid addr len : ℕ) (w : Bool) (result : Result (Unit {0}) Errno)
+    (after : SystemState) : Type 0 where
   pub room : before.calls < most_calls
-  pub outcome : protects before.machine (time_of before) pid addr len w ≡ record { state = after.machine; refusal = refusal_in result }
+  pub outcome :
+      protects before.machine (time_of before) pid addr len w
+      ≡ record { state = after.machine; refusal = refusal_in result }
   pub rest : after ≡ record before { machine = after.machine; only_calls = false }

@@ -22,7 +22,9 @@ gap_found (Some base) = Ok base
 abbrev pub if_few : Bounds → List Piece → ℕ → Result ℕ Errno → Result ℕ Errno
 if_few limits ps pages (Err e) = Err e
 if_few limits ps pages (Ok base) =
-    if nat_lt limits.most_pieces (length (cut base (base + PAGE_SIZE * pages) ps) + 1) then Err (pieces_errno limits.rules) else Ok base
+    if nat_lt limits.most_pieces (length (cut base (base + PAGE_SIZE * pages) ps) + 1)
+    then Err (pieces_errno limits.rules)
+    else Ok base
 
 -- a base from which so many pages lie within the addresses
 abbrev pub within_addresses : Machine → Caller → ℕ → ℕ → Result ℕ Errno
@@ -39,7 +41,8 @@ fixed s c x flags base =
 -- where the segment's pages would go: where the system chooses, or at the address, rounded down
 abbrev pub wished : Machine → Caller → Segment → AtFlags → ℕ → Result ℕ Errno
 wished s c x flags addr =
-    if addr == 0 then gap_found (choose c.pieces (pages_in x)) else fixed s c x flags (addr - addr % PAGE_SIZE)
+    if addr == 0 then gap_found (choose c.pieces (pages_in x)) else
+    fixed s c x flags (addr - addr % PAGE_SIZE)
 
 abbrev pub base_for : Machine → Caller → Segment → AtFlags → ℕ → Result ℕ Errno
 base_for s c x flags addr = if_few s.limits c.pieces (pages_in x) (wished s c x flags addr)
@@ -56,7 +59,8 @@ placed_found s c flags addr (Found i x) =
     placed_at (identifier i (destroyed_at s.table i)) (pages_in x) (base_for s c x flags addr)
 
 abbrev pub placed : Machine → Caller → ℤ → ℕ → AtFlags → Result Placed Errno
-placed s c id addr flags = if misplaced s addr flags then Err Einval else placed_found s c flags addr (look s.table id)
+placed s c id addr flags =
+    if misplaced s addr flags then Err Einval else placed_found s c flags addr (look s.table id)
 
 -- the new piece
 abbrev pub piece_for : AtFlags → Placed → Piece

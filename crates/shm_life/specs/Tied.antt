@@ -5,7 +5,8 @@ use Rattle.shm_segments.specs.Table.{IsLive, page_there}
 
 -- a piece's segment is live and has its pages
 abbrev pub PieceFits : List Entry → Piece → Type 0
-PieceFits table p = IsLive table p.seg × ((j : ℕ) → j < p.pages → page_there table p.seg (p.first_page + j) ≡ true)
+PieceFits table p =
+    IsLive table p.seg × ((j : ℕ) → j < p.pages → page_there table p.seg (p.first_page + j) ≡ true)
 
 -- so it is with every piece
 abbrev pub PiecesFit : List Entry → List Runner → Type 0

@@ -14,8 +14,8 @@ use shm_pager::Pager;
 
 impl<P: Pager> Kernel<P> {
     #[tactic(auto, using(crate::proofs::Running::kept_refl))]
-    /// Reads bytes; Sigsegv where an address has no piece, Sigbus where a pager failed. Where it is refused, the buffer is
-    /// as it was.
+    /// Reads bytes; Sigsegv where an address has no piece, Sigbus where a pager failed. Where it is refused,
+    /// the buffer is as it was.
     #[inline(always)]
     pub(crate) fn load(&mut self, caller: &Caller, addr: u64, out: &mut [u8]) -> Result<(), Errno>
         requires caller { IsCaller caller.now self.old.flat.runners }
@@ -47,7 +47,8 @@ impl<P: Pager> Kernel<P> {
         reply: &mut Reply,
     ) -> Result<(), Errno>
         requires { IsCaller caller.now self.old.flat.runners }
-        ensures { (n : ℕ) → Served self.old n caller.now (call.Load addr len) (reply_in reply.new result) self.new }
+        ensures { let reply = reply_in reply.new result in
+            (n : ℕ) → Served self.old n caller.now (call.Load addr len) reply self.new }
     {
         let mut bytes = [0; LONGEST_ACCESS];
         if let Err(errno) = self.load(caller, addr, &mut bytes[..len.get()]) {
@@ -85,7 +86,8 @@ impl<P: Pager> Kernel<P> {
     /// as a store is.
     pub(crate) fn xadd(&mut self, caller: &Caller, addr: u64, add: u64) -> Result<u64, Errno>
         requires { IsCaller caller.now self.old.flat.runners }
-        ensures { (n : ℕ) → Served self.old n caller.now (call.Xadd addr add) (replied Number result) self.new }
+        ensures { let reply = replied Number result in
+            (n : ℕ) → Served self.old n caller.now (call.Xadd addr add) reply self.new }
     {
         let Ok(spans) = self.spaces.spans_of(caller, addr, 8, true) else {
             return Err(Errno::Sigsegv);

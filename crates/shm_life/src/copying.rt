@@ -31,9 +31,10 @@ impl<P: ClonePager> Kernel<P> {
 }
 
 impl<P: ClonePager> System<P> {
-    /// A snapshot: another system with the same state, frames, slots and counts, whose swap areas have the same pages and the
-    /// same reads and writes still to fail. Each goes on without the other. The copy reserves the memory that this
-    /// one has reserved, so that the same calls take none. Out of memory leaves nothing behind.
+    /// A snapshot: another system with the same state, frames, slots and counts, whose swap areas have the
+    /// same pages and the same reads and writes still to fail. Each goes on without the other. The copy
+    /// reserves the memory that this one has reserved, so that the same calls take none. Out of memory leaves
+    /// nothing behind.
     pub fn try_clone(&self) -> Result<System<P>, HostMemory>
         ensures { IfOk result (λ copy. copy ≡ self.now) }
     {

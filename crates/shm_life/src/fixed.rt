@@ -53,7 +53,9 @@ impl<P: Pager> Kernel<P> {
     fn is_taken(&self, caller: &Caller, found: &Found, flags: AtFlags, base: u64) -> bool
         requires caller { IsCaller caller.now self.now.flat.runners }
         requires found { IsFound self.now.flat.table found.now }
-        ensures { result ≡ flat.is_taken self.now.flat (caller_seen caller.now self.now.flat.runners) (segment_seen self.now.flat.table found.now) flags base }
+        ensures { let seen = caller_seen caller.now self.now.flat.runners in
+            let segment = segment_seen self.now.flat.table found.now in
+            result ≡ flat.is_taken self.now.flat seen segment flags base }
     {
         if flags.contains(AtFlags::REMAP) {
             return false;
@@ -84,10 +86,12 @@ impl<P: Pager> Kernel<P> {
         }
     }
 
-    // The base, if this many pages from it lie within the addresses; else why its end or its beginning is refused.
+    // The base, if this many pages from it lie within the addresses; else why its end or its beginning is
+    // refused.
     fn inside(&self, caller: &Caller, base: u64, pages: u32) -> Result<u64, Errno>
         requires { pages ≤ MOST_SHMALL }
-        ensures value { result ≡ within_addresses self.now.flat (caller_seen caller.now self.now.flat.runners) base pages }
+        ensures value { let seen = caller_seen caller.now self.now.flat.runners in
+            result ≡ within_addresses self.now.flat seen base pages }
         ensures lies { IfOk result (λ b. (b ≡ base) × (flat_space.inside base pages ≡ true)) }
     {
         if is_beyond(base, pages) {
@@ -99,9 +103,10 @@ impl<P: Pager> Kernel<P> {
         Ok(base)
     }
 
-    /// A base that the caller gives, or its refusal. Einval where the range meets a piece that SHM_REMAP does not put
-    /// away, or reaches 2^64; Enomem where the process is full; and where it does not lie within the addresses, 0x10000 up to
-    /// 0x7ffffffff000, the refusals of its end and of its beginning, which are Einval in the profile.
+    /// A base that the caller gives, or its refusal. Einval where the range meets a piece that SHM_REMAP does
+    /// not put away, or reaches 2^64; Enomem where the process is full; and where it does not lie within the
+    /// addresses, 0x10000 up to 0x7ffffffff000, the refusals of its end and of its beginning, which are
+    /// Einval in the profile.
     pub(crate) fn fixed(
         &self,
         caller: &Caller,
@@ -113,7 +118,9 @@ impl<P: Pager> Kernel<P> {
         requires found { IsFound self.now.flat.table found.now }
         requires page { base % 4096 ≡ 0 }
         ensures range { IfOk result (IsRange (pages_of found.now.head.size)) }
-        ensures value { result ≡ fixed self.now.flat (caller_seen caller.now self.now.flat.runners) (segment_seen self.now.flat.table found.now) flags base }
+        ensures value { let seen = caller_seen caller.now self.now.flat.runners in
+            let segment = segment_seen self.now.flat.table found.now in
+            result ≡ fixed self.now.flat seen segment flags base }
     {
         if self.is_taken(caller, found, flags, base) {
             return Err(Errno::Einval);

@@ -19,7 +19,8 @@ use shm_segments::Segments;
 // Sets the time and the pid of an attach in the segment of each of these pieces.
 fn note_pieces<P: Pager>(segments: &mut Segments<P>, pieces: &[Piece], time: u64, pid: u32)
     requires { All (IsLive segments.old.table) (segments_in pieces.now) }
-    ensures { segments.new ≡ record segments.old { table = attach_all time pid segments.old.table (segments_in pieces.now) } }
+    ensures { let table = attach_all time pid segments.old.table (segments_in pieces.now) in
+        segments.new ≡ record segments.old { table = table } }
 {
     for piece in pieces {
         segments.attached(piece.seg, time, pid);
@@ -35,7 +36,9 @@ fn note_inherited<P: Pager>(
     pid: u32,
 )
     requires { All (IsLive segments.old.table) (segments_in pieces.now) }
-    ensures { segments.new ≡ record segments.old { table = if fork_marks rules then attach_all time pid segments.old.table (segments_in pieces.now) else segments.old.table } }
+    ensures { let table = attach_all time pid segments.old.table (segments_in pieces.now) in
+        let left = if fork_marks rules then table else segments.old.table in
+        segments.new ≡ record segments.old { table = left } }
 {
     if rules.contains(Rules::FORK_MARKS) {
         note_pieces(segments, pieces, time, pid);
@@ -44,9 +47,9 @@ fn note_inherited<P: Pager>(
 
 impl<P: Pager> Kernel<P> {
     #[tactic(auto, using(crate::proofs::Running::kept_refl))]
-    /// A child that was declared is born, with the caller's credentials and pieces (fork(2)). Eagain where the
-    /// process is no such child. Under `Rules::FORK_MARKS` each segment that the child inherits gets an attach time, and
-    /// the caller as last pid.
+    /// A child that was declared is born, with the caller's credentials and pieces (fork(2)). Eagain where
+    /// the process is no such child. Under `Rules::FORK_MARKS` each segment that the child inherits gets an
+    /// attach time, and the caller as last pid.
     pub(crate) fn fork(&mut self, time: u64, caller: &Caller, child: u32) -> Result<(), Errno>
         requires { IsCaller caller.now self.old.flat.runners }
         ensures { Served self.old time caller.now (call.Fork child) (replied done result) self.new }

@@ -1,9 +1,8 @@
 //! The machine: one call of a process is one step of the flat machine.
 ghost use Rattle.std.specs.Prelude.{IfOk, OnOk, OnErr, IsOk};
 ghost use Rattle.shm_base.specs.Step.{acts, step};
-ghost use Rattle.shm_base.specs.History.{is_failure};
 ghost use Rattle.shm_attach.specs.Spaces.{IsCaller, caller_seen};
-ghost use Rattle.shm_life.specs.MachineView.{Answered, IsWithoutMemory, Served, is_lock, reply_in};
+ghost use Rattle.shm_life.specs.MachineView.{AnsweredBy, IsWithoutMemory, Served, reply_in};
 ghost use Rattle.shm_base.specs.Memory.{TakesNoMemory};
 
 use shm_attach::{Caller, Spaces};
@@ -37,9 +36,19 @@ impl<P: Pager> Model for Kernel<P> {
 
     ghost Value = { MachineView };
 
-    ghost view = { λ m. record { flat = record { limits = m.limits; areas = sizes m.segments.memory.swap; table = m.segments.table; runners = m.spaces.runners }; memory = m.segments.memory } };
+    ghost view = { λ m. record {
+      flat = record {
+        limits = m.limits;
+        areas = sizes m.segments.memory.swap;
+        table = m.segments.table;
+        runners = m.spaces.runners;
+      };
+      memory = m.segments.memory;
+    } };
 
-    ghost invariant = { λ m. IsWell m.limits m.segments.table m.spaces.runners m.spaces.translations m.segments.memory × (m.spaces.most ≡ m.limits.most_pieces) };
+    ghost invariant = { λ m.
+        IsWell m.limits m.segments.table m.spaces.runners m.spaces.translations m.segments.memory
+        × (m.spaces.most ≡ m.limits.most_pieces) };
 }
 
 impl<P: Pager> Kernel<P> {
@@ -52,8 +61,9 @@ impl<P: Pager> Kernel<P> {
         call: &Call,
         reply: &mut Reply,
     ) -> Result<(), HostMemory>
-        ensures answered { OnOk result (Answered (step self.old.flat time pid call.now) (is_failure call.now reply.new) (is_lock call.now) reply.new self.old self.new) }
-        ensures memory { OnErr result (IsWithoutMemory (step self.old.flat time pid call.now) self.old self.new) }
+        ensures answered { OnOk result (AnsweredBy self.old time pid call.now reply.new self.new) }
+        ensures memory { let outcome = step self.old.flat time pid call.now in
+            OnErr result (IsWithoutMemory outcome self.old self.new) }
         ensures no_memory { TakesNoMemory call.now → IsOk result }
     {
         let Some(caller) = self.spaces.caller(pid) else {
@@ -76,7 +86,8 @@ impl<P: Pager> Kernel<P> {
         reply: &mut Reply,
     ) -> Result<Result<(), Errno>, HostMemory>
         requires { IsCaller caller.now self.old.flat.runners }
-        ensures served { IfOk result (λ r. Served self.old time caller.now call.now (reply_in reply.new r) self.new) }
+        ensures served { IfOk result (λ r.
+            Served self.old time caller.now call.now (reply_in reply.new r) self.new) }
         ensures memory { let seen = caller_seen caller.now self.old.flat.runners in
             OnErr result (IsWithoutMemory (acts self.old.flat time seen call.now) self.old self.new) }
         ensures no_memory { TakesNoMemory call.now → IsOk result }

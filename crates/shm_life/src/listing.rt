@@ -1,5 +1,5 @@
-//! What ipcs(1) asks of a system: the highest index that a segment holds, sums over all segments, and the segment at an
-//! index as a process may see it; and where a page-in failed. None of it changes anything.
+//! What ipcs(1) asks of a system: the highest index that a segment holds, sums over all segments, and the
+//! segment at an index as a process may see it; and where a page-in failed. None of it changes anything.
 ghost use Rattle.std.specs.Prelude.{◌≡◌, ℕ};
 ghost use Rattle.shm_attach.specs.Failing.{first_absent};
 ghost use Rattle.shm_attach.specs.Spans.{pieces_by};
@@ -24,7 +24,8 @@ pub struct ShmInfo {
 }
 
 impl<P: Pager> System<P> {
-    /// The highest index that a segment holds, 0 where there is none: what shmctl(2) returns for IPC_INFO and SHM_INFO.
+    /// The highest index that a segment holds, 0 where there is none: what shmctl(2) returns for IPC_INFO and
+    /// SHM_INFO.
     pub fn highest_index(&self) -> u32
         ensures { IsHighest self.now.machine.table result }
     {
@@ -51,8 +52,9 @@ impl<P: Pager> System<P> {
         }
     }
 
-    /// The segment at an index as a process may see it (SHM_STAT). Esrch where the process is not live; Einval where no
-    /// segment holds the index; Eacces without read permission. Without that test it is [`System::segment`] (SHM_STAT_ANY).
+    /// The segment at an index as a process may see it (SHM_STAT). Esrch where the process is not live;
+    /// Einval where no segment holds the index; Eacces without read permission. Without that test it is
+    /// [`System::segment`] (SHM_STAT_ANY).
     pub fn stat_at(&self, pid: u32, index: u32) -> Result<(ShmId, ShmidDs), Errno>
         ensures { result ≡ stat_at self.now.machine pid index }
     {
@@ -69,10 +71,11 @@ impl<P: Pager> System<P> {
         Ok((found.id, self.kernel.shown(&found)))
     }
 
-    /// The first address of an access of a process whose page is in no frame, if all addresses below it have pieces: the one
-    /// that a Sigbus is about, asked right after it.
+    /// The first address of an access of a process whose page is in no frame, if all addresses below it have
+    /// pieces: the one that a Sigbus is about, asked right after it.
     pub fn absent_at(&self, pid: u32, addr: u64, len: u64) -> Option<u64>
-        ensures { result ≡ first_absent (frame_of self.now.memory) (pieces_by pid self.now.machine.runners) addr len }
+        ensures { let pieces = pieces_by pid self.now.machine.runners in
+            result ≡ first_absent (frame_of self.now.memory) pieces addr len }
     {
         self.kernel.spaces.absent_at(pid, addr, len)
     }

@@ -44,7 +44,8 @@ impl<P: Pager> Kernel<P> {
 
     // Whether nothing is put in another's place at the address, as it is null.
     fn is_null(&self, addr: u64, flags: AtFlags) -> bool
-        ensures { result ≡ ((addr == 0) || low_is_eperm self.now.flat.limits.rules && flat.is_rnd flags && nat_lt addr PAGE_SIZE) }
+        ensures { let rounds_to_0 = flat.is_rnd flags && nat_lt addr PAGE_SIZE in
+            result ≡ ((addr == 0) || low_is_eperm self.now.flat.limits.rules && rounds_to_0) }
     {
         addr == 0
             || self.limits.rules().contains(Rules::LOW_IS_EPERM)
@@ -67,8 +68,9 @@ impl<P: Pager> Kernel<P> {
 
     /// The refusals of shmat in their order, and where the new piece goes (shmop(2); the order is this
     /// profile's). Einval where a null address comes with SHM_REMAP or another is unaligned without SHM_RND;
-    /// Einval or Eidrm for the identifier; Eacces; Einval where the range leaves the addresses, or is occupied
-    /// without SHM_REMAP; Enomem where no gap is left for a null address; Emfile for more pieces than the most.
+    /// Einval or Eidrm for the identifier; Eacces; Einval where the range leaves the addresses, or is
+    /// occupied without SHM_REMAP; Enomem where no gap is left for a null address; Emfile for more pieces
+    /// than the most.
     fn place_for(
         &self,
         caller: &Caller,
@@ -77,11 +79,14 @@ impl<P: Pager> Kernel<P> {
         flags: AtFlags,
     ) -> Result<Placed, Errno>
         requires { IsCaller caller.now self.now.flat.runners }
-        ensures value { result ≡ placed self.now.flat (caller_seen caller.now self.now.flat.runners) id addr flags }
+        ensures value { let seen = caller_seen caller.now self.now.flat.runners in
+            result ≡ placed self.now.flat seen id addr flags }
         ensures fits { IfOk result (λ p. PieceFits self.now.flat.table (piece_for flags p)) }
         ensures pages { IfOk result (λ p. (1 ≤ p.pages) × (p.pages ≤ MOST_SHMALL)) }
         ensures range { IfOk result (λ p. IsRange p.pages p.base) }
-        ensures room { IfOk result (λ p. length (cut p.base (p.base + PAGE_SIZE * p.pages) (pieces_at self.now.flat.runners caller.now.index)) + 1 ≤ self.now.flat.limits.most_pieces) }
+        ensures room { let pieces = pieces_at self.now.flat.runners caller.now.index in
+            IfOk result (λ p. length (cut p.base (p.base + PAGE_SIZE * p.pages) pieces) + 1
+            ≤ self.now.flat.limits.most_pieces) }
     {
         if self.is_misplaced(addr, flags) {
             return Err(Errno::Einval);
@@ -117,9 +122,11 @@ impl<P: Pager> Kernel<P> {
         flags: AtFlags,
     ) -> Result<Result<u64, Errno>, HostMemory>
         requires { IsCaller caller.now self.old.flat.runners }
-        ensures served { IfOk result (λ r. Served self.old time caller.now (call.Shmat id addr flags) (replied Addr r) self.new) }
+        ensures served { let shmat = call.Shmat id addr flags in
+            IfOk result (λ r. Served self.old time caller.now shmat (replied Addr r) self.new) }
         ensures memory { let seen = caller_seen caller.now self.old.flat.runners in
-            OnErr result (IsWithoutMemory (flat.shmat self.old.flat time seen id addr flags) self.old self.new) }
+            let outcome = flat.shmat self.old.flat time seen id addr flags in
+            OnErr result (IsWithoutMemory outcome self.old self.new) }
     {
         let Placed { seg, pages, base } = match self.place_for(caller, id, addr, flags) {
             Ok(placed) => placed,

@@ -29,7 +29,10 @@ fn owns(cred: &Cred, perm: &Perm) -> bool
 }
 
 fn status_of(found: &Found) -> Status
-    ensures { result ≡ record { 0 = flat.status_of (segment_of (record { key = found.now.key; value = found.now.head }) []) } }
+    ensures { result ≡ record {
+      0 = flat.status_of
+          (segment_of (record { key = found.now.key; value = found.now.head }) []);
+    } }
 {
     match (found.head.dest, found.head.locked) {
         (false, false) => Status::empty(),
@@ -43,7 +46,8 @@ impl<P: Pager> Kernel<P> {
     /// A segment as stat shows it.
     pub(crate) fn shown(&self, found: &Found) -> ShmidDs
         requires { IsFound self.now.flat.table found.now }
-        ensures { result ≡ flat.shown self.now.flat found.now.seg (segment_seen self.now.flat.table found.now) }
+        ensures { let segment = segment_seen self.now.flat.table found.now in
+            result ≡ flat.shown self.now.flat found.now.seg segment }
     {
         ShmidDs {
             key: found.key,
@@ -64,7 +68,8 @@ impl<P: Pager> Kernel<P> {
     pub(crate) fn look(&self, id: ShmId) -> Result<Found, Errno>
         ensures found { IfOk result (IsFound self.now.flat.table) }
         ensures ok { IfOk result (λ f. flat_ids.look self.now.flat.table id ≡ look_of self.now.flat.table f) }
-        ensures err { IfErr result (λ e. refused_by self.now.flat.limits.rules (flat_ids.look self.now.flat.table id) ≡ Some e) }
+        ensures err { let look = flat_ids.look self.now.flat.table id in
+            IfErr result (λ e. refused_by self.now.flat.limits.rules look ≡ Some e) }
     {
         match self.segments.look(id) {
             Err(Errno::Eidrm) if self.limits.rules().contains(Rules::REMOVED_IS_INVALID) => {
@@ -93,8 +98,14 @@ impl<P: Pager> Kernel<P> {
     // The segment that a caller controls: Einval or Eidrm for the identifier, Eperm if it is another's.
     fn controlled(&self, caller: &Caller, id: ShmId) -> Result<Found, Errno>
         ensures found { IfOk result (IsFound self.now.flat.table) }
-        ensures ok { IfOk result (λ f. (act : ℕ → Segment → flat.Outcome) → flat.controls self.now.flat (caller_seen caller.now self.now.flat.runners) act (flat_ids.look self.now.flat.table id) ≡ act (f.seg % 32768) (segment_seen self.now.flat.table f)) }
-        ensures err { IfErr result (λ e. (act : ℕ → Segment → flat.Outcome) → flat.controls self.now.flat (caller_seen caller.now self.now.flat.runners) act (flat_ids.look self.now.flat.table id) ≡ record { reply = Refused e; state = self.now.flat }) }
+        ensures ok { let s = self.now.flat in
+            IfOk result (λ f. (act : ℕ → Segment → flat.Outcome)
+            → flat.controls s (caller_seen caller.now s.runners) act (flat_ids.look s.table id)
+            ≡ act (f.seg % 32768) (segment_seen s.table f)) }
+        ensures err { let s = self.now.flat in
+            IfErr result (λ e. (act : ℕ → Segment → flat.Outcome)
+            → flat.controls s (caller_seen caller.now s.runners) act (flat_ids.look s.table id)
+            ≡ record { reply = Refused e; state = s }) }
     {
         let found = self.look(id)?;
         if !owns(&caller.cred, &found.head.perm) {
@@ -111,8 +122,8 @@ impl<P: Pager> Kernel<P> {
     }
 
     #[tactic(auto, using(crate::proofs::Running::kept_refl))]
-    /// Gives a segment another owner and other permission bits (IPC_SET). Under `Rules::NO_LAST_USER` Einval for user or
-    /// group 2^32 - 1.
+    /// Gives a segment another owner and other permission bits (IPC_SET). Under `Rules::NO_LAST_USER` Einval
+    /// for user or group 2^32 - 1.
     pub(crate) fn set(
         &mut self,
         time: u64,
@@ -153,7 +164,9 @@ impl<P: Pager> Kernel<P> {
     // Whether the user, or all together, would have locked too many pages.
     fn passes_limit(&self, cred: &Cred, found: &Found) -> bool
         requires { IsFound self.now.flat.table found.now }
-        ensures { result ≡ locking.passes_limit self.now.flat.limits cred.now self.now.flat.table (segment_seen self.now.flat.table found.now) }
+        ensures { let limits = self.now.flat.limits in
+            let table = self.now.flat.table in
+            result ≡ locking.passes_limit limits cred.now table (segment_seen table found.now) }
     {
         let pages = u64::from(found.pages());
         if self.has_own_limit(cred)
@@ -167,7 +180,8 @@ impl<P: Pager> Kernel<P> {
     // Why a user may not lock the segment.
     fn lock_refusal(&self, cred: &Cred, found: &Found) -> Option<Errno>
         requires { IsFound self.now.flat.table found.now }
-        ensures { result ≡ lock_refusal self.now.flat.limits cred.now self.now.flat.table (segment_seen self.now.flat.table found.now) }
+        ensures { let table = self.now.flat.table in
+            result ≡ lock_refusal self.now.flat.limits cred.now table (segment_seen table found.now) }
     {
         if self.has_own_limit(cred) && self.limits.memlock() == 0 {
             return Some(Errno::Eperm);
@@ -179,9 +193,9 @@ impl<P: Pager> Kernel<P> {
     }
 
     #[tactic(auto, using(crate::proofs::Running::kept_refl))]
-    /// Locks a segment's pages (SHM_LOCK): Enomem where those of all locked segments would exceed MEMLOCK. Under
-    /// `Rules::LOCKS_BY_USER` MEMLOCK is a limit of each user but 0: Eperm where it is 0, Enomem where those that the caller's
-    /// user locked would exceed it, or where fewer than two frames would stay free.
+    /// Locks a segment's pages (SHM_LOCK): Enomem where those of all locked segments would exceed MEMLOCK.
+    /// Under `Rules::LOCKS_BY_USER` MEMLOCK is a limit of each user but 0: Eperm where it is 0, Enomem where
+    /// those that the caller's user locked would exceed it, or where fewer than two frames would stay free.
     pub(crate) fn lock(&mut self, caller: &Caller, id: ShmId) -> Result<(), Errno>
         ensures { (n : ℕ) → Served self.old n caller.now (call.Lock id) (replied done result) self.new }
     {

@@ -34,8 +34,8 @@ fn wish_of(rules: Rules, mode: u16) -> Want
     }
 }
 
-/// The head of a new segment, whatever its key and the caller's pieces: its owner and creator is the caller; its last
-/// times are 0, and its creation is now.
+/// The head of a new segment, whatever its key and the caller's pieces: its owner and creator is the caller;
+/// its last times are 0, and its creation is now.
 fn new_head(time: u64, caller: &Caller, size: u64, mode: u16) -> Head
     ensures { result ≡ head_of (flat.new_segment time (caller_seen caller.now []) 0 size mode) }
 {
@@ -68,7 +68,9 @@ fn get(
     mode: u16,
     flags: GetFlags,
 ) -> Result<ShmId, Errno>
-    ensures { (s : Machine) (n key : ℕ) → IsFound s.table found.now → s.limits.rules ≡ rules → flat.gets s n (caller_seen caller.now s.runners) key size mode flags (look_of s.table found.now) ≡ record { reply = replied Id result; state = s } }
+    ensures { (s : Machine) (n key : ℕ) → IsFound s.table found.now → s.limits.rules ≡ rules
+        → flat.gets s n (caller_seen caller.now s.runners) key size mode flags (look_of s.table found.now)
+        ≡ record { reply = replied Id result; state = s } }
 {
     if flags.contains(GetFlags::CREAT) && flags.contains(GetFlags::EXCL) {
         return Err(Errno::Eexist);
@@ -95,9 +97,11 @@ impl<P: Pager> Kernel<P> {
         mode: u16,
         flags: GetFlags,
     ) -> Result<Result<ShmId, Errno>, HostMemory>
-        ensures served { IfOk result (λ r. Served self.old time caller.now (call.Shmget key size mode flags) (replied Id r) self.new) }
+        ensures served { let shmget = call.Shmget key size mode flags in
+            IfOk result (λ r. Served self.old time caller.now shmget (replied Id r) self.new) }
         ensures memory { let seen = caller_seen caller.now self.old.flat.runners in
-            OnErr result (IsWithoutMemory (flat.shmget self.old.flat time seen key size mode flags) self.old self.new) }
+            let outcome = flat.shmget self.old.flat time seen key size mode flags in
+            OnErr result (IsWithoutMemory outcome self.old self.new) }
     {
         if key == 0 {
             return self.create(time, caller, 0, size, mode, flags);
@@ -112,8 +116,8 @@ impl<P: Pager> Kernel<P> {
     }
 
     #[tactic(auto, using(crate::proofs::Running::kept_refl))]
-    // A new segment. Einval where the size is 0 or above SHMMAX; Enospc where SHMALL is reached; the refusal of huge pages;
-    // and then those of `create_small`.
+    // A new segment. Einval where the size is 0 or above SHMMAX; Enospc where SHMALL is reached; the refusal
+    // of huge pages; and then those of `create_small`.
     fn create(
         &mut self,
         time: u64,
@@ -125,9 +129,11 @@ impl<P: Pager> Kernel<P> {
     ) -> Result<Result<ShmId, Errno>, HostMemory>
         requires absent { key ≢ 0 → flat_ids.find_key self.old.flat.table key ≡ flat_ids.Invalid }
         ensures created { let seen = caller_seen caller.now self.old.flat.runners in
-            IfOk result (λ r. Answered (flat.creates self.old.flat time seen key size mode flags) false false (replied Id r) self.old self.new) }
+            let outcome = flat.creates self.old.flat time seen key size mode flags in
+            IfOk result (λ r. Answered outcome false false (replied Id r) self.old self.new) }
         ensures memory { let seen = caller_seen caller.now self.old.flat.runners in
-            OnErr result (IsWithoutMemory (flat.creates self.old.flat time seen key size mode flags) self.old self.new) }
+            let outcome = flat.creates self.old.flat time seen key size mode flags in
+            OnErr result (IsWithoutMemory outcome self.old self.new) }
     {
         if size < 1 || size > self.limits.shmmax() {
             return Ok(Err(Errno::Einval));
@@ -141,10 +147,11 @@ impl<P: Pager> Kernel<P> {
         self.create_small(time, caller, key, size, mode)
     }
 
-    // Why a segment of huge pages is not made, under `Rules::HUGE_IS_REFUSED`: Eperm for all but user 0 and group 0; and
-    // Enomem, as there are no huge pages, unless none is reserved.
+    // Why a segment of huge pages is not made, under `Rules::HUGE_IS_REFUSED`: Eperm for all but user 0 and
+    // group 0; and Enomem, as there are no huge pages, unless none is reserved.
     fn huge_errno(&self, caller: &Caller, flags: GetFlags) -> Option<Errno>
-        ensures { result ≡ flat.huge_errno self.now.flat (caller_seen caller.now self.now.flat.runners) flags }
+        ensures { let seen = caller_seen caller.now self.now.flat.runners in
+            result ≡ flat.huge_errno self.now.flat seen flags }
     {
         if !self.limits.rules().contains(Rules::HUGE_IS_REFUSED)
             || !flags.contains(GetFlags::HUGETLB)
@@ -162,8 +169,8 @@ impl<P: Pager> Kernel<P> {
     }
 
     #[tactic(auto, using(crate::proofs::Running::kept_refl))]
-    // A new segment whose pages SHMALL allows. Enospc where SHMMNI is reached or no identifier is left; Enomem where the swap
-    // areas could not take all pages.
+    // A new segment whose pages SHMALL allows. Enospc where SHMMNI is reached or no identifier is left;
+    // Enomem where the swap areas could not take all pages.
     fn create_small(
         &mut self,
         time: u64,
@@ -176,9 +183,11 @@ impl<P: Pager> Kernel<P> {
         requires size { (1 ≤ size) × (size ≤ MOST_SHMMAX) }
         requires shmall { reserved self.old.flat.table + pages_of size ≤ self.old.flat.limits.shmall }
         ensures created { let seen = caller_seen caller.now self.old.flat.runners in
-            IfOk result (λ r. Answered (flat.creates_small self.old.flat time seen key size mode None) false false (replied Id r) self.old self.new) }
+            let outcome = flat.creates_small self.old.flat time seen key size mode None in
+            IfOk result (λ r. Answered outcome false false (replied Id r) self.old self.new) }
         ensures memory { let seen = caller_seen caller.now self.old.flat.runners in
-            OnErr result (IsWithoutMemory (flat.creates_small self.old.flat time seen key size mode None) self.old self.new) }
+            let outcome = flat.creates_small self.old.flat time seen key size mode None in
+            OnErr result (IsWithoutMemory outcome self.old self.new) }
     {
         if self.segments.count() >= self.limits.shmmni() {
             return Ok(Err(Errno::Enospc));

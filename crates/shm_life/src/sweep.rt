@@ -1,6 +1,5 @@
 //! What pieces that went leave behind: times and pids, and segments that go with their last piece.
 ghost use Rattle.std.specs.Prelude.{◌≡◌, ◌≢◌, true, ◌≤◌, ◌==◌, ◌&&◌, if◌then◌else◌, ℕ, List, ◌∷◌, length, All};
-ghost use Rattle.shm_base.specs.Bounds.{Bounds};
 ghost use Rattle.shm_base.specs.Rules.{rest_is_attached};
 ghost use Rattle.shm_base.specs.declared.bounds.TheConstants.{INDEXES};
 ghost use Rattle.shm_base.specs.Segments.{attach_all, attach_count, detach_all, swept};
@@ -8,7 +7,7 @@ ghost use Rattle.shm_attach.specs.Spaces.{Translation, AreTrue};
 ghost use Rattle.shm_slots.specs.View.{sizes};
 ghost use Rattle.shm_segments.specs.Table.{IsLive};
 ghost use Rattle.shm_segments.specs.View.{KeepsMemory};
-ghost use Rattle.shm_life.specs.Sound.{IsWell, IsWellBut};
+ghost use Rattle.shm_life.specs.Sound.{MakesWell};
 ghost use Rattle.shm_life.specs.Orphans.{OrphansAmong, Sweeps};
 
 use bitflags::Flags;
@@ -27,7 +26,8 @@ fn note_detached<P: Pager>(segments: &mut Segments<P>, lost: &[u32], time: u64, 
     }
 }
 
-/// Sets the time and the pid of an attach in each of these segments, which are attached anew, where that is a rule.
+/// Sets the time and the pid of an attach in each of these segments, which are attached anew, where that is a
+/// rule.
 pub(crate) fn attach_rests<P: Pager>(
     segments: &mut Segments<P>,
     rules: Rules,
@@ -36,7 +36,9 @@ pub(crate) fn attach_rests<P: Pager>(
     pid: u32,
 )
     requires { All (IsLive segments.old.table) rests.now }
-    ensures { segments.new ≡ record segments.old { table = if rest_is_attached rules then attach_all time pid segments.old.table rests.now else segments.old.table } }
+    ensures { let table = attach_all time pid segments.old.table rests.now in
+        let left = if rest_is_attached rules then table else segments.old.table in
+        segments.new ≡ record segments.old { table = left } }
 {
     if rules.contains(Rules::REST_IS_ATTACHED) {
         note_attached(segments, rests, time, pid);
@@ -56,7 +58,8 @@ fn note_attached<P: Pager>(segments: &mut Segments<P>, ids: &[u32], time: u64, p
 // Whether a segment is marked and no piece names it.
 fn is_orphan(spaces: &Spaces, found: &Found) -> bool
     ensures value { result ≡ (found.now.head.dest && (attach_count spaces.now.runners found.now.seg == 0)) }
-    ensures unnamed { result ≡ true → All (λ (t : Translation). t.seg ≢ found.now.seg) spaces.now.translations }
+    ensures unnamed { result ≡ true
+        → All (λ (t : Translation). t.seg ≢ found.now.seg) spaces.now.translations }
 {
     found.head.dest && spaces.count(found.seg) == 0
 }
@@ -65,10 +68,12 @@ fn is_orphan(spaces: &Spaces, found: &Found) -> bool
 fn sweep_one<P: Pager>(segments: &mut Segments<P>, spaces: &Spaces, seg: u32)
     requires { length segments.old.table ≤ INDEXES }
     ensures sweeps { Sweeps spaces.now.runners segments.old.table segments.new.table }
-    ensures fewer { (rest : List ℕ) → OrphansAmong (seg ∷ rest) spaces.now.runners segments.old.table → OrphansAmong rest spaces.now.runners segments.new.table }
+    ensures fewer { (rest : List ℕ) → OrphansAmong (seg ∷ rest) spaces.now.runners segments.old.table
+        → OrphansAmong rest spaces.now.runners segments.new.table }
     ensures keeps { KeepsMemory segments.old.memory segments.new.memory }
     ensures sizes { sizes segments.new.memory.swap ≡ sizes segments.old.memory.swap }
-    ensures translated { AreTrue spaces.now.translations segments.old.memory → AreTrue spaces.now.translations segments.new.memory }
+    ensures translated { AreTrue spaces.now.translations segments.old.memory
+        → AreTrue spaces.now.translations segments.new.memory }
 {
     let Some(found) = segments.find(seg) else {
         return;
@@ -83,7 +88,7 @@ pub(crate) fn sweep<P: Pager>(segments: &mut Segments<P>, spaces: &Spaces, lost:
     requires few { length segments.old.table ≤ INDEXES }
     requires orphans { OrphansAmong lost.now spaces.now.runners segments.old.table }
     ensures swept { segments.new.table ≡ swept spaces.now.runners segments.old.table }
-    ensures well { (limits : Bounds) → IsWellBut lost.now limits segments.old.table spaces.now.runners spaces.now.translations segments.old.memory → IsWell limits segments.new.table spaces.now.runners spaces.now.translations segments.new.memory }
+    ensures well { MakesWell lost.now spaces.now segments.old segments.new }
     ensures keeps { KeepsMemory segments.old.memory segments.new.memory }
     ensures sizes { sizes segments.new.memory.swap ≡ sizes segments.old.memory.swap }
 {
@@ -104,8 +109,9 @@ pub(crate) fn after_detach<P: Pager>(
     requires live { All (IsLive segments.old.table) lost.now }
     requires few { length segments.old.table ≤ INDEXES }
     requires orphans { OrphansAmong lost.now spaces.now.runners segments.old.table }
-    ensures table { segments.new.table ≡ swept spaces.now.runners (detach_all time pid segments.old.table lost.now) }
-    ensures well { (limits : Bounds) → IsWellBut lost.now limits segments.old.table spaces.now.runners spaces.now.translations segments.old.memory → IsWell limits segments.new.table spaces.now.runners spaces.now.translations segments.new.memory }
+    ensures table { segments.new.table
+        ≡ swept spaces.now.runners (detach_all time pid segments.old.table lost.now) }
+    ensures well { MakesWell lost.now spaces.now segments.old segments.new }
     ensures keeps { KeepsMemory segments.old.memory segments.new.memory }
     ensures sizes { sizes segments.new.memory.swap ≡ sizes segments.old.memory.swap }
 {

@@ -59,7 +59,10 @@ joined_table hs rows = flat_table (whole hs) rows
 
 -- the row of the live segment with an identifier
 abbrev pub live_row : List (Entry Head) → ℕ → Option (Row Head)
-live_row rows id = if identifier (id % INDEXES) (entry_at rows (id % INDEXES)).destroyed == id then (entry_at rows (id % INDEXES)).row else None
+live_row rows id =
+    if identifier (id % INDEXES) (entry_at rows (id % INDEXES)).destroyed == id
+    then (entry_at rows (id % INDEXES)).row
+    else None
 
 abbrev pub pages_in_row : Option (Row Head) → ℕ
 pages_in_row None = 0

@@ -12,7 +12,8 @@ use Rattle.shm_base.specs.declared.bounds.TheConstants.{MOST_SHMMAX}
 
 -- a segment has at least 1 byte, and no more than the largest limit
 abbrev pub SizesFit : List (Entry Head) → Type 0
-SizesFit rows = (id : ℕ) (r : Row Head) → live_row rows id ≡ Some r → (1 ≤ r.value.size) × (r.value.size ≤ MOST_SHMMAX)
+SizesFit rows =
+    (id : ℕ) (r : Row Head) → live_row rows id ≡ Some r → (1 ≤ r.value.size) × (r.value.size ≤ MOST_SHMMAX)
 
 -- heads and bytes are of the same segments, and their pages are counted
 pub record AreSegmentsSound (hs : List Held) (rows : List (Entry Head)) (pages locks : ℕ) : Type 0 where

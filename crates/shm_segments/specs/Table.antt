@@ -22,7 +22,9 @@ segment_seen table f = segment_of (record { key = f.key; value = f.head }) (byte
 
 -- it is live there, under its identifier
 pub record IsFound (table : List Entry) (f : Found) : Type 0 where
-  pub entry : slice_get table (f.seg % INDEXES) ≡ Some (record { destroyed = f.seg / INDEXES; segment = Some (segment_seen table f) })
+  pub entry :
+      slice_get table (f.seg % INDEXES)
+      ≡ Some (record { destroyed = f.seg / INDEXES; segment = Some (segment_seen table f) })
   pub id : f.id ≡ pos f.seg
   pub long : length (bytes_at table f.seg) ≡ PAGE_SIZE * pages_of f.head.size
   pub size : (1 ≤ f.head.size) × (f.head.size ≤ MOST_SHMMAX)
@@ -70,11 +72,15 @@ next_id table = option_map (λ i. pos (flat.identifier i (flat.destroyed_at tabl
 
 -- a segment that is made at an index
 abbrev pub created : List Entry → ℕ → ℕ → Head → List Entry
-created table i key h = flat.with_segment table i (segment_of (record { key = key; value = h }) (replicate (PAGE_SIZE * pages_of h.size) 0))
+created table i key h =
+    flat.with_segment table i
+    (segment_of (record { key = key; value = h }) (replicate (PAGE_SIZE * pages_of h.size) 0))
 
 -- what making a segment answers, and the table that it leaves; nothing where no index is free
 abbrev pub made : List Entry → ℕ → Head → Option (ℤ × List Entry)
-made table key h = option_map (λ i. (pos (flat.identifier i (flat.destroyed_at table i)), created table i key h)) (flat.free_index table)
+made table key h =
+    option_map (λ i. (pos (flat.identifier i (flat.destroyed_at table i)), created table i key h))
+    (flat.free_index table)
 
 -- a segment that is gone
 abbrev pub destroyed : List Entry → ℕ → List Entry
@@ -82,7 +88,8 @@ destroyed table id = slice_set table (id % INDEXES) (record { destroyed = id / I
 
 -- a segment with other owners, and another mode, as the step's `sets` makes it
 abbrev pub reowned : ℕ → ℕ → ℕ → ℕ → Segment → Segment
-reowned n uid gid mode y = record y { perm = record y.perm { uid = uid; gid = gid; mode = mode % 512 }; ctime = n }
+reowned n uid gid mode y =
+    record y { perm = record y.perm { uid = uid; gid = gid; mode = mode % 512 }; ctime = n }
 
 -- a segment that a user locks, or that is unlocked
 abbrev pub relocked : Option ℕ → Segment → Segment

@@ -65,7 +65,8 @@ fn pages_locked(head: &Head) -> u64
 
 // The pages of a segment, if this user locked it.
 fn pages_locked_by(head: &Head, user: u32) -> u64
-    ensures { result ≡ (if head.now.locked && (head.now.locker == user) then flat.pages_of head.now.size else 0) }
+    ensures { let counts = head.now.locked && (head.now.locker == user) in
+        result ≡ (if counts then flat.pages_of head.now.size else 0) }
 {
     if head.locked && head.locker == user {
         pages_of(head.size)
@@ -124,8 +125,8 @@ fn found_under(table: &IdTable<Head>, id: ShmId) -> Result<Found, LookRefused>
 }
 
 impl<P: Pager> Segments<P> {
-    /// No segment, over this number of frames and the swap, none of whose slots is owned. The memory of the frames
-    /// is taken here.
+    /// No segment, over this number of frames and the swap, none of whose slots is owned. The memory of the
+    /// frames is taken here.
     pub fn new(alloc: Global, frames: u32, swap: Swap<P>) -> Result<Segments<P>, HostMemory>
         requires frames { (2 ≤ frames) × (frames ≤ MOST_FRAMES) }
         requires free { (area slot : ℕ) → owner_of swap area slot ≡ None }
@@ -156,8 +157,8 @@ impl<P: Pager> Segments<P> {
         self.locked
     }
 
-    /// The pages of the segments that a user locked. It walks the indexes that were ever used, unless nothing is
-    /// locked.
+    /// The pages of the segments that a user locked. It walks the indexes that were ever used, unless nothing
+    /// is locked.
     pub fn locked_by(&self, user: u32) -> u64
         ensures value { result ≡ locked_by_user user self.now.table }
         ensures few { result ≤ locked_pages self.now.table }
@@ -329,7 +330,8 @@ impl<P: Pager> Segments<P> {
         self.table.hide_key(seg);
     }
 
-    /// Locks the segment's pages for a user, or unlocks them (SHM_LOCKED). A segment that is locked keeps its locker.
+    /// Locks the segment's pages for a user, or unlocks them (SHM_LOCKED). A segment that is locked keeps its
+    /// locker.
     pub fn set_locked(&mut self, seg: u32, locker: Option<u32>)
         requires live { IsLive self.old.table seg }
         requires small { locked_pages self.old.table ≤ MOST_SHMALL }
