@@ -13,7 +13,8 @@ abbrev pub veiled : Bool → Segment → Segment
 veiled hides x = record x { bytes = if hides then replicate (length x.bytes) 0 else x.bytes }
 
 abbrev pub veiled_entry : (ℕ → Bool) → ℕ → Entry → Entry
-veiled_entry hidden i e = record e { segment = option_map (veiled (hidden (identifier i e.destroyed))) e.segment }
+veiled_entry hidden i e =
+    record e { segment = option_map (veiled (hidden (identifier i e.destroyed))) e.segment }
 
 abbrev pub veiled_from : (ℕ → Bool) → ℕ → List Entry → List Entry
 veiled_from hidden i [] = []
@@ -31,8 +32,8 @@ DifferIn hidden s other = veil hidden s ≡ veil hidden other
 abbrev pub HasNone : (ℕ → Bool) → Machine → ℕ → Type 0
 HasNone hidden s pid = (p : Piece) → HasPiece s pid p → hidden p.seg ≡ false
 
--- had the bytes of segments of which the process has no piece been others, its call would have had the same reply, and
--- they alone would have been others after it
+-- had the bytes of segments of which the process has no piece been others, its call would have had the same
+-- reply, and they alone would have been others after it
 abbrev pub IsBlind : List Event → Machine → Event → Machine → Type 0
 IsBlind before s e t =
     (hidden : ℕ → Bool) (other : Machine) → HasNone hidden s e.pid → DifferIn hidden s other
@@ -56,23 +57,28 @@ pub record IsAsked (hidden : ℕ → Bool) (s : Machine) (e f : Event) : Type 0 
   pub none : HasNone hidden s e.pid
 
 -- two ways to go on: the first leads from s to t, and turn by turn this holds of the events of both
-abbrev pub SideBySide : (Machine → Event → Event → Type 0) → ℕ → Machine → List Event → List Event → Machine → Type 0
+abbrev pub SideBySide :
+    (Machine → Event → Event → Type 0) → ℕ → Machine → List Event → List Event → Machine → Type 0
 SideBySide alike n s [] [] t = t ≡ s
 SideBySide alike n s [] (f ∷ fs) t = ⊥
 SideBySide alike n s (e ∷ es) [] t = ⊥
-SideBySide alike n s (e ∷ es) (f ∷ fs) t = (u : Machine) × IsMove s n e u × alike s e f × SideBySide alike (n + 1) u es fs t
+SideBySide alike n s (e ∷ es) (f ∷ fs) t =
+    (u : Machine) × IsMove s n e u × alike s e f × SideBySide alike (n + 1) u es fs t
 
--- Two ways to go on from machines that differ in these segments' bytes alone, turn by turn with the same calls, but for what
--- processes do to those bytes that have none but their pieces: the same calls have the same replies, and the ends differ in
--- those bytes alone. (No pager fails: what failed did nothing.)
+-- Two ways to go on from machines that differ in these segments' bytes alone, turn by turn with the same
+-- calls, but for what processes do to those bytes that have none but their pieces: the same calls have the
+-- same replies, and the ends differ in those bytes alone. (No pager fails: what failed did nothing.)
 abbrev pub IsBlindOn : ℕ → Machine → List Event → Machine → Type 0
 IsBlindOn n s events t =
     (hidden : ℕ → Bool) (other : Machine) (others : List Event) (after : Machine)
-    → DifferIn hidden s other → LeadsFrom n other others after → failures_in events ≡ 0 → failures_in others ≡ 0
+    → DifferIn hidden s other → LeadsFrom n other others after → failures_in events ≡ 0
+    → failures_in others ≡ 0
     → SideBySide (λ u e f. IsAsked hidden u e f ⊎ IsPrivate hidden u e f) n s events others t
     → SideBySide (λ u e f. (f ≡ e) ⊎ IsPrivate hidden u e f) n s events others t × DifferIn hidden t after
 
 -- THE LAW. So it is at each turn, and from each moment on
 pub record IsIsolated (o : Opening) (events : List Event) (end : Machine) : Type 0 where
   pub turns : EachTurn IsBlind o events
-  pub onwards : (before : List Event) (s : Machine) (m : IsMoment o events before s) → IsBlindOn (length before + 1) s m.after end
+  pub onwards :
+      (before : List Event) (s : Machine) (m : IsMoment o events before s)
+      → IsBlindOn (length before + 1) s m.after end

@@ -34,15 +34,16 @@ pub record IsCreated (s : Machine) (key id : ℕ) (t : Machine) : Type 0 where
 -- what a shmget answers has the key that it names: it is found, or it is created
 abbrev pub FindsByKey : Machine → Event → Machine → Type 0
 FindsByKey s e t =
-    (key size mode : ℕ) (flags : GetFlags) (answer : ℤ) → e.call ≡ Shmget key size mode flags → e.reply ≡ Id answer
+    (key size mode : ℕ) (flags : GetFlags) (answer : ℤ) → e.call ≡ Shmget key size mode flags
+    → e.reply ≡ Id answer
     → (id : ℕ) × (answer ≡ pos id) × (IsFound s key id ⊎ IsCreated s key id t)
 
 -- what has a key before a move has it after it, or is marked, or destroyed
 abbrev pub KeepsKeys : Machine → Event → Machine → Type 0
 KeepsKeys s e t = (id key : ℕ) → HasKey s id key → HasKey t id key ⊎ (IsMarked t id ⊎ IsGone t id)
 
--- THE LAW. At each moment keys are apart; each shmget that is answered finds the segment that has its key, or creates one
--- where none has it; and a segment keeps its key until it is marked
+-- THE LAW. At each moment keys are apart; each shmget that is answered finds the segment that has its key, or
+-- creates one where none has it; and a segment keeps its key until it is marked
 pub record KeysLeadToOne (o : Opening) (events : List Event) (end : Machine) : Type 0 where
   pub apart : Always (λ before s. KeysAreApart s) o events
   pub found : EachMove FindsByKey o events end

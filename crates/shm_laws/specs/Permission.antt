@@ -20,7 +20,8 @@ use Rattle.shm_base.specs.History.{is_refusal, IsHistory}
 use Rattle.shm_laws.specs.Standing.{Stands, HasPiece, EachPiece, EachMove, Always}
 use Rattle.shm_base.specs.declared.paging.TheConstants.{PAGE_SIZE}
 
--- p is a part of q: it has at each of its addresses the page that q has there, and is as writable, now and ever
+-- p is a part of q: it has at each of its addresses the page that q has there, and is as writable, now and
+-- ever
 pub record IsPart (p q : Piece) : Type 0 where
   pub seg : p.seg ≡ q.seg
   pub writable : p.writable ≡ q.writable
@@ -29,8 +30,8 @@ pub record IsPart (p q : Piece) : Type 0 where
   pub from : q.base ≤ p.base
   pub to : end_of p ≤ end_of q
 
--- the event is a shmat of the process that was answered with the piece, the whole segment at a page, and it was granted
--- reading, and writing where the piece is writable
+-- the event is a shmat of the process that was answered with the piece, the whole segment at a page, and it
+-- was granted reading, and writing where the piece is writable
 pub record IsGranted (s : Machine) (e : Event) (pid : ℕ) (p : Piece) : Type 0 where
   pub own : e.pid ≡ pid
   pub addr : ℕ
@@ -43,7 +44,9 @@ pub record IsGranted (s : Machine) (e : Event) (pid : ℕ) (p : Piece) : Type 0 
   pub live : caller_of s pid ≡ Some caller
   pub segment : Segment
   pub stands : Stands s p.seg segment
-  pub permitted : grants caller.cred segment.perm (record { read = true; write = p.writable; execute = (at_wish s flags).execute }) ≡ true
+  pub permitted :
+      let execute = (at_wish s flags).execute in
+      grants caller.cred segment.perm (record { read = true; write = p.writable; execute = execute }) ≡ true
   pub page : p.base % PAGE_SIZE ≡ 0
   pub whole : (p.first_page ≡ 0) × (p.pages ≡ pages_in segment)
 
@@ -53,14 +56,19 @@ pub record IsInherited (s : Machine) (e : Event) (pid : ℕ) (p : Piece) : Type 
   pub reply : e.reply ≡ Done
   pub parent : HasPiece s e.pid p
 
--- A process that has a piece after these events: the last of them granted it, or the process had it before that, or a
--- piece that it is a part of, or it was born of one that had it. What was had before goes back in the same way
+-- A process that has a piece after these events: the last of them granted it, or the process had it before
+-- that, or a piece that it is a part of, or it was born of one that had it. What was had before goes back in
+-- the same way
 pub data GoesBack (o : Opening) : List Event → ℕ → Piece → Type 0 where
-  Granted : (before : List Event) (s : Machine) (e : Event) (pid : ℕ) (p : Piece) → IsHistory o before s → IsGranted s e pid p → GoesBack o (before ++ e ∷ []) pid p
+  Granted :
+      (before : List Event) (s : Machine) (e : Event) (pid : ℕ) (p : Piece) → IsHistory o before s
+      → IsGranted s e pid p → GoesBack o (before ++ e ∷ []) pid p
   Kept :
-      (before : List Event) (s : Machine) (e : Event) (pid : ℕ) (p q : Piece) → IsHistory o before s → HasPiece s pid q → IsPart p q → GoesBack o before pid q → GoesBack o (before ++ e ∷ []) pid p
+      (before : List Event) (s : Machine) (e : Event) (pid : ℕ) (p q : Piece) → IsHistory o before s
+      → HasPiece s pid q → IsPart p q → GoesBack o before pid q → GoesBack o (before ++ e ∷ []) pid p
   Inherited :
-      (before : List Event) (s : Machine) (e : Event) (pid : ℕ) (p : Piece) → IsHistory o before s → IsInherited s e pid p → GoesBack o before e.pid p → GoesBack o (before ++ e ∷ []) pid p
+      (before : List Event) (s : Machine) (e : Event) (pid : ℕ) (p : Piece) → IsHistory o before s
+      → IsInherited s e pid p → GoesBack o before e.pid p → GoesBack o (before ++ e ∷ []) pid p
 
 -- the bytes that an access is of, from an address on
 pub record Reach : Type 0 where
@@ -78,7 +86,8 @@ reach _ = None
 abbrev pub StaysInside : Machine → Event → Type 0
 StaysInside s e =
     is_refusal e.reply ≡ false → (r : Reach) → reach e.call ≡ Some r → (k : ℕ) → k < r.len
-    → (p : Piece) × HasPiece s e.pid p × (covers p (r.from + k) ≡ true) × (r.writes ≡ true → p.writable ≡ true)
+    → (p : Piece) × HasPiece s e.pid p × (covers p (r.from + k) ≡ true)
+    × (r.writes ≡ true → p.writable ≡ true)
 
 -- which segment a call would change or remove
 abbrev pub controlled : Call → Option ℤ
@@ -113,9 +122,9 @@ pub record MayAsk (s : Machine) (pid id : ℕ) (want : Want) : Type 0 where
 abbrev pub IsUserZero : Machine → ℕ → Type 0
 IsUserZero s pid = (caller : Caller) × (caller_of s pid ≡ Some caller) × (caller.cred.uid ≡ 0)
 
--- a move reaches no byte outside the pieces of its process; set, rmid, lock and unlock are granted to owners alone, and swapoff
--- to user 0; stat is answered only to a process that may read, and a shmget with a segment that existed only to one that has
--- what its mode asks for
+-- a move reaches no byte outside the pieces of its process; set, rmid, lock and unlock are granted to owners
+-- alone, and swapoff to user 0; stat is answered only to a process that may read, and a shmget with a segment
+-- that existed only to one that has what its mode asks for
 pub record KeepsOut (s : Machine) (e : Event) (t : Machine) : Type 0 where
   pub inside : StaysInside s e
   pub owner : (id : ℤ) → controlled e.call ≡ Some id → e.reply ≡ Done → OwnerAsks s e.pid id
@@ -123,7 +132,8 @@ pub record KeepsOut (s : Machine) (e : Event) (t : Machine) : Type 0 where
       (id : ℤ) (d : ShmidDs) → e.call ≡ calls.Stat id → e.reply ≡ replies.Stat d
       → (n : ℕ) × (id ≡ pos n) × MayAsk s e.pid n (record { read = true; write = false; execute = false })
   pub get :
-      (key size mode id : ℕ) (flags : GetFlags) (x : Segment) → e.call ≡ Shmget key size mode flags → e.reply ≡ Id (pos id)
+      (key size mode id : ℕ) (flags : GetFlags) (x : Segment) → e.call ≡ Shmget key size mode flags
+      → e.reply ≡ Id (pos id)
       → Stands s id x → MayAsk s e.pid id (wish_of s.limits.rules mode)
   pub swapoff : (area : ℕ) → e.call ≡ Swapoff area → e.reply ≡ Done → IsUserZero s e.pid
 
@@ -136,14 +146,16 @@ pub record IsBornWith (s : Machine) (e : Event) (unborn : Runner) (cred : Cred) 
   pub live : caller_of s e.pid ≡ Some parent
   pub inherits : cred ≡ parent.cred
 
--- a process that is live after a move had its place before it, and had its credentials there, or is born with them
+-- a process that is live after a move had its place before it, and had its credentials there, or is born with
+-- them
 abbrev pub KeepsCredentials : Machine → Event → Machine → Type 0
 KeepsCredentials s e t =
     (k : ℕ) (now : Runner) (cred : Cred) → slice_get t.runners k ≡ Some now → now.life ≡ Live cred
-    → (old : Runner) × (slice_get s.runners k ≡ Some old) × (old.pid ≡ now.pid) × ((old.life ≡ Live cred) ⊎ IsBornWith s e old cred)
+    → (old : Runner) × (slice_get s.runners k ≡ Some old) × (old.pid ≡ now.pid)
+    × ((old.life ≡ Live cred) ⊎ IsBornWith s e old cred)
 
--- THE LAW. At each moment each piece goes back to a shmat that was granted; each move keeps out who has no permission, and
--- gives no process other credentials
+-- THE LAW. At each moment each piece goes back to a shmat that was granted; each move keeps out who has no
+-- permission, and gives no process other credentials
 pub record NoWayIn (o : Opening) (events : List Event) (end : Machine) : Type 0 where
   pub pieces : Always (λ before s. EachPiece (GoesBack o before) s) o events
   pub moves : EachMove KeepsOut o events end

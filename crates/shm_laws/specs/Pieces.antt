@@ -22,7 +22,9 @@ PiecesNameWhatStands s = (id : ℕ) → 1 ≤ attach_count s.runners id → (x :
 
 -- no process gets a first piece of a segment that does not stand, and what has pieces after the move stands
 pub record GivesPieces (s : Machine) (e : Event) (t : Machine) : Type 0 where
-  pub first : (id : ℕ) → attach_count s.runners id ≡ 0 → (attach_count t.runners id ≡ 0) ⊎ ((x : Segment) × Stands s id x)
+  pub first :
+      (id : ℕ) → attach_count s.runners id ≡ 0
+      → (attach_count t.runners id ≡ 0) ⊎ ((x : Segment) × Stands s id x)
   pub after : PiecesNameWhatStands t
 
 -- how many pieces of the segment the process has
@@ -38,20 +40,30 @@ hands_pieces Exec = true
 hands_pieces Exit = true
 hands_pieces _ = false
 
--- what stat shows is how many pieces there are; a shmat that takes no other's place adds one, and changes no other
--- count; a fork adds as many as the parent has; exec and exit take as many as the process has; a shmdt takes pieces of one
--- segment; and nothing else changes a count
+-- what stat shows is how many pieces there are; a shmat that takes no other's place adds one, and changes no
+-- other count; a fork adds as many as the parent has; exec and exit take as many as the process has; a shmdt
+-- takes pieces of one segment; and nothing else changes a count
 pub record CountsPieces (s : Machine) (e : Event) (t : Machine) : Type 0 where
-  pub shown : (id : ℤ) (d : ShmidDs) → e.call ≡ calls.Stat id → e.reply ≡ replies.Stat d → (n : ℕ) × (id ≡ pos n) × (d.nattch ≡ attach_count s.runners n)
+  pub shown :
+      (id : ℤ) (d : ShmidDs) → e.call ≡ calls.Stat id → e.reply ≡ replies.Stat d
+      → (n : ℕ) × (id ≡ pos n) × (d.nattch ≡ attach_count s.runners n)
   pub attached :
-      (id addr base : ℕ) (flags : AtFlags) → e.call ≡ Shmat (pos id) addr flags → e.reply ≡ Addr base → is_remap flags ≡ false
+      (id addr base : ℕ) (flags : AtFlags) → e.call ≡ Shmat (pos id) addr flags → e.reply ≡ Addr base
+      → is_remap flags ≡ false
       → (k : ℕ) → attach_count t.runners k ≡ attach_count s.runners k + (if id == k then 1 else 0)
-  pub forked : (child : ℕ) → e.call ≡ Fork child → e.reply ≡ Done → (k : ℕ) → attach_count t.runners k ≡ attach_count s.runners k + piece_count s e.pid k
-  pub left : (e.call ≡ Exec) ⊎ (e.call ≡ Exit) → e.reply ≡ Done → (k : ℕ) → attach_count t.runners k + piece_count s e.pid k ≡ attach_count s.runners k
+  pub forked :
+      (child : ℕ) → e.call ≡ Fork child → e.reply ≡ Done → (k : ℕ)
+      → attach_count t.runners k ≡ attach_count s.runners k + piece_count s e.pid k
+  pub left :
+      (e.call ≡ Exec) ⊎ (e.call ≡ Exit) → e.reply ≡ Done → (k : ℕ)
+      → attach_count t.runners k + piece_count s e.pid k ≡ attach_count s.runners k
   pub detached :
       (addr : ℕ) → e.call ≡ Shmdt addr → e.reply ≡ Done
-      → (id : ℕ) × (attach_count t.runners id < attach_count s.runners id) × ((k : ℕ) → k ≢ id → attach_count t.runners k ≡ attach_count s.runners k)
-  pub quiet : (hands_pieces e.call ≡ false) ⊎ (is_refusal e.reply ≡ true) → (k : ℕ) → attach_count t.runners k ≡ attach_count s.runners k
+      → (id : ℕ) × (attach_count t.runners id < attach_count s.runners id)
+      × ((k : ℕ) → k ≢ id → attach_count t.runners k ≡ attach_count s.runners k)
+  pub quiet :
+      (hands_pieces e.call ≡ false) ⊎ (is_refusal e.reply ≡ true) → (k : ℕ)
+      → attach_count t.runners k ≡ attach_count s.runners k
 
 -- THE LAW. So does each move, and so it is at the end; and each move counts
 pub record PiecesAreOfSegments (o : Opening) (events : List Event) (end : Machine) : Type 0 where

@@ -49,7 +49,9 @@ pub record IsRemoval (e : Event) (id : ℕ) : Type 0 where
 
 -- a granted rmid marks its segment if a process has a piece of it, and destroys it if none has
 abbrev pub Removes : Machine → Event → Machine → Type 0
-Removes s e t = (id : ℕ) → IsRemoval e id → ((1 ≤ attach_count s.runners id) × IsMarked t id) ⊎ ((attach_count s.runners id ≡ 0) × IsGone t id)
+Removes s e t =
+    (id : ℕ) → IsRemoval e id
+    → ((1 ≤ attach_count s.runners id) × IsMarked t id) ⊎ ((attach_count s.runners id ≡ 0) × IsGone t id)
 
 -- what is marked before a move is marked after it, or destroyed
 abbrev pub KeepsMarks : Machine → Event → Machine → Type 0
@@ -57,10 +59,12 @@ KeepsMarks s e t = (id : ℕ) → IsMarked s id → IsMarked t id ⊎ IsGone t i
 
 -- each segment that is marked was removed by one of these events, and has been marked since
 abbrev pub AreRemoved : Opening → List Event → Machine → Type 0
-AreRemoved o before s = (id : ℕ) → IsMarked s id → Since o (λ u e. IsRemoval e id) (λ u e. IsMarked u id) before
+AreRemoved o before s =
+    (id : ℕ) → IsMarked s id → Since o (λ u e. IsRemoval e id) (λ u e. IsMarked u id) before
 
--- THE LAW. Each move destroys what is due, and after each of them, as at the end, what is marked and stands has a piece;
--- a granted rmid marks or destroys, nothing else marks, and a mark stays until the segment is destroyed
+-- THE LAW. Each move destroys what is due, and after each of them, as at the end, what is marked and stands
+-- has a piece; a granted rmid marks or destroys, nothing else marks, and a mark stays until the segment is
+-- destroyed
 pub record GoesWhenItMust (o : Opening) (events : List Event) (end : Machine) : Type 0 where
   pub moves : EachMove DestroysWhatIsDue o events end
   pub marked : MarkedHavePieces end

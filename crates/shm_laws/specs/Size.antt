@@ -18,7 +18,9 @@ AllFillPages s = (id : ℕ) (x : Segment) → Stands s id x → FillsPages x
 
 -- a segment that exists before a move and after it keeps its size, and has as many bytes
 abbrev pub KeepsSizes : Machine → Event → Machine → Type 0
-KeepsSizes s e t = (id : ℕ) (x y : Segment) → Stands s id x → Stands t id y → (y.size ≡ x.size) × (length y.bytes ≡ length x.bytes)
+KeepsSizes s e t =
+    (id : ℕ) (x y : Segment) → Stands s id x → Stands t id y
+    → (y.size ≡ x.size) × (length y.bytes ≡ length x.bytes)
 
 -- THE LAW. At each moment each segment fills its pages, and each move keeps the sizes
 pub record HaveTheirPages (o : Opening) (events : List Event) (end : Machine) : Type 0 where

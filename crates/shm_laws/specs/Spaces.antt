@@ -28,4 +28,5 @@ pub record AreLaidOut (most : ℕ) (ps : List Piece) : Type 0 where
 
 -- THE LAW. At each moment the pieces of each process are laid out so
 pub record SpacesAreLaidOut (o : Opening) (events : List Event) (end : Machine) : Type 0 where
-  pub spaces : Always (λ before s. All (λ (r : Runner). AreLaidOut o.limits.most_pieces r.pieces) s.runners) o events
+  pub spaces :
+      Always (λ before s. All (λ (r : Runner). AreLaidOut o.limits.most_pieces r.pieces) s.runners) o events

@@ -25,8 +25,8 @@ pub record HasPiece (s : Machine) (pid : ℕ) (p : Piece) : Type 0 where
 abbrev pub EachPiece : (ℕ → Piece → Type 0) → Machine → Type 0
 EachPiece law s = All (λ (r : Runner). All (law r.pid) r.pieces) s.runners
 
--- the events, the first at place n, lead from s to t, and of each move this holds, from the state before it to the
--- one after it
+-- the events, the first at place n, lead from s to t, and of each move this holds, from the state before it
+-- to the one after it
 abbrev pub MovesBy : (Machine → Event → Machine → Type 0) → ℕ → Machine → List Event → Machine → Type 0
 MovesBy law n s [] t = t ≡ s
 MovesBy law n s (e ∷ es) t = (u : Machine) × IsMove s n e u × law s e u × MovesBy law (n + 1) u es t
@@ -35,8 +35,8 @@ MovesBy law n s (e ∷ es) t = (u : Machine) × IsMove s n e u × law s e u × M
 abbrev pub EachMove : (Machine → Event → Machine → Type 0) → Opening → List Event → Machine → Type 0
 EachMove law o events end = MovesBy law 1 (start_of o) events end
 
--- the events, the first at place n, lead from s to t, and of s, and of each machine on the way, and the last one
--- this holds
+-- the events, the first at place n, lead from s to t, and of s, and of each machine on the way, and the last
+-- one this holds
 abbrev pub MomentsBy : (Machine → Machine → Type 0) → ℕ → Machine → List Event → Machine → Type 0
 MomentsBy law n s [] t = law s t × (t ≡ s)
 MomentsBy law n s (e ∷ es) t = law s t × ((u : Machine) × IsMove s n e u × MomentsBy law (n + 1) u es t)
@@ -56,7 +56,8 @@ abbrev pub Always : (List Event → Machine → Type 0) → Opening → List Eve
 Always law o events = (before : List Event) (s : Machine) → IsMoment o events before s → law before s
 
 -- a turn of the history: these of its events came before it, the machine was s, and the next event led to t
-pub record IsTurn (o : Opening) (events before : List Event) (s : Machine) (e : Event) (t : Machine) : Type 0 where
+pub record IsTurn
+    (o : Opening) (events before : List Event) (s : Machine) (e : Event) (t : Machine) : Type 0 where
   pub after : List Event
   pub whole : before ++ e ∷ after ≡ events
   pub leads : IsHistory o before s
@@ -64,9 +65,15 @@ pub record IsTurn (o : Opening) (events before : List Event) (s : Machine) (e : 
 
 -- at each turn of a whole history this holds of what came before, and of the move
 abbrev pub EachTurn : (List Event → Machine → Event → Machine → Type 0) → Opening → List Event → Type 0
-EachTurn law o events = (before : List Event) (s : Machine) (e : Event) (t : Machine) → IsTurn o events before s e t → law before s e t
+EachTurn law o events =
+    (before : List Event) (s : Machine) (e : Event) (t : Machine) → IsTurn o events before s e t
+    → law before s e t
 
 -- one of these events began it, and each one after that kept it up
 pub data Since (o : Opening) (begins keeps : Machine → Event → Type 0) : List Event → Type 0 where
-  Began : (before : List Event) (s : Machine) (e : Event) → IsHistory o before s → begins s e → Since o begins keeps (before ++ e ∷ [])
-  Lasted : (before : List Event) (s : Machine) (e : Event) → IsHistory o before s → keeps s e → Since o begins keeps before → Since o begins keeps (before ++ e ∷ [])
+  Began :
+      (before : List Event) (s : Machine) (e : Event) → IsHistory o before s → begins s e
+      → Since o begins keeps (before ++ e ∷ [])
+  Lasted :
+      (before : List Event) (s : Machine) (e : Event) → IsHistory o before s → keeps s e
+      → Since o begins keeps before → Since o begins keeps (before ++ e ∷ [])

@@ -51,8 +51,8 @@ a_store_fails =
 abbrev pub ReplayWorked : Type 0
 ReplayWorked = IsLegal opening a_store_fails × Answers (start_of opening) (without_failures a_store_fails)
 
--- REMOVAL AND IDENTITY: a marked segment stands while process 2 has a piece of it, and goes with that piece; one
--- that has none goes at once; and their indexes are used again under identifiers that are new
+-- REMOVAL AND IDENTITY: a marked segment stands while process 2 has a piece of it, and goes with that piece;
+-- one that has none goes at once; and their indexes are used again under identifiers that are new
 
 abbrev pub two_go : List Event
 two_go =
@@ -79,17 +79,20 @@ after o events n = ends_from 1 (start_of o) (take n events)
 abbrev pub after_two_go : ℕ → Machine
 after_two_go n = after opening two_go n
 
--- it is legal; segment 0 is marked and has a piece before the exec, and is gone after it; segment 1 goes with its rmid;
--- and what segment 0 was named by names none when its index is used again
+-- it is legal; segment 0 is marked and has a piece before the exec, and is gone after it; segment 1 goes with
+-- its rmid; and what segment 0 was named by names none when its index is used again
 abbrev pub RemovalWorked : Type 0
 RemovalWorked =
     IsLegal opening two_go
-    × (option_map (λ (e : Entry). option_map (λ (x : Segment). x.dest) e.segment) (slice_get (after_two_go 7).table 0) ≡ Some (Some true))
+    × (option_map (λ (e : Entry). option_map (λ (x : Segment). x.dest) e.segment)
+    (slice_get (after_two_go 7).table 0)
+    ≡ Some (Some true))
     × (attach_count (after_two_go 7).runners 0 ≡ 1)
     × IsGone (after_two_go 5) 1 × IsGone (after_two_go 8) 0 × IsGone (after_two_go 10) 0
     × (is_found (look (after_two_go 10).table (pos 32768)) ≡ true)
 
--- PIECES: process 2 has one of segment 0, which stands, from its shmat to its exec, and none of segment 1, which is gone
+-- PIECES: process 2 has one of segment 0, which stands, from its shmat to its exec, and none of segment 1,
+-- which is gone
 abbrev pub PiecesWorked : Type 0
 PiecesWorked =
     (is_found (look (after_two_go 7).table (pos 0)) ≡ true)
@@ -99,8 +102,8 @@ PiecesWorked =
     × (piece_count (after_two_go 7) 2 0 ≡ 1)
     × (attach_count (after_two_go 8).runners 0 ≡ 0)
 
--- PERMISSION: another user may read, its process attaches for reading and has a child; the segment's owner then takes the
--- permission back, which counts at the next shmat alone
+-- PERMISSION: another user may read, its process attaches for reading and has a child; the segment's owner
+-- then takes the permission back, which counts at the next shmat alone
 
 abbrev pub three : Opening
 three = record opening { processes = process 1 100 100 ∷ process 2 200 200 ∷ child 3 ∷ [] }
@@ -124,8 +127,8 @@ pieces_now o events n k = option_map (λ (r : Runner). r.pieces) (slice_get (aft
 abbrev pub read_only : Piece
 read_only = new_piece 0 0x40000000 1 false
 
--- it is legal; nobody has a piece before the shmat that was granted; the child has the piece of its parent, as read-only
--- as that, and to the end
+-- it is legal; nobody has a piece before the shmat that was granted; the child has the piece of its parent,
+-- as read-only as that, and to the end
 abbrev pub PermissionWorked : Type 0
 PermissionWorked =
     IsLegal three others_read
@@ -135,7 +138,8 @@ PermissionWorked =
     × (pieces_now three others_read 4 2 ≡ Some (read_only ∷ []))
     × (pieces_now three others_read 9 2 ≡ Some (read_only ∷ []))
 
--- THE LAST WRITER: a store over the seam of two segments, one over its last byte by another process, and an xadd
+-- THE LAST WRITER: a store over the seam of two segments, one over its last byte by another process, and an
+-- xadd
 
 abbrev pub two_write : List Event
 two_write =
@@ -150,9 +154,9 @@ two_write =
     ∷ does 1 (Load 0x40000ff8 9) (Bytes (0 ∷ 1 ∷ 0 ∷ 0 ∷ 0 ∷ 0 ∷ 1 ∷ 9 ∷ 3 ∷ []))
     ∷ []
 
--- it is legal; the third byte of the first store is byte 0 of segment 1, and the byte of the second is the first store's
--- second; its writer's byte is what stands there, what the xadd put before it is what the load shows, and a byte that
--- nobody wrote is 0
+-- it is legal; the third byte of the first store is byte 0 of segment 1, and the byte of the second is the
+-- first store's second; its writer's byte is what stands there, what the xadd put before it is what the load
+-- shows, and a byte that nobody wrote is 0
 abbrev pub WritingWorked : Type 0
 WritingWorked =
     IsLegal opening two_write
@@ -164,7 +168,8 @@ WritingWorked =
     × (slice_get (bytes_at (after opening two_write 9).table 1) 0 ≡ Some 3)
     × (slice_get (bytes_at (after opening two_write 9).table 1) 1 ≡ Some 0)
 
--- ISOLATION: process 2 stores one byte or another into its own segment and reads it back; process 1 has a piece of another
+-- ISOLATION: process 2 stores one byte or another into its own segment and reads it back; process 1 has a
+-- piece of another
 
 abbrev pub stores_own : ℕ → List Event
 stores_own byte =
@@ -178,8 +183,8 @@ stores_own byte =
     ∷ does 1 (Shmdt 0x40000000) Done
     ∷ []
 
--- either is legal; the ends differ in the byte that was stored, and in bytes of segment 1 alone; and process 1 was told
--- the same
+-- either is legal; the ends differ in the byte that was stored, and in bytes of segment 1 alone; and process
+-- 1 was told the same
 abbrev pub IsolationWorked : Type 0
 IsolationWorked =
     IsLegal opening (stores_own 5) × IsLegal opening (stores_own 6)
@@ -188,8 +193,8 @@ IsolationWorked =
     × DifferIn (λ id. id == 1) (after opening (stores_own 5) 8) (after opening (stores_own 6) 8)
     × (own_part 1 (stores_own 5) ≡ own_part 1 (stores_own 6))
 
--- KEYS AND SIZE: process 2 finds a segment by its key and attaches it; when it is marked the key leads to none, and a shmget
--- that may create makes another
+-- KEYS AND SIZE: process 2 finds a segment by its key and attaches it; when it is marked the key leads to
+-- none, and a shmget that may create makes another
 
 abbrev pub one_key : List Event
 one_key =
@@ -240,4 +245,6 @@ page_of segment base = new_piece segment base 1 true
 
 -- it is legal, and the process has the first page of segment 0, and after it the one of segment 1
 abbrev pub SpacesWorked : Type 0
-SpacesWorked = IsLegal opening one_remaps × (pieces_now opening one_remaps 5 0 ≡ Some (page_of 0 0x40000000 ∷ page_of 1 0x40001000 ∷ []))
+SpacesWorked =
+    IsLegal opening one_remaps
+    × (pieces_now opening one_remaps 5 0 ≡ Some (page_of 0 0x40000000 ∷ page_of 1 0x40001000 ∷ []))

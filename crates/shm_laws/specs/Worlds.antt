@@ -5,8 +5,8 @@ use Rattle.shm_life.specs.MachineView.{IsExactly}
 use Rattle.shm_history.specs.WorldState.{WorldState, AreCounted}
 use Rattle.shm_laws.specs.Lawful.{IsLawful}
 
--- the history of a world is legal and keeps all laws, its memory shows the machine at its end exactly, and the failures
--- that it names were counted
+-- the history of a world is legal and keeps all laws, its memory shows the machine at its end exactly, and
+-- the failures that it names were counted
 pub record IsWorldSound (w : WorldState) : Type 0 where
   pub legal : IsHistory w.opening w.events w.machine
   pub counted : AreCounted w.events w.memory.swap

@@ -23,12 +23,15 @@ pub record Put : Type 0 where
 -- what a store or an xadd puts where, if it was answered. Nothing else puts anything
 abbrev pub put : Call → Reply → Option Put
 put (Store addr bytes) Done = Some (record { from = addr; bytes = bytes })
-put (Xadd addr add) (Number old) = Some (record { from = addr; bytes = to_le_bytes w64 ((old + add) % 2 ^ 64) })
+put (Xadd addr add) (Number old) =
+    Some (record { from = addr; bytes = to_le_bytes w64 ((old + add) % 2 ^ 64) })
 put _ _ = None
 
 -- the address is, for the process, byte `at` of the segment
 abbrev pub IsByte : Machine → ℕ → ℕ → ℕ → ℕ → Type 0
-IsByte s pid addr id at = (w : Bool) × (place (pieces_of_caller (caller_of s pid)) addr ≡ Some (record { seg = id; at = at; writable = w }))
+IsByte s pid addr id at =
+    (w : Bool)
+    × (place (pieces_of_caller (caller_of s pid)) addr ≡ Some (record { seg = id; at = at; writable = w }))
 
 -- the event puts b there, and nothing there behind it
 pub record Writes (s : Machine) (e : Event) (id at b : ℕ) : Type 0 where
@@ -41,7 +44,9 @@ pub record Writes (s : Machine) (e : Event) (id at b : ℕ) : Type 0 where
 
 -- the event puts nothing there
 abbrev pub Spares : Machine → Event → ℕ → ℕ → Type 0
-Spares s e id at = (what : Put) → put e.call e.reply ≡ Some what → (k : ℕ) → k < length what.bytes → IsByte s e.pid (what.from + k) id at → ⊥
+Spares s e id at =
+    (what : Put) → put e.call e.reply ≡ Some what → (k : ℕ) → k < length what.bytes
+    → IsByte s e.pid (what.from + k) id at → ⊥
 
 -- the event made the segment: its identifier was never issued, and is the answer
 abbrev pub Makes : Machine → Event → ℕ → Type 0
@@ -49,8 +54,8 @@ Makes s e id = (look s.table (pos id) ≡ Invalid) × (e.reply ≡ Id (pos id))
 
 -- WHO WROTE IT LAST
 
--- after these events byte `at` of the segment is b: an event wrote b there, and no later one wrote there; or b is 0, and no
--- event wrote there since the one that made the segment
+-- after these events byte `at` of the segment is b: an event wrote b there, and no later one wrote there; or
+-- b is 0, and no event wrote there since the one that made the segment
 abbrev pub IsLast : Opening → List Event → ℕ → ℕ → ℕ → Type 0
 IsLast o before id at b =
     Since o (λ s e. Writes s e id at b) (λ s e. Spares s e id at) before
@@ -58,18 +63,25 @@ IsLast o before id at b =
 
 -- so it is with each byte of each segment that stands
 abbrev pub Remembers : Opening → List Event → Machine → Type 0
-Remembers o before s = (id at b : ℕ) (x : Segment) → Stands s id x → slice_get x.bytes at ≡ Some b → IsLast o before id at b
+Remembers o before s =
+    (id at b : ℕ) (x : Segment) → Stands s id x → slice_get x.bytes at ≡ Some b → IsLast o before id at b
 
 -- as many bytes, and each of them the last that was written where its address is
-pub record AreLast (o : Opening) (before : List Event) (s : Machine) (pid addr len : ℕ) (bytes : List ℕ) : Type 0 where
+pub record AreLast
+    (o : Opening) (before : List Event) (s : Machine) (pid addr len : ℕ) (bytes : List ℕ) : Type 0 where
   pub long : length bytes ≡ len
-  pub each : (k b : ℕ) → slice_get bytes k ≡ Some b → (id : ℕ) × (at : ℕ) × IsByte s pid (addr + k) id at × IsLast o before id at b
+  pub each :
+      (k b : ℕ) → slice_get bytes k ≡ Some b
+      → (id : ℕ) × (at : ℕ) × IsByte s pid (addr + k) id at × IsLast o before id at b
 
 -- a load answers the bytes that were written last, and an xadd their number
 pub record Recalls (o : Opening) (before : List Event) (s : Machine) (e : Event) (t : Machine) : Type 0 where
-  pub load : (addr len : ℕ) (bytes : List ℕ) → e.call ≡ Load addr len → e.reply ≡ Bytes bytes → AreLast o before s e.pid addr len bytes
+  pub load :
+      (addr len : ℕ) (bytes : List ℕ) → e.call ≡ Load addr len → e.reply ≡ Bytes bytes
+      → AreLast o before s e.pid addr len bytes
   pub xadd :
-      (addr add old : ℕ) → e.call ≡ Xadd addr add → e.reply ≡ Number old → (bytes : List ℕ) × (old ≡ from_le_bytes w64 bytes) × AreLast o before s e.pid addr 8 bytes
+      (addr add old : ℕ) → e.call ≡ Xadd addr add → e.reply ≡ Number old
+      → (bytes : List ℕ) × (old ≡ from_le_bytes w64 bytes) × AreLast o before s e.pid addr 8 bytes
 
 -- THE LAW. At each moment each byte is that of its last writer, and so is each byte that an event answers
 pub record HasLastWriters (o : Opening) (events : List Event) (end : Machine) : Type 0 where

@@ -1,4 +1,5 @@
-//! Laws of whole histories, in the words of those who rely on the machine: each function shows one of the world at hand.
+//! Laws of whole histories, in the words of those who rely on the machine: each function shows one of the
+//! world at hand.
 #![tactic(auto)]
 
 mod identity;
