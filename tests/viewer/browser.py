@@ -16,18 +16,6 @@ def path():
     return next(filter(None, map(shutil.which, NAMES)), None)
 
 
-def run(words, page):
-    """Runs the browser over a page, and returns what it printed, or none where it gave no answer."""
-    with tempfile.TemporaryDirectory(prefix="viewer.") as folder:
-        command = [path(), "--headless", "--no-sandbox", "--disable-gpu", "--hide-scrollbars", f"--user-data-dir={folder}"]
-        try:
-            done = subprocess.run([*command, *words, page], capture_output=True, timeout=SECONDS, check=False,
-                                  env={**os.environ, "HOME": folder})
-        except (OSError, subprocess.TimeoutExpired):
-            return None
-    return done.stdout.decode(errors="replace") if done.returncode == 0 else None
-
-
 class Session:
     """A browser that is spoken to over pipes: pages at a size, as a desktop or a phone has, and on paper."""
 
@@ -92,6 +80,10 @@ class Session:
     def press(self, key):
         for kind in ("keyDown", "keyUp"):
             self.ask("Input.dispatchKeyEvent", type=kind, key=key)
+
+    def picture(self):
+        """Returns what is on the screen, as PNG."""
+        return base64.b64decode(self.ask("Page.captureScreenshot", format="png")["data"])
 
     def paper(self):
         """Returns the page as PDF, on A4."""

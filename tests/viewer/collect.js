@@ -24,6 +24,17 @@
   const process = (it) => [text(it, ".name"), ...state(it), all(it, ".page, .gap").map((box) => box.className === "gap" ? "gap" : page(box))];
   // a text after the slots says how many more there are
   const area = (it) => [text(it, ".name"), all(it, ".cell").map(cell), texts(it, ".rest")];
+  // the hand's way at a frame, from the lowest line up: whether it begins there, how it is drawn, whether an arrow ends it, and whether
+  // it reaches the next box; lines lie apart, and are seen
+  const hasMark = (it, part) => style(it, part).content === '""' && style(it, part).display !== "none";
+  const way = (box) => {
+    const edge = box.getBoundingClientRect();
+    const lines = all(box, ".way").map((it) => ({ it, at: it.getBoundingClientRect() })).sort((one, other) => other.at.bottom - one.at.bottom);
+    const isApart = lines.every(({ at }, index) => !index || at.bottom < lines[index - 1].at.bottom - 2);
+    const isSeen = ({ it, at }) => isApart && style(it).borderBottomColor === accent && at.bottom < edge.bottom && at.left <= edge.left + 2;
+    const reach = (at) => at.right > edge.right ? "on" : at.right < edge.right - 20 ? "ends" : "near";
+    return lines.map((line) => isSeen(line) && [hasMark(line.it, "::before"), style(line.it).borderBottomStyle, hasMark(line.it, "::after"), reach(line.at)]);
+  };
   const hasBar = (it) => style(it.querySelector(".marks"), "::after").borderBottomStyle === "solid";
   const row = (it) => [texts(it, "td"), all(it, "td").map(isFilled), style(it.cells[0]).textDecorationLine === "line-through"];
   const coloured = () => [
@@ -58,6 +69,7 @@
     processes: all(document, ".process").map(process),
     frames: all(byId("frames"), ".cell").map(cell),
     hands: all(byId("frames"), ".cell").filter(hasBar).map((it) => text(it, ".number")),
+    ways: all(byId("frames"), ".cell").map(way),
     areas: all(document, ".area").map(area),
     segments: all(document, "#segments tr").map(row),
     coloured: coloured(),

@@ -129,6 +129,39 @@ def reached_frames(block):
     return [place[1:] for place in places if place[0] == "f" and block[1][-1] != "SIGSEGV"]
 
 
+def turn_in(sentence):
+    """Returns the frames that the hand passed by a sentence, in order, and the one where it stopped; none of another sentence."""
+    found = re.fullmatch(r"the hand (?:passed frames? (.+?)(?: in a whole round)? and )?stopped at frame (\d+)", sentence)
+    if not found:
+        return None
+    runs = [run.split(" to ") for run in found[1].split(", ")] if found[1] else []
+    return [frame for run in runs for frame in range(int(run[0]), int(run[-1]) + 1)], int(found[2])
+
+
+def pinned_by(block, before, at):
+    """Returns the frame that the hand may not take in a turn, by its place in the step: that of the first page, as the second comes in."""
+    caller, named = access_of(block)
+    has = {line[1]: boxes_of(pieces) for line, pieces in pieces_of(block)}.get(caller, {})
+    first = has[named[0]][0]
+    [[_, count, _, _]] = lines_of(before, "frames")
+    is_of_first = at == 0 and where_is(before, first)[0] != "f" and len(lines_of(before, "frame")) == int(count)
+    return None if is_of_first else int(where_is(block, first)[1:])
+
+
+def ways(block, before, said):
+    """Returns for each frame the lines of the hand's way, the lowest first, by the sentences: whether it begins there, how it is drawn,
+    whether an arrow ends it, and how far it reaches."""
+    [[_, count, _, _]] = lines_of(block, "frames")
+    found = [[] for _ in range(int(count))]
+    for at, (passed, stop) in enumerate(filter(None, map(turn_in, said))):
+        locked = [it[1] for it in segments_of(before) if "locked" in it[6].split(",")]
+        over = {int(line[1]) for line in lines_of(before, "frame") if line[2] in locked} | {pinned_by(block, before, at)}
+        for index, frame in enumerate([*passed, stop]):
+            is_stop = index == len(passed)
+            found[frame].append([index == 0, "solid" if is_stop or frame not in over else "dotted", is_stop, "ends" if is_stop else "on"])
+    return found
+
+
 def frames(block):
     """Returns for each frame its number, its page and its marks."""
     [[_, count, _, hand]] = lines_of(block, "frames")
@@ -225,6 +258,7 @@ def shown_at(blocks, at, told, skipped=0, script=()):
         "processes": processes(block, before, blocks),
         "frames": with_frames(frames(block), frames(before) if before else None, reached_frames(block)),
         "hands": [hand],
+        "ways": ways(block, before, (told or {}).get(number, [])),
         "areas": [[name, with_frames(cells, old), rest] for (name, cells, rest), (_, old, _) in zip(drawn, drawn_before)],
         "segments": segments(block, before, blocks),
     }
@@ -373,9 +407,10 @@ def sought(what, block, before):
     return [[line, [it[:3] + it[4:] for it in boxes]] for line, boxes in was] != [[line, [it[:3] + it[4:] for it in boxes]] for line, boxes in now]
 
 
-def steps_sought(what, blocks):
-    """Returns the numbers of the steps that have what is looked for."""
-    return [number_of(block) for before, block in zip(blocks, blocks[1:]) if sought(what, block, before)]
+def steps_sought(what, blocks, changed):
+    """Returns the numbers of the steps that have what is looked for; a page changes, too, where its bytes do."""
+    return [number_of(block) for before, block, pages in zip(blocks, blocks[1:], changed[1:])
+            if sought(what, block, before) or what in [f"page {page}" for page in pages]]
 
 
 def all_sought(blocks):

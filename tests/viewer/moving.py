@@ -4,10 +4,11 @@ import os
 import re
 
 from expected import all_sought, number_of, steps_sought
+from memory import Memory
 
 # what a reader of the screen hears of each control of the bar
 NAMES = [("button", "One step back"), ("button", "One step on"), ("slider", "Step"), ("button", "Play"), ("combobox", "What to look for"),
-         ("button", "The step before that has it"), ("button", "The next step that has it"), ("textbox", "Steps to print:"), ("button", "Print")]
+         ("button", "The step before that has it"), ("button", "The next step that has it"), ("combobox", "Page"), ("textbox", "Steps to print:"), ("button", "Print")]
 WHERE = "Number(/step (\\d+)/.exec(document.getElementById('where').textContent)[1])"
 NOTICE = "document.querySelector('#changes .notice')?.textContent ?? ''"
 WORDS = {"fault": "a page comes into a frame", "refusal": "a call is refused"}
@@ -28,11 +29,11 @@ def walk(session, press, last):
 
 def check_seeking(count, session, made):
     """All that may be looked for is found, forwards and backwards."""
-    last = number_of(made.blocks[-1])
+    last, changed = number_of(made.blocks[-1]), Memory(made.blocks).changed()
     choices = session.value("[...document.getElementById('seek').options].map((it) => it.value)")
     count.take(choices == all_sought(made.blocks), f"{made.name}: {choices} may be looked for, not {all_sought(made.blocks)}")
     for what in all_sought(made.blocks):
-        want = steps_sought(what, made.blocks)
+        want = steps_sought(what, made.blocks, changed)
         session.value(f"document.getElementById('seek').value = '{what}'")
         found = []
         for begin, key in (("Home", "n"), ("End", "p")):
@@ -44,13 +45,13 @@ def check_seeking(count, session, made):
     for what, key in (("fault", "f"), ("refusal", "r")):
         session.press("Home")
         seen, said = walk(session, key, last)
-        is_right = seen == steps_sought(what, made.blocks) and said == f"no step after this one has it: {WORDS[what]}"
+        is_right = seen == steps_sought(what, made.blocks, changed) and said == f"no step after this one has it: {WORDS[what]}"
         count.take(is_right, f"{made.name}: the key {key} leads to {seen} and says {said}")
     session.press("Home")
     session.value("document.getElementById('seek').value = 'fault'; document.getElementById('next').click()")
     first = session.value(WHERE)
     session.value("document.getElementById('next').click(); document.getElementById('before').click()")
-    want = steps_sought("fault", made.blocks)[0]
+    want = steps_sought("fault", made.blocks, changed)[0]
     count.take([first, session.value(WHERE)] == [want, want], f"{made.name}: the buttons lead to {first}, not {want}")
 
 
@@ -87,7 +88,7 @@ def check_names(count, session):
     count.take(not missing and all(name for _, name in seen), f"controls without a name: {missing} of {seen}")
     told = session.value("document.getElementById('slider').getAttribute('aria-valuetext')")
     count.take(told == session.value("document.getElementById('where').textContent"), f"the slider is read out as {told}")
-    ids = "['back', 'on', 'slider', 'where', 'play', 'seek', 'before', 'next', 'printed']"
+    ids = "['back', 'on', 'slider', 'where', 'play', 'seek', 'before', 'next', 'opened', 'printed']"
     reached = session.value(f"{ids}.filter((id) => {{ const it = document.getElementById(id); it.disabled = false; it.focus(); return document.activeElement !== it || it.tabIndex < 0; }})")
     count.take(reached == [], f"controls that are not reached by Tab: {reached}")
     session.value("document.activeElement.blur()")

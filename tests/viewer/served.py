@@ -26,7 +26,8 @@ EXPLAINED = """line 9, column 3: bad line
     allowed here: a call: shmget, shmat, shmdt, load, store, xadd, stat, set, rmid, lock, unlock, fork, exec, exit, swapoff
     nearest form: load"""
 LESSONS = ["1. Three pages in two frames", "2. A read of swap that fails", "3. A swap area is taken away",
-           "4. An attach in the middle of another", "5. A removed segment lives on", "6. A child and its parent", "7. Who may do what", "8. Pages that must stay"]
+           "4. An attach in the middle of another", "5. A removed segment lives on", "6. A child and its parent", "7. Who may do what", "8. Pages that must stay",
+           "9. Two processes at once"]
 # what is asked of the page after each edit: the text to find, what it becomes, and what is then seen
 EDITS = (
     ("1 load a 1", "1 load a 2", "step 6 of 9", "process 1: load 0x40000000 2 = 0100 call 6 of the history", 2),
@@ -83,13 +84,17 @@ def check_lesson(count, session):
                          "it.textContent.slice(0, 53)]), byId('lesson').innerText.includes('Question: MEMLOCK, the last number')]")
     answer = "AnswerIf all frames could be locked, no frame could b"
     count.take(seen == [False, "step 0 of 16", LESSONS[7], 5, [[False, answer]], True], f"served, a lesson: {seen}")
+    choose(session, LESSONS[8], "lesson")
+    said = session.value("byId('lesson').innerText")
+    is_right = "./shmcheck outcomes tries every order" in said and "OUTCOMES.md says" in said and not {*"`[]|$"} & {*said}
+    count.take(is_right, f"served, a lesson with the output of a command: {said}")
     choose(session, "memory_short")
     count.take(session.value("byId('lesson').hidden") is True, "served: an example has the text of a lesson")
 
 
 def check_editing(count, session):
     choose(session, "memory_short")
-    session.value("go(6)")
+    session.value("go(6), openPage('0·0')")
     for old, new, where, call, frames in EDITS:
         is_run, seen = edit(session, old, new), session.value(SEEN)
         if call:
@@ -97,6 +102,13 @@ def check_editing(count, session):
         else:
             said = session.value("byId('words').textContent").split("\n")[0]
             count.take(is_run and said == "line 6, column 8: unknown process" and seen[0] == where, f"served, after {new!r}: {seen}, {said}")
+    seen = session.value("[byId('opened').value, byId('dump').rows[0].cells[1].innerText]")
+    count.take(seen == ["0·0", "ff"], f"served: after the edits page and first byte are {seen}")
+    choose(session, "locks")
+    session.value("go(12), openPage('1·2')")
+    choose(session, "memory_short")
+    seen = session.value("[byId('opened').value, byId('dump').rows.length]")
+    count.take(seen == ["", 0], f"served: a page that another script has not is open: {seen}")
 
 
 def check_fault(count, session):

@@ -175,11 +175,22 @@ def say_bits(before, after):
         yield f"{named(page)} is dirty"
 
 
+def ranged(start, length, count):
+    """Names frames that follow each other round the ring, as in `2 to 3, 0`."""
+    told = []
+    while length > 0:
+        here = min(length, count - start)
+        told.append(f"{start} to {start + here - 1}" if here > 1 else str(start))
+        start, length = 0, length - here
+    return ", ".join(told)
+
+
 def say_clock(before, after):
-    passed = [frame for frame, (page, referenced, _) in before.frames.items()
-              if referenced and after.frames.get(frame, ("", True))[0] == page and not after.frames[frame][1]]
-    if passed:
-        yield f"the hand passed frame{'s' if len(passed) > 1 else ''} {', '.join(passed)}"
+    count = after.frame_count
+    for start, passed, _pinned in turns(before, after):
+        stop = f"stopped at frame {(start + passed) % count}"
+        names = f"frame{'s' if passed > 1 else ''} {ranged(start, passed, count)}"
+        yield f"the hand passed {names}{' in a whole round' if passed >= count else ''} and {stop}" if passed else f"the hand {stop}"
     if after.hand != before.hand:
         yield f"the hand is now at frame {after.hand}"
 
@@ -242,14 +253,69 @@ def say_access(_before, after):
             yield f"process {access[0]} may only read {named(page)}"
 
 
+def left_by(step, count):
+    """Returns the bytes that a load, a store or an xadd left where it named them, and none where it was refused."""
+    words, reply = step.words, step.reply
+    if not re.fullmatch("ok|[0-9a-f]+", reply):
+        return b""
+    if words[3] == "xadd":
+        return ((int(reply) + int(words[5])) % 2 ** 64).to_bytes(8, "little")
+    return bytes.fromhex(reply if words[3] == "load" else words[5])[:count]
+
+
 def reached(step):
-    """Returns the pages that an access reached: for each its process, its address and its frame, none where it has none."""
+    """Returns the pages that an access reached: for each its process, the page's address, its frame, which page, the first byte there,
+    how many, and the bytes that the access left. There is no frame where it has none, and no byte where the access was refused."""
     access, found = access_of(step), []
-    for first, _last in parts_of(access) if access else ():
+    left, at = left_by(step, access[2]) if access else b"", 0
+    for first, last in parts_of(access) if access else ():
         page, _rights = step.page_at(access[0], first)
+        count = last - first + 1
         if page is not None:
             frame = None if step.reply == "SIGSEGV" else step.frame_of.get(page)
-            found.append([access[0], f"0x{first - first % 4096:08x}", frame])
+            found.append([access[0], f"0x{first - first % 4096:08x}", frame, "·".join(page), first % 4096, count, left[at:at + count].hex()])
+        at += count
+    return found
+
+
+def turn(frames, hand, locked, pinned):
+    """Returns how many frames the hand passes before it stops, and clears the referenced bits that it passes. A frame of a locked
+    segment and the pinned one are passed over."""
+    for passed in range(2 * len(frames)):
+        at = str((hand + passed) % len(frames))
+        page, is_referenced, *_ = frames[at]
+        if page[0] in locked or at == pinned:
+            continue
+        if not is_referenced:
+            return passed
+        frames[at] = page, False
+    return 0
+
+
+def turns(before, after):
+    """Returns the turns of the clock's hand in a step, by the rules of docs/MACHINE.md: for each the frame where it begins, how many
+    frames it passes, and the pinned frame. What it did is known from the bits that were set before it, also after a whole round."""
+    access = access_of(after)
+    if access is None or after.reply == "SIGSEGV":
+        return []
+    named = [after.page_at(access[0], first)[0] for first, _last in parts_of(access)]
+    if before.frame_count - len(before.frames) >= len(named) or all(page in before.frame_of for page in named):
+        return []
+    locked = {seg for seg, (_, status, _) in before.segments.items() if "locked" in status.split(",")}
+    frames, resident, hand, pinned, found = dict(before.frames), dict(before.frame_of), int(before.hand), None, []
+    for page in named:
+        if page not in resident and len(frames) == before.frame_count:
+            passed = turn(frames, hand, locked, pinned)
+            found.append([hand, passed, pinned and int(pinned)])
+            stop = (hand + passed) % before.frame_count
+            del resident[frames[str(stop)][0]]
+            hand = (stop + 1) % before.frame_count
+        # a pager failed, and the access ended
+        if page not in after.frame_of:
+            break
+        pinned = after.frame_of[page]
+        resident[page] = pinned
+        frames[pinned] = page, True
     return found
 
 

@@ -77,11 +77,13 @@ def lessons_of(tour):
 
 
 def text_of(body):
-    """The paragraphs of a lesson after the link to its example, without pictures. `?` begins a question and `!` its answer."""
+    """The paragraphs of a lesson after the link to its example, without pictures and outputs. `?` begins a question and `!` its answer."""
+    body = re.sub(r"^```\n.*?^```\n", "", body, flags=re.M | re.S)
     body = re.sub(r"</?details>|!\[[^]]*\]\([^)]*\)", "", body)
     body = re.sub(r"<summary>.*?</summary>\s*", "!", body)
     told = [" ".join(it.split()) for it in re.split(r"\n\s*\n|\n(?=- )", body)]
-    return [it.replace("**Question.**", "?").replace("**", "").replace("`", "") for it in told if it and not it.startswith("[examples/")]
+    kept = [re.sub(r"\[([^]]*)\]\([^)]*\)", r"\1", it) for it in told if it and not it.startswith("[examples/")]
+    return [it.replace("**Question.**", "?").replace("**", "").replace("`", "") for it in kept]
 
 
 class Runner:

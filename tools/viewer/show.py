@@ -4,8 +4,9 @@
     tools/viewer/show.py page [SCRIPT [STEPS]] < RECORD    one HTML page, which needs nothing else
     tools/viewer/show.py text [SCRIPT [STEPS]] < RECORD    the record for a terminal
 
-SCRIPT is the file of the script, and STEPS are those that were asked for, as in 3-12. The record may begin one step earlier:
-the first step is then compared with that one. All is there before the first byte is written.
+SCRIPT is the file of the script, and STEPS are those that were asked for, as in 3-12. The record may begin earlier: the first step
+is then compared with the one before it, and a page has the bytes that earlier steps left. All is there before the first byte is
+written.
 """
 
 import json
@@ -16,7 +17,7 @@ sys.dont_write_bytecode = True
 HERE = os.path.dirname(os.path.abspath(__file__))
 sys.path.insert(0, HERE)
 
-from record import all_sentences, reached, read_record  # noqa: E402
+from record import all_sentences, reached, read_record, turns  # noqa: E402
 
 
 def lines_of(script):
@@ -42,17 +43,27 @@ def range_of(steps):
 
 
 def told_of(text, script="", asked=""):
-    """Returns what a page shows beside the record of a run."""
+    """Returns what a page shows beside the record of a run. The bytes of a page are zeros, and then what the accesses left; those of
+    a segment that was there before the record begins are unknown until an access names them."""
     first, last = range_of(asked)
     steps, lines = read_record(text), lines_of(script) if script else []
+    shown = [step for step in steps if step.number >= first - 1]
     return {
         "title": title_of(lines),
         "script": lines,
         "first": first,
         "last": last,
-        "said": dict(all_sentences(steps, first)),
-        "reached": {step.number: reached(step) for step in steps},
+        "said": dict(all_sentences(shown, first)),
+        "reached": {step.number: found for step in steps for found in [reached(step)] if found},
+        "turns": {step.number: found for before, step in zip(shown, shown[1:]) for found in [turns(before, step)] if found},
+        "unknown": [*steps[0].segments] if steps and steps[0].number else [],
     }
+
+
+def shown_part(text, asked):
+    """Returns the record from the step before the first one that was asked for."""
+    first, _last = range_of(asked)
+    return "".join(block + "\n\n" for block in text.split("\n\n") if block and int(block.split()[1]) >= first - 1)
 
 
 def shortened(text):
@@ -90,7 +101,7 @@ def filled(text, told):
 
 
 def page(text, script="", asked=""):
-    return filled(shortened(text), told_of(text, script, asked))
+    return filled(shortened(shown_part(text, asked)), told_of(text, script, asked))
 
 
 def terminal(text, _script="", asked=""):
