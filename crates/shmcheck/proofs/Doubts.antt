@@ -1,7 +1,9 @@
 -- A verdict from a machine as a script opens it.
-use Rattle.std.specs.Prelude.{◌≡◌, ℕ, Bool, List, Ok}
+use Rattle.std.specs.Prelude.{◌≡◌, ℕ, Bool, List, Option, Some, None, Result, Ok, Err, IfOk, IfSome}
 use Rattle.std.proofs.Common.{subst, sym}
 use Rattle.shm_base.specs.State.{Machine}
+use Rattle.shm_program.specs.Runs.{IsWritten, Prints}
+use Rattle.shm_text.specs.Reading.{script_of}
 use Rattle.shm_text.specs.Script.{ScriptView}
 use Rattle.shm_outcomes.specs.Judge.{IsDoubt, IsRight}
 use Rattle.shm_outcomes.specs.Logs.{Answer, Entry}
@@ -13,6 +15,9 @@ use Rattle.shm_outcomes.specs.declared.search.SearchError.{SearchError}
 use Rattle.shm_outcomes.specs.declared.search.SearchError.TheVariants as searches
 use Rattle.shm_outcomes.specs.declared.verdict.Verdict.{Verdict}
 use Rattle.shmcheck.specs.Judged.{IsJudgedText, IsStopIn, doubt_of, is_legal}
+use Rattle.shmcheck.specs.Ruled.{WithRules, under}
+use Rattle.shmcheck.specs.declared.ruling.RuleSet.{RuleSet}
+use Rattle.shmcheck.specs.declared.stop.Stop.{Stop}
 
 from-start :
     (script : ScriptView) (log : List ℕ) (entries : List Entry) (areas : List ℕ) (most : ℕ) (error : SearchError)
@@ -43,3 +48,13 @@ judged-text script log entries answered areas machine verdict legal text read is
     subst (λ (l : List (List Answer)). text ≡ verdict_text script l verdict) is written,
   ),
 )
+
+-- a verdict on a script with other rules is written
+pub judged-by :
+    (IsText : Bool → ScriptView → List ℕ → List ℕ → Type 0) (set : RuleSet) (result : Result Bool Stop) (input old new : Option (List ℕ)) (areas : List ℕ) (script ruled : ScriptView)
+    → ruled ≡ under set script → IfSome input (λ text. script_of text ≡ Ok script) → IfOk result (λ legal. IsWritten (IsText legal ruled areas) old new)
+    → IfOk result (λ legal. IfSome input (λ text. Prints (WithRules set (IsText legal)) old new areas text))
+judged-by IsText set (Err stop) input old new areas script ruled is read written = tt
+judged-by IsText set (Ok legal) None old new areas script ruled is read written = tt
+judged-by IsText set (Ok legal) (Some text) old new areas script ruled is read written =
+    (script, read, subst (λ (s : ScriptView). IsWritten (IsText legal s areas) old new) is written)

@@ -1,3 +1,4 @@
 pub mod Printed
 pub mod Stop
 pub mod Judged
+pub mod Ruled

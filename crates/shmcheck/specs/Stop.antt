@@ -26,7 +26,7 @@ kind_name BadLine = codes "bad line"
 kind_name UnknownProcess = codes "unknown process"
 
 abbrev pub stop_text : Stop → List ℕ
-stop_text Usage = codes "usage: shmcheck outcomes|judge LOG [--at-most N]"
+stop_text Usage = codes "usage: shmcheck outcomes|judge LOG [--rules profile|linux] [--at-most N]"
 stop_text (Fault fault) = fault_text fault
 stop_text PagerFailed = codes "a pager failed"
 stop_text (Bound most) = codes "undecided: more than " ++ (decimal most ++ codes " schedules and beginnings of schedules")

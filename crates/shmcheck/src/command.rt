@@ -1,4 +1,5 @@
 //! The command line.
+use crate::ruling::RuleSet;
 use crate::stop::Stop;
 use shm_text::read_decimal;
 use std::alloc::Global;
@@ -8,12 +9,18 @@ use std::rt::Env;
 /// How many schedules are looked at, if the command line does not say.
 const MOST: u64 = 1_000_000;
 
-/// What the program is asked for: every outcome, or a verdict on the log in a file. Of schedules and their beginnings at most
-/// so many are looked at.
+/// How many schedules and beginnings of schedules are looked at at most, and which rules the machine has.
+#[derive(Clone, Copy)]
+pub(crate) struct Options {
+    pub most: u64,
+    pub rules: RuleSet,
+}
+
+/// What the program is asked for: every outcome, or a verdict on the log in a file.
 #[derive(Drop)]
 pub(crate) enum Asked {
-    Outcomes(u64),
-    Judge(String, u64),
+    Outcomes(Options),
+    Judge(String, Options),
 }
 
 /// What the command line asks for.
@@ -29,7 +36,7 @@ fn read_words(alloc: Global, words: &[String]) -> Result<Asked, Stop> {
         return Err(Stop::Usage);
     }
     match words[1].as_str() {
-        "outcomes" => Ok(Asked::Outcomes(read_most(&words[2..])?)),
+        "outcomes" => Ok(Asked::Outcomes(read_options(&words[2..])?)),
         "judge" => read_judge(alloc, &words[2..]),
         _ => Err(Stop::Usage),
     }
@@ -39,18 +46,44 @@ fn read_judge(alloc: Global, words: &[String]) -> Result<Asked, Stop> {
     let Some(log) = words.first() else {
         return Err(Stop::Usage);
     };
-    let most = read_most(&words[1..])?;
+    let options = read_options(&words[1..])?;
     let log = String::from_str(alloc, log.as_str())?;
-    Ok(Asked::Judge(log, most))
+    Ok(Asked::Judge(log, options))
 }
 
-// The bound that the last words name.
-fn read_most(words: &[String]) -> Result<u64, Stop> {
-    if words.is_empty() {
-        return Ok(MOST);
+// Pairs of an option and its value, in any order; of one that comes twice the last counts.
+fn read_options(words: &[String]) -> Result<Options, Stop> {
+    let mut options = Options {
+        most: MOST,
+        rules: RuleSet::Profile,
+    };
+    for pair in words.chunks(2) {
+        let [name, value] = pair else {
+            return Err(Stop::Usage);
+        };
+        options = with_option(options, name.as_str(), value.as_str())?;
     }
-    if words.len() != 2 || words[0].as_str() != "--at-most" {
-        return Err(Stop::Usage);
+    Ok(options)
+}
+
+fn with_option(options: Options, name: &str, value: &str) -> Result<Options, Stop> {
+    match name {
+        "--at-most" => {
+            let most = read_decimal(value.as_bytes()).ok_or(Stop::Usage)?;
+            Ok(Options { most, ..options })
+        }
+        "--rules" => {
+            let rules = read_rules(value)?;
+            Ok(Options { rules, ..options })
+        }
+        _ => Err(Stop::Usage),
     }
-    read_decimal(words[1].as_bytes()).ok_or(Stop::Usage)
+}
+
+fn read_rules(word: &str) -> Result<RuleSet, Stop> {
+    match word {
+        "profile" => Ok(RuleSet::Profile),
+        "linux" => Ok(RuleSet::Linux),
+        _ => Err(Stop::Usage),
+    }
 }

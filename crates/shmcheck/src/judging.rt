@@ -3,8 +3,11 @@ ghost use Rattle.std.specs.Prelude.{◌≡◌, length, map, IfErr, IfOk, IfSome,
 ghost use Rattle.std.specs.Io.KnownBytes.{IsAtEnd};
 ghost use Rattle.shm_program.specs.Runs.{Prints, IsWritten};
 ghost use Rattle.shmcheck.specs.Judged.{IsJudgedText, IsStopIn, doubt_of, is_legal, log_stop};
+ghost use Rattle.shmcheck.specs.Ruled.{WithRules};
 
+use crate::command::Options;
 use crate::listing::refused;
+use crate::ruling::put_rules;
 use crate::stop::Stop;
 use shm_outcomes::{
     EngineError, LogRefused, SearchError, Simulated, Verdict, judge_log, log_of, read_log,
@@ -16,23 +19,26 @@ use shm_text::Script;
 use std::alloc::Global;
 use std::io::{Read, Write};
 
-/// Writes a verdict on a log of the script that the reader gives, over swap areas behind these pagers, and says whether it is
-/// legal. Before the first byte is written the verdict is there.
+/// Writes a verdict on a log of the script that the reader gives, opened with these rules over swap areas behind these pagers,
+/// and says whether it is legal. Before the first byte is written the verdict is there.
 pub(crate) fn judge_script<R: Read, W: Write, P: ClonePager>(
     alloc: Global,
     reader: &mut R,
     writer: &mut W,
     pagers: Vec<P>,
     log: &[u8],
-    most: u64,
+    options: Options,
 ) -> Result<bool, Stop>
     ensures ok { let areas = map (λ p. length (P.content p)) pagers.items in
         IfOk result (λ legal. IfSome (R.remaining reader.old) (λ input.
-        Prints (IsJudgedText log.now legal) (W.contents writer.old) (W.contents writer.new) areas input)) }
+        Prints (WithRules options.rules (IsJudgedText log.now legal)) (W.contents writer.old) (W.contents writer.new) areas input)) }
     ensures whole { OnOk result (IsAtEnd (R.remaining reader.new)) }
 {
     match whole_script(alloc, reader) {
-        Ok(script) => judge_in(alloc, writer, &script, pagers, log, most),
+        Ok(mut script) => {
+            put_rules(&mut script, options.rules);
+            judge_in(alloc, writer, &script, pagers, log, options.most)
+        }
         Err(fault) => Err(Stop::Fault(fault)),
     }
 }

@@ -4,8 +4,11 @@ ghost use Rattle.std.specs.Io.KnownBytes.{Appends, IsAtEnd};
 ghost use Rattle.shm_program.specs.Faults.{stopped_as};
 ghost use Rattle.shm_program.specs.Runs.{Prints, IsWritten};
 ghost use Rattle.shmcheck.specs.Printed.{IsOutcomesText};
+ghost use Rattle.shmcheck.specs.Ruled.{WithRules};
 ghost use Rattle.shmcheck.specs.Stop.{IsCauseIn, stop_of};
 
+use crate::command::Options;
+use crate::ruling::put_rules;
 use crate::stop::Stop;
 use shm_life::StartError;
 use shm_outcomes::{EngineError, SearchError, Simulated, outcomes, outcomes_text};
@@ -15,22 +18,25 @@ use shm_text::Script;
 use std::alloc::Global;
 use std::io::{Read, Write};
 
-/// Writes every outcome of the script that the reader gives, over swap areas behind these pagers. Before the first byte is
-/// written all outcomes are there.
+/// Writes every outcome of the script that the reader gives, opened with these rules over swap areas behind these pagers.
+/// Before the first byte is written all outcomes are there.
 pub(crate) fn list_outcomes<R: Read, W: Write, P: ClonePager>(
     alloc: Global,
     reader: &mut R,
     writer: &mut W,
     pagers: Vec<P>,
-    most: u64,
+    options: Options,
 ) -> Result<(), Stop>
     ensures ok { let areas = map (λ p. length (P.content p)) pagers.items in
         OnOk result (IfSome (R.remaining reader.old) (λ input.
-        Prints IsOutcomesText (W.contents writer.old) (W.contents writer.new) areas input)) }
+        Prints (WithRules options.rules IsOutcomesText) (W.contents writer.old) (W.contents writer.new) areas input)) }
     ensures whole { OnOk result (IsAtEnd (R.remaining reader.new)) }
 {
     match whole_script(alloc, reader) {
-        Ok(script) => list_script(alloc, writer, &script, pagers, most),
+        Ok(mut script) => {
+            put_rules(&mut script, options.rules);
+            list_script(alloc, writer, &script, pagers, options.most)
+        }
         Err(fault) => Err(Stop::Fault(fault)),
     }
 }

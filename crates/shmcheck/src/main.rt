@@ -5,9 +5,10 @@
 mod command;
 mod judging;
 mod listing;
+mod ruling;
 mod stop;
 
-use command::{Asked, read_command};
+use command::{Asked, Options, read_command};
 use judging::judge_script;
 use listing::list_outcomes;
 use shm_program::{SwapWord, areas_of};
@@ -36,28 +37,32 @@ fn judge<R: Files + Input + Print + AllocGlobal>(
     rt: &R,
     alloc: Global,
     path: &str,
-    most: u64,
+    options: Options,
 ) -> Result<u8, Stop> {
     let log = read_file(rt, path)?;
     let pagers = areas_of(alloc, &[AREA])?;
     let (mut reader, mut writer) = (rt.reader(), io::writer(rt));
-    let legal = judge_script(alloc, &mut reader, &mut writer, pagers, &log, most)?;
+    let legal = judge_script(alloc, &mut reader, &mut writer, pagers, &log, options)?;
     Ok(if legal { 0 } else { ILLEGAL })
 }
 
 // Writes every outcome.
-fn list<R: Input + Print + AllocGlobal>(rt: &R, alloc: Global, most: u64) -> Result<u8, Stop> {
+fn list<R: Input + Print + AllocGlobal>(
+    rt: &R,
+    alloc: Global,
+    options: Options,
+) -> Result<u8, Stop> {
     let pagers = areas_of(alloc, &[AREA])?;
     let (mut reader, mut writer) = (rt.reader(), io::writer(rt));
-    list_outcomes(alloc, &mut reader, &mut writer, pagers, most)?;
+    list_outcomes(alloc, &mut reader, &mut writer, pagers, options)?;
     Ok(0)
 }
 
 fn run<R: Env + Files + Input + Print + AllocGlobal>(rt: &R) -> Result<u8, Stop> {
     let alloc = rt.alloc();
     match read_command(rt, alloc)? {
-        Asked::Outcomes(most) => list(rt, alloc, most),
-        Asked::Judge(path, most) => judge(rt, alloc, path.as_str(), most),
+        Asked::Outcomes(options) => list(rt, alloc, options),
+        Asked::Judge(path, options) => judge(rt, alloc, path.as_str(), options),
     }
 }
 

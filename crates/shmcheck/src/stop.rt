@@ -56,7 +56,9 @@ impl fmt::Display for Stop {
 
     fn fmt<W: fmt::Write>(&self, f: &mut fmt::Formatter<W>) -> fmt::Result {
         match self {
-            Stop::Usage => f.write_str("usage: shmcheck outcomes|judge LOG [--at-most N]"),
+            Stop::Usage => f.write_str(
+                "usage: shmcheck outcomes|judge LOG [--rules profile|linux] [--at-most N]",
+            ),
             Stop::Fault(fault) => write!(f, "{fault}"),
             Stop::PagerFailed => f.write_str("a pager failed"),
             Stop::Bound(most) => {
