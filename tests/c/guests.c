@@ -71,6 +71,33 @@ static void test_most(void) {
     ANSWER(nog_exec(&machine, 9), NOG_DONE);
 }
 
+/* 32,768 declared processes: a pid that is out of range, and one that an earlier or a later one has, wherever it lies */
+static void test_many_declared(void) {
+    static nog_process many[32768];
+    nog_limits wide = limits;
+    nog_machine crowd = NOG_MACHINE_INITIALIZER;
+    size_t count = sizeof many / sizeof many[0];
+    wide.most_processes = count;
+    for (size_t place = 0; place < count; place++) many[place] = (nog_process){(uint32_t)(LAST_PID - place), 1, 0, 0};
+    const size_t places[] = {0, 1, count / 2, count - 1};
+    for (size_t k = 0; k < 4; k++) {
+        size_t place = places[k];
+        uint32_t pid = many[place].pid;
+        many[place].pid = 0;
+        ANSWER(nog_open(&crowd, &wide, &ram, 1, &none, 0, many, count), NOG_BAD_PID);
+        many[place].pid = many[(place + 77) % count].pid;
+        ANSWER(nog_open(&crowd, &wide, &ram, 1, &none, 0, many, count), NOG_BAD_PID);
+        many[place].pid = pid;
+    }
+    ANSWER(nog_exec(&crowd, many[0].pid), NOG_CLOSED);
+    ANSWER(nog_open(&crowd, &wide, &ram, 1, &none, 0, many, count), NOG_DONE);
+    for (size_t k = 0; k < 4; k++) ANSWER(nog_exec(&crowd, many[places[k]].pid), NOG_DONE);
+    ANSWER(nog_exec(&crowd, (uint32_t)(LAST_PID - count)), NOG_ESRCH);
+    ANSWER(nog_close(&crowd), NOG_DONE);
+    wide.most_processes = count - 1;
+    ANSWER(nog_open(&crowd, &wide, &ram, 1, &none, 0, many, count), NOG_BAD_PROCESSES);
+}
+
 /* 1,000 lives under two pids: a child is admitted, forked, and dismissed, and the counts are exact all the while */
 static void test_lives(void) {
     ANSWER(open_usual(&machine), NOG_DONE);
@@ -156,6 +183,7 @@ int main(void) {
     test_closed();
     test_refusals();
     test_most();
+    test_many_declared();
     test_lives();
     test_another();
     test_users();

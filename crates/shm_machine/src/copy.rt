@@ -8,9 +8,9 @@ use shm_base::HostMemory;
 use std::alloc::Global;
 
 impl Machine {
-    /// Copies attached memory of one process to that of another, or of the same one, as one load of all bytes that can be
-    /// read and then one store of them: ranges may overlap. What stops the store is told before what stopped the load. The
-    /// bytes wait in a buffer between the two, and out of memory comes before anything is read.
+    /// Copies attached memory of one process to that of another, or of the same one. It is one load of all bytes that can be
+    /// read, and then one store of them, so the ranges may overlap. If both stop early, the answer names what stopped the
+    /// store. The bytes wait in a buffer between the two. If there is no memory for it, nothing is read.
     pub fn copy(
         &mut self,
         alloc: Global,
