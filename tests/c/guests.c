@@ -77,7 +77,9 @@ static void test_many_declared(void) {
     nog_limits wide = limits;
     nog_machine crowd = NOG_MACHINE_INITIALIZER;
     size_t count = sizeof many / sizeof many[0];
+    wide.most_pieces = 16;
     wide.most_processes = count;
+    wide.most_slots = 64;
     for (size_t place = 0; place < count; place++) many[place] = (nog_process){(uint32_t)(LAST_PID - place), 1, 0, 0};
     const size_t places[] = {0, 1, count / 2, count - 1};
     for (size_t k = 0; k < 4; k++) {
