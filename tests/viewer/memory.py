@@ -9,14 +9,14 @@ import os
 import re
 import subprocess
 
-from expected import REFUSALS, access_of, boxes_of, lines_of, pieces_of, segments_of, where_is
+from expected import REFUSALS, access_of, boxes_of, lines_of, pieces_of, read_blocks, segments_of, where_is
 
 HERE = os.path.dirname(os.path.abspath(__file__))
 TOP = os.path.dirname(os.path.dirname(HERE))
 PAGE = 4096
-# scripts whose every load is compared
+# the scripts whose records are compared, with the hand's way too (hand.py)
 SCRIPTS = ("examples/*.shm", "tests/viewer/cases/*.shm", "tests/scripts/*/*.shm")
-FEWEST_SCRIPTS, FEWEST_LOADS = 60, 300
+FEWEST_SCRIPTS, FEWEST_LOADS = 60, 1000
 
 
 def read(name):
@@ -124,7 +124,7 @@ def held(block, before, page):
 
 
 def opened(session, page):
-    session.value(f"(() => {{ const it = document.getElementById('opened'); it.value = '{page}'; it.dispatchEvent(new Event('change')); }})()")
+    session.value(f"(() => {{ const it = document.getElementById('opened'); it.focus(); it.value = '{page}'; it.dispatchEvent(new Event('change')); it.blur(); }})()")
 
 
 def pages_in(blocks, memory):
@@ -137,7 +137,7 @@ def check_tables(count, session, made):
     """Each page that a run uses, at each step."""
     blocks, dump = made.all_blocks, read("dump.js")
     memory = Memory(blocks)
-    choices = session.value("[...document.getElementById('opened').options].map((it) => it.value)")
+    choices = session.value("document.getElementById('opened').focus(), [...document.getElementById('opened').options].map((it) => it.value)")
     want = ["", *pages_in(blocks, memory)]
     count.take(choices == want, f"{made.name}: {choices} may be opened, not {want}")
     for page in want[1:]:
@@ -234,21 +234,29 @@ def check_late(count, session, made, late, folder):
     count.take(said == {"?? is a byte that no step from 2003 on named"}, f"{late.name}: {said}")
 
 
-def check_loads(count, program):
-    """In each stored script each load and xadd answers the bytes that are there by the stores and xadds before it."""
-    scripts = answers = 0
+def records(program):
+    """Returns the name and the record of each stored script that has one."""
+    found = []
     for path in sorted(it for pattern in SCRIPTS for it in glob.glob(os.path.join(TOP, pattern))):
-        swap = path[:-4] + ".swap"
+        words = ["ram:64"]
+        if os.path.exists(path[:-4] + ".swap"):
+            with open(path[:-4] + ".swap", encoding="ascii") as swap:
+                words = swap.read().split()
         with open(path, "rb") as script:
-            words = open(swap, encoding="ascii").read().split() if os.path.exists(swap) else ["ram:64"]
             done = subprocess.run([program, *words], stdin=script, capture_output=True, check=False)
-        blocks = [[line.split() for line in block.splitlines()] for block in done.stdout.decode().split("\n\n") if block]
-        if done.returncode or not blocks:
-            continue
-        memory = Memory(blocks)
-        scripts, answers = scripts + 1, answers + memory.answers
-        count.take(not memory.wrong, f"{os.path.relpath(path, TOP)}: {memory.wrong[:3]}")
-    count.take(scripts >= FEWEST_SCRIPTS and answers >= FEWEST_LOADS, f"{answers} loads of {scripts} scripts were compared")
+        if done.returncode == 0 and done.stdout:
+            found.append((os.path.relpath(path, TOP), done.stdout.decode()))
+    return found
+
+
+def check_loads(count, made):
+    """In each record each load and xadd answers the bytes that are there by the stores and xadds before it."""
+    answers = 0
+    for name, record in made:
+        memory = Memory(read_blocks(record))
+        answers += memory.answers
+        count.take(not memory.wrong, f"{name}: {memory.wrong[:3]}")
+    count.take(len(made) >= FEWEST_SCRIPTS and answers >= FEWEST_LOADS, f"{answers} loads of {len(made)} scripts were compared")
 
 
 def check_bytes(count, session, pages, chosen, late, folder):
