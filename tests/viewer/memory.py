@@ -9,14 +9,14 @@ import os
 import re
 import subprocess
 
-from expected import REFUSALS, access_of, boxes_of, lines_of, pieces_of, segments_of, where_is
+from expected import REFUSALS, access_of, boxes_of, lines_of, pieces_of, read_blocks, segments_of, where_is
 
 HERE = os.path.dirname(os.path.abspath(__file__))
 TOP = os.path.dirname(os.path.dirname(HERE))
 PAGE = 4096
-# scripts whose every load is compared
+# the scripts whose records are compared, with the hand's way too (hand.py)
 SCRIPTS = ("examples/*.shm", "tests/viewer/cases/*.shm", "tests/scripts/*/*.shm")
-FEWEST_SCRIPTS, FEWEST_LOADS = 60, 300
+FEWEST_SCRIPTS, FEWEST_LOADS = 60, 1000
 
 
 def read(name):
@@ -124,7 +124,7 @@ def held(block, before, page):
 
 
 def opened(session, page):
-    session.value(f"(() => {{ const it = document.getElementById('opened'); it.value = '{page}'; it.dispatchEvent(new Event('change')); }})()")
+    session.value(f"(() => {{ const it = document.getElementById('opened'); it.focus(); it.value = '{page}'; it.dispatchEvent(new Event('change')); it.blur(); }})()")
 
 
 def pages_in(blocks, memory):
@@ -137,7 +137,7 @@ def check_tables(count, session, made):
     """Each page that a run uses, at each step."""
     blocks, dump = made.all_blocks, read("dump.js")
     memory = Memory(blocks)
-    choices = session.value("[...document.getElementById('opened').options].map((it) => it.value)")
+    choices = session.value("document.getElementById('opened').focus(), [...document.getElementById('opened').options].map((it) => it.value)")
     want = ["", *pages_in(blocks, memory)]
     count.take(choices == want, f"{made.name}: {choices} may be opened, not {want}")
     for page in want[1:]:
@@ -160,6 +160,10 @@ def check_whole(count, session, made):
     for at in (4, 10, 16):
         want = table_of(memory, at, "0·1", True)
         count.take(seen[at][1] == want and len(want) == 256, f"{made.name}: all rows at step {at} are {seen[at][1]}")
+    session.value("document.getElementById('dump').scrollTop = 300")
+    session.press("ArrowLeft")
+    seen = session.value("[document.getElementById('dump').scrollTop, document.getElementById('dump').clientHeight < 600]")
+    count.take(seen == [300, True], f"{made.name}: all rows are scrolled to {seen}")
     session.value("document.getElementById('whole').click()")
     count.take(session.value(read("dump.js"))[10][1] == table_of(memory, 10, "0·1"), f"{made.name}: rows that no access names stay")
     opened(session, "")
@@ -189,6 +193,11 @@ def check_opening(count, session, made):
     opened(session, "")
 
 
+def check_sheets(count, session, made):
+    sheets = len(re.findall(rb"/Type /Page\b", session.paper()))
+    count.take(sheets == len(made.blocks), f"{made.name}: {sheets} sheets for {len(made.blocks)} steps with a page open")
+
+
 def check_room(count, session, made, path):
     """With a page open no box moves from step to step, and on paper each step has one sheet, with the bytes."""
     for wide, high in ((1280, 900), (390, 844)):
@@ -202,8 +211,7 @@ def check_room(count, session, made, path):
             is_right = not moved and len(seen["boxes"]) == len(first["boxes"]) and seen["wide"] <= wide
             count.take(is_right, f"{made.name} at {wide}, step {at}, with a page open: {moved[:1]} moved, {seen['wide']} wide")
             session.press("ArrowRight")
-    sheets = len(re.findall(rb"/Type /Page\b", session.paper()))
-    count.take(sheets == len(made.blocks), f"{made.name}: {sheets} sheets for {len(made.blocks)} steps with a page open")
+    check_sheets(count, session, made)
     session.value("document.getElementById('whole').click()")
     seen = session.value("dispatchEvent(new Event('beforeprint')), [...document.querySelectorAll('.sheet .bytes')].map((it) => "
                          "[it.querySelector('h2').textContent, it.querySelectorAll('.dump tr').length])")
@@ -218,14 +226,19 @@ LATE = "\n".join(["limits 65536 16 64 4 1", "process 1 1 1", "1 s = shmget priva
 LATE_ROWS = ["01! " + " ".join(["??"] * 15), "01 ff! " + " ".join(["??"] * 14), "01! ff! 00! 00! " + " ".join(["??"] * 12)]
 
 
+def open_in(folder, session, made):
+    path = os.path.join(folder, made.name + ".html")
+    with open(path, "w", encoding="utf-8") as file:
+        file.write(made.html)
+    session.open(f"file://{path}", 1280, 900)
+    return path
+
+
 def check_late(count, session, made, late, folder):
     """Steps that are chosen have the bytes that earlier steps left; after more than 2,000 steps those that no step named are unknown."""
-    for it in (made, late):
-        with open(os.path.join(folder, "late.html"), "w", encoding="utf-8") as file:
-            file.write(it.html)
-        session.open(f"file://{folder}/late.html", 1280, 900)
-        if it is made:
-            check_tables(count, session, made)
+    open_in(folder, session, made)
+    check_tables(count, session, made)
+    open_in(folder, session, late)
     opened(session, "0·0")
     seen = session.value(read("dump.js"))
     rows = [[["0x000", row, text], "⋯ 0x010 to 0xfff: unknown"] for row, text in zip(LATE_ROWS, ("·" * 16,) * 3)]
@@ -234,33 +247,43 @@ def check_late(count, session, made, late, folder):
     count.take(said == {"?? is a byte that no step from 2003 on named"}, f"{late.name}: {said}")
 
 
-def check_loads(count, program):
-    """In each stored script each load and xadd answers the bytes that are there by the stores and xadds before it."""
-    scripts = answers = 0
+def records(program):
+    """Returns the name and the record of each stored script that has one."""
+    found = []
     for path in sorted(it for pattern in SCRIPTS for it in glob.glob(os.path.join(TOP, pattern))):
-        swap = path[:-4] + ".swap"
+        words = ["ram:64"]
+        if os.path.exists(path[:-4] + ".swap"):
+            with open(path[:-4] + ".swap", encoding="ascii") as swap:
+                words = swap.read().split()
         with open(path, "rb") as script:
-            words = open(swap, encoding="ascii").read().split() if os.path.exists(swap) else ["ram:64"]
             done = subprocess.run([program, *words], stdin=script, capture_output=True, check=False)
-        blocks = [[line.split() for line in block.splitlines()] for block in done.stdout.decode().split("\n\n") if block]
-        if done.returncode or not blocks:
-            continue
-        memory = Memory(blocks)
-        scripts, answers = scripts + 1, answers + memory.answers
-        count.take(not memory.wrong, f"{os.path.relpath(path, TOP)}: {memory.wrong[:3]}")
-    count.take(scripts >= FEWEST_SCRIPTS and answers >= FEWEST_LOADS, f"{answers} loads of {scripts} scripts were compared")
+        if done.returncode == 0 and done.stdout:
+            found.append((os.path.relpath(path, TOP), done.stdout.decode()))
+    return found
 
 
-def check_bytes(count, session, pages, chosen, late, folder):
-    """The pages are those of all scripts, the scripts turns and bytes last."""
+def check_loads(count, made):
+    """In each record each load and xadd answers the bytes that are there by the stores and xadds before it."""
+    answers = 0
+    for name, record in made:
+        memory = Memory(read_blocks(record))
+        answers += memory.answers
+        count.take(not memory.wrong, f"{name}: {memory.wrong[:3]}")
+    count.take(len(made) >= FEWEST_SCRIPTS and answers >= FEWEST_LOADS, f"{answers} loads of {len(made)} scripts were compared")
+
+
+def check_bytes(count, session, pages, others, folder):
+    """The pages are those of all scripts, the scripts turns and bytes last; the others are of chosen steps, of late ones, and of many
+    processes."""
     for made in pages:
-        path = os.path.join(folder, made.name + ".html")
-        with open(path, "w", encoding="utf-8") as file:
-            file.write(made.html)
-        session.open(f"file://{path}", 1280, 900)
+        path = open_in(folder, session, made)
         check_tables(count, session, made)
         if made.name == "turns":
             check_opening(count, session, made)
     check_whole(count, session, made)
     check_room(count, session, made, path)
+    chosen, late, many = others
     check_late(count, session, chosen, late, folder)
+    open_in(folder, session, many)
+    opened(session, "0·0")
+    check_sheets(count, session, many)
