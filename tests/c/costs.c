@@ -1,5 +1,5 @@
-/* costs: makes a call COUNT times on a machine where there are SIZE segments, pieces or processes at each call, so that two
-   counts of instructions, of none and of COUNT calls, tell what one takes.
+/* costs: makes a call COUNT times on a machine where there are SIZE segments, pieces, processes, pages or frames at each call,
+   or where an access has SIZE bytes, so that two counts of instructions, of none and of COUNT calls, tell what one takes.
        costs KIND SIZE COUNT
    The status is 1 where a call was refused, and 2 for words that name nothing. */
 #include <inttypes.h>
@@ -8,13 +8,16 @@
 #include <string.h>
 #include <nogcuvema.h>
 
-enum { PID = 1, PAGE = 4096, FRAMES = 64, SLOTS = 1 << 20 };
+enum { PID = 1, PAGE = 4096, FRAMES = 64, SLOTS = 1 << 20, MOST_BYTES = 64 * PAGE };
 #define FIRST UINT64_C(0x10000000)
 
 static nog_machine machine = NOG_MACHINE_INITIALIZER;
 static uint32_t refused;
 static int32_t usual;   /* a segment of two pages */
 static uint64_t at;     /* where it is attached */
+static size_t length;   /* of an access, in bytes */
+static uint8_t bytes[MOST_BYTES], others[MOST_BYTES];
+static uint64_t done;   /* of a read, a write or a copy */
 
 static void took(uint32_t code) { refused += code != NOG_DONE; }
 
@@ -30,13 +33,18 @@ static uint64_t attach(int32_t id, uint64_t addr) {
     return found;
 }
 
-static void start(uint64_t most_pieces, uint64_t most_processes) {
-    const nog_limits limits = {.shmmax = 1u << 30, .shmmni = 32768, .shmall = SLOTS, .frames = FRAMES, .memlock = 1,
-                               .most_pieces = most_pieces, .most_processes = most_processes, .most_slots = SLOTS};
+static void open_with(uint64_t most_pieces, uint64_t most_processes, uint64_t frames) {
+    const nog_limits limits = {.shmmax = UINT64_C(1) << 32, .shmmni = 32768, .shmall = SLOTS, .frames = frames,
+                               .memlock = frames - 2, .most_pieces = most_pieces, .most_processes = most_processes,
+                               .most_slots = SLOTS};
     const nog_area swap = {NOG_SPARSE, SLOTS};
     const nog_failure none = {.call = 1};
     const nog_process first = {PID, 1, 100, 100};
     took(nog_open(&machine, &limits, &swap, 1, &none, 0, &first, 1));
+}
+
+static void start(uint64_t most_pieces, uint64_t most_processes) {
+    open_with(most_pieces, most_processes, FRAMES);
     usual = make(2);
 }
 
@@ -73,6 +81,41 @@ static void fill_processes(uint64_t size) {
     at = attach(usual, 0);
 }
 
+/* a segment of SIZE bytes in frames of their own */
+static void fill_bytes(uint64_t size) {
+    open_with(8, 1, 2 * MOST_BYTES / PAGE);
+    at = attach(make(MOST_BYTES / PAGE), 0);
+    length = size;
+    took(nog_write(&machine, PID, at, bytes, sizeof bytes, &done));
+}
+
+/* SIZE pages that were stored and written out, each in a frame, and no other frame */
+static void fill_frames(uint64_t size) {
+    nog_flushed round;
+    open_with(8, 1, size);
+    at = attach(make(size), 0);
+    for (uint64_t i = 0; i < size; i++) took(nog_store(&machine, PID, at + i * PAGE, bytes, 1));
+    took(nog_flush(&machine, size, &round));
+}
+
+/* SIZE frames, all but two with a locked page, and three pages more */
+static void fill_locked(uint64_t size) {
+    open_with(8, 1, size);
+    int32_t locked = make(size - 2);
+    uint64_t base = attach(locked, 0);
+    took(nog_lock(&machine, PID, locked));
+    for (uint64_t i = 0; i < size - 2; i++) took(nog_store(&machine, PID, base + i * PAGE, bytes, 1));
+    at = attach(make(3), 0);
+    for (uint64_t i = 0; i < 3; i++) took(nog_store(&machine, PID, at + i * PAGE, bytes, 1));
+}
+
+static void fill_none(uint64_t size) {
+    open_with(8, 1, FRAMES);
+    length = size;
+}
+
+static void fill_later(uint64_t size) { length = size; }
+
 /* ---- the calls ---- */
 
 static void get_and_remove(void) { took(nog_remove(&machine, PID, make(1))); }
@@ -89,6 +132,56 @@ static void attach_chosen(void) { took(nog_detach(&machine, PID, attach(usual, 0
 static void load_one(void) {
     uint8_t bytes[8];
     took(nog_load(&machine, PID, at + 8, bytes, sizeof bytes));
+}
+
+static void load_some(void) { took(nog_load(&machine, PID, at + 8, bytes, length)); }
+static void store_some(void) { took(nog_store(&machine, PID, at + 8, bytes, length)); }
+
+static void add_one(void) {
+    uint64_t before;
+    took(nog_add(&machine, PID, at + 8, 1, &before));
+}
+
+static void exchange_some(void) { took(nog_exchange(&machine, PID, at + 8, bytes, length, others, length)); }
+
+static void compare_some(void) {
+    took(nog_compare_exchange(&machine, PID, at + 8, bytes, length, bytes, length, others, length));
+}
+
+static void read_some(void) { took(nog_read(&machine, PID, at, bytes, length, &done)); }
+static void write_some(void) { took(nog_write(&machine, PID, at, bytes, length, &done)); }
+static void copy_some(void) { took(nog_copy(&machine, PID, at, PID, at + MOST_BYTES / 2, length, &done)); }
+
+/* the pages of a segment are attached, and nobody touches one */
+static void come_and_go(void) {
+    int32_t id = make(length);
+    took(nog_detach(&machine, PID, attach(id, 0)));
+    took(nog_remove(&machine, PID, id));
+}
+
+/* the same, and its last page is stored */
+static void touch_the_last(void) {
+    int32_t id = make(length);
+    uint64_t base = attach(id, 0);
+    took(nog_store(&machine, PID, base + (length - 1) * PAGE, bytes, 1));
+    took(nog_detach(&machine, PID, base));
+    took(nog_remove(&machine, PID, id));
+}
+
+static void flush_nothing(void) {
+    nog_flushed round;
+    took(nog_flush(&machine, 1, &round));
+}
+
+/* three pages take turns in two frames */
+static void fault_one(void) {
+    static uint64_t turn;
+    took(nog_store(&machine, PID, at + turn++ % 3 * PAGE, bytes, 1));
+}
+
+static void open_and_close(void) {
+    open_with(8, 1, length);
+    took(nog_close(&machine));
 }
 
 /* one page of two becomes read-only, and writable again: a piece comes, and its border moves back */
@@ -116,7 +209,13 @@ static const struct { const char *name; void (*fill)(uint64_t size); void (*call
     {"pieces-protect", fill_pieces, protect_and_back}, {"pieces-unmap", fill_pieces, unmap_nothing},
     {"pieces-live", fill_lives, live},
     {"processes-load", fill_processes, load_one}, {"processes-attach", fill_processes, attach_and_detach},
-    {"processes-live", fill_processes, live} };
+    {"processes-live", fill_processes, live},
+    {"bytes-load", fill_bytes, load_some}, {"bytes-store", fill_bytes, store_some}, {"bytes-add", fill_bytes, add_one},
+    {"bytes-exchange", fill_bytes, exchange_some}, {"bytes-compare", fill_bytes, compare_some},
+    {"bytes-read", fill_bytes, read_some}, {"bytes-write", fill_bytes, write_some}, {"bytes-copy", fill_bytes, copy_some},
+    {"pages-untouched", fill_none, come_and_go}, {"pages-last", fill_none, touch_the_last},
+    {"frames-flush", fill_frames, flush_nothing}, {"frames-fault", fill_locked, fault_one},
+    {"frames-open", fill_later, open_and_close} };
 
 int main(int count, char **words) {
     for (size_t i = 0; count == 4 && i < sizeof kinds / sizeof *kinds; i++) {
