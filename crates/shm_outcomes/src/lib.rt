@@ -1,12 +1,15 @@
 //! Every outcome that a script can have, whatever the order of its processes.
 #![tactic(auto)]
 
+mod digest;
 mod engine;
 mod fault;
 mod judging;
+mod keys;
 mod laws;
 mod lines;
 mod log;
+mod masking;
 mod ordered;
 mod outcome;
 mod reading;
@@ -20,6 +23,7 @@ pub use engine::{Engine, EngineError};
 pub use fault::{LogFault, LogFaultKind, LogRefused};
 pub use laws::times_reach_times;
 pub use log::{Answer, Answers, Entry, Log};
+pub use masking::masked_outcomes;
 pub use ordered::judge_log;
 pub use outcome::{Outcome, Told};
 pub use reading::{log_of, read_log};
