@@ -1,5 +1,5 @@
 -- When no run is left to be visited, each schedule's outcome was found.
-use Rattle.std.specs.Prelude.{◌≡◌, ℕ, List, [], ◌∷◌, Some, All, Contains}
+use Rattle.std.specs.Prelude.{◌≡◌, ℕ, List, [], ◌∷◌, Contains}
 use Rattle.std.proofs.Common.{ap, refl, sym, subst, inl, inr}
 use Rattle.std.proofs.lemmas.List.Elements.{All-contains}
 use Rattle.shm_base.specs.State.{Machine}
@@ -7,9 +7,9 @@ use Rattle.shm_base.specs.declared.call.Reply.{Reply}
 use Rattle.shm_text.specs.Script.{ScriptView}
 use Rattle.shm_outcomes.specs.Keys.{Key, key_of}
 use Rattle.shm_outcomes.specs.Outcomes.{outcome_of}
-use Rattle.shm_outcomes.specs.Schedules.{Run, fresh, goes, Leads, IsOver, IsSchedule}
+use Rattle.shm_outcomes.specs.Schedules.{Run, fresh, Leads, IsSchedule}
 use Rattle.shm_outcomes.specs.Search.{AreOutcomes, Finding, IsReached, outcomes_in}
-use Rattle.shm_outcomes.proofs.Going.{GoAlike, alike-go, go-refl, go-sym, go-trans, goes-alike, over-alike}
+use Rattle.shm_outcomes.proofs.Going.{GoAlike, alike-go, go-trans, goes-alike, over-alike}
 use Rattle.shm_outcomes.proofs.Searching.{AreSearched, IsKept, follower-reached}
 use Rattle.shm_outcomes.proofs.Walking.{contains-none}
 

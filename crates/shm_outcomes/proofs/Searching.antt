@@ -11,7 +11,7 @@ use Rattle.shm_base.specs.declared.call.Process.{Process}
 use Rattle.shm_base.specs.declared.call.Reply.{Reply}
 use Rattle.shm_text.specs.Script.{ScriptView}
 use Rattle.shm_outcomes.specs.Keys.{AreOther, IsKeyOf, Key, key_of}
-use Rattle.shm_outcomes.specs.Merging.{IsBeyond, IsCause, IsGoneOn, IsPassed, IsTakenUp, IsVisited}
+use Rattle.shm_outcomes.specs.Merging.{IsBeyond, IsCause, IsTakenUp, IsVisited}
 use Rattle.shm_outcomes.specs.Schedules.{Run, fresh, goes, Leads, IsOver, schedule_of}
 use Rattle.shm_outcomes.specs.Outcomes.{outcome_of}
 use Rattle.shm_outcomes.specs.Search.{Finding, AreDistinct, IsFinding, IsNoted, IsReached, finding_of, followers, one_run, outcome_in, outcomes_in}

@@ -7,7 +7,6 @@ pub mod Masking
 pub mod Text
 pub mod Alike
 pub mod Keys
-pub mod Digest
 pub mod Merging
 pub mod Stuck
 pub mod Judge

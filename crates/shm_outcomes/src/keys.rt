@@ -1,10 +1,8 @@
 //! What a search knows a run by, and the keys that it met.
 ghost use Rattle.std.specs.Prelude.{◌≡◌, ◌↔◌, ◌++◌, ◌∷◌, [], Contains, IfOk, IsTrue, OnOk, length};
 ghost use Rattle.shm_outcomes.specs.Alike.{changes, is_change, looks};
-ghost use Rattle.shm_outcomes.specs.Digest.{digest};
 ghost use Rattle.shm_outcomes.specs.Keys.{key_of};
 
-use crate::digest::{mixed, mixed_pids, mixed_told};
 use crate::engine::{Engine, EngineError};
 use crate::log::is_refusal;
 use crate::outcome::{Outcome, is_same_reply};
@@ -103,13 +101,6 @@ impl Key {
             told,
             changes: changed,
         })
-    }
-
-    fn digest(&self) -> u32
-        ensures { result ≡ digest self.now }
-    {
-        let told = mixed_told(mixed(0, self.count), self.told.told());
-        mixed_pids(told, &self.changes)
     }
 
     fn is_same(&self, other: &Key) -> bool

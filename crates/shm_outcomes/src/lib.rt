@@ -1,7 +1,6 @@
 //! Every outcome that a script can have, whatever the order of its processes.
 #![tactic(auto)]
 
-mod digest;
 mod engine;
 mod fault;
 mod judging;
