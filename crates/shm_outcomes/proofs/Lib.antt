@@ -1,10 +1,11 @@
 pub mod Own
 pub mod Walking
-pub mod Counting
 pub mod Searching
 pub mod Timing
 pub mod Timeless
 pub mod Going
+pub mod Complete
+pub mod Hiding
 pub mod Verdicts
 pub mod Entries
 pub mod Ordering

@@ -1,38 +1,29 @@
 -- The steps of the search.
-use Rattle.std.specs.Prelude.{◌≡◌, ◌≢◌, ◌<◌, ◌≤◌, ℕ, ◌+◌, ◌-◌, ◌⊎◌, List, [], ◌∷◌, ◌++◌, Some, All, Contains, length, sum_by, slice_index_or}
+use Rattle.std.specs.Prelude.{◌≡◌, ◌≢◌, ◌<◌, ◌≤◌, ℕ, suc, ◌+◌, ◌-◌, ◌*◌, ◌⊎◌, List, [], ◌∷◌, ◌++◌, Option, Some, None, All, Contains, length, slice_index_or}
+use Rattle.std.specs.List.{AllPairs}
 use Rattle.std.proofs.Common.{refl, sym, ap, subst, ◌∙◌, arith, inl, inr, length-append}
 use Rattle.std.proofs.lemmas.List.{map-append, get_or_append_left, get_or_push}
-use Rattle.std.proofs.lemmas.List.Elements.{All-append, All-contains, All-push, Contains-append_left, Contains-append_right, Contains-push, Contains-push_cases}
-use Rattle.std.proofs.lemmas.List.Sums.{sum_by-append, sum_by_push}
+use Rattle.std.proofs.lemmas.List.Elements.{All-append, All-contains, All-push, Contains-append_left, Contains-append_right, Contains-get_or, Contains-push, Contains-push_cases}
+use Rattle.std.proofs.lemmas.List.Quantifiers.{all_pairs_push}
 use Rattle.std.proofs.lemmas.Bool.{cases_lt}
 use Rattle.shm_base.specs.State.{Machine}
+use Rattle.shm_base.specs.declared.call.Process.{Process}
 use Rattle.shm_base.specs.declared.call.Reply.{Reply}
 use Rattle.shm_text.specs.Script.{ScriptView}
+use Rattle.shm_outcomes.specs.Keys.{AreOther, IsKeyOf, Key, key_of}
+use Rattle.shm_outcomes.specs.Merging.{IsBeyond, IsCause, IsTakenUp, IsVisited}
 use Rattle.shm_outcomes.specs.Schedules.{Run, fresh, goes, Leads, IsOver, schedule_of}
 use Rattle.shm_outcomes.specs.Outcomes.{outcome_of}
-use Rattle.shm_outcomes.specs.Search.{Finding, AreAhead, AreDistinct, AreOutcomes, IsAhead, IsFinding, IsNoted, IsReached, count_at, count_from, finding_of, followers, outcome_in, outcomes_in}
-use Rattle.shm_outcomes.proofs.Walking.{followers-all, followers-contain, goes-length, goes-schedule, leads-more, none-over, over-none}
-use Rattle.shm_outcomes.proofs.Counting.{count-some, count-step}
-
--- the search so far: these runs are still to be visited, these outcomes were found, so many runs were visited
-pub record AreSearched (script : ScriptView) (first : Run) (most : ℕ) (runs : List Run) (found : List Finding) (visited : ℕ) : Type 0 where
-  pub reached : All (IsReached script first) runs
-  pub sound : All (IsFinding script first) found
-  pub ahead : AreAhead script first runs found
-  pub distinct : AreDistinct (outcomes_in found)
-  pub early : All (λ (r : Run). length r.events ≤ visited) runs
-  pub counted : visited + sum_by (count_at script most) runs ≡ count_from script most first
-
--- what a visit does to the findings
-pub record IsVisited (script : ScriptView) (run : Run) (olds news : List Finding) : Type 0 where
-  pub over : followers script script.processes run ≡ [] → IsNoted olds (finding_of script run.events) news
-  pub goes_on : followers script script.processes run ≢ [] → news ≡ olds
+use Rattle.shm_outcomes.specs.Search.{Finding, AreDistinct, IsFinding, IsNoted, IsReached, finding_of, followers, one_run, outcome_in, outcomes_in}
+use Rattle.shm_outcomes.specs.declared.search.SearchError.{SearchError}
+use Rattle.shm_outcomes.specs.declared.search.SearchError.TheVariants.{Engine, Bound}
+use Rattle.shm_outcomes.proofs.Walking.{followers-all, followers-contain, goes-schedule, leads-more, none-over, over-none}
 
 list-cases : (runs : List Run) → (runs ≡ []) ⊎ (runs ≢ [])
 list-cases [] = inl refl
 list-cases (r ∷ rs) = inr (λ h. (let e : length (r ∷ rs) ≡ 0 = ap length h in omega (arith, e)))
 
-noted-kept :
+pub noted-kept :
     (olds news : List Finding) (f : Finding) → IsNoted olds f news
     → (o : List (List Reply)) → Contains (outcomes_in olds) o → Contains (outcomes_in news) o
 noted-kept olds news f noted o here =
@@ -42,7 +33,7 @@ noted-kept olds news f noted o here =
           rw new.1 (subst (λ (l : List (List (List Reply))). Contains l o) (sym (map-append outcome_in olds (f ∷ []))) (Contains-append_left (outcomes_in olds) (f.outcome ∷ []) o here))
     ]
 
-noted-there : (olds news : List Finding) (f : Finding) → IsNoted olds f news → Contains (outcomes_in news) f.outcome
+pub noted-there : (olds news : List Finding) (f : Finding) → IsNoted olds f news → Contains (outcomes_in news) f.outcome
 noted-there olds news f noted =
     elim noted [
       | inl old ↦ rw old.1 old.0
@@ -71,7 +62,7 @@ distinct-append outcomes new not before i j o ij j-lt at-i at-j =
           not (i, within, subst (λ (x : List (List Reply)). slice_index_or outcomes i x ≡ x) (sym same) first)
     ]
 
-noted-distinct :
+pub noted-distinct :
     (olds news : List Finding) (f : Finding) → IsNoted olds f news → AreDistinct (outcomes_in olds) → AreDistinct (outcomes_in news)
 noted-distinct olds news f noted before =
     elim noted [
@@ -106,32 +97,6 @@ visited-distinct script run olds news visited before =
       | inr some ↦ rw (visited.goes_on some) before
     ]
 
--- from the run that is visited: its schedule has ended, or goes on by one of the followers
-ahead-here :
-    (script : ScriptView) (run : Run) (rest : List Run) (olds news : List Finding) (schedule : List ℕ) (end : Run)
-    → IsVisited script run olds news → IsOver script end → Leads script schedule run end
-    → Contains (outcomes_in news) (outcome_of script end.events) ⊎ IsAhead script (rest ++ followers script script.processes run) end
-ahead-here script run rest olds news [] end visited over h =
-    let none : followers script script.processes run ≡ [] = over-none script run (subst (IsOver script) (sym h) over) in
-    let there = noted-there olds news (finding_of script run.events) (visited.over none) in
-    inl (subst (λ (r : Run). Contains (outcomes_in news) (outcome_of script r.events)) h there)
-ahead-here script run rest olds news (pid ∷ schedule) end visited over h =
-    inr (h.0, schedule, Contains-append_right rest (followers script script.processes run) h.0 (followers-contain script pid run h.0 h.1), h.2)
-
-ahead-visited :
-    (script : ScriptView) (first run : Run) (rest : List Run) (olds news : List Finding)
-    → IsVisited script run olds news → AreAhead script first (rest ++ run ∷ []) olds
-    → AreAhead script first (rest ++ followers script script.processes run) news
-ahead-visited script first run rest olds news visited ahead schedule end is =
-    elim (ahead schedule end is) [
-      | inl known ↦ inl (visited-kept script run olds news visited _ known)
-      | inr left ↦
-          elim (Contains-push_cases rest run left.0 left.2) [
-            | inl there ↦ inr (left.0, left.1, Contains-append_left rest (followers script script.processes run) left.0 there, left.3)
-            | inr here ↦ ahead-here script run rest olds news left.1 end visited is.1 (subst (λ (r : Run). Leads script left.1 r end) (sym here) left.3)
-          ]
-    ]
-
 pub follower-reached :
     (script : ScriptView) (first run : Run) → IsReached script first run
     → (pid : ℕ) (m : Run) → goes script pid run ≡ Some m → IsReached script first m
@@ -146,66 +111,175 @@ rest-of P rest run all k d lt =
     let long : length (rest ++ run ∷ []) ≡ length rest + 1 = length-append rest (run ∷ []) in
     subst P (get_or_append_left rest (run ∷ []) d k lt) (all k d (omega (arith, long, lt)))
 
-pub all-more : (visited : ℕ) (runs : List Run) → All (λ (r : Run). length r.events ≤ visited) runs → All (λ (r : Run). length r.events ≤ visited + 1) runs
-all-more visited runs all k d lt = (let e = all k d lt in omega (arith, e))
+-- THE KEYS THAT WERE MET
 
--- one more visit
-pub visited-more :
-    (script : ScriptView) (first : Run) (most : ℕ) (rest : List Run) (run : Run) (olds news : List Finding) (visited : ℕ)
-    → AreSearched script first most (rest ++ run ∷ []) olds visited → visited < most → IsVisited script run olds news
-    → AreSearched script first most (rest ++ followers script script.processes run) news (visited + 1)
-visited-more script first most rest run olds news visited before lt is =
-    let reached = last-of (IsReached script first) rest run before.reached in
-    let Early : Run → Type 0 = λ (r : Run). length r.events ≤ visited in
-    let early = last-of Early rest run before.early in
-    let step = count-step script most visited run early lt in
-    let olds-sum = sum_by_push (count_at script most) rest run in
-    let news-sum = sum_by-append (count_at script most) rest (followers script script.processes run) in
-    record {
-      reached = All-append (IsReached script first) rest (followers script script.processes run) (rest-of (IsReached script first) rest run before.reached) (followers-all script (IsReached script first) run (follower-reached script first run reached) script.processes);
-      sound = visited-sound script first run olds news is reached before.sound;
-      ahead = ahead-visited script first run rest olds news is before.ahead;
-      distinct = visited-distinct script run olds news is before.distinct;
-      early =
-          All-append (λ (r : Run). length r.events ≤ visited + 1) rest (followers script script.processes run) (all-more visited rest (rest-of Early rest run before.early)) (
-          followers-all script (λ (r : Run). length r.events ≤ visited + 1) run (λ pid m goes. (let e = goes-length script pid run m goes in omega (arith, e, early))) script.processes
-          );
-      counted = omega (arith, before.counted, step, olds-sum, news-sum);
-    }
+apart-more : (seen : List Key) (key : Key) → AllPairs AreOther seen → (Contains seen key → ⊥) → AllPairs AreOther (seen ++ key ∷ [])
+apart-more seen key apart unmet = all_pairs_push AreOther seen key apart (λ k d lt same. unmet (subst (Contains seen) same (Contains-get_or seen k d lt)))
+
+-- a run with this key was visited: if it is over its outcome was found, else its followers were met or are left to be visited
+pub record IsKept (script : ScriptView) (first : Run) (seen : List Key) (runs : List Run) (found : List Finding) (key : Key) : Type 0 where
+  pub run : Run
+  pub reached : IsReached script first run
+  pub is : key ≡ key_of script run
+  pub over : IsOver script run → Contains (outcomes_in found) (outcome_of script run.events)
+  pub onwards : (pid : ℕ) (m : Run) → goes script pid run ≡ Some m → Contains seen (key_of script m) ⊎ Contains runs m
+
+-- the search so far: these keys were met, these runs are still to be visited, these outcomes were found
+pub record AreSearched (script : ScriptView) (first : Run) (seen : List Key) (runs : List Run) (found : List Finding) : Type 0 where
+  pub reached : All (IsReached script first) runs
+  pub sound : All (IsFinding script first) found
+  pub distinct : AreDistinct (outcomes_in found)
+  pub apart : AllPairs AreOther seen
+  pub kept : All (IsKept script first seen runs found) seen
+  pub begun : Contains seen (key_of script first) ⊎ Contains runs first
+
+module _ (script : ScriptView) (first run : Run) (rest : List Run) (seen : List Key) where
+  abbrev all_runs : List Run
+  all_runs = rest ++ run ∷ []
+
+  abbrev own_key : Key
+  own_key = key_of script run
+
+  -- a run that is left is met
+  left : (m : Run) → Contains seen own_key → Contains seen (key_of script m) ⊎ Contains all_runs m → Contains seen (key_of script m) ⊎ Contains rest m
+  left m met (inl there) = inl there
+  left m met (inr offered) =
+      elim (Contains-push_cases rest run m offered) [
+        | inl there ↦ inr there
+        | inr same ↦ inl (subst (λ (r : Run). Contains seen (key_of script r)) same met)
+      ]
+
+  kept-left : (found : List Finding) (key : Key) → Contains seen own_key → IsKept script first seen all_runs found key → IsKept script first seen rest found key
+  kept-left found key met k = record { run = k.run; reached = k.reached; is = k.is; over = k.over; onwards = λ pid m goes. left m met (k.onwards pid m goes) }
+
+  passed : (found : List Finding) → AreSearched script first seen all_runs found → Contains seen own_key → AreSearched script first seen rest found
+  passed found all met =
+      record {
+        reached = rest-of (IsReached script first) rest run all.reached;
+        sound = all.sound;
+        distinct = all.distinct;
+        apart = all.apart;
+        kept = λ k d lt. kept-left found (slice_index_or seen k d) met (all.kept k d lt);
+        begun = left first met all.begun;
+      }
+
+  abbrev news : List Key
+  news = seen ++ own_key ∷ []
+
+  abbrev others : List Run
+  others = rest ++ followers script script.processes run
+
+  -- a run that is visited is met from now on
+  gone : (m : Run) → Contains seen (key_of script m) ⊎ Contains all_runs m → Contains news (key_of script m) ⊎ Contains others m
+  gone m (inl there) = inl (Contains-append_left seen (own_key ∷ []) (key_of script m) there)
+  gone m (inr offered) =
+      elim (Contains-push_cases rest run m offered) [
+        | inl there ↦ inr (Contains-append_left rest (followers script script.processes run) m there)
+        | inr same ↦ inl (subst (λ (r : Run). Contains news (key_of script r)) same (Contains-push seen own_key))
+      ]
+
+  kept-gone : (olds found : List Finding) (key : Key) → IsVisited script run olds found → IsKept script first seen all_runs olds key → IsKept script first news others found key
+  kept-gone olds found key visited k =
+      record {
+        run = k.run;
+        reached = k.reached;
+        is = k.is;
+        over = λ over. visited-kept script run olds found visited (outcome_of script k.run.events) (k.over over);
+        onwards = λ pid m goes. gone m (k.onwards pid m goes);
+      }
+
+  kept-own : (olds found : List Finding) → IsVisited script run olds found → IsReached script first run → IsKept script first news others found own_key
+  kept-own olds found visited reached =
+      record {
+        run = run;
+        reached = reached;
+        is = refl;
+        over = λ over. noted-there olds found (finding_of script run.events) (visited.over (over-none script run over));
+        onwards = λ pid m goes. inr (Contains-append_right rest (followers script script.processes run) m (followers-contain script pid run m goes));
+      }
+
+  gone-on : (olds found : List Finding) → AreSearched script first seen all_runs olds → (Contains seen own_key → ⊥) → IsVisited script run olds found → AreSearched script first news others found
+  gone-on olds found all unmet visited =
+      let reached = last-of (IsReached script first) rest run all.reached in
+      let P : Key → Type 0 = IsKept script first news others found in
+      record {
+        reached = All-append (IsReached script first) rest (followers script script.processes run) (rest-of (IsReached script first) rest run all.reached) (followers-all script (IsReached script first) run (follower-reached script first run reached) script.processes);
+        sound = visited-sound script first run olds found visited reached all.sound;
+        distinct = visited-distinct script run olds found visited all.distinct;
+        apart = apart-more seen own_key all.apart unmet;
+        kept = All-push P seen own_key (λ k d lt. kept-gone olds found (slice_index_or seen k d) visited (all.kept k d lt)) (kept-own olds found visited reached);
+        begun = gone first all.begun;
+      }
+
+  -- at the bound
+  pub beyond : (found : List Finding) (most : ℕ) (error : SearchError) → AreSearched script first seen all_runs found → IsBeyond script run seen most error → IsCause script first most error
+  beyond found most (Engine e) all h = tt
+  beyond found most Bound all h = (
+    news,
+    (let e = length-append seen (own_key ∷ []) in omega (arith, e, h.1)),
+    All-push (IsKeyOf script first) seen own_key (λ k d lt. (let x = all.kept k d lt in (x.run, x.reached, x.is))) (run, last-of (IsReached script first) rest run all.reached, refl),
+    apart-more seen own_key all.apart h.0,
+  )
+
+-- one run more was taken up
+pub taken-up :
+    (script : ScriptView) (first run : Run) (rest others : List Run) (seen news : List Key) (olds found : List Finding)
+    → AreSearched script first seen (rest ++ run ∷ []) olds → IsTakenUp script run seen news rest others olds found → AreSearched script first news others found
+taken-up script first run rest others seen news olds found all (inl left) = rw (left.seen, left.runs, left.found) (passed script first run rest seen olds all left.met)
+taken-up script first run rest others seen news olds found all (inr on) = rw (on.seen, on.runs) (gone-on script first run rest seen olds found all on.unmet on.found)
+
+-- a run has at most a follower for each process
+few-followers : (script : ScriptView) (run : Run) (ps : List Process) → length (followers script ps run) ≤ length ps
+few-followers script run [] = omega arith
+few-followers script run (p ∷ ps) =
+    let rest = few-followers script run ps in
+    let one = few-one (goes script p.pid run) in
+    let all = length-append (one_run (goes script p.pid run)) (followers script ps run) in
+    omega (arith, rest, one, all)
+  where
+    few-one : (o : Option Run) → length (one_run o) ≤ 1
+    few-one None = omega arith
+    few-one (Some m) = omega arith
+
+-- a run less is left, or a key more was met
+pub fewer-left :
+    (script : ScriptView) (run : Run) (rest others : List Run) (seen news : List Key) (olds found : List Finding)
+    → IsTakenUp script run seen news rest others olds found
+    → ((length news ≡ length seen) × (length others ≡ length rest)) ⊎ ((length news ≡ length seen + 1) × (length others ≤ length rest + length script.processes))
+fewer-left script run rest others seen news olds found (inl left) = inl (ap (λ (l : List Key). length l) left.seen, ap (λ (l : List Run). length l) left.runs)
+fewer-left script run rest others seen news olds found (inr on) =
+    let more = length-append seen (key_of script run ∷ []) in
+    let all = length-append rest (followers script script.processes run) in
+    let few = few-followers script run script.processes in
+    inr (ap (λ (l : List Key). length l) on.seen ∙ more, (let e = ap (λ (l : List Run). length l) on.runs in omega (arith, e, all, few)))
+
+-- what is left to do: so many keys may still be met, each with the followers of its run, and so many runs are left
+abbrev pub left_of : ℕ → ℕ → ℕ → ℕ → ℕ
+left_of most met runs processes = (most - met) * (processes + 1) + runs
+
+more-keys : (k p : ℕ) → suc k * (p + 1) ≡ k * (p + 1) + (p + 1)
+more-keys k p = grind arith
+
+pub less-left :
+    (most met now_met runs rest others processes : ℕ) → runs ≡ rest + 1 → now_met ≤ most
+    → ((now_met ≡ met) × (others ≡ rest)) ⊎ ((now_met ≡ met + 1) × (others ≤ rest + processes))
+    → left_of most now_met others processes < left_of most met runs processes
+less-left most met now_met runs rest others processes was few (inl left) = rw (left.0, left.1) (omega (arith, was))
+less-left most met now_met runs rest others processes was few (inr on) =
+    let k : ℕ = most - now_met in
+    let is : most - met ≡ suc k = (let e = on.0 in omega (arith, e, few)) in
+    let times : (most - met) * (processes + 1) ≡ k * (processes + 1) + (processes + 1) = ap (λ (n : ℕ). n * (processes + 1)) is ∙ more-keys k processes in
+    let e = on.1 in
+    omega (arith, times, was, e)
 
 -- before the first visit
-pub searched-first : (script : ScriptView) (machine : Machine) (most : ℕ) → AreSearched script (fresh machine) most (fresh machine ∷ []) [] 0
-searched-first script machine most =
+pub searched-first : (script : ScriptView) (machine : Machine) → AreSearched script (fresh machine) [] (fresh machine ∷ []) []
+searched-first script machine =
     record {
       reached = All-push (IsReached script (fresh machine)) [] (fresh machine) (λ k d lt. absurd (omega (arith, lt))) refl;
       sound = λ k d lt. absurd (omega (arith, lt));
-      ahead = λ schedule end is. inr (fresh machine, schedule, (0, omega arith, refl), is.0);
       distinct = λ i j o ij j-lt at-i at-j. omega (arith, j-lt);
-      early = λ k d lt. (let e : k ≡ 0 = omega (arith, lt) in rw e (omega arith));
-      counted = (let e : most - 0 ≡ most = omega arith in grind (arith, e));
+      apart = λ i j d ij none. absurd (omega (arith, none));
+      kept = λ k d lt. absurd (omega (arith, lt));
+      begun = inr (0, omega arith, refl);
     }
-
--- after the last visit
-pub searched-all :
-    (script : ScriptView) (first : Run) (most : ℕ) (found : List Finding) (visited : ℕ)
-    → AreSearched script first most [] found visited → AreOutcomes script first found
-searched-all script first most found visited all =
-    record {
-      sound = all.sound;
-      complete =
-          λ schedule end is.
-          elim (all.ahead schedule end is) [
-            | inl known ↦ known
-            | inr left ↦ absurd (omega (arith, left.2.1))
-          ];
-      distinct = all.distinct;
-    }
-
--- where a run is left, there are more schedules than were visited
-pub searched-more :
-    (script : ScriptView) (first : Run) (most : ℕ) (rest : List Run) (run : Run) (found : List Finding) (visited : ℕ)
-    → AreSearched script first most (rest ++ run ∷ []) found visited → visited < count_from script most first
-searched-more script first most rest run found visited all =
-    let some = count-some script (most - length run.events) run in
-    let sum = sum_by_push (count_at script most) rest run in
-    omega (arith, all.counted, some, sum)

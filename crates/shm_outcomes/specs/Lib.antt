@@ -3,8 +3,11 @@ pub mod Outcomes
 pub mod Times
 pub mod Search
 pub mod Logs
+pub mod Masking
 pub mod Text
 pub mod Alike
+pub mod Keys
+pub mod Merging
 pub mod Stuck
 pub mod Judge
 pub mod Reading

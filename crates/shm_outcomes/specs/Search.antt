@@ -1,14 +1,11 @@
 -- What a search over all schedules has found so far.
-use Rattle.std.specs.Prelude.{◌≡◌, ◌⊎◌, ◌<◌, ◌-◌, ◌+◌, ℕ, List, [], ◌∷◌, ◌++◌, map, All, Contains, length, sum_by, flat_map, Option, Some, None, slice_index_or}
+use Rattle.std.specs.Prelude.{◌≡◌, ◌⊎◌, ◌<◌, ℕ, List, [], ◌∷◌, ◌++◌, map, All, Contains, length, flat_map, Option, Some, None, slice_index_or}
 use Rattle.shm_base.specs.declared.call.Event.{Event}
 use Rattle.shm_base.specs.declared.call.Process.{Process}
 use Rattle.shm_base.specs.declared.call.Reply.{Reply}
 use Rattle.shm_text.specs.Script.{ScriptView}
 use Rattle.shm_outcomes.specs.Schedules.{Run, goes, Leads, IsSchedule, schedule_of}
 use Rattle.shm_outcomes.specs.Outcomes.{outcome_of}
-use Rattle.shm_outcomes.specs.declared.search.SearchError.{SearchError}
-use Rattle.shm_outcomes.specs.declared.search.SearchError.TheVariants.{Engine, Bound}
-use Prim.Native.Nat.{zero, suc}
 
 -- an outcome with a run that has it
 pub record Finding : Type 0 where
@@ -57,29 +54,6 @@ one_run (Some run) = run ∷ []
 abbrev pub followers : ScriptView → List Process → Run → List Run
 followers script processes run = flat_map (λ (p : Process). one_run (goes script p.pid run)) processes
 
--- how many schedules of at most so many lines go on from a run, the empty one among them
-abbrev pub count_from : ScriptView → ℕ → Run → ℕ
-count_from script zero run = 1
-count_from script (suc most) run = 1 + sum_by (count_from script most) (followers script script.processes run)
-
--- why a search has no answer: at the bound there are more schedules, those that end early among them
-abbrev pub IsCause : ScriptView → Run → ℕ → SearchError → Type 0
-IsCause script first most (Engine e) = Unit {0}
-IsCause script first most Bound = most < count_from script most first
-
--- a schedule's end is found, or still to be reached from one of these runs
-abbrev pub IsAhead : ScriptView → List Run → Run → Type 0
-IsAhead script runs end = (run : Run) × (schedule : List ℕ) × Contains runs run × Leads script schedule run end
-
-abbrev pub AreAhead : ScriptView → Run → List Run → List Finding → Type 0
-AreAhead script first runs found =
-    (schedule : List ℕ) (end : Run)
-    → IsSchedule script first schedule end → Contains (outcomes_in found) (outcome_of script end.events) ⊎ IsAhead script runs end
-
 -- the run comes of the schedule that its events name
 abbrev pub IsReached : ScriptView → Run → Run → Type 0
 IsReached script first run = Leads script (schedule_of run.events) first run
-
--- how many schedules go on from a run, within the most lines of all
-abbrev pub count_at : ScriptView → ℕ → Run → ℕ
-count_at script most run = count_from script (most - length run.events) run

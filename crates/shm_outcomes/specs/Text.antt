@@ -1,5 +1,5 @@
 -- What is printed of outcomes.
-use Rattle.std.specs.Prelude.{ℕ, ◌+◌, ◌-◌, ◌==◌, if◌then◌else◌, List, [], ◌∷◌, ◌++◌, codes, drop, take, flat_map, length}
+use Rattle.std.specs.Prelude.{ℕ, Bool, true, false, ◌+◌, ◌-◌, ◌==◌, if◌then◌else◌, List, [], ◌∷◌, ◌++◌, codes, drop, take, flat_map, length}
 use Rattle.std.specs.Fmt.{decimal}
 use Rattle.shm_base.specs.History.{own_part}
 use Rattle.shm_base.specs.declared.call.Event.{Event}
@@ -39,14 +39,25 @@ line_by e _ = placeless e
 abbrev pub line_text : Event → List ℕ
 line_text e = line_by e e.reply
 
+-- the same where an identifier or an address is not to be seen: a question mark is in its place
+abbrev pub masked_by : Event → Reply → List ℕ
+masked_by e (replies.Id id) = without_last (length (reply_text (replies.Id id)) + 1) (placeless e) ++ codes "?\n"
+masked_by e (replies.Addr addr) = without_last (length (reply_text (replies.Addr addr)) + 1) (placeless e) ++ codes "?\n"
+masked_by e reply = line_text e
+
+-- a line, with its identifier and address or without
+abbrev pub line_as : Bool → Event → List ℕ
+line_as true e = masked_by e e.reply
+line_as false e = line_text e
+
 -- the words of a reply; of what stat shows, the times, with zeros 24 bytes, are as above
 abbrev pub reply_words : Reply → List ℕ
 reply_words (replies.Stat ds) = without_last 24 (reply_text (replies.Stat (without_times ds))) ++ times_text ds
 reply_words reply = reply_text reply
 
 -- the lines of one process
-abbrev pub process_text : List Event → Process → List ℕ
-process_text events p = flat_map line_text (own_part p.pid events)
+abbrev pub process_text : Bool → List Event → Process → List ℕ
+process_text masks events p = flat_map (line_as masks) (own_part p.pid events)
 
 abbrev pub pid_text : ℕ → List ℕ
 pid_text pid = codes " " ++ decimal pid
@@ -56,15 +67,15 @@ abbrev pub schedule_text : List Event → List ℕ
 schedule_text events = codes "schedule" ++ (flat_map pid_text (schedule_of events) ++ codes "\n")
 
 -- an outcome: its number, the lines of each process, and a schedule that has it
-abbrev pub finding_text : ScriptView → ℕ → Finding → List ℕ
-finding_text script n f =
-    codes "outcome " ++ (decimal n ++ (codes "\n" ++ (flat_map (process_text f.events) script.processes ++ schedule_text f.events)))
+abbrev pub finding_text : Bool → ScriptView → ℕ → Finding → List ℕ
+finding_text masks script n f =
+    codes "outcome " ++ (decimal n ++ (codes "\n" ++ (flat_map (process_text masks f.events) script.processes ++ schedule_text f.events)))
 
 -- the outcomes from a number on
-abbrev pub findings_text : ScriptView → ℕ → List Finding → List ℕ
-findings_text script n [] = []
-findings_text script n (f ∷ found) = finding_text script n f ++ findings_text script (n + 1) found
+abbrev pub findings_text : Bool → ScriptView → ℕ → List Finding → List ℕ
+findings_text masks script n [] = []
+findings_text masks script n (f ∷ found) = finding_text masks script n f ++ findings_text masks script (n + 1) found
 
 -- all outcomes, and how many there are
-abbrev pub outcomes_text : ScriptView → List Finding → List ℕ
-outcomes_text script found = findings_text script 1 found ++ (codes "outcomes " ++ (decimal (length found) ++ codes "\n"))
+abbrev pub outcomes_text : Bool → ScriptView → List Finding → List ℕ
+outcomes_text masks script found = findings_text masks script 1 found ++ (codes "outcomes " ++ (decimal (length found) ++ codes "\n"))

@@ -1,7 +1,7 @@
 //! The judge: a search for a schedule that has the replies of a log. It goes on from a run only if its replies begin the log,
 //! and if none like it was met.
 ghost use Rattle.std.specs.Prelude.{◌≡◌, ◌≢◌, ◌++◌, ◌∷◌, [], ◌↔◌, ◌⊎◌, ◌+◌, ◌<◌, ◌≤◌, ℕ, IfErr, IfOk, IsTrue, OnOk, length};
-ghost use Rattle.shm_outcomes.specs.Alike.{AreAlike, changes, is_change, looks};
+ghost use Rattle.shm_outcomes.specs.Alike.{AreAlike};
 ghost use Rattle.shm_outcomes.specs.Judge.{AreSeen, IsDoubt, IsLonger, IsMet, IsRight, IsTaken, IsTooMany, newest, stuck_at};
 ghost use Rattle.shm_outcomes.specs.Logs.{AllFill};
 ghost use Rattle.shm_outcomes.specs.Schedules.{fresh};
@@ -9,69 +9,14 @@ ghost use Rattle.shm_base.specs.State.{Machine};
 ghost use Rattle.shm_outcomes.specs.Search.{finding_of};
 
 use crate::engine::{Engine, EngineError};
-use crate::log::{Log, is_refusal};
-use crate::outcome::{Outcome, is_same_reply};
+use crate::keys::{are_same_events, changes};
+use crate::log::Log;
+use crate::outcome::Outcome;
 use crate::search::{Finding, Node, SearchError, push_followers};
 use crate::verdict::{Stuck, Verdict};
-use shm_base::{Call, Event};
+use shm_base::Event;
 use shm_text::Script;
 use std::alloc::Global;
-
-fn looks(call: &Call) -> bool
-    ensures { result ≡ looks call.now }
-{
-    match call {
-        Call::Load { .. } | Call::Stat { .. } => true,
-        _ => false,
-    }
-}
-
-fn is_change(event: &Event) -> bool
-    ensures { result ≡ is_change event.now }
-{
-    !is_refusal(&event.reply) && !looks(&event.call)
-}
-
-// The calls that may have changed the machine.
-fn changes(alloc: Global, events: &[Event]) -> Result<Vec<Event>, EngineError>
-    ensures { IfOk result (λ v. v.items ≡ changes events.now) }
-{
-    let mut found = Vec::new(alloc);
-    for event in events {
-        if is_change(event) {
-            found.push(*event)?;
-        }
-    }
-    Ok(found)
-}
-
-fn is_same_call(call: &Call, other: &Call) -> bool
-    ensures { IsTrue result ↔ call.now ≡ other.now }
-{
-    call == other
-}
-
-fn is_same_event(event: &Event, other: &Event) -> bool
-    ensures { IsTrue result ↔ event.now ≡ other.now }
-{
-    event.pid == other.pid
-        && is_same_call(&event.call, &other.call)
-        && is_same_reply(&event.reply, &other.reply)
-}
-
-fn are_same_events(events: &[Event], others: &[Event]) -> bool
-    ensures { IsTrue result ↔ events.now ≡ others.now }
-{
-    if events.len() != others.len() {
-        return false;
-    }
-    for (index, event) in events.iter().enumerate() {
-        if !is_same_event(event, &others[index]) {
-            return false;
-        }
-    }
-    true
-}
 
 // Whether two runs are alike.
 fn are_alike(alloc: Global, finding: &Finding, other: &Finding) -> Result<bool, EngineError>

@@ -2,6 +2,7 @@
 ghost use Rattle.std.specs.Prelude.{◌≡◌, ◌↔◌, IfOk, IsTrue, List, map};
 ghost use Rattle.shm_base.specs.declared.call.Process.{Process as FlatProcess};
 ghost use Rattle.shm_base.specs.declared.call.Reply.{Reply as FlatReply};
+ghost use Rattle.shm_outcomes.specs.Masking.{hidden, hidden_outcome};
 ghost use Rattle.shm_outcomes.specs.Outcomes.{masked, masked_ds, masked_time, told, outcome_of};
 
 use shm_base::{Event, Process, Reply, ShmidDs};
@@ -41,6 +42,26 @@ pub(crate) fn masked(reply: &Reply) -> Reply
     }
 }
 
+fn hidden(reply: &Reply) -> Reply
+    ensures { result ≡ hidden reply.now }
+{
+    match reply {
+        Reply::Id(_) => Reply::Id(0),
+        Reply::Addr(_) => Reply::Addr(0),
+        _ => *reply,
+    }
+}
+
+fn hidden_replies(alloc: Global, replies: &[Reply]) -> Result<Vec<Reply>, AllocError>
+    ensures { IfOk result (λ v. v.items ≡ map hidden replies.now) }
+{
+    let mut all = Vec::new(alloc);
+    for reply in replies {
+        all.push(hidden(reply))?;
+    }
+    Ok(all)
+}
+
 /// The replies to one process, in order. A time is 0, or 1 where it is set.
 #[derive(Drop)]
 pub struct Told {
@@ -62,6 +83,14 @@ impl Told {
         ensures { result.now ≡ self.now }
     {
         self.replies.as_slice()
+    }
+
+    // The same without identifiers and addresses.
+    fn hidden(&self, alloc: Global) -> Result<Told, AllocError>
+        ensures { IfOk result (λ t. t ≡ map hidden self.now) }
+    {
+        let replies = hidden_replies(alloc, &self.replies)?;
+        Ok(Told { replies })
     }
 
     fn is_same(&self, other: &Told) -> bool
@@ -133,6 +162,17 @@ fn are_same_told(told: &[Told], others: &[Told]) -> bool
     true
 }
 
+fn hidden_told(alloc: Global, told: &[Told]) -> Result<Vec<Told>, AllocError>
+    ensures { IfOk result (λ v. v.items ≡ hidden_outcome told.now) }
+{
+    let mut all = Vec::new(alloc);
+    for one in told {
+        let one = one.hidden(alloc)?;
+        all.push(one)?;
+    }
+    Ok(all)
+}
+
 impl Outcome {
     /// What each process is told.
     pub fn told(&self) -> &[Told]
@@ -155,6 +195,14 @@ impl Outcome {
             all.push(one)?;
         }
         Ok(Outcome { told: all })
+    }
+
+    // The same without identifiers and addresses.
+    pub(crate) fn hidden(&self, alloc: Global) -> Result<Outcome, AllocError>
+        ensures { IfOk result (λ o. o ≡ hidden_outcome self.now) }
+    {
+        let told = hidden_told(alloc, &self.told)?;
+        Ok(Outcome { told })
     }
 
     pub(crate) fn is_same(&self, other: &Outcome) -> bool

@@ -1,12 +1,14 @@
-//! The search: it goes on from each run by each process that can, depth first.
-ghost use Rattle.std.specs.Prelude.{◌≡◌, ◌≢◌, ◌++◌, ◌∷◌, [], ◌↔◌, ◌⊎◌, ◌<◌, ◌≤◌, ℕ, Contains, IfErr, IfOk, IsTrue, OnOk, Some, None};
+//! The search: it goes on from each run by each process that can, depth first, but only once from runs with one key.
+ghost use Rattle.std.specs.Prelude.{◌≡◌, ◌≢◌, ◌++◌, [], ◌↔◌, ◌⊎◌, ◌≤◌, Contains, IfErr, IfOk, IsTrue, OnOk, length};
 ghost use Rattle.shm_outcomes.specs.Schedules.{after, fresh, goes, next};
 ghost use Rattle.shm_outcomes.specs.Outcomes.{outcome_of};
-ghost use Rattle.shm_outcomes.specs.Search.{AreOutcomes, IsCause, IsNoted, count_from, finding_of, followers, one_run, outcomes_in};
+ghost use Rattle.shm_outcomes.specs.Search.{AreOutcomes, IsNoted, finding_of, followers, one_run, outcomes_in};
+ghost use Rattle.shm_outcomes.specs.Merging.{IsBeyond, IsCause, IsTakenUp};
 ghost use Rattle.shm_outcomes.specs.declared.search.SearchError.TheVariants.{Engine};
 ghost use Rattle.shm_outcomes.specs.declared.engine.EngineError.TheVariants.{HostMemory};
 
 use crate::engine::{Engine, EngineError};
+use crate::keys::{Key, Seen};
 use crate::lines::next_call;
 use crate::outcome::Outcome;
 use shm_base::{Call, Event, Process, has_pid};
@@ -19,7 +21,7 @@ use std::marker::Model;
 pub enum SearchError {
     /// The machine gave no reply, or memory ran out.
     Engine(EngineError),
-    /// There are more schedules than the bound, those that end early among them.
+    /// There are more runs than the bound, beginnings of schedules among them, of which no two are alike.
     Bound,
 }
 
@@ -157,8 +159,8 @@ impl<M: Engine> Node<M> {
     }
 }
 
-/// Every outcome of a script, each once, with a run that has it. The machine has answered no call yet. The search looks at
-/// `most` schedules at most, those that end early among them.
+/// Every outcome of a script, each once, with a run that has it. The machine has answered no call yet. The search goes on from
+/// at most `most` runs, of which no two are alike.
 pub fn outcomes<M: Engine>(
     alloc: Global,
     script: &Script,
@@ -167,21 +169,46 @@ pub fn outcomes<M: Engine>(
 ) -> Result<Vec<Finding>, SearchError>
     requires new { M.calls machine ≡ 0 }
     ensures ok { IfOk result (λ found. AreOutcomes script.now (fresh (M.flat machine)) found.items) }
-    ensures within { OnOk result (count_from script.now most (fresh (M.flat machine)) ≤ most) }
     ensures err { IfErr result (IsCause script.now (fresh (M.flat machine)) most) }
 {
     let mut found = Vec::new(alloc);
+    let mut seen = Seen::new(alloc);
     let mut runs = Vec::new(alloc);
     runs.push(Node::first(alloc, machine))?;
-    let mut visited = 0u64;
     'runs: while let Some(run) = runs.pop() {
-        if visited >= most {
-            return Err(SearchError::Bound);
+        if let Err(error) = take_up(alloc, script, most, &run, &mut runs, &mut seen, &mut found) {
+            return Err(error);
         }
-        visited += 1;
-        visit(alloc, script, &run, &mut runs, &mut found)?;
     }
     Ok(found)
+}
+
+// Visits a run, unless its key was met.
+fn take_up<M: Engine>(
+    alloc: Global,
+    script: &Script,
+    most: u64,
+    run: &Node<M>,
+    runs: &mut Vec<Node<M>>,
+    seen: &mut Seen,
+    found: &mut Vec<Finding>,
+) -> Result<(), SearchError>
+    requires few { length seen.old ≤ most }
+    ensures taken { OnOk result (
+        IsTakenUp script.now run.now seen.old seen.new runs.old.items runs.new.items found.old.items found.new.items) }
+    ensures few { OnOk result (length seen.new ≤ most) }
+    ensures err { IfErr result (IsBeyond script.now run.now seen.old most) }
+{
+    let key = Key::of(alloc, script, run)?;
+    if seen.has(&key) {
+        return Ok(());
+    }
+    if seen.count() >= most {
+        return Err(SearchError::Bound);
+    }
+    seen.push(key)?;
+    visit(alloc, script, run, runs, found)?;
+    Ok(())
 }
 
 // Goes on from a run by each process that can; if none can, its outcome is noted.
@@ -199,7 +226,8 @@ fn visit<M: Engine>(
     let before = runs.len();
     push_followers(alloc, script, run, runs)?;
     if runs.len() == before {
-        note(alloc, script, &run.events, found)?;
+        let outcome = Outcome::of(alloc, script, &run.events)?;
+        note(alloc, &run.events, outcome, found)?;
     }
     Ok(())
 }
@@ -237,16 +265,15 @@ fn push_follower<M: Engine>(
     Ok(())
 }
 
-// Notes the outcome of a whole run, unless it is there.
-fn note(
+// Notes an outcome with a run that has it, unless it is there.
+pub(crate) fn note(
     alloc: Global,
-    script: &Script,
     events: &[Event],
+    outcome: Outcome,
     found: &mut Vec<Finding>,
-) -> Result<(), EngineError>
-    ensures { OnOk result (IsNoted found.old.items (finding_of script.now events.now) found.new.items) }
+) -> Result<(), AllocError>
+    ensures { OnOk result (IsNoted found.old.items (record { events = events.now; outcome = outcome }) found.new.items) }
 {
-    let outcome = Outcome::of(alloc, script, events)?;
     if is_known(found, &outcome) {
         return Ok(());
     }

@@ -1,9 +1,10 @@
 //! The printed text of outcomes.
-ghost use Rattle.std.specs.Prelude.{◌≡◌, ◌++◌, codes, drop, flat_map, OnOk, IfOk};
+ghost use Rattle.std.specs.Prelude.{◌≡◌, ◌+◌, ◌++◌, codes, drop, flat_map, length, OnOk, IfOk};
+ghost use Rattle.shm_print.specs.Text.{reply_text};
 ghost use Rattle.std.specs.Fmt.{decimal};
 ghost use Rattle.shm_base.specs.declared.call.Reply.TheVariants as replies;
 ghost use Rattle.shm_outcomes.specs.Schedules.{schedule_of};
-ghost use Rattle.shm_outcomes.specs.Text.{finding_text, line_by, line_text, outcomes_text, pid_text, process_text, reply_words, schedule_text, time_text, times_text, without_last, without_times};
+ghost use Rattle.shm_outcomes.specs.Text.{finding_text, line_as, line_by, line_text, placeless, outcomes_text, pid_text, process_text, reply_words, schedule_text, time_text, times_text, without_last, without_times};
 
 use crate::search::Finding;
 use shm_base::{Event, Process, Reply, ShmidDs};
@@ -18,7 +19,7 @@ pub(crate) fn put(text: &mut Vec<u8>, bytes: &[u8]) -> Result<(), AllocError>
     text.extend_from_slice(bytes)
 }
 
-fn put_number(alloc: Global, text: &mut Vec<u8>, number: u64) -> Result<(), AllocError>
+pub(crate) fn put_number(alloc: Global, text: &mut Vec<u8>, number: u64) -> Result<(), AllocError>
     ensures { OnOk result (text.new.items ≡ text.old.items ++ decimal number) }
 {
     let digits = format!(in alloc; "{number}")?;
@@ -128,17 +129,48 @@ pub(crate) fn put_line(alloc: Global, text: &mut Vec<u8>, event: &Event) -> Resu
     }
 }
 
+// Puts the line of a call whose reply is not to be seen.
+fn put_masked(alloc: Global, text: &mut Vec<u8>, event: &Event) -> Result<(), AllocError>
+    ensures { OnOk result (text.new.items ≡ text.old.items
+        ++ (without_last (length (reply_text event.now.reply) + 1) (placeless event.now) ++ codes "?\n")) }
+{
+    let line = event_text(alloc, 1, event)?;
+    let reply = reply_text(alloc, &event.reply)?;
+    let end = reply.as_bytes().len() + 1;
+    put(text, without_last(end, behind(line.as_bytes(), 2)))?;
+    put(text, b"?\n")
+}
+
+// Puts the line of a call, with its identifier or address or without.
+fn put_line_as(
+    alloc: Global,
+    text: &mut Vec<u8>,
+    masks: bool,
+    event: &Event,
+) -> Result<(), AllocError>
+    ensures { OnOk result (text.new.items ≡ text.old.items ++ line_as masks event.now) }
+{
+    if !masks {
+        return put_line(alloc, text, event);
+    }
+    match &event.reply {
+        Reply::Id(_) | Reply::Addr(_) => put_masked(alloc, text, event),
+        _ => put_line(alloc, text, event),
+    }
+}
+
 fn put_process(
     alloc: Global,
     text: &mut Vec<u8>,
+    masks: bool,
     events: &[Event],
     process: &Process,
 ) -> Result<(), AllocError>
-    ensures { OnOk result (text.new.items ≡ text.old.items ++ process_text events.now process.now) }
+    ensures { OnOk result (text.new.items ≡ text.old.items ++ process_text masks events.now process.now) }
 {
     for event in events {
         if event.pid == process.pid {
-            put_line(alloc, text, event)?;
+            put_line_as(alloc, text, masks, event)?;
         }
     }
     Ok(())
@@ -166,13 +198,14 @@ pub fn put_schedule(alloc: Global, text: &mut Vec<u8>, events: &[Event]) -> Resu
 fn put_processes(
     alloc: Global,
     text: &mut Vec<u8>,
+    masks: bool,
     script: &Script,
     events: &[Event],
 ) -> Result<(), AllocError>
-    ensures { OnOk result (text.new.items ≡ text.old.items ++ flat_map (process_text events.now) script.now.processes) }
+    ensures { OnOk result (text.new.items ≡ text.old.items ++ flat_map (process_text masks events.now) script.now.processes) }
 {
     for process in &script.processes {
-        put_process(alloc, text, events, process)?;
+        put_process(alloc, text, masks, events, process)?;
     }
     Ok(())
 }
@@ -180,31 +213,33 @@ fn put_processes(
 fn put_finding(
     alloc: Global,
     text: &mut Vec<u8>,
+    masks: bool,
     script: &Script,
     number: u64,
     finding: &Finding,
 ) -> Result<(), AllocError>
-    ensures { OnOk result (text.new.items ≡ text.old.items ++ finding_text script.now number finding.now) }
+    ensures { OnOk result (text.new.items ≡ text.old.items ++ finding_text masks script.now number finding.now) }
 {
     put(text, b"outcome ")?;
     put_number(alloc, text, number)?;
     put(text, b"\n")?;
-    put_processes(alloc, text, script, &finding.events)?;
+    put_processes(alloc, text, masks, script, &finding.events)?;
     put_schedule(alloc, text, &finding.events)
 }
 
-/// The text of all outcomes, and how many there are.
+/// The text of all outcomes, and how many there are. A question mark may stand for each identifier and each address.
 pub fn outcomes_text(
     alloc: Global,
+    masks: bool,
     script: &Script,
     found: &[Finding],
 ) -> Result<Vec<u8>, AllocError>
-    ensures { IfOk result (λ text. text.items ≡ outcomes_text script.now found.now) }
+    ensures { IfOk result (λ text. text.items ≡ outcomes_text masks script.now found.now) }
 {
     let mut text = Vec::new(alloc);
     let mut number = 1u64;
     for finding in found {
-        put_finding(alloc, &mut text, script, number, finding)?;
+        put_finding(alloc, &mut text, masks, script, number, finding)?;
         number += 1;
     }
     put(&mut text, b"outcomes ")?;

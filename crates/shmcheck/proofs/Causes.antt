@@ -1,13 +1,17 @@
 -- The cause of a search without an answer is that of the program's stop.
-use Rattle.std.specs.Prelude.{◌≡◌, ℕ, List}
-use Rattle.std.proofs.Common.{subst}
+use Rattle.std.specs.Prelude.{◌≡◌, ℕ, Bool, true, false, List}
+use Rattle.std.proofs.Common.{subst, sym}
 use Rattle.shm_base.specs.State.{Machine}
 use Rattle.shm_text.specs.Script.{ScriptView}
 use Rattle.shm_outcomes.specs.declared.engine.EngineError.TheVariants as engines
 use Rattle.shm_outcomes.specs.declared.search.SearchError.{SearchError}
 use Rattle.shm_outcomes.specs.declared.search.SearchError.TheVariants.{Engine, Bound}
-use Rattle.shm_outcomes.specs.Schedules.{fresh, start}
-use Rattle.shm_outcomes.specs.Search.{IsCause}
+use Rattle.shm_outcomes.specs.Masking.{AreMaskedOutcomes}
+use Rattle.shm_outcomes.specs.Schedules.{Run, fresh, start}
+use Rattle.shm_outcomes.specs.Search.{AreOutcomes, Finding}
+use Rattle.shm_outcomes.specs.Text.{outcomes_text}
+use Rattle.shmcheck.specs.Printed.{IsTextOf}
+use Rattle.shm_outcomes.specs.Merging.{IsCause}
 use Rattle.shmcheck.specs.Stop.{IsCauseIn, stop_of}
 
 from-first : (script : ScriptView) (areas : List ℕ) (most : ℕ) (error : SearchError) → IsCause script (start script areas) most error → IsCauseIn (stop_of error most) areas script
@@ -20,3 +24,19 @@ pub cause_stop :
     → machine ≡ (start script areas).machine → IsCause script (fresh machine) most error → IsCauseIn (stop_of error most) areas script
 cause_stop script areas machine most error is h =
     from-first script areas most error (subst (λ (m : Machine). IsCause script (fresh m) most error) is h)
+
+-- what is listed without identifiers and addresses
+pub masked-text :
+    (masked : Bool) (script : ScriptView) (first : Run) (others : List Finding) (text : List ℕ)
+    → masked ≡ true → AreMaskedOutcomes script first others → text ≡ outcomes_text true script others → IsTextOf masked script first text
+masked-text true script first others text on are is = (others, are, is)
+masked-text false script first others text on are is = absurd (cc)
+
+-- the text of the outcomes that a search from the machine found
+pub listed :
+    (masked : Bool) (script : ScriptView) (areas : List ℕ) (machine : Machine) (found shown : List Finding) (text : List ℕ)
+    → machine ≡ (start script areas).machine → shown ≡ found → AreOutcomes script (fresh machine) found
+    → ((first : Run) → AreOutcomes script first shown → IsTextOf masked script first text) → IsTextOf masked script (start script areas) text
+listed masked script areas machine found shown text at same are to =
+    to (start script areas)
+    (subst (λ (l : List Finding). AreOutcomes script (start script areas) l) (sym same) (subst (λ (m : Machine). AreOutcomes script (fresh m) found) at are))

@@ -1,11 +1,20 @@
 -- What the program writes, and why it does not.
-use Rattle.std.specs.Prelude.{◌≡◌, ℕ, List}
+use Rattle.std.specs.Prelude.{◌≡◌, ℕ, Bool, true, false, List}
 use Rattle.shm_text.specs.Script.{ScriptView}
-use Rattle.shm_outcomes.specs.Schedules.{start}
+use Rattle.shm_outcomes.specs.Masking.{AreMaskedOutcomes}
+use Rattle.shm_outcomes.specs.Schedules.{Run, start}
 use Rattle.shm_outcomes.specs.Search.{Finding, AreOutcomes}
 use Rattle.shm_outcomes.specs.Text.{outcomes_text}
 
+-- every outcome, each once; without identifiers and addresses, if they are masked
+abbrev pub AreListed : Bool → ScriptView → Run → List Finding → Type 0
+AreListed true script first found = AreMaskedOutcomes script first found
+AreListed false script first found = AreOutcomes script first found
+
+-- the text of such outcomes
+abbrev pub IsTextOf : Bool → ScriptView → Run → List ℕ → Type 0
+IsTextOf masks script first text = (found : List Finding) × AreListed masks script first found × (text ≡ outcomes_text masks script found)
+
 -- the text of every outcome that the script has over swap areas of these sizes, each once, with a schedule that has it
-abbrev pub IsOutcomesText : ScriptView → List ℕ → List ℕ → Type 0
-IsOutcomesText script areas text =
-    (found : List Finding) × AreOutcomes script (start script areas) found × (text ≡ outcomes_text script found)
+abbrev pub IsOutcomesText : Bool → ScriptView → List ℕ → List ℕ → Type 0
+IsOutcomesText masks script areas text = IsTextOf masks script (start script areas) text

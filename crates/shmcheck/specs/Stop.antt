@@ -1,5 +1,5 @@
 -- Why the program stops: its text, its exit status, and what it says of the input.
-use Rattle.std.specs.Prelude.{◌≡◌, ◌<◌, ℕ, List, ◌++◌, codes, Ok}
+use Rattle.std.specs.Prelude.{◌≡◌, ℕ, List, ◌++◌, codes, Ok}
 use Rattle.std.specs.Fmt.{decimal}
 use Rattle.std.specs.Io.KnownBytes.{Keeps}
 use Rattle.std.specs.Prelude.{Option}
@@ -15,7 +15,7 @@ use Rattle.shm_outcomes.specs.declared.search.SearchError.{SearchError}
 use Rattle.shm_outcomes.specs.declared.search.SearchError.TheVariants.{Engine}
 use Rattle.shm_outcomes.specs.declared.search.SearchError.TheVariants as searches
 use Rattle.shm_outcomes.specs.Schedules.{start}
-use Rattle.shm_outcomes.specs.Search.{count_from}
+use Rattle.shm_outcomes.specs.Keys.{AreMoreRuns}
 use Rattle.shm_outcomes.specs.declared.fault.LogFaultKind.{LogFaultKind}
 use Rattle.shm_outcomes.specs.declared.fault.LogFaultKind.TheVariants.{BadLine, UnknownProcess}
 use Rattle.shmcheck.specs.declared.stop.Stop.{Stop}
@@ -26,10 +26,10 @@ kind_name BadLine = codes "bad line"
 kind_name UnknownProcess = codes "unknown process"
 
 abbrev pub stop_text : Stop → List ℕ
-stop_text Usage = codes "usage: shmcheck outcomes|judge LOG [--rules profile|linux] [--at-most N]"
+stop_text Usage = codes "usage: shmcheck outcomes|judge LOG [--rules profile|linux] [--at-most N] [--masked]"
 stop_text (Fault fault) = fault_text fault
 stop_text PagerFailed = codes "a pager failed"
-stop_text (Bound most) = codes "undecided: more than " ++ (decimal most ++ codes " schedules and beginnings of schedules")
+stop_text (Bound most) = codes "undecided: more than " ++ (decimal most ++ codes " runs, no two of them alike")
 stop_text LogUnread = codes "the log can't be read"
 stop_text (BadLog fault) = codes "log line " ++ (decimal fault.line ++ (codes ": " ++ kind_name fault.kind))
 stop_text (Doubt most) = codes "undecided: more than " ++ (decimal most ++ codes " beginnings of the log")
@@ -55,14 +55,14 @@ stop_of (Engine engines.HostMemory) most = Fault HostMemory
 stop_of (Engine engines.PagerFailed) most = PagerFailed
 stop_of searches.Bound most = Bound most
 
--- at the bound the script has more schedules and beginnings of schedules
+-- at the bound the script has more runs, of which no two are alike
 abbrev pub IsCauseIn : Stop → List ℕ → ScriptView → Type 0
-IsCauseIn (Bound most) areas script = most < count_from script most (start script areas)
+IsCauseIn (Bound most) areas script = AreMoreRuns script (start script areas) most
 IsCauseIn _ areas script = Unit {0}
 
 -- the same of an input; a script fault is the input's
 abbrev pub IsStopOf : Stop → List ℕ → List ℕ → Type 0
-IsStopOf (Bound most) areas input = (script : ScriptView) × (script_of input ≡ Ok script) × (most < count_from script most (start script areas))
+IsStopOf (Bound most) areas input = (script : ScriptView) × (script_of input ≡ Ok script) × AreMoreRuns script (start script areas) most
 IsStopOf (Fault fault) areas input = IsCause fault areas input
 IsStopOf _ areas input = Unit {0}
 

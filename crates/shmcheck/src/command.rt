@@ -6,14 +6,15 @@ use std::alloc::Global;
 use std::env;
 use std::rt::Env;
 
-/// How many schedules are looked at, if the command line does not say.
+/// From how many runs a search goes on at most, if the command line does not say.
 const MOST: u64 = 1_000_000;
 
-/// How many schedules and beginnings of schedules are looked at at most, and which rules the machine has.
+/// From how many runs a search goes on at most, which rules the machine has, and whether identifiers and addresses are masked.
 #[derive(Clone, Copy)]
 pub(crate) struct Options {
     pub most: u64,
     pub rules: RuleSet,
+    pub masked: bool,
 }
 
 /// What the program is asked for: every outcome, or a verdict on the log in a file.
@@ -47,21 +48,32 @@ fn read_judge(alloc: Global, words: &[String]) -> Result<Asked, Stop> {
         return Err(Stop::Usage);
     };
     let options = read_options(&words[1..])?;
+    if options.masked {
+        return Err(Stop::Usage);
+    }
     let log = String::from_str(alloc, log.as_str())?;
     Ok(Asked::Judge(log, options))
 }
 
-// Pairs of an option and its value, in any order; of one that comes twice the last counts.
+// Options in any order; of one that comes twice the last counts.
 fn read_options(words: &[String]) -> Result<Options, Stop> {
     let mut options = Options {
         most: MOST,
         rules: RuleSet::Profile,
+        masked: false,
     };
-    for pair in words.chunks(2) {
-        let [name, value] = pair else {
+    let mut place = 0;
+    while place < words.len() {
+        if words[place].as_str() == "--masked" {
+            options.masked = true;
+            place += 1;
+            continue;
+        }
+        let Some(value) = words.get(place + 1) else {
             return Err(Stop::Usage);
         };
-        options = with_option(options, name.as_str(), value.as_str())?;
+        options = with_option(options, words[place].as_str(), value.as_str())?;
+        place += 2;
     }
     Ok(options)
 }
@@ -69,7 +81,7 @@ fn read_options(words: &[String]) -> Result<Options, Stop> {
 fn with_option(options: Options, name: &str, value: &str) -> Result<Options, Stop> {
     match name {
         "--at-most" => {
-            let most = read_decimal(value.as_bytes()).ok_or(Stop::Usage)?;
+            let most = read_number(value)?;
             Ok(Options { most, ..options })
         }
         "--rules" => {
@@ -78,6 +90,10 @@ fn with_option(options: Options, name: &str, value: &str) -> Result<Options, Sto
         }
         _ => Err(Stop::Usage),
     }
+}
+
+fn read_number(word: &str) -> Result<u64, Stop> {
+    read_decimal(word.as_bytes()).ok_or(Stop::Usage)
 }
 
 fn read_rules(word: &str) -> Result<RuleSet, Stop> {

@@ -1,9 +1,12 @@
 //! Every outcome of a script: a script comes from a reader, and its outcomes go to a writer.
-ghost use Rattle.std.specs.Prelude.{◌≡◌, length, map, OnOk, IfErr, IfSome};
+ghost use Rattle.std.specs.Prelude.{◌≡◌, length, map, OnOk, IfErr, IfOk, IfSome};
 ghost use Rattle.std.specs.Io.KnownBytes.{Appends, IsAtEnd};
 ghost use Rattle.shm_program.specs.Faults.{stopped_as};
 ghost use Rattle.shm_program.specs.Runs.{Prints, IsWritten};
-ghost use Rattle.shmcheck.specs.Printed.{IsOutcomesText};
+ghost use Rattle.shm_outcomes.specs.Schedules.{Run};
+ghost use Rattle.shm_outcomes.specs.Search.{AreOutcomes};
+ghost use Rattle.shm_text.specs.Script.{ScriptView};
+ghost use Rattle.shmcheck.specs.Printed.{IsOutcomesText, IsTextOf};
 ghost use Rattle.shmcheck.specs.Ruled.{WithRules};
 ghost use Rattle.shmcheck.specs.Stop.{IsCauseIn, stop_of};
 
@@ -11,11 +14,13 @@ use crate::command::Options;
 use crate::ruling::put_rules;
 use crate::stop::Stop;
 use shm_life::StartError;
-use shm_outcomes::{EngineError, SearchError, Simulated, outcomes, outcomes_text};
+use shm_outcomes::{
+    EngineError, Finding, SearchError, Simulated, masked_outcomes, outcomes, outcomes_text,
+};
 use shm_pager::ClonePager;
 use shm_program::{RunFault, whole_script, write_output};
 use shm_text::Script;
-use std::alloc::Global;
+use std::alloc::{AllocError, Global};
 use std::io::{Read, Write};
 
 /// Writes every outcome of the script that the reader gives, opened with these rules over swap areas behind these pagers.
@@ -29,13 +34,13 @@ pub(crate) fn list_outcomes<R: Read, W: Write, P: ClonePager>(
 ) -> Result<(), Stop>
     ensures ok { let areas = map (λ p. length (P.content p)) pagers.items in
         OnOk result (IfSome (R.remaining reader.old) (λ input.
-        Prints (WithRules options.rules IsOutcomesText) (W.contents writer.old) (W.contents writer.new) areas input)) }
+        Prints (WithRules options.rules (IsOutcomesText options.masked)) (W.contents writer.old) (W.contents writer.new) areas input)) }
     ensures whole { OnOk result (IsAtEnd (R.remaining reader.new)) }
 {
     match whole_script(alloc, reader) {
         Ok(mut script) => {
             put_rules(&mut script, options.rules);
-            list_script(alloc, writer, &script, pagers, options.most)
+            list_script(alloc, writer, &script, pagers, options)
         }
         Err(fault) => Err(Stop::Fault(fault)),
     }
@@ -47,10 +52,10 @@ fn list_script<W: Write, P: ClonePager>(
     writer: &mut W,
     script: &Script,
     pagers: Vec<P>,
-    most: u64,
+    options: Options,
 ) -> Result<(), Stop>
     ensures ok { let areas = map (λ p. length (P.content p)) pagers.items in
-        OnOk result (IsWritten (IsOutcomesText script.now areas) (W.contents writer.old) (W.contents writer.new)) }
+        OnOk result (IsWritten (IsOutcomesText options.masked script.now areas) (W.contents writer.old) (W.contents writer.new)) }
     ensures cause { let areas = map (λ p. length (P.content p)) pagers.items in
         IfErr result (λ s. IsCauseIn s areas script.now) }
 {
@@ -58,15 +63,33 @@ fn list_script<W: Write, P: ClonePager>(
         Ok(machine) => machine,
         Err(error) => return Err(Stop::Fault(refused(error))),
     };
-    let found = match outcomes(alloc, script, machine, most) {
+    let found = match outcomes(alloc, script, machine, options.most) {
         Ok(found) => found,
-        Err(error) => return Err(stopped(error, most)),
+        Err(error) => return Err(stopped(error, options.most)),
     };
-    let text = outcomes_text(alloc, script, &found)?;
+    let text = text_of(alloc, options.masked, script, &found)?;
     match write_output(writer, &text) {
         Ok(()) => Ok(()),
         Err(_) => Err(Stop::Fault(RunFault::WriteFailed)),
     }
+}
+
+// The text of these outcomes, or of what they are without identifiers and addresses.
+fn text_of(
+    alloc: Global,
+    masked: bool,
+    script: &Script,
+    found: &[Finding],
+) -> Result<Vec<u8>, AllocError>
+    ensures { IfOk result (λ text. (first : Run) →
+        AreOutcomes script.now first found.now → IsTextOf masked script.now first text.items) }
+{
+    if !masked {
+        return outcomes_text(alloc, false, script, found);
+    }
+    let others = masked_outcomes(alloc, found)?;
+    let text = outcomes_text(alloc, true, script, &others)?;
+    Ok(text)
 }
 
 // Why a script does not open.
@@ -80,7 +103,7 @@ pub(crate) fn refused(error: StartError) -> RunFault
 }
 
 // Why a search has no answer.
-fn stopped(error: SearchError, most: u64) -> Stop
+pub(crate) fn stopped(error: SearchError, most: u64) -> Stop
     ensures { result ≡ stop_of error most }
 {
     match error {

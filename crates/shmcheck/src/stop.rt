@@ -57,15 +57,12 @@ impl fmt::Display for Stop {
     fn fmt<W: fmt::Write>(&self, f: &mut fmt::Formatter<W>) -> fmt::Result {
         match self {
             Stop::Usage => f.write_str(
-                "usage: shmcheck outcomes|judge LOG [--rules profile|linux] [--at-most N]",
+                "usage: shmcheck outcomes|judge LOG [--rules profile|linux] [--at-most N] [--masked]",
             ),
             Stop::Fault(fault) => write!(f, "{fault}"),
             Stop::PagerFailed => f.write_str("a pager failed"),
             Stop::Bound(most) => {
-                write!(
-                    f,
-                    "undecided: more than {most} schedules and beginnings of schedules"
-                )
+                write!(f, "undecided: more than {most} runs, no two of them alike")
             }
             Stop::LogUnread => f.write_str("the log can't be read"),
             Stop::BadLog(fault) => {

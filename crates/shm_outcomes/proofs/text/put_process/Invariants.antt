@@ -3,4 +3,4 @@ use Rattle.shm_outcomes.specs.Text.{process_text}
 use Rattle.shm_outcomes.proofs.text.put_process.Given as goal
 
 abbrev pub invariant-loop-event : goal.invariant-loop-event
-invariant-loop-event l = l.text.items ≡ l.initial.text.items ++ process_text (take l.event-index l.events) l.process
+invariant-loop-event l = l.text.items ≡ l.initial.text.items ++ process_text l.masks (take l.event-index l.events) l.process

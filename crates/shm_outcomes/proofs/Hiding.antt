@@ -1,0 +1,90 @@
+-- Outcomes lose their identifiers and addresses one by one.
+use Rattle.std.specs.Prelude.{◌≡◌, ◌<◌, ℕ, suc, zero, ◌+◌, List, [], ◌∷◌, All, Contains, length, take, slice_index_or}
+use Rattle.std.proofs.Common.{refl, sym, ap, subst, arith, inl, inr}
+use Rattle.std.proofs.lemmas.List.Elements.{All-contains, All-more, All-push, All-weaker, Contains-get_or}
+use Rattle.shm_base.specs.declared.call.Reply.{Reply}
+use Rattle.shm_text.specs.Script.{ScriptView}
+use Rattle.shm_outcomes.specs.Masking.{AreMaskedOutcomes, IsMaskedFinding, hidden_finding, hidden_outcome}
+use Rattle.shm_outcomes.specs.Outcomes.{outcome_of}
+use Rattle.shm_outcomes.specs.Schedules.{Run, IsSchedule}
+use Rattle.shm_outcomes.specs.Search.{AreDistinct, AreOutcomes, Finding, IsFinding, IsNoted, outcomes_in}
+use Rattle.shm_outcomes.proofs.Searching.{noted-distinct, noted-kept, noted-there}
+
+abbrev IsHiddenOf : List Finding → Finding → Type 0
+IsHiddenOf found f = (g : Finding) × Contains found g × (f ≡ hidden_finding g)
+
+abbrev IsThere : List Finding → Finding → Type 0
+IsThere masked g = Contains (outcomes_in masked) (hidden_outcome g.outcome)
+
+-- the first findings, each outcome without identifiers and addresses once
+pub record AreHidden (found : List Finding) (i : ℕ) (masked : List Finding) : Type 0 where
+  pub sound : All (IsHiddenOf found) masked
+  pub complete : All (IsThere masked) (take i found)
+  pub distinct : AreDistinct (outcomes_in masked)
+
+pub none-hidden : (found : List Finding) → AreHidden found 0 []
+none-hidden found =
+    record {
+      sound = λ k d lt. absurd (omega (arith, lt));
+      complete = λ k d lt. absurd (omega (arith, lt));
+      distinct = λ i j o ij j-lt at-i at-j. omega (arith, j-lt);
+    }
+
+noted-hidden : (found olds news : List Finding) (g : Finding) → Contains found g → IsNoted olds (hidden_finding g) news → All (IsHiddenOf found) olds → All (IsHiddenOf found) news
+noted-hidden found olds news g here (inl old) all = rw old.1 all
+noted-hidden found olds news g here (inr new) all = rw new.1 (All-push (IsHiddenOf found) olds (hidden_finding g) all (g, here, refl))
+
+pub more-hidden :
+    (found olds news : List Finding) (i : ℕ) (g : Finding)
+    → i < length found → g ≡ slice_index_or found i g → AreHidden found i olds → IsNoted olds (hidden_finding g) news → AreHidden found (i + 1) news
+more-hidden found olds news i g lt at before noted =
+    let here : Contains found g = subst (Contains found) (sym at) (Contains-get_or found i g lt) in
+    let kept : (x : Finding) → IsThere olds x → IsThere news x = λ x there. noted-kept olds news (hidden_finding g) noted (hidden_outcome x.outcome) there in
+    let own : IsThere news g = noted-there olds news (hidden_finding g) noted in
+    record {
+      sound = noted-hidden found olds news g here noted before.sound;
+      complete = All-more (IsThere news) found i g lt (All-weaker (IsThere olds) (IsThere news) kept (take i found) before.complete) (subst (IsThere news) at own);
+      distinct = noted-distinct olds news (hidden_finding g) noted before.distinct;
+    }
+
+-- an outcome that is there is that of a finding
+found-with : (found : List Finding) (k : ℕ) (o : List (List Reply)) → k < length found → slice_index_or (outcomes_in found) k o ≡ o → (g : Finding) × Contains found g × (g.outcome ≡ o)
+found-with [] k o lt at = absurd (omega (arith, lt))
+found-with (g ∷ found) zero o lt at = (g, (0, omega arith, refl), at)
+found-with (g ∷ found) (suc k) o lt at =
+    let rest = found-with found k o (omega (arith, lt)) at in
+    let there = rest.1 in
+    (rest.0, (suc there.0, (let e = there.1 in omega (arith, e)), there.2), rest.2)
+
+same-length : (found : List Finding) → length (outcomes_in found) ≡ length found
+same-length [] = refl
+same-length (g ∷ found) = ap suc (same-length found)
+
+take-all : (found : List Finding) → take (length found) found ≡ found
+take-all [] = refl
+take-all (g ∷ found) = ap (λ (l : List Finding). g ∷ l) (take-all found)
+
+pub all-hidden :
+    (found masked : List Finding) → AreHidden found (length found) masked
+    → (script : ScriptView) (first : Run) → AreOutcomes script first found → AreMaskedOutcomes script first masked
+all-hidden found masked all script first outcomes =
+    record {
+      sound = All-weaker (IsHiddenOf found) (IsMaskedFinding script first) sound masked all.sound;
+      complete = complete;
+      distinct = all.distinct;
+    }
+  where
+    sound : (f : Finding) → IsHiddenOf found f → IsMaskedFinding script first f
+    sound f h =
+        let g = All-contains (IsFinding script first) found h.0 outcomes.sound h.1 in
+        subst (IsMaskedFinding script first) (sym h.2) (g.0, g.1, g.2, ap hidden_outcome g.3)
+
+    every : All (IsThere masked) found
+    every = subst (All (IsThere masked)) (take-all found) all.complete
+
+    complete : (schedule : List ℕ) (end : Run) → IsSchedule script first schedule end → Contains (outcomes_in masked) (hidden_outcome (outcome_of script end.events))
+    complete schedule end is =
+        let there = outcomes.complete schedule end is in
+        let short = same-length found in
+        let g = found-with found there.0 (outcome_of script end.events) (let e = there.1 in omega (arith, e, short)) there.2 in
+        subst (λ (o : List (List Reply)). Contains (outcomes_in masked) (hidden_outcome o)) g.2 (All-contains (IsThere masked) found g.0 every g.1)
