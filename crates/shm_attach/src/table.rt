@@ -1,5 +1,5 @@
 //! The frames of the pages of a segment: its translations.
-ghost use Rattle.std.specs.Prelude.{◌≡◌, ℕ, ◌+◌, ◌-◌, ◌^◌, ◌<◌, ◌≤◌, Option, Some, length, [], OnOk, OnErr};
+ghost use Rattle.std.specs.Prelude.{◌≡◌, ℕ, ◌+◌, ◌-◌, ◌^◌, ◌<◌, ◌≤◌, Option, Some, None, length, [], OnOk, OnErr};
 ghost use Rattle.shm_fault.specs.Store.{frame_of};
 ghost use Rattle.shm_attach.specs.Table.{frame_in, TrueTable, with_frame};
 
@@ -47,6 +47,23 @@ impl Clone for Table {
     }
 }
 
+// The frame of a page, where those from `touched` on were never touched: the store is asked for the others alone.
+#[inline(always)]
+fn frame_of<P: Pager>(
+    store: &PageStore<P>,
+    seg: u32,
+    page: u32,
+    touched: u32,
+) -> Option<FrameNo>
+    requires { (p : ℕ) → touched ≤ p → frame_of store.now seg p ≡ None }
+    ensures { result ≡ frame_of store.now seg page }
+{
+    if page >= touched {
+        return None;
+    }
+    store.frame(seg, page)
+}
+
 impl Table {
     /// One piece of a segment, and no page.
     pub(crate) fn new(alloc: Global, seg: u32) -> Table
@@ -77,7 +94,7 @@ impl Table {
         self.count
     }
 
-    /// Has this many pages then, each further one as it is in the store.
+    /// Has this many pages then, each further one as it is in the store. The store is asked for pages that were touched.
     pub(crate) fn extend<P: Pager>(
         &mut self,
         store: &PageStore<P>,
@@ -93,9 +110,10 @@ impl Table {
         let known = self.frames.len();
         let pages = pages as usize;
         self.frames.reserve(pages.saturating_sub(known))?;
+        let touched = store.touched(self.seg);
         for page in known..pages {
             self.frames
-                .push_reserved(store.frame(self.seg, page as u32));
+                .push_reserved(frame_of(store, self.seg, page as u32, touched));
         }
         Ok(())
     }

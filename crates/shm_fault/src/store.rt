@@ -83,6 +83,13 @@ impl<P: Pager> PageStore<P> {
         self.segs.page(PageRef { seg, page }).frame
     }
 
+    /// How many of the first pages of a segment may be in a frame. Those after them were never touched.
+    pub fn touched(&self, seg: u32) -> u32
+        ensures { (page : ℕ) → result ≤ page → frame_of self.now seg page ≡ None }
+    {
+        self.segs.touched(seg)
+    }
+
     /// One more segment, of this many pages of zeros, which is not locked. All room that it will ever need is
     /// taken here; out of memory is the one refusal, and changes nothing. All pages have to be at most the
     /// slots.

@@ -6,4 +6,4 @@ true-push : (at : ℕ → ℕ → Option ℕ) (seg count : ℕ) (fs : List (Opti
 true-push at seg count fs f true here = λ j lt. grind (arith, common_steps, true j)
 
 pub loop-page-preserved : goal.loop-page-preserved
-loop-page-preserved g c = grind (arith, common_steps, true-push, c.loop-page.invariant, c.push_reserved.ensures, c.frame.ensures)
+loop-page-preserved g c = grind (arith, common_steps, true-push, c.loop-page.invariant, c.push_reserved.ensures, c.frame_of.ensures)
