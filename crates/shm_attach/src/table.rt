@@ -49,12 +49,7 @@ impl Clone for Table {
 
 // The frame of a page, where those from `touched` on were never touched: the store is asked for the others alone.
 #[inline(always)]
-fn frame_of<P: Pager>(
-    store: &PageStore<P>,
-    seg: u32,
-    page: u32,
-    touched: u32,
-) -> Option<FrameNo>
+fn frame_of<P: Pager>(store: &PageStore<P>, seg: u32, page: u32, touched: u32) -> Option<FrameNo>
     requires { (p : ℕ) → touched ≤ p → frame_of store.now seg p ≡ None }
     ensures { result ≡ frame_of store.now seg page }
 {

@@ -253,7 +253,7 @@ fewer-left script run rest others seen news olds found (inr on) =
     let few = few-followers script run script.processes in
     inr (ap (λ (l : List Key). length l) on.seen ∙ more, (let e = ap (λ (l : List Run). length l) on.runs in omega (arith, e, all, few)))
 
--- what is left to do: so many keys may still be met, each with the followers of its run, and so many runs are left
+-- what is left to do: the keys that may still be met, each with the followers of its run, and the runs that are left
 abbrev pub left_of : ℕ → ℕ → ℕ → ℕ → ℕ
 left_of most met runs processes = (most - met) * (processes + 1) + runs
 

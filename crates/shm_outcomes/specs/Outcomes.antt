@@ -1,4 +1,4 @@
--- An outcome: what each process is told in a whole run, however late.
+-- An outcome: the replies of each process in a whole run, but for times.
 use Rattle.std.specs.Prelude.{ℕ, ◌==◌, if◌then◌else◌, List, map}
 use Rattle.shm_base.specs.declared.call.Event.{Event}
 use Rattle.shm_base.specs.declared.call.Process.{Process}

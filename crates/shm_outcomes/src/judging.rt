@@ -116,7 +116,7 @@ pub(crate) fn judge<M: Engine>(
     Ok(Verdict::Illegal(stuck))
 }
 
-// Whether a run goes on to none of these, and has all the replies of the log.
+// Whether a run is whole: nothing is offered after it, and it has all the replies of the log.
 pub(crate) fn is_whole<M: Engine>(
     alloc: Global,
     script: &Script,

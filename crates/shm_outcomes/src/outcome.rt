@@ -174,7 +174,7 @@ fn hidden_told(alloc: Global, told: &[Told]) -> Result<Vec<Told>, AllocError>
 }
 
 impl Outcome {
-    /// What each process is told.
+    /// The replies of each process.
     pub fn told(&self) -> &[Told]
         ensures { result.now ≡ self.now }
     {
