@@ -1,26 +1,11 @@
 //! Copies within a machine.
-ghost use Rattle.std.specs.Prelude.{IfOk, OnErr, ◌≡◌, length};
+ghost use Rattle.std.specs.Prelude.{IfOk, OnErr, ◌≡◌};
 ghost use Rattle.shm_machine.specs.Stretched.{CopiedTo};
 
 use crate::machine::Machine;
 use crate::stretch::Progress;
-use shm_base::{HostMemory, PAGE_BYTES};
-use std::alloc::{AllocError, Global};
-
-// A page of zeros, to be copied: `resize` would write them one by one.
-const ZEROS: [u8; PAGE_BYTES] = [0; PAGE_BYTES];
-
-// As many zeros.
-fn zeros(alloc: Global, len: usize) -> Result<Vec<u8>, AllocError>
-    ensures { IfOk result (λ bytes. length bytes.items ≡ len) }
-{
-    let mut bytes = Vec::with_capacity(alloc, len)?;
-    while bytes.len() < len {
-        let more = PAGE_BYTES.min(len - bytes.len());
-        bytes.extend_from_slice(&ZEROS[..more])?;
-    }
-    Ok(bytes)
-}
+use shm_base::HostMemory;
+use std::alloc::Global;
 
 impl Machine {
     /// Copies attached memory of one process to that of another, or of the same one. It is one load of all bytes that can be
@@ -36,7 +21,8 @@ impl Machine {
         ensures ok { IfOk result (λ p. CopiedTo self.old.system from to len p self.new.system) }
         ensures err { OnErr result (self.new ≡ self.old) }
     {
-        let mut bytes = zeros(alloc, len)?;
+        let mut bytes = Vec::with_capacity(alloc, len)?;
+        bytes.resize(len, 0)?;
         let read = self.read(from.0, from.1, &mut bytes);
         let written = self.write(to.0, to.1, &bytes[..read.done]);
         Ok(Progress {
