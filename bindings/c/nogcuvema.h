@@ -115,7 +115,7 @@ enum nog_rule {
     NOG_REMOVED_IS_INVALID = 1,    /* NOG_EINVAL in place of NOG_EIDRM */
     NOG_EXECUTE_IS_ASKED = 2,      /* nog_get of an existing segment: execute bits of the mode ask too, NOG_EACCES */
     NOG_FORK_MARKS = 4,            /* nog_fork: the child's segments get an attach time, and the parent as last pid */
-    NOG_REST_IS_ATTACHED = 8,      /* the rest of a cut piece, and a part with another protection, are attached anew */
+    NOG_REST_IS_ATTACHED = 8,      /* the rest of a cut piece, and a part with another protection, are attached again */
     NOG_END_IS_ENOMEM = 16,        /* nog_attach: NOG_ENOMEM for a free range that ends above 0x7ffffffff000 */
     NOG_LOW_IS_EPERM = 32,         /* nog_attach: NOG_EPERM for a free range below 0x10000, for all but user 0 */
     NOG_NO_LAST_USER = 64,         /* nog_set: NOG_EINVAL for user or group 2^32 - 1 */
@@ -209,7 +209,7 @@ typedef struct nog_usage {
     uint64_t used_ids;  /* segments, also those marked for removal */
     uint64_t pages;     /* pages of all segments; a page that was never touched is in no frame and in no slot */
     uint64_t resident;  /* pages in frames */
-    uint64_t swapped;   /* pages in slots alone */
+    uint64_t swapped;   /* pages only in slots */
     uint64_t highest;   /* the highest index that a segment holds, 0 if there is none */
 } nog_usage;
 
@@ -268,10 +268,10 @@ uint32_t nog_close(nog_machine *machine);
 uint32_t nog_get(nog_machine *machine, uint32_t pid, uint32_t key, uint64_t size, uint32_t mode, uint32_t flags, int32_t *id);
 
 /* shmat(2): attaches a segment at `addr`, or, if that is 0, at the least free range from 0x40000000 on. The address is
-   put into `at`. NOG_RND rounds `addr` down to a page. NOG_RDONLY attaches for reading alone. With NOG_REMAP the new
+   put into `at`. NOG_RND rounds `addr` down to a page. NOG_RDONLY attaches only for reading. With NOG_REMAP the new
    piece replaces what lies in its range.
    NOG_OUT_OF_RANGE: the flags have more than 16 bits.
-   NOG_EINVAL: the address is 0 with NOG_REMAP, or is no multiple of 4096 without NOG_RND; or no segment ever had the
+   NOG_EINVAL: the address is 0 with NOG_REMAP, or is not a multiple of 4096 without NOG_RND; or no segment ever had the
    identifier.
    NOG_EIDRM: its segment is destroyed.
    NOG_EACCES: no permission to read, or, without NOG_RDONLY, to write.
@@ -391,7 +391,7 @@ uint32_t nog_set_time(nog_machine *machine, uint64_t time);
    attached in the range, nothing changes.
    NOG_SPENT: 2^64 - 1 calls were answered.
    NOG_ESRCH: no live process has the pid.
-   NOG_EINVAL: the address is no multiple of 4096, the length is 0, or the range reaches beyond 0x7ffffffff000.
+   NOG_EINVAL: the address is not a multiple of 4096, the length is 0, or the range reaches beyond 0x7ffffffff000.
    NOG_ENOMEM: the process would have more pieces than the limits allow. */
 uint32_t nog_unmap(nog_machine *machine, uint32_t pid, uint64_t addr, uint64_t len);
 
@@ -403,7 +403,7 @@ uint32_t nog_unmap(nog_machine *machine, uint32_t pid, uint64_t addr, uint64_t l
    last pid. A length of 0 changes nothing. Before anything changes, the first of these is answered:
    NOG_SPENT: 2^64 - 1 calls were answered.
    NOG_ESRCH: no live process has the pid.
-   NOG_EINVAL: the address is no multiple of 4096.
+   NOG_EINVAL: the address is not a multiple of 4096.
    NOG_ENOMEM: the range passes 2^64.
    Then the pages are protected from the lowest on. The first of these ends that, and what lies below has changed:
    NOG_ENOMEM: a page is not attached, or the process would have more pieces than the limits allow.
@@ -438,8 +438,8 @@ uint32_t nog_copy(nog_machine *machine, uint32_t from, uint64_t from_addr, uint3
 
 /* ---- the machine's memory, and its state ---- */
 
-/* A flush round: writes the first `pages` dirty frames out to swap, except those of locked segments. It is no call of a
-   process and changes no byte of any segment. A failed write is counted in `flushed`, and the answer is still 0. */
+/* A flush round: writes the first `pages` dirty frames out to swap, except those of locked segments. It is not a call
+   of a process and changes no byte of any segment. A failed write is counted in `flushed`, and the answer is 0. */
 uint32_t nog_flush(nog_machine *machine, uint64_t pages, nog_flushed *flushed);
 
 /* The counts of a machine and of its memory. */
