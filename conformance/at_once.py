@@ -25,8 +25,8 @@ LINE = re.compile(r"(\d+) ([a-z]+)((?: \S+)*) = (\S.*)")
 SPAN = re.compile(r"# (\d+) (\d+)")
 # how many orders of a log's lines are tried before a search
 ORDERS = 40
-# how many changed logs are tried for one explanation, by the order of their lines and by a search
-TRIES, SEARCHES = 12, 4
+# how many changed logs are tried for one explanation, by the order of their lines and by a search, and for all together
+TRIES, SEARCHES, MIXED = 12, 4, 64
 
 
 class Skipped(Exception):
@@ -314,6 +314,17 @@ def changed_logs(log, changes_of):
         yield replace(log, lines=[it[place] for it, place in zip(choices, chosen)])
 
 
+def mixed_logs(log):
+    """The same with the names of what changed it, where each line may have an explanation of its own."""
+    choices = [[(line, "")] + [(other, name) for name, changes_of in EXPLANATIONS for other in changes_of(line, log.lines)[1:]]
+               for line in log.lines]
+    mixed = itertools.islice(itertools.product(*choices), 4000)
+    for chosen in sorted(mixed, key=lambda it: sum(name != "" for _, name in it)):
+        names = {name for _, name in chosen} - {""}
+        if names:
+            yield replace(log, lines=[line for line, _ in chosen]), " and ".join(sorted(names))
+
+
 def explanation_of(text, log, tries, is_legal):
     """The name of what explains a log, or nothing: a legal log that differs from it only so."""
     for name, changes_of in EXPLANATIONS:
@@ -334,6 +345,9 @@ def judge_log(judge, text, log):
     word, said = judge.verdict(text, log.lines)
     if word != "legal":
         name = explanation_of(text, log, SEARCHES, lambda text, other: judge.verdict(text, other.lines)[0] == "legal")
+    if word != "legal" and not name:
+        mixed = itertools.islice(mixed_logs(log), MIXED)
+        name = next((names for other, names in mixed if judge.verdict(text, other.lines)[0] == "legal"), "")
     return "explained" if name else word.replace("illegal", "ILLEGAL"), name, said
 
 

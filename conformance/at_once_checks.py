@@ -98,7 +98,14 @@ def check_explanations(count):
             ([GONE.format("EACCES"), REMOVE], [GONE.format("EINVAL"), REMOVE], nobody),
             ([STAT.format("dest", 1), ATTACH], ["1 stat s = ?", ATTACH], "marked while an attach is under way"),
             ([STAT.format("-", 1), ATTACH], ["1 stat s = ?", ATTACH], nobody),
-            ([STAT.format("dest", 1), REMOVE], ["1 stat s = ?", REMOVE], nobody)):
+            ([STAT.format("dest", 1), REMOVE], ["1 stat s = ?", REMOVE], nobody),
+            ([STAT.format("-", 1)] * 6 + [ATTACH], [STAT.format("-", 0)] * 6 + [ATTACH], "nattch counts an attach under way"),
+            ([STAT.format("-", 1)] * 7 + [ATTACH], [STAT.format("-", 0)] * 7 + [ATTACH], nobody),
+            ([STAT.format("-", 1), STAT.format("dest", 1), ATTACH], [STAT.format("-", 0), "1 stat s = ?", ATTACH],
+             "marked while an attach is under way and nattch counts an attach under way"),
+            ([STAT.format("-", 1), GONE.format("EIDRM"), ATTACH, REMOVE], [STAT.format("-", 0), GONE.format("EINVAL"), ATTACH, REMOVE],
+             "nattch counts an attach under way and removed between two steps of a call"),
+            ([STAT.format("-", 1), GONE.format("EIDRM"), ATTACH], [STAT.format("-", 0), GONE.format("EINVAL"), ATTACH], nobody)):
         given = [] if refused in lines else [GIVEN]
         _word, found, _said = judge_log(Knows([*given, *legal]), "", log_of([*given, *lines]))
         found = found or nobody
