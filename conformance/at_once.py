@@ -26,7 +26,7 @@ SPAN = re.compile(r"# (\d+) (\d+)")
 # how many orders of a log's lines are tried before a search
 ORDERS = 40
 # how many changed logs are tried for one explanation, by the order of their lines and by a search, and for all together
-TRIES, SEARCHES, MIXED = 12, 4, 64
+TRIES, SEARCHES, MIXED = 12, 4, 128
 
 
 class Skipped(Exception):
@@ -267,10 +267,10 @@ def is_verdict(word, said, lines):
 # ---- what Linux shows of a call under way ----
 
 def attachers(lines, but):
-    """How many other processes attach a segment that they were given."""
+    """The other processes that attach a segment that they were given."""
     calls = {(pid_of(line), LINE.fullmatch(line)[2], reply_of(line) == "?") for line in lines}
     attaching = {pid for pid, call, _ in calls if call == "shmat"}
-    return len(attaching & {pid for pid, call, is_given in calls if call == "shmget" and is_given} - {but})
+    return (attaching & {pid for pid, call, is_given in calls if call == "shmget" and is_given}) - {but}
 
 
 def has_removal(lines, but):
@@ -282,7 +282,7 @@ def with_fewer_attached(line, lines):
     found = re.fullmatch(r"(.* nattch=)(\d+)( .*)", line)
     if not found:
         return [line]
-    return [f"{found[1]}{int(found[2]) - less}{found[3]}" for less in range(min(attachers(lines, pid_of(line)), int(found[2])) + 1)]
+    return [f"{found[1]}{int(found[2]) - less}{found[3]}" for less in range(min(len(attachers(lines, pid_of(line))), int(found[2])) + 1)]
 
 
 def with_any_segment(line, lines):
@@ -290,6 +290,14 @@ def with_any_segment(line, lines):
     if " status=dest" in line and attachers(lines, pid_of(line)):
         return [line, line.partition(" = ")[0] + " = ?"]
     return [line]
+
+
+def with_marks(line, lines):
+    """The reply of a stat with the attach time and the last pid that each attach under way will set."""
+    found = re.fullmatch(r"(.* lpid=)\d+( nattch=[1-9]\d* atime=)\w+( .*)", line)
+    if not found:
+        return [line]
+    return [line] + [f"{found[1]}{pid}{found[2]}set{found[3]}" for pid in sorted(attachers(lines, pid_of(line)))]
 
 
 def with_no_identifier(line, lines):
@@ -303,6 +311,7 @@ EXPLANATIONS = (
     ("nattch counts an attach under way", with_fewer_attached),
     ("removed between two steps of a call", with_no_identifier),
     ("marked while an attach is under way", with_any_segment),
+    ("an attach under way has no time yet", with_marks),
 )
 
 
@@ -315,12 +324,13 @@ def changed_logs(log, changes_of):
 
 
 def mixed_logs(log):
-    """The same with the names of what changed it, where each line may have an explanation of its own."""
+    """The same with the names of what changed it, where each line may have an explanation of its own: those with the fewest
+    explanations first."""
     choices = [[(line, "")] + [(other, name) for name, changes_of in EXPLANATIONS for other in changes_of(line, log.lines)[1:]]
                for line in log.lines]
     mixed = itertools.islice(itertools.product(*choices), 4000)
-    for chosen in sorted(mixed, key=lambda it: sum(name != "" for _, name in it)):
-        names = {name for _, name in chosen} - {""}
+    named = [(chosen, {name for _, name in chosen} - {""}) for chosen in mixed]
+    for chosen, names in sorted(named, key=lambda it: (len(it[1]), sum(name != "" for _, name in it[0]))):
         if names:
             yield replace(log, lines=[line for line, _ in chosen]), " and ".join(sorted(names))
 

@@ -55,6 +55,7 @@ for run in (1, 2):
 """
 GIVEN = "2 shmget 0x00000010 4096 600,creat = ?"
 STAT = "1 stat s = key=0x00000010 uid=0 gid=0 cuid=0 cgid=0 mode=600 status={} size=1 cpid=1 lpid=0 nattch={} atime=0 dtime=0 ctime=set"
+MARKED = STAT.format("-", 1).replace("lpid=0", "lpid={}").replace("atime=0", "atime=set")
 ATTACH, REMOVE, GONE = "2 shmat s 0x50000000 - = 0x50000000", "2 rmid s = ok", "1 set s 0 0 600 = {}"
 
 
@@ -99,6 +100,10 @@ def check_explanations(count):
             ([STAT.format("dest", 1), ATTACH], ["1 stat s = ?", ATTACH], "marked while an attach is under way"),
             ([STAT.format("-", 1), ATTACH], ["1 stat s = ?", ATTACH], nobody),
             ([STAT.format("dest", 1), REMOVE], ["1 stat s = ?", REMOVE], nobody),
+            ([STAT.format("-", 1), ATTACH], [MARKED.format(2), ATTACH], "an attach under way has no time yet"),
+            ([STAT.format("-", 1), ATTACH], [MARKED.format(3), ATTACH], nobody),
+            ([STAT.format("-", 1), REMOVE], [MARKED.format(2), REMOVE], nobody),
+            ([STAT.format("-", 0), ATTACH], [MARKED.format(2).replace("nattch=1", "nattch=0"), ATTACH], nobody),
             ([STAT.format("-", 1)] * 6 + [ATTACH], [STAT.format("-", 0)] * 6 + [ATTACH], "nattch counts an attach under way"),
             ([STAT.format("-", 1)] * 7 + [ATTACH], [STAT.format("-", 0)] * 7 + [ATTACH], nobody),
             ([STAT.format("-", 1), STAT.format("dest", 1), ATTACH], [STAT.format("-", 0), "1 stat s = ?", ATTACH],
