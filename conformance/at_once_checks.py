@@ -54,6 +54,7 @@ for run in (1, 2):
         print(f"# 1 2\\n{pid} {words[2] if words[1] == '=' else words[0]} = REPLY")
 """
 GIVEN = "2 shmget 0x00000010 4096 600,creat = ?"
+OWN = GIVEN.replace("2", "1", 1)
 STAT = "1 stat s = key=0x00000010 uid=0 gid=0 cuid=0 cgid=0 mode=600 status={} size=1 cpid=1 lpid=0 nattch={} atime=0 dtime=0 ctime=set"
 MARKED = STAT.format("-", 1).replace("lpid=0", "lpid={}").replace("atime=0", "atime=set")
 ATTACH, REMOVE, GONE = "2 shmat s 0x50000000 - = 0x50000000", "2 rmid s = ok", "1 set s 0 0 600 = {}"
@@ -94,6 +95,7 @@ def check_explanations(count):
             ([STAT.format("-", 1), REMOVE], [STAT.format("-", 0), REMOVE], nobody),
             ([STAT.format("-", 1), refused, ATTACH], [STAT.format("-", 0), refused, ATTACH], nobody),
             ([STAT.format("-", 1), ATTACH.replace("2", "1", 1)], [STAT.format("-", 0), ATTACH.replace("2", "1", 1)], nobody),
+            ([OWN, STAT.format("-", 1), ATTACH.replace("2", "1", 1)], [OWN, STAT.format("-", 0), ATTACH.replace("2", "1", 1)], nobody),
             ([GONE.format("EIDRM"), REMOVE], [GONE.format("EINVAL"), REMOVE], "removed between two steps of a call"),
             ([GONE.format("EIDRM"), ATTACH], [GONE.format("EINVAL"), ATTACH], nobody),
             ([GONE.format("EACCES"), REMOVE], [GONE.format("EINVAL"), REMOVE], nobody),
