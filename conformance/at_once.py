@@ -415,7 +415,7 @@ def judge_script(tally, peer, judge, title, text):
 
 
 def run_at_once(peer, judge, count, seed):
-    """Judges so many random scripts; the exit status."""
+    """Judges `count` random scripts. Returns the exit status."""
     tally = Tally()
     for number in range(count):
         title = f"script {number} of seed {seed}"
