@@ -289,7 +289,7 @@ def over_library(folder, case, event, *options, under_linux=None):
 def check_rules(count, folder, conform):
     """Under Linux's rules the library is opened with them, the case's own replies of Linux are wanted, and a rule of the profile
     explains nothing."""
-    for words, told in (["--rules", "nosuch"], "--rules takes profile or linux: nosuch"), (["--rules"], "a word is missing behind it: --rules"):
+    for words, told in (["--rules", "nosuch"], "--rules takes profile or linux: nosuch"), (["--rules"], "it lacks its value: --rules"):
         status, said = conform(*words)
         count.take(status == 2 and told in said, f"{words}: status {status}, {said!r}")
     hugetlb = "1 1 shmget 0x00000000 1 600,hugetlb = "
@@ -335,7 +335,7 @@ def check_said_once(count, folder, conform):
     for name, given, wanted, text in (
             ("peer", [*words[:2], *paths, "--peer", "/nosuch/peer"], 3, "the peer was not started: no such command: /nosuch/peer"),
             ("program", ["--program", "/nosuch/program", *paths], 3, "the program was not started: no such command: /nosuch/program"),
-            ("folder", ["--replies", "/nosuch", *paths], 2, "--replies takes a folder, and there is none: /nosuch"),
+            ("folder", ["--replies", "/nosuch", *paths], 2, "--replies takes a folder; there is no such folder: /nosuch"),
             ("file", ["--junit", "/nosuch/x.xml", *paths], 2, "--junit: /nosuch/x.xml can't be written: No such file or directory"),
             ("case", [*words, *paths, "nosuch"], 2, "no such case: nosuch"),
             ("library", ["--library=/nosuch", "--no-peer", *paths], 3, "the library was not built: there is no /nosuch/libnogcuvema.a; "

@@ -1,9 +1,9 @@
-# What the start scripts share; each sets `name`, its program, and `top`, the repository. The words are checked here, before
-# anything is built: a wrong word is answered within a second.
+# What the start scripts share. Each sets `name`, its program, and `top`, the repository. The words are checked here, before
+# anything is built, so a wrong word gets its answer within a second.
 program=$top/crates/$name/out/$name
 docs=$top/docs
 packages=$top/bindings/python
-# what ./install put in place is there as it was built, without sources, and this file has its version
+# ./install puts built programs in place, without sources; this file has their version
 installed=$top/installed
 if [ -f "$installed" ]; then
     program=$top/bin/$name
@@ -20,7 +20,7 @@ version() {
 refuse_words() {
     echo "$name: usage: $1" >&2
     echo "$name: $2" >&2
-    echo "$name: SWAP is ram:N, sparse:N, mirror:N, fuse:N:rK or fuse:N:wK, N slots from 1 to 65536; $name --help tells more" >&2
+    echo "$name: SWAP is ram:N, sparse:N, mirror:N, fuse:N:rK or fuse:N:wK, N slots from 1 to 65536; $name --help says more" >&2
     exit 2
 }
 
@@ -76,8 +76,8 @@ is_current() {
     [ -z "$newer" ]
 }
 
-# Runs the sources without any proof: by the program that an earlier such run kept, where no source is newer, and else by the
-# toolchain's quick run, whose own last lines come behind what the program said.
+# Runs the sources without any proof. If an earlier run kept a program and no source is newer, that program runs. Otherwise the
+# toolchain's quick run does, and its own last lines follow the program's output.
 run_unproved() {
     if [ -f "$installed" ]; then
         echo "$name: --unproved runs the sources, and is for the repository: this program is installed" >&2
@@ -105,7 +105,7 @@ run_unproved() {
     exit "$status"
 }
 
-# Proves and builds the program where it is missing, or older than a source.
+# Proves and builds the program if it is missing, or older than a source.
 build_current() {
     [ ! -f "$installed" ] || return 0
     is_current "$program" && return

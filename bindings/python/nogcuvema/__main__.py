@@ -1,6 +1,6 @@
 """A prompt for a machine: python3 -m nogcuvema [SWAP...] reads lines of the script language and answers each at once.
 
-Beside the lines of docs/SCRIPT.md there are: help [CALL], show, undo, snapshot NAME, restore NAME, save FILE and quit."""
+It also takes the lines help [CALL], show, undo, snapshot NAME, restore NAME, save FILE and quit. docs/SCRIPT.md has the language."""
 import os
 import shutil
 import subprocess
@@ -15,20 +15,20 @@ from .explain import explain_fault, warnings
 from .moments import MOST_MOMENTS, MOST_PAGES, Moment, most_moments
 from .script import CALLS, Command, FlushLine, Run, Script, ScriptFault, areas_of, form_of, listing, usage
 
-USAGE = "usage: python3 -m nogcuvema [SWAP...]: SWAP is ram:N, sparse:N, mirror:N, fuse:N:rK or fuse:N:wK; ram:64 where none is named"
-# what holds where the first line is no limits line
+USAGE = "usage: python3 -m nogcuvema [SWAP...]: SWAP is ram:N, sparse:N, mirror:N, fuse:N:rK or fuse:N:wK; ram:64 without one"
+# the limits and processes if the first line is no limits line
 HEAD = ("limits 65536 16 64 4 1", "process 1 100 100", "child 2", "child 3")
 OWN_WORDS = ("help", "show", "undo", "snapshot", "restore", "save", "quit")
-HELP = """A line is a call of a process: its pid, the call and its operands. A variable takes the answer.
+HELP = """A line is a call of a process: its pid, the call and its operands. A variable stores the answer.
     1 s = shmget private 8192 600
     1 a = shmat s null -
     1 store a+4094 01020304
     1 load a+4093 6
 Calls: {calls}
-help CALL says more of one. 0 flush N writes out dirty pages. show shows the machine, undo takes the last line back,
-snapshot NAME keeps the machine as it is, restore NAME goes back to it, save FILE writes a script of all lines that were
-taken, quit ends. Limits and processes come first: limits SHMMAX SHMMNI SHMALL FRAMES MEMLOCK,
-process PID UID GID, child PID. Where you begin with a call, these hold: {head}"""
+help CALL explains a call. 0 flush N writes out dirty pages. show prints the machine, undo takes the last line back,
+snapshot NAME keeps the current state, restore NAME returns to it, save FILE writes a script of all accepted lines, quit ends.
+Limits and processes come first: limits SHMMAX SHMMNI SHMALL FRAMES MEMLOCK, process PID UID GID, child PID. If you begin
+with a call, these lines come first: {head}"""
 
 
 def help_of(call: str) -> str:
@@ -41,7 +41,7 @@ def help_of(call: str) -> str:
 
 
 class Prompt:
-    """The lines that were taken, the machine that they made, and the moments that can be gone back to."""
+    """The accepted lines, the machine that they made, and the moments that the prompt can return to."""
 
     def __init__(self, swap: Sequence[str]) -> None:
         self.swap = list(swap) or ["ram:64"]
@@ -53,7 +53,7 @@ class Prompt:
         self.snapshots: Dict[str, Moment] = {}
 
     def answer(self, line: str) -> List[str]:
-        """What a line is answered with."""
+        """The answer to a line."""
         words = line.split()
         if not words or words[0].startswith("#"):
             return []
@@ -77,7 +77,7 @@ class Prompt:
         return [help_of(words[0])]
 
     def take(self, line: str) -> List[str]:
-        """A line of the script language; one with a fault, or for which there is no memory, is not taken."""
+        """Takes a line of the script language. A line with a fault, or for which there is no memory, is not accepted."""
         told: List[str] = []
         before = self.moment_before(line)
         if self.script.limits is None and line.split()[0] != "limits":
@@ -108,7 +108,7 @@ class Prompt:
         return self.run.step(line)
 
     def moment_before(self, line: str) -> Optional[Moment]:
-        """The moment to which `undo` of the line goes back; None where none is kept."""
+        """The moment to which `undo` of the line returns; None if none is kept."""
         if self.script.limits is not None and not most_moments(self.script.limits, self.areas):
             return None
         try:
@@ -117,7 +117,7 @@ class Prompt:
             return None
 
     def keep(self, before: Optional[Moment]) -> None:
-        """The last moments can be undone. Where there is none of the last line, no line before it can be undone either."""
+        """Keeps the last moments for `undo`. If the last line has none, no earlier line can be undone either."""
         most = most_moments(self.script.limits, self.areas) if self.script.limits else MOST_MOMENTS
         self.undoable = (self.undoable + [before])[-most:] if before and most else []
 
@@ -166,7 +166,7 @@ class Prompt:
         return "".join(line + "\n" for line in self.taken)
 
     def show(self) -> List[str]:
-        """The viewer's text of the last step, where there is a viewer; else the segments and the counts."""
+        """The viewer's text of the last step, if there is a viewer; otherwise the segments and the counts."""
         if self.run is None:
             return ["nothing was called yet"]
         viewer = viewer_program()
@@ -175,23 +175,23 @@ class Prompt:
             done = subprocess.run([viewer, "--steps", f"{last}-{last}", *self.swap], input=self.text(), capture_output=True, text=True, check=False)
             if done.returncode == 0:
                 return [done.stdout.strip()]
-        without = "" if viewer else "processes, frames and slots are shown where the program shmview is built or installed"
+        without = "" if viewer else "to see processes, frames and slots, build or install the program shmview"
         return [(listing(self.run.machine) + usage(self.run.machine)).strip()] + [without] * bool(without)
 
     def save(self, name: str) -> List[str]:
         try:
-            # a file that is there stays, and nothing half written is left
+            # an existing file is not changed
             with open(name, "x", encoding="ascii") as file:
                 file.write(self.text())
         except FileExistsError:
-            return [f"there is a file {name} already: nothing was saved"]
+            return [f"nothing was saved: there is already a file {name}"]
         except OSError as error:
             return [f"nothing was saved: {error}"]
         return [f"saved {len(self.taken)} lines; run them by: shmsim serial {' '.join(self.swap)} < {name}"]
 
 
 def viewer_program() -> str:
-    """The program that writes the viewer's record: the one that was built in the repository, or that is installed."""
+    """The program that writes the viewer's record: built in the repository, or installed."""
     here = os.path.dirname(os.path.abspath(__file__))
     top = os.path.dirname(os.path.dirname(os.path.dirname(here)))
     libraries = os.path.dirname(os.path.dirname(os.path.dirname(here)))
@@ -203,7 +203,7 @@ def viewer_program() -> str:
 
 
 def complete(text: str, state: int) -> object:
-    """Completes words of calls, declarations and the prompt's own."""
+    """Completes the words of calls, of declarations and of the prompt."""
     words = [*CALLS, *OWN_WORDS, "limits", "process", "child", "flush", "private", "null", "rdonly", "remap", "rnd"]
     found = [word + " " for word in words if word.startswith(text)]
     return found[state] if state < len(found) else None
@@ -226,7 +226,7 @@ def main(words: List[str]) -> int:
             readline.parse_and_bind("tab: complete")
         except ImportError:
             pass
-        print("A machine with the swap areas " + " ".join(prompt.swap) + ". help says more, quit ends.")
+        print("A machine with the swap areas " + " ".join(prompt.swap) + ". help explains the prompt, quit ends it.")
     while True:
         try:
             line = input("> " if is_seen else "")

@@ -62,7 +62,7 @@ class PieceStruct(Structure):
 STRUCTS = (MachineStruct, LimitsStruct, AreaStruct, FailureStruct, ProcessStruct, SegmentStruct, TallyStruct, FlushedStruct,
            UsageStruct, PieceStruct)
 BYTES = POINTER(c_uint8)
-# the parameters of each function behind the machine
+# the parameters of each function, after the machine
 FUNCTIONS: Dict[str, List[type]] = {
     "nog_open": [POINTER(LimitsStruct), POINTER(AreaStruct), c_size_t, POINTER(FailureStruct), c_size_t,
                  POINTER(ProcessStruct), c_size_t],
@@ -115,8 +115,8 @@ OTHERS: Dict[str, List[type]] = {
 
 
 def places() -> List[str]:
-    """Where the shared object is looked for: the variable NOGCUVEMA_LIBRARY alone, or else beside the package, in the
-    repository's build/, in the lib folder of the prefix that the package was installed to, and where the system finds it."""
+    """The paths to search for the shared object: only NOGCUVEMA_LIBRARY if it is set; else the package's folder, the
+    repository's build/, the lib folder of the prefix that the package is installed in, and the system's search path."""
     named = os.environ.get("NOGCUVEMA_LIBRARY")
     if named:
         return [os.path.join(named, "libnogcuvema.so") if os.path.isdir(named) else named]
@@ -144,7 +144,7 @@ class Library:
         self.compare_layout(path)
 
     def compare_layout(self, path: str) -> None:
-        """Sizes and offsets are those that the library tells of itself."""
+        """Checks that the library reports the same sizes and offsets."""
         for which, struct in enumerate(STRUCTS):
             told = [ctypes.sizeof(struct), *(getattr(struct, name[0]).offset for name in struct._fields_)]
             for field, mine in enumerate(told):

@@ -1,20 +1,20 @@
-"""What a call raises where its answer is not 0.
+"""The exceptions that a call raises if its answer is not 0.
 
-    Refused            an OSError: an errno of the rules, as EINVAL; also PermissionError, FileNotFoundError and others
-                       where Python has a class of its own for the errno
+    Refused            an OSError with an errno of the rules, such as EINVAL; also PermissionError, FileNotFoundError and others
+                       if Python has a class for the errno
     Fault              a signal that the process would get: SegmentationFault or BusError
-    MachineError       a mistake of the caller's, or memory is out: the call changed nothing
+    MachineError       a mistake of the caller, or out of memory; the call changed nothing
 """
 import errno
 from typing import Dict, Optional, Type
 
-# the codes of the library that are no errno
+# codes of the library that are not an errno
 SIGBUS, SIGSEGV = 1007, 1011
 NO_MEMORY, CLOSED, OUT_OF_RANGE, SPENT = 2001, 2002, 2003, 2004
 
 
 class Refused(OSError):
-    """A call that the rules refuse. `errno` is the code, by Linux's numbers; `name` its name; `call` the function."""
+    """A call that the rules refuse. `errno` has Linux's number, `name` its name, `call` the function."""
 
     def __init__(self, code: int, name: str, call: str) -> None:
         super().__init__(code, f"{call}: {name}")
@@ -27,7 +27,7 @@ class NotPermitted(Refused, PermissionError):
 
 
 class NoSuchKey(Refused, FileNotFoundError):
-    """ENOENT: no segment has the key, and none was to be made."""
+    """ENOENT: no segment has the key, and CREAT is not set."""
 
 
 class NoSuchProcess(Refused, ProcessLookupError):
@@ -35,7 +35,7 @@ class NoSuchProcess(Refused, ProcessLookupError):
 
 
 class KeyTaken(Refused, FileExistsError):
-    """EEXIST: a segment has the key already."""
+    """EEXIST: a segment with the key already exists."""
 
 
 class NoSuchChild(Refused, BlockingIOError):
@@ -43,7 +43,7 @@ class NoSuchChild(Refused, BlockingIOError):
 
 
 class Fault(Exception):
-    """An access that ends in a signal. `name` is that of the signal; `call` the function."""
+    """An access that ends in a signal. `name` is the signal's name, `call` the function."""
 
     def __init__(self, name: str, call: str) -> None:
         super().__init__(f"{call}: {name}")
@@ -60,7 +60,7 @@ class BusError(Fault):
 
 
 class MachineError(Exception):
-    """The call was not made: it changed nothing, and may be made again. `code` is the library's."""
+    """The call was not made: it changed nothing, and may be repeated. `code` is the library's code."""
 
     def __init__(self, code: int, text: str, call: str) -> None:
         super().__init__(f"{call}: {text}")
@@ -69,7 +69,7 @@ class MachineError(Exception):
 
 
 class NoMemory(MachineError, MemoryError):
-    """The heap gave no memory."""
+    """Out of memory."""
 
 
 class ClosedMachine(MachineError, ValueError):
@@ -77,7 +77,7 @@ class ClosedMachine(MachineError, ValueError):
 
 
 class OutOfRange(MachineError, ValueError):
-    """A number that no call can carry."""
+    """A number that does not fit the call's parameter."""
 
 
 class Spent(MachineError):
@@ -85,20 +85,20 @@ class Spent(MachineError):
 
 
 class BadOpening(MachineError, ValueError):
-    """Limits, areas or processes of which no machine can be opened."""
+    """Limits, areas or processes with which no machine can be opened."""
 
 
 class NotAdmitted(MachineError, ValueError):
-    """A process that can't join: its pid is out of range or taken, or as many are there as the limits allow."""
+    """A process that can't be admitted: its pid is out of range or in use, or there are as many processes as the limits allow."""
 
 
 class NotDismissed(MachineError, ValueError):
-    """A process that can't leave: no process has the pid, or it is live."""
+    """A process that can't be dismissed: no process has the pid, or it is live."""
 
 
 class Incomplete(Exception):
-    """A read or a write of any length that was refused on its way. `done` bytes were read or written; `data` are the bytes
-    that were read; `__cause__` is what the access that was refused would have raised."""
+    """A read, write or copy that was refused after its first bytes. `done` bytes were read or written, `data` holds the bytes
+    that were read, and `__cause__` is the exception of the access that was refused."""
 
     def __init__(self, done: int, data: bytes, cause: BaseException) -> None:
         super().__init__(f"{cause} after {done} bytes")

@@ -1,5 +1,5 @@
-"""Says where a script's first fault is, what is allowed there and the nearest right form; warns of what is allowed and seldom
-meant. As a program: python3 -m nogcuvema.explain < SCRIPT, with status 1 where the script has a fault."""
+"""Names a script's first fault, what is allowed there and the nearest right form, and warns of lines that are allowed but seldom
+intended. As a program: python3 -m nogcuvema.explain < SCRIPT; the status is 1 if the script has a fault."""
 import difflib
 import re
 import sys
@@ -11,7 +11,7 @@ FIRST_WORDS = ("limits", "process", "child")
 
 
 def nearest(fault: ScriptFault, line: str) -> str:
-    """The nearest right form of a fault's word, or nothing where none is near."""
+    """The nearest right form of a fault's word, or nothing if none is near."""
     word = fault.word
     if word == "\r":
         return "remove the carriage returns: tr -d '\\r' < SCRIPT"
@@ -37,7 +37,7 @@ def nearest(fault: ScriptFault, line: str) -> str:
 
 
 def explain_fault(fault: ScriptFault, line: str) -> List[str]:
-    """The lines that tell of a fault: its place, the line with the word marked, what is allowed, and the nearest form."""
+    """The lines that describe a fault: its place, the line with the word marked, what is allowed, and the nearest form."""
     place = f"line {fault.line}" + (f", column {fault.column}" if fault.column else "")
     told = [f"{place}: {fault.kind}"]
     if fault.column:
@@ -53,7 +53,7 @@ def explain_fault(fault: ScriptFault, line: str) -> List[str]:
 
 
 def warnings(script: Script) -> Iterator[str]:
-    """What the language allows and seldom anybody means: each variable of a process once."""
+    """Variables that are used before they are set; each variable of a process once."""
     set_by: Dict[int, Set[str]] = {it.pid: set() for it in script.processes}
     warned = set()
     for line in script.lines:
@@ -75,7 +75,7 @@ def warnings(script: Script) -> Iterator[str]:
 
 
 def explain(text: str) -> List[str]:
-    """All that is said of a script."""
+    """The lines about a script."""
     try:
         script = read_script(text)
     except ScriptFault as fault:

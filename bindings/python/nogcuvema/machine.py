@@ -1,4 +1,4 @@
-"""A machine and its calls. docs/MACHINE.md has the rules; each method names what it refuses only where Python differs."""
+"""A machine and its calls. docs/MACHINE.md lists the refusals of each call; a method here names only what differs in Python."""
 import enum
 import operator
 from ctypes import byref, c_int32, c_uint8, c_uint32, c_uint64
@@ -18,8 +18,8 @@ DEST, LOCKED = 512, 1024
 class Flag(enum.IntFlag):
     """Flags, by Linux's numbers: CREAT, EXCL, HUGETLB and NORESERVE for `get`, the others for `attach`.
 
-    HUGETLB counts by Rules.HUGE_IS_REFUSED alone, NORESERVE only with HUGETLB, and EXEC by Rules.EXEC_IS_ASKED alone. RDONLY and
-    NORESERVE are one number."""
+    HUGETLB has an effect only under Rules.HUGE_IS_REFUSED, NORESERVE only together with HUGETLB, and EXEC only under
+    Rules.EXEC_IS_ASKED. RDONLY and NORESERVE have the same number."""
     CREAT = 512
     EXCL = 1024
     HUGETLB = 2048
@@ -31,9 +31,9 @@ class Flag(enum.IntFlag):
 
 
 class Rules(enum.IntFlag):
-    """Rules of Linux where it answers otherwise than this project's profile, by the header's numbers. docs/MACHINE.md has each."""
-    REMOVED_IS_INVALID = 1   # EINVAL in place of EIDRM
-    EXECUTE_IS_ASKED = 2     # `get` of a segment that exists: an execute bit of the mode asks for one, EACCES
+    """Rules of Linux that differ from this project's profile, with the header's numbers. docs/MACHINE.md describes each."""
+    REMOVED_IS_INVALID = 1   # EINVAL instead of EIDRM
+    EXECUTE_IS_ASKED = 2     # `get` of an existing segment: an execute bit of the mode needs execute permission, or EACCES
     FORK_MARKS = 4           # a fork sets the attach time and the last pid of what the child inherits
     REST_IS_ATTACHED = 8     # what is left of a piece that is cut, and a part with another protection, is attached anew
     END_IS_ENOMEM = 16       # ENOMEM for a range that ends above 0x7ffffffff000
@@ -50,8 +50,8 @@ class Rules(enum.IntFlag):
 class Limits:
     """The limits of a machine; a page has 4096 bytes.
 
-    Where the last three are 0, the machine is of the profile: they stand for 256, 64 and 65536, and the first five have the
-    narrower of the ranges below. Else each has the wider one."""
+    If the last three are 0, the machine has the profile's limits: 256, 64 and 65536 in their place, and the first five have the
+    narrower of the ranges below. Otherwise each has the wider range."""
     shmmax: int = 65536      # the most bytes of a segment, 1 to 2^24, or to 2^40
     shmmni: int = 16         # the most segments, 1 to 4096, or to 32768
     shmall: int = 64         # the most pages of all segments together, 1 to 65536, or to 2^28
@@ -73,7 +73,8 @@ class Failure:
 
 @dataclass(frozen=True)
 class Area:
-    """A swap area: make it by `ram`, `sparse` or `mirror`. It has 1 to as many slots as the limits allow, 65536 in the profile."""
+    """A swap area: make it by `ram`, `sparse` or `mirror`. It has at least one slot, and at most as many as the limits allow, 65536 in
+    the profile."""
     kind: int
     slots: int
     failures: Sequence[Failure] = ()
@@ -85,7 +86,7 @@ class Area:
 
     @classmethod
     def sparse(cls, slots: int, failures: Sequence[Failure] = ()) -> "Area":
-        """Memory for those slots only that hold other bytes than zeros."""
+        """Memory only for slots with a byte that is not zero."""
         return cls(2, slots, failures)
 
     @classmethod
@@ -96,7 +97,7 @@ class Area:
 
 @dataclass(frozen=True)
 class Process:
-    """A process that the machine may have; a child that is not born gets its user and group from who forks it."""
+    """A process that the machine may have. A child that is not born gets its user and group from the process that forks it."""
     pid: int
     uid: int = 0
     gid: int = 0
@@ -110,10 +111,10 @@ def child(pid: int) -> Process:
 
 @dataclass(frozen=True)
 class Segment:
-    """A segment as IPC_STAT shows it. A time is the place of a call among all calls, from 1, or what `set_time` gave; 0 is never."""
+    """A segment as IPC_STAT shows it. A time is the place of a call among all calls, from 1, or the number given to `set_time`; 0 means never."""
     id: int
     key: int       # 0: it is private, or marked for removal
-    size: int      # in bytes, as it was asked for
+    size: int      # in bytes, as requested
     uid: int
     gid: int
     cuid: int
@@ -157,8 +158,8 @@ class Flushed:
 @dataclass(frozen=True)
 class Usage:
     """Sums over all segments, as SHM_INFO shows them."""
-    used_ids: int  # segments, those marked for removal among them
-    pages: int     # pages of all segments; one that was never touched is in no frame and in no slot
+    used_ids: int  # segments, including those marked for removal
+    pages: int     # pages of all segments; a page that was never touched has no frame and no slot
     resident: int  # pages in frames
     swapped: int   # pages in slots alone
     highest: int   # the highest index that a segment holds, 0 where there is none
@@ -192,7 +193,7 @@ class ProcessEntry:
 
 
 def _number(value: Any, most: int, what: str, least: int = 0) -> int:
-    """The number, where C's type carries it: ctypes would cut it silently."""
+    """The number, if it fits C's type; ctypes would truncate it silently."""
     value = operator.index(value)
     if not least <= value <= most:
         raise OutOfRange(OUT_OF_RANGE, f"{what} {value} is not from {least} to {most}", "nogcuvema")
@@ -211,10 +212,10 @@ def _segment(struct: low.SegmentStruct) -> Segment:
 
 
 class Machine:
-    """A machine, open from its making to `close` or the end of its `with` block. One thread at a time calls for it.
+    """A machine. It is open until `close` or the end of its `with` block. Only one thread at a time may call it.
 
     Every call takes the pid of the process that makes it. A refused call raises `Refused`, `SegmentationFault`,
-    `BusError` or a `MachineError`, and changed nothing that a process can see.
+    `BusError` or a `MachineError`, and changes nothing that a process can see.
     """
 
     def __init__(self, limits: Optional[Limits] = None, areas: Iterable[Area] = (Area(2, 65536),),
@@ -238,7 +239,7 @@ class Machine:
     @classmethod
     def from_script(cls, text: str, swap: Union[str, Sequence[str]] = "ram:64") -> "Machine":
         """Opens the machine that a script declares, over the swap areas that `swap` names, and makes its calls in the
-        order of its lines. A refused call of the script raises nothing: `nogcuvema.script.run` has the replies."""
+        order of its lines. A refused call of the script raises nothing; `nogcuvema.script.Run` gives the replies."""
         from .script import Run, areas_of, read_script
         script = read_script(text)
         run = Run.open(script, areas_of(swap))
@@ -267,7 +268,7 @@ class Machine:
         return bool(self._machine.is_open)
 
     def close(self) -> None:
-        """Frees all that the machine had; a closed machine may be closed again."""
+        """Frees all memory of the machine. A closed machine may be closed again."""
         if self.is_open:
             self._library.functions.nog_close(byref(self._machine))
 
@@ -288,30 +289,30 @@ class Machine:
         return at.value
 
     def detach(self, pid: int, addr: int) -> None:
-        """shmdt."""
+        """shmdt: detaches the segment that was attached at the address."""
         self._call("nog_detach", _number(pid, U32, "pid"), _number(addr, U64, "addr"))
 
     def stat(self, pid: int, segment: int) -> Segment:
-        """shmctl, IPC_STAT."""
+        """shmctl, IPC_STAT: the segment, if the process may read it."""
         struct = low.SegmentStruct()
         self._call("nog_stat", _number(pid, U32, "pid"), _identifier(segment), byref(struct))
         return _segment(struct)
 
     def set(self, pid: int, segment: int, uid: int, gid: int, mode: int) -> None:
-        """shmctl, IPC_SET: another owner, and other permission bits."""
+        """shmctl, IPC_SET: sets the owner and the permission bits."""
         self._call("nog_set", _number(pid, U32, "pid"), _identifier(segment), _number(uid, U32, "uid"),
                    _number(gid, U32, "gid"), _number(mode, U32, "mode"))
 
     def remove(self, pid: int, segment: int) -> None:
-        """shmctl, IPC_RMID."""
+        """shmctl, IPC_RMID: destroys the segment, or marks it if it is attached."""
         self._call("nog_remove", _number(pid, U32, "pid"), _identifier(segment))
 
     def lock(self, pid: int, segment: int) -> None:
-        """shmctl, SHM_LOCK."""
+        """shmctl, SHM_LOCK: keeps the pages of the segment in memory."""
         self._call("nog_lock", _number(pid, U32, "pid"), _identifier(segment))
 
     def unlock(self, pid: int, segment: int) -> None:
-        """shmctl, SHM_UNLOCK."""
+        """shmctl, SHM_UNLOCK: lets the pages of the segment leave memory."""
         self._call("nog_unlock", _number(pid, U32, "pid"), _identifier(segment))
 
     def load(self, pid: int, addr: int, length: int) -> bytes:
@@ -326,21 +327,21 @@ class Machine:
         self._call("nog_store", _number(pid, U32, "pid"), _number(addr, U64, "addr"), room, length)
 
     def add(self, pid: int, addr: int, number: int) -> int:
-        """Adds to eight bytes, lowest first, modulo 2^64, in one step. Returns the number that was there before."""
+        """Adds to an eight-byte little-endian number, modulo 2^64, in one step. Returns the number before the addition."""
         before = c_uint64()
         self._call("nog_add", _number(pid, U32, "pid"), _number(addr, U64, "addr"), _number(number, U64, "number"), byref(before))
         return before.value
 
     def exchange(self, pid: int, addr: int, data: Buffer) -> bytes:
-        """Puts 1 to 64 bytes in the place of others in one step (a guest's locked exchange). Returns those."""
+        """Replaces 1 to 64 bytes in one step (a guest's locked exchange). Returns the bytes that were there before."""
         before = (c_uint8 * max(1, len(bytes(data))))()
         room, length = _room(data)
         self._call("nog_exchange", _number(pid, U32, "pid"), _number(addr, U64, "addr"), room, length, before, length)
         return bytes(before)
 
     def compare_exchange(self, pid: int, addr: int, expected: Buffer, data: Buffer) -> bytes:
-        """As `exchange`, but only if the bytes that are there are the expected ones. Returns those that were there: they were
-        exchanged where they are the expected ones."""
+        """Like `exchange`, but replaces the bytes only if they are the expected ones. Returns the bytes that were there before: they
+        were replaced exactly if they are equal to the expected ones."""
         before = (c_uint8 * max(1, len(bytes(data))))()
         room, length = _room(data)
         wanted, size = _room(expected)
@@ -364,38 +365,38 @@ class Machine:
         """swapoff: moves the pages of an area elsewhere and takes the area away."""
         self._call("nog_swapoff", _number(pid, U32, "pid"), _number(area, U32, "area"))
 
-    # ---- what happens to a process besides: no call, and none is counted ----
+    # ---- other changes of a process: they are not calls and are not counted ----
 
     def admit(self, process: Process) -> None:
-        """A process joins that was not declared. An ended process with its pid gives its place to it."""
+        """Adds a process that was not declared. It replaces an ended process that has its pid."""
         struct = low.ProcessStruct(_number(process.pid, U32, "pid"), int(process.is_born), _number(process.uid, U32, "uid"),
                                    _number(process.gid, U32, "gid"))
         self._call("nog_admit", byref(struct))
 
     def dismiss(self, pid: int) -> None:
-        """An ended process leaves, or a child that is not born: its pid may be admitted again."""
+        """Removes an ended process, or a child that is not born. Its pid may be admitted again."""
         self._call("nog_dismiss", _number(pid, U32, "pid"))
 
     def set_user(self, pid: int, uid: int, gid: int) -> None:
-        """A live process has another effective user and group from now on, as behind setuid(2). Its pieces stay."""
+        """Sets the effective user and group of a live process, as setuid(2) and setgid(2) do. Its pieces stay."""
         self._call("nog_set_user", _number(pid, U32, "pid"), _number(uid, U32, "uid"), _number(gid, U32, "gid"))
 
     def set_time(self, time: int) -> None:
-        """The times that calls set are this number from now on. Before the first time they are the places of calls."""
+        """From now on, calls set this number as the time. Before the first `set_time`, the time of a call is its place."""
         self._call("nog_set_time", _number(time, U64, "time"))
 
     def unmap(self, pid: int, addr: int, length: int) -> None:
-        """munmap: unmaps a range of a process, rounded up to whole pages. Pieces that reach beyond it are cut."""
+        """munmap: unmaps a range of a process, rounded up to whole pages. Pieces that extend beyond it are cut."""
         self._call("nog_unmap", _number(pid, U32, "pid"), _number(addr, U64, "addr"), _number(length, U64, "length"))
 
     def protect(self, pid: int, addr: int, length: int, is_writable: bool) -> None:
-        """mprotect: makes a range of a process, rounded up to whole pages, writable or read-only. Where it is refused with
-        ENOMEM or EACCES, pages below the one that it names may have changed, as on Linux. Raises `Spent` after 2^64 - 1 calls."""
+        """mprotect: makes a range of a process, rounded up to whole pages, writable or read-only. If it is refused with
+        ENOMEM or EACCES, pages below the refused one may have changed, as on Linux. Raises `Spent` after 2^64 - 1 calls."""
         self._call("nog_protect", _number(pid, U32, "pid"), _number(addr, U64, "addr"), _number(length, U64, "length"),
                    int(bool(is_writable)))
 
     def snapshot(self) -> "Machine":
-        """Another machine with the same state, memory and swap areas. Each goes on without the other."""
+        """A second machine with the same state, memory and swap areas. The two are independent from then on."""
         copy = Machine.__new__(Machine)
         copy._library, copy._machine = self._library, low.MachineStruct()
         self._call("nog_snapshot", byref(copy._machine))
@@ -410,26 +411,26 @@ class Machine:
     # ---- accesses of any length ----
 
     def read(self, pid: int, addr: int, length: int) -> bytes:
-        """Reads bytes by a load for each page. Raises `Incomplete` where a load after the first is refused."""
+        """Reads bytes by one load for each page. Raises `Incomplete` if a load after the first is refused."""
         data = bytearray(_number(length, U64, "length"))
         self.read_into(pid, addr, data)
         return bytes(data)
 
     def read_into(self, pid: int, addr: int, buffer: Union[bytearray, memoryview]) -> int:
-        """Fills a writable buffer by a load for each page. Returns its length in bytes."""
+        """Fills a writable buffer by one load for each page. Returns its length in bytes."""
         view = memoryview(buffer).cast("B")
         room = (c_uint8 * len(view)).from_buffer(view) if len(view) else (c_uint8 * 1)()
         return self._access("nog_read", pid, addr, room, len(view))
 
     def write(self, pid: int, addr: int, data: Buffer) -> int:
-        """Writes bytes by a store for each page. Raises `Incomplete` where a store after the first is refused; those before
-        it stay."""
+        """Writes bytes by one store for each page. Raises `Incomplete` if a store after the first is refused; earlier stores
+        remain."""
         room, length = _room(data)
         return self._access("nog_write", pid, addr, room, length)
 
     def copy(self, pid: int, addr: int, to: int, to_addr: int, length: int) -> int:
-        """Copies bytes of a process to a process, which may be the same; the ranges may overlap. Returns their number. Raises
-        `Incomplete` where some were copied before it was refused."""
+        """Copies bytes from a process to another, or to the same one; the ranges may overlap. Returns their number. Raises
+        `Incomplete` if some bytes were copied before it was refused."""
         done = c_uint64()
         try:
             self._call("nog_copy", _number(pid, U32, "pid"), _number(addr, U64, "addr"), _number(to, U32, "to"),
@@ -453,19 +454,19 @@ class Machine:
     # ---- the machine's memory, and its state ----
 
     def flush(self, pages: int) -> Flushed:
-        """A flush round: at most so many dirty pages are written out to swap."""
+        """A flush round: writes at most this many dirty pages out to swap."""
         struct = low.FlushedStruct()
         self._call("nog_flush", _number(pages, U64, "pages"), byref(struct))
         return Flushed(struct.written, struct.failed)
 
     def tally(self) -> Tally:
-        """The counts as they are."""
+        """The current counts."""
         struct = low.TallyStruct()
         self._call("nog_tally_of", byref(struct))
         return Tally(**{name: getattr(struct, name) for name, _ in struct._fields_})
 
     def segments(self) -> List[Segment]:
-        """All segments by rising index, those marked for removal included, whoever may read them."""
+        """All segments in the order of their indexes, including those marked for removal, without a permission check."""
         indexes, found = c_uint32(), []
         self._call("nog_indexes", byref(indexes))
         for index in range(indexes.value):
@@ -475,7 +476,7 @@ class Machine:
         return found
 
     def stat_at(self, pid: int, index: int) -> Segment:
-        """shmctl, SHM_STAT: the segment at an index of the table, where the process may read it."""
+        """shmctl, SHM_STAT: the segment at an index of the table, if the process may read it."""
         struct = low.SegmentStruct()
         self._call("nog_stat_at", _number(pid, U32, "pid"), _number(index, U32, "index"), byref(struct))
         return _segment(struct)
@@ -487,7 +488,7 @@ class Machine:
         return Usage(**{name: getattr(struct, name) for name, _ in struct._fields_})
 
     def pieces(self, pid: int) -> List[Piece]:
-        """The pieces of a live process by rising address, as /proc/PID/maps lists mappings."""
+        """The pieces of a live process in the order of their addresses, as /proc/PID/maps lists mappings."""
         pid, found, struct = _number(pid, U32, "pid"), [], low.PieceStruct()
         while self._has("nog_piece_at", pid, len(found), byref(struct)):
             found.append(Piece(struct.base, struct.segment, struct.first_page, struct.pages, bool(struct.is_writable),
@@ -495,28 +496,28 @@ class Machine:
         return found
 
     def processes(self) -> List[ProcessEntry]:
-        """All processes: live ones, children that are not born, and those that have ended and were not dismissed."""
+        """All processes: live ones, children that are not born, and ended ones that were not dismissed."""
         found, struct = [], low.ProcessStruct()
         while self._has("nog_process_at", len(found), byref(struct)):
             found.append(ProcessEntry(struct.pid, State(struct.is_born), struct.uid, struct.gid))
         return found
 
     def failed_at(self, pid: int, addr: int, length: int, is_write: bool = False) -> Optional[int]:
-        """Where an access of these bytes is a SIGSEGV: the address of its first byte that is not attached, or not for
-        writing. None where each byte is attached as the access asks."""
+        """The address of the first byte at which an access of these bytes would get SIGSEGV: it is not attached, or not for
+        writing. None if each byte is attached as the access needs."""
         at = c_uint64()
         operands = (_number(pid, U32, "pid"), _number(addr, U64, "addr"), _number(length, U64, "length"), int(bool(is_write)))
         return at.value if self._has("nog_failed_at", *operands, byref(at)) else None
 
     def absent_at(self, pid: int, addr: int, length: int) -> Optional[int]:
-        """Where an access was a BusError, asked right after it: the address of its first byte whose page is in no frame, if each
-        byte before it is attached. None where there is no such byte."""
+        """Call it right after a `BusError`: the address of the access's first byte whose page is in no frame, if each byte before it
+        is attached. None if there is no such byte."""
         at = c_uint64()
         operands = (_number(pid, U32, "pid"), _number(addr, U64, "addr"), _number(length, U64, "length"))
         return at.value if self._has("nog_absent_at", *operands, byref(at)) else None
 
     def _has(self, name: str, *operands: Any) -> bool:
-        """Whether there is what a reader asks for."""
+        """Whether the reader found an entry."""
         try:
             self._call(name, *operands)
         except OutOfRange:

@@ -1,4 +1,4 @@
-"""What the prompt goes back to: moments of a run, each with a snapshot of its machine."""
+"""The moments of a run that the prompt can return to, each with a snapshot of its machine."""
 from dataclasses import dataclass
 from typing import Dict, List, Optional, Sequence, Union
 
@@ -6,13 +6,13 @@ from .machine import Area, Limits, Machine, Process
 from .script import Command, FlushLine, Run, Script
 
 MOST_MOMENTS = 100
-# what all moments that can be undone take together at most: 256 MiB
+# the most pages of all moments that can be undone: 256 MiB
 MOST_PAGES = 65536
 RAM, MIRROR = 1, 3
 
 
 def most_moments(limits: Limits, areas: Sequence[Area]) -> int:
-    """How many moments are kept to be undone: at most 100, and fewer for a machine of many pages."""
+    """How many moments `undo` keeps: at most 100, and fewer for a machine of many pages."""
     sides = {RAM: 1, MIRROR: 2}
     pages = limits.frames + sum(min(it.slots, limits.shmall) if it.kind not in sides else it.slots * sides[it.kind] for it in areas)
     return min(MOST_MOMENTS, MOST_PAGES // pages)
@@ -20,20 +20,20 @@ def most_moments(limits: Limits, areas: Sequence[Area]) -> int:
 
 @dataclass
 class Moment:
-    """A run at one moment. The lists of lines only grow, so a moment shares them and keeps how many it had."""
+    """A run at one moment. The lists of lines only grow, so a moment shares them and keeps their lengths."""
     limits: Optional[Limits]
     processes: List[Process]
     lines: List[Union[Command, FlushLine]]
     line_count: int
     taken: List[str]
     taken_count: int
-    machine: Optional[Machine]                # none where no call was made yet
+    machine: Optional[Machine]                # none if no call was made yet
     variables: Dict[int, Dict[str, int]]
     line: str                                 # the line that came next; nothing for a moment with a name
 
     @classmethod
     def of(cls, script: Script, taken: List[str], run: Optional[Run], line: str) -> "Moment":
-        """The moment that is now. `NoMemory` where there is none for the snapshot."""
+        """The current moment. Raises `NoMemory` if there is no memory for the snapshot."""
         variables = {pid: dict(letters) for pid, letters in run.variables.items()} if run else {}
         return cls(script.limits, list(script.processes), script.lines, len(script.lines), taken, len(taken),
                    run.machine.snapshot() if run else None, variables, line)
@@ -44,7 +44,7 @@ class Moment:
         return script
 
     def run(self, script: Script) -> Optional[Run]:
-        """A run that goes on from the moment, over another snapshot: the moment stays."""
+        """A run that continues from the moment, over another snapshot; the moment stays as it is."""
         if self.machine is None:
             return None
         run = Run(self.machine.snapshot(), script)

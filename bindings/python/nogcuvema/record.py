@@ -1,7 +1,7 @@
 """Turns the viewer's record into JSON lines, one step each: shmview --text SWAP... < SCRIPT | python3 -m nogcuvema.record
 
-docs/PYTHON.md has the fields. A line that has no form of the record ends it with status 1 and its number; the steps before it
-were written."""
+docs/PYTHON.md lists the fields. If a line is no line of a record, the program names it and ends with status 1; the steps before it
+are written."""
 import json
 import re
 import sys
@@ -14,7 +14,7 @@ COUNTS = ("events", "segments", "reserved", "locked", "resident", "frames", "dir
 
 
 class RecordFault(ValueError):
-    """A line that has no form of the record."""
+    """A line that is no line of a record."""
 
 
 def _what(words: List[str], line: str) -> Dict[str, Any]:
@@ -63,7 +63,7 @@ def _add(step: Dict[str, Any], words: List[str], line: str) -> None:
 
 
 def steps(lines: Iterable[str]) -> Iterator[Dict[str, Any]]:
-    """The steps of a record, each as a dictionary; raises `RecordFault` with the number of a line that has no form."""
+    """The steps of a record, each as a dictionary. Raises `RecordFault` with the number of a line that is no line of a record."""
     step: Dict[str, Any] = {}
     for number, line in enumerate(lines, 1):
         line = line.rstrip("\n")
@@ -79,7 +79,7 @@ def steps(lines: Iterable[str]) -> Iterator[Dict[str, Any]]:
             else:
                 _add(step, words, line)
         except (IndexError, KeyError, ValueError):
-            raise RecordFault(f"line {number}: no form of the viewer's record: {line[:80]}") from None
+            raise RecordFault(f"line {number}: not a line of the viewer's record: {line[:80]}") from None
     if step:
         yield step
 

@@ -1,6 +1,6 @@
 """Reads the script language of docs/SCRIPT.md, and runs a script's lines over a machine.
 
-A fault has the kind that the programs print, and more: the word, its column, and what is allowed there.
+A fault has the kind that the programs print. It also has the word, its column, and what is allowed there.
 """
 import re
 from dataclasses import dataclass
@@ -15,8 +15,8 @@ LIMITS = (("SHMMAX", 1, 2 ** 24), ("SHMMNI", 1, 4096), ("SHMALL", 1, 65536), ("F
 
 
 class ScriptFault(ValueError):
-    """The first fault of a script: `line` from 1 (0: the whole script), and `kind`, as the programs print it. Where it is one
-    word's, `word` and its `column` from 1. `allowed` says in words what may be there."""
+    """The first fault of a script: `line` from 1 (0: the whole script), and `kind`, as the programs print it. If one word is wrong,
+    `word` and its `column` from 1. `allowed` describes what may be there."""
 
     def __init__(self, line: int, kind: str, word: str = "", column: int = 0, allowed: str = "") -> None:
         super().__init__(f"line {line}: {kind}")
@@ -34,7 +34,7 @@ class Word(NamedTuple):
 
 
 class _Bad(Exception):
-    """A fault of a line whose number the reader adds."""
+    """A fault of a line; the reader adds the line's number."""
 
     def __init__(self, kind: str, word: Optional[Word], allowed: str) -> None:
         super().__init__(kind)
@@ -44,7 +44,7 @@ class _Bad(Exception):
 
 
 class Variable(NamedTuple):
-    """A variable of a process, with a number that is added to it."""
+    """A variable of a process, and a number to add to it."""
     letter: str
     plus: int = 0
 
@@ -53,7 +53,7 @@ Operand = Union[int, bytes, Variable]
 
 
 class OperandKind(NamedTuple):
-    """How an operand is read: first its form, then its range; and how an event line shows it."""
+    """How an operand is read, first its form, then its range; and how an event line shows it."""
     allowed: str
     form: Callable[[str], Any]
     least: int
@@ -62,7 +62,7 @@ class OperandKind(NamedTuple):
 
 
 class NoForm(Exception):
-    """A word has not the form of its operand."""
+    """A word does not have the form of its operand."""
 
 
 def number_of(text: str) -> int:
@@ -175,7 +175,7 @@ def form_of(call: str) -> str:
 
 @dataclass(frozen=True)
 class Command:
-    """A line that a process's call stands in."""
+    """A line with a call of a process."""
     line: int
     pid: int
     taker: str      # the variable that takes the answer, or nothing
@@ -185,13 +185,13 @@ class Command:
 
 @dataclass(frozen=True)
 class FlushLine:
-    """A line that asks for a flush round."""
+    """A line with a flush round."""
     line: int
     pages: int
 
 
 class Script:
-    """A script as it is read: its limits, its declared processes, and its lines in their order."""
+    """A script: its limits, its declared processes, and its lines in their order."""
 
     def __init__(self) -> None:
         self.limits: Optional[Limits] = None
@@ -202,7 +202,7 @@ class Script:
         return any(it.pid == pid for it in self.processes)
 
     def read_line(self, number: int, text: str) -> Optional[Union[Command, FlushLine]]:
-        """Reads one more line. Returns its command or flush round, None for any other line."""
+        """Reads the next line. Returns its command or flush round, None for any other line."""
         try:
             return self._read(number, text)
         except _Bad as bad:
@@ -284,7 +284,7 @@ def read_range(word: Word, kind: OperandKind, value: Any) -> None:
 
 
 def read_operands(words: List[Word], at: int, kinds: Sequence[OperandKind], form: str) -> List[Any]:
-    """The operands from a place on: all forms come before any range."""
+    """The operands from a place on. It checks all forms before any range."""
     if len(words) != at + len(kinds):
         extra = words[at + len(kinds)] if len(words) > at + len(kinds) else words[-1]
         raise _Bad("bad line", extra, f"{form}: {len(kinds)} operands, and {max(0, len(words) - at)} are there")
@@ -378,14 +378,14 @@ class Run:
         return cls(Machine(script.limits, areas, script.processes), script)
 
     def steps(self) -> Iterator[str]:
-        """Makes the script's lines in their order. Yields the event line of each call; a flush round has none."""
+        """Runs the script's lines in their order. Yields the event line of each call; a flush round has none."""
         for line in self.script.lines:
             event = self.step(line)
             if event:
                 yield event
 
     def step(self, line: Union[Command, FlushLine]) -> str:
-        """Makes one line. Returns its event line, nothing for a flush round."""
+        """Runs one line. Returns its event line, nothing for a flush round."""
         if isinstance(line, FlushLine):
             self.machine.flush(line.pages)
             return ""
@@ -403,7 +403,7 @@ class Run:
     def _value(self, pid: int, value: Any, kind: OperandKind) -> Any:
         if isinstance(value, Variable):
             value = (self.variables[pid].get(value.letter, 0) + value.plus) & U64
-            # a number that no identifier has is one that was never issued
+            # a number above the identifiers' range was never issued
             return -1 if kind is IDENTIFIER and value > I32 else value
         return value
 

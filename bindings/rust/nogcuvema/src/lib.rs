@@ -1,7 +1,7 @@
 //! System V shared memory as a library: `shmget`, `shmat`, `shmdt` and `shmctl` over simulated processes, page frames and
 //! swap areas, each call with the exact answer of POSIX.1-2017 and the Linux manual pages.
 //!
-//! This crate is a thin cover of the C library, whose functions are proved. The cover itself is tested, not proved.
+//! This crate wraps the C library, whose functions are proved. The wrapper itself is tested, not proved.
 //!
 //! ```no_run
 //! use nogcuvema::{Area, Limits, Machine, Process};
@@ -27,9 +27,9 @@ pub const PRIVATE: u32 = 0;
 pub const CREAT: u32 = 512;
 /// `IPC_EXCL`, for [`Machine::get`].
 pub const EXCL: u32 = 1024;
-/// `SHM_HUGETLB`, for [`Machine::get`]: it counts by [`rules::HUGE_IS_REFUSED`] alone.
+/// `SHM_HUGETLB`, for [`Machine::get`]: it has an effect only under [`rules::HUGE_IS_REFUSED`].
 pub const HUGETLB: u32 = 2048;
-/// `SHM_NORESERVE`, for [`Machine::get`]: it counts only with [`HUGETLB`].
+/// `SHM_NORESERVE`, for [`Machine::get`]: it has an effect only with [`HUGETLB`].
 pub const NORESERVE: u32 = 4096;
 /// `SHM_RDONLY`, for [`Machine::attach`].
 pub const RDONLY: u32 = 4096;
@@ -37,22 +37,22 @@ pub const RDONLY: u32 = 4096;
 pub const RND: u32 = 8192;
 /// `SHM_REMAP`, for [`Machine::attach`].
 pub const REMAP: u32 = 16384;
-/// `SHM_EXEC`, for [`Machine::attach`]: it counts by [`rules::EXEC_IS_ASKED`] alone.
+/// `SHM_EXEC`, for [`Machine::attach`]: it has an effect only under [`rules::EXEC_IS_ASKED`].
 pub const EXEC: u32 = 32768;
-/// In [`Segment::status`]: the segment is marked, and goes with its last piece.
+/// In [`Segment::status`]: the segment is marked, and is destroyed with its last piece.
 pub const DEST: u32 = 512;
 /// In [`Segment::status`]: the segment's pages stay in their frames.
 pub const LOCKED: u32 = 1024;
 
-/// Rules of Linux where it answers otherwise than this project's profile, for [`Limits::rules`]. `docs/MACHINE.md` has each.
+/// Rules of Linux that differ from this project's profile, for [`Limits::rules`]. `docs/MACHINE.md` describes each.
 pub mod rules {
-    /// EINVAL in place of EIDRM.
+    /// EINVAL instead of EIDRM.
     pub const REMOVED_IS_INVALID: u64 = 1;
-    /// [`get`](crate::Machine::get) of a segment that exists: an execute bit of the mode asks for one, EACCES.
+    /// [`get`](crate::Machine::get) of an existing segment: an execute bit of the mode needs execute permission, or EACCES.
     pub const EXECUTE_IS_ASKED: u64 = 2;
     /// A fork sets the attach time and the last pid of each segment that the child inherits.
     pub const FORK_MARKS: u64 = 4;
-    /// What is left of a piece that is cut, and a part with another protection, is attached anew.
+    /// The rest of a piece that is cut, and a part with another protection, is attached anew.
     pub const REST_IS_ATTACHED: u64 = 8;
     /// [`attach`](crate::Machine::attach): ENOMEM for a range that ends above `0x7ffffffff000`.
     pub const END_IS_ENOMEM: u64 = 16;
@@ -60,24 +60,24 @@ pub mod rules {
     pub const LOW_IS_EPERM: u64 = 32;
     /// [`set`](crate::Machine::set): EINVAL for user or group 2^32 - 1.
     pub const NO_LAST_USER: u64 = 64;
-    /// [`attach`](crate::Machine::attach): ENOMEM in place of EMFILE, and wherever as many pieces exist as are allowed.
+    /// [`attach`](crate::Machine::attach): ENOMEM instead of EMFILE, and whenever a process has as many pieces as are allowed.
     pub const PIECES_ARE_ENOMEM: u64 = 128;
-    /// [`lock`](crate::Machine::lock): `memlock` is a limit of each user but 0, EPERM where it is 0.
+    /// [`lock`](crate::Machine::lock): `memlock` is a limit for each user except 0; EPERM if it is 0.
     pub const LOCKS_BY_USER: u64 = 256;
-    /// [`attach`](crate::Machine::attach): [`EXEC`](crate::EXEC) asks for an execute bit, EACCES.
+    /// [`attach`](crate::Machine::attach): [`EXEC`](crate::EXEC) needs execute permission, or EACCES.
     pub const EXEC_IS_ASKED: u64 = 512;
-    /// [`get`](crate::Machine::get): [`HUGETLB`](crate::HUGETLB) is EPERM, or ENOMEM for user 0 and group 0.
+    /// [`get`](crate::Machine::get): with [`HUGETLB`](crate::HUGETLB) EPERM, or ENOMEM for user 0 and group 0.
     pub const HUGE_IS_REFUSED: u64 = 1024;
     /// All of them.
     pub const LINUX: u64 = 2047;
 }
 
-/// Why a call was not done. The number is that of the C header: errno(3)'s by Linux's numbers, 1007 for SIGBUS, 1011 for
-/// SIGSEGV, and from 2001 on what is no answer to a guest.
+/// Why a call was refused. The number is that of the C header: Linux's number of an errno, 1007 for SIGBUS, 1011 for SIGSEGV,
+/// and from 2001 on the codes that are not for a guest.
 #[derive(Clone, Copy, PartialEq, Eq, Hash)]
 pub struct Errno(pub u32);
 
-/// The same, by the name that is usual in Rust.
+/// The same type, under the usual name in Rust.
 pub type Error = Errno;
 
 macro_rules! codes {
@@ -93,7 +93,7 @@ codes! {
     EPERM = 1;
     /// No segment has the key.
     ENOENT = 2;
-    /// The caller is no live process.
+    /// The caller is not a live process.
     ESRCH = 3;
     /// A swap area failed at [`Machine::swapoff`].
     EIO = 5;
@@ -101,11 +101,11 @@ codes! {
     EAGAIN = 11;
     /// There is no room for the pages, or for the lock.
     ENOMEM = 12;
-    /// The permission bits say no.
+    /// The permission bits do not allow it.
     EACCES = 13;
-    /// A segment has the key.
+    /// A segment with the key already exists.
     EEXIST = 17;
-    /// An argument is out of what the call takes.
+    /// An argument is not valid for the call.
     EINVAL = 22;
     /// The process has too many pieces.
     EMFILE = 24;
@@ -117,9 +117,9 @@ codes! {
     SIGBUS = 1007;
     /// Nothing is attached there, or it may not be written.
     SIGSEGV = 1011;
-    /// The program's heap gave no memory.
+    /// The program is out of memory.
     NO_MEMORY = 2001;
-    /// A number that no call can carry.
+    /// A number that does not fit the call's parameter.
     OUT_OF_RANGE = 2003;
     /// 2^64 - 1 calls were answered.
     SPENT = 2004;
@@ -127,7 +127,7 @@ codes! {
     ADMIT_BAD_PID = 2031;
     /// [`Machine::admit`]: the pid is that of a live process, or of a child that is not born.
     ADMIT_TAKEN = 2032;
-    /// [`Machine::admit`]: as many processes are there as the limits allow.
+    /// [`Machine::admit`]: there are as many processes as the limits allow.
     ADMIT_MANY = 2033;
     /// [`Machine::dismiss`]: no process has the pid.
     DISMISS_NONE = 2041;
@@ -136,7 +136,7 @@ codes! {
 }
 
 impl Errno {
-    /// The text of the code, as `EINVAL`.
+    /// The text of the code, for example `EINVAL`.
     pub fn text(self) -> String {
         let mut bytes = [0_u8; 128];
         let mut len = 0;
@@ -172,8 +172,8 @@ fn done(code: u32) -> Answer<()> {
     }
 }
 
-/// The limits of a machine; a page has 4096 bytes. Where the last three are 0 the machine is of the profile: they stand for
-/// 256, 64 and 65536, and the first five have the narrower of the ranges below. Else each has the wider one.
+/// The limits of a machine; a page has 4096 bytes. If the last three are 0, the machine has the profile's limits: 256, 64 and
+/// 65536 in their place, and the first five have the narrower of the ranges below. Otherwise each has the wider range.
 #[derive(Clone, Copy, Debug, PartialEq, Eq)]
 pub struct Limits {
     /// The most bytes of a segment, 1 to 2^24, or to 2^40.
@@ -192,7 +192,7 @@ pub struct Limits {
     pub most_processes: u64,
     /// The most slots of a swap area, 1 to 2^28.
     pub most_slots: u64,
-    /// The rules of Linux that hold, a sum of [`rules`]; 0: none, the profile's.
+    /// The rules of Linux that hold, a sum of [`rules`]; 0 for the profile's rules.
     pub rules: u64,
 }
 
@@ -246,12 +246,12 @@ impl Area {
         Area::of(1, slots)
     }
 
-    /// Memory for those slots only that hold other bytes than zeros.
+    /// Memory only for slots with a byte that is not zero.
     pub fn sparse(slots: u32) -> Area {
         Area::of(2, slots)
     }
 
-    /// Two sides in memory, kept alike: a page is read from the left one, or else from the right.
+    /// Two sides in memory with the same pages. A page is read from the left side, or from the right one if that fails.
     pub fn mirror(slots: u32) -> Area {
         Area::of(3, slots)
     }
@@ -271,7 +271,7 @@ pub struct Process {
 }
 
 impl Process {
-    /// One that is there from the beginning, with its effective user and group. User 0 passes each test of permission.
+    /// A process that is live from the beginning, with its effective user and group. User 0 passes every permission check.
     pub fn live(pid: u32, uid: u32, gid: u32) -> Process {
         Process {
             pid,
@@ -295,7 +295,7 @@ impl Process {
     }
 }
 
-/// What a process of a machine is.
+/// The state of a process.
 #[derive(Clone, Copy, Debug, PartialEq, Eq)]
 pub enum State {
     /// A child that a fork may begin.
@@ -328,12 +328,12 @@ pub struct Piece {
     pub may_write: bool,
 }
 
-/// An access that was ended midway: why, and how many bytes were read or written before.
+/// An access that was refused, and how many bytes were read or written before.
 #[derive(Clone, Copy, Debug, PartialEq, Eq)]
 pub struct Stopped {
-    /// Why it ended.
+    /// Why it was refused.
     pub errno: Errno,
-    /// How many bytes were done.
+    /// How many bytes were read or written.
     pub done: u64,
 }
 
@@ -345,8 +345,8 @@ impl fmt::Display for Stopped {
 
 impl std::error::Error for Stopped {}
 
-/// What one guest system shares: its processes, segments, page frames and swap areas. It may go to another thread, and is
-/// used by one at a time.
+/// The processes, segments, page frames and swap areas of one guest system. It may move to another thread; only one thread at
+/// a time may use it.
 pub struct Machine {
     handle: raw::Handle,
     // the handle's memory is this machine's own
@@ -376,8 +376,8 @@ impl Machine {
     /// Opens a machine with 1 to 8 swap areas. Its processes are declared here, children included.
     ///
     /// # Errors
-    /// 2011 to 2019 for the first limit that is out of its range; [`Errno::OUT_OF_RANGE`] for a failure of a side that is
-    /// not there, or of call 0; 2021 to 2024 for areas and processes, as the C header says; [`Errno::NO_MEMORY`].
+    /// 2011 to 2019 for the first limit that is out of its range; [`Errno::OUT_OF_RANGE`] for a failure of a side that the area
+    /// does not have, or of call 0; 2021 to 2024 for areas and processes, as the C header says; [`Errno::NO_MEMORY`].
     pub fn open(limits: &Limits, areas: &[Area], processes: &[Process]) -> Answer<Machine> {
         let limits = raw::Limits {
             shmmax: limits.shmmax,
@@ -435,24 +435,24 @@ impl Machine {
     /// shmget(2): the identifier of the segment with this key, or of a new one.
     ///
     /// # Errors
-    /// EEXIST, EINVAL, EACCES, ENOENT, ENOSPC, ENOMEM, ESRCH, and EPERM by [`rules::HUGE_IS_REFUSED`].
+    /// EEXIST, EINVAL, EACCES, ENOENT, ENOSPC, ENOMEM, ESRCH, and EPERM under [`rules::HUGE_IS_REFUSED`].
     pub fn get(&mut self, pid: u32, key: u32, size: u64, mode: u32, flags: u32) -> Answer<i32> {
         let mut id = 0;
         done(unsafe { raw::nog_get(&mut self.handle, pid, key, size, mode, flags, &mut id) })?;
         Ok(id)
     }
 
-    /// shmat(2): the address at which the segment is attached; where `addr` is 0 the machine chooses it.
+    /// shmat(2): the address at which the segment is attached; if `addr` is 0, the machine chooses it.
     ///
     /// # Errors
-    /// EINVAL, EIDRM, EACCES, ENOMEM, EMFILE, ESRCH, and EPERM by [`rules::LOW_IS_EPERM`].
+    /// EINVAL, EIDRM, EACCES, ENOMEM, EMFILE, ESRCH, and EPERM under [`rules::LOW_IS_EPERM`].
     pub fn attach(&mut self, pid: u32, id: i32, addr: u64, flags: u32) -> Answer<u64> {
         let mut at = 0;
         done(unsafe { raw::nog_attach(&mut self.handle, pid, id, addr, flags, &mut at) })?;
         Ok(at)
     }
 
-    /// shmdt(2).
+    /// shmdt(2): detaches the segment that was attached at the address.
     ///
     /// # Errors
     /// EINVAL, ESRCH.
@@ -460,7 +460,7 @@ impl Machine {
         done(unsafe { raw::nog_detach(&mut self.handle, pid, addr) })
     }
 
-    /// shmctl(2), IPC_STAT.
+    /// shmctl(2), IPC_STAT: the segment, if the process may read it.
     ///
     /// # Errors
     /// EINVAL, EIDRM, EACCES, ESRCH.
@@ -470,7 +470,7 @@ impl Machine {
         Ok(segment)
     }
 
-    /// shmctl(2), IPC_SET.
+    /// shmctl(2), IPC_SET: sets the owner and the permission bits.
     ///
     /// # Errors
     /// EINVAL, EIDRM, EPERM, ESRCH.
@@ -478,7 +478,7 @@ impl Machine {
         done(unsafe { raw::nog_set(&mut self.handle, pid, id, uid, gid, mode) })
     }
 
-    /// shmctl(2), IPC_RMID.
+    /// shmctl(2), IPC_RMID: destroys the segment, or marks it if it is attached.
     ///
     /// # Errors
     /// EINVAL, EIDRM, EPERM, ESRCH.
@@ -486,7 +486,7 @@ impl Machine {
         done(unsafe { raw::nog_remove(&mut self.handle, pid, id) })
     }
 
-    /// shmctl(2), SHM_LOCK.
+    /// shmctl(2), SHM_LOCK: keeps the pages of the segment in memory.
     ///
     /// # Errors
     /// EINVAL, EIDRM, EPERM, ENOMEM, ESRCH.
@@ -494,7 +494,7 @@ impl Machine {
         done(unsafe { raw::nog_lock(&mut self.handle, pid, id) })
     }
 
-    /// shmctl(2), SHM_UNLOCK.
+    /// shmctl(2), SHM_UNLOCK: lets the pages of the segment leave memory.
     ///
     /// # Errors
     /// EINVAL, EIDRM, EPERM, ESRCH.
@@ -518,7 +518,7 @@ impl Machine {
         done(unsafe { raw::nog_store(&mut self.handle, pid, addr, bytes.as_ptr(), bytes.len()) })
     }
 
-    /// Adds to a little-endian number of eight bytes in one step, modulo 2^64, and answers what it was.
+    /// Adds to an eight-byte little-endian number, modulo 2^64, in one step. Returns the number before the addition.
     ///
     /// # Errors
     /// SIGSEGV, SIGBUS, ESRCH.
@@ -528,7 +528,7 @@ impl Machine {
         Ok(before)
     }
 
-    /// Puts 1 to 64 bytes in the place of others in one step, and those into `before`, which has as many.
+    /// Replaces 1 to 64 bytes in one step. `before` gets the old bytes, and must have the same length.
     ///
     /// # Errors
     /// SIGSEGV, SIGBUS, ESRCH, and OUT_OF_RANGE for another length.
@@ -538,8 +538,8 @@ impl Machine {
         })
     }
 
-    /// As [`Machine::exchange`], but only if the bytes that are there are the expected ones. `before` shows those that were
-    /// there in both cases. The three have as many bytes.
+    /// Like [`Machine::exchange`], but replaces the bytes only if they are the expected ones. `before` gets the old bytes in both
+    /// cases. All three must have the same length.
     ///
     /// # Errors
     /// SIGSEGV, SIGBUS, ESRCH, and OUT_OF_RANGE for another length.
@@ -575,7 +575,7 @@ impl Machine {
         done(unsafe { raw::nog_exec(&mut self.handle, pid) })
     }
 
-    /// exit(2): every piece of the caller is detached, and it is no process any more.
+    /// exit(2): every piece of the caller is detached, and the process ends.
     ///
     /// # Errors
     /// ESRCH.
@@ -583,7 +583,7 @@ impl Machine {
         done(unsafe { raw::nog_exit(&mut self.handle, pid) })
     }
 
-    /// swapoff(2).
+    /// swapoff(2): moves the pages of an area elsewhere and takes the area away.
     ///
     /// # Errors
     /// EPERM, EINVAL, ENOMEM, EIO, ESRCH.
@@ -591,7 +591,7 @@ impl Machine {
         done(unsafe { raw::nog_swapoff(&mut self.handle, pid, area) })
     }
 
-    /// A process joins that was not declared. An ended process with its pid gives its place to it. It is no call.
+    /// Adds a process that was not declared. It replaces an ended process that has its pid. It is not counted as a call.
     ///
     /// # Errors
     /// ADMIT_BAD_PID, ADMIT_TAKEN, ADMIT_MANY, NO_MEMORY.
@@ -599,7 +599,7 @@ impl Machine {
         done(unsafe { raw::nog_admit(&mut self.handle, &process.raw()) })
     }
 
-    /// An ended process leaves, or a child that is not born: its pid may be admitted again. It is no call.
+    /// Removes an ended process, or a child that is not born. Its pid may be admitted again. It is not counted as a call.
     ///
     /// # Errors
     /// DISMISS_NONE, DISMISS_LIVE.
@@ -607,7 +607,8 @@ impl Machine {
         done(unsafe { raw::nog_dismiss(&mut self.handle, pid) })
     }
 
-    /// A live process has another effective user and group from now on, as behind setuid(2). Its pieces stay. It is no call.
+    /// Sets the effective user and group of a live process, as setuid(2) and setgid(2) do. Its pieces stay. It is not counted as
+    /// a call.
     ///
     /// # Errors
     /// ESRCH.
@@ -615,13 +616,13 @@ impl Machine {
         done(unsafe { raw::nog_set_user(&mut self.handle, pid, uid, gid) })
     }
 
-    /// The times that calls set are this number from now on. Before the first time they are the places of calls.
+    /// From now on, calls set this number as the time. Before the first `set_time`, the time of a call is its place.
     pub fn set_time(&mut self, time: u64) {
         // An open machine answers 0.
         unsafe { raw::nog_set_time(&mut self.handle, time) };
     }
 
-    /// munmap(2): unmaps a range, rounded up to whole pages. Pieces that reach beyond it are cut. It is no call.
+    /// munmap(2): unmaps a range, rounded up to whole pages. Pieces that extend beyond it are cut. It is not counted as a call.
     ///
     /// # Errors
     /// ESRCH, EINVAL, ENOMEM, and SPENT.
@@ -629,15 +630,15 @@ impl Machine {
         done(unsafe { raw::nog_unmap(&mut self.handle, pid, addr, len) })
     }
 
-    /// mprotect(2): makes a range, rounded up to whole pages, writable or read-only. It is no call.
+    /// mprotect(2): makes a range, rounded up to whole pages, writable or read-only. It is not counted as a call.
     ///
     /// # Errors
-    /// ESRCH, EINVAL, SPENT, and ENOMEM or EACCES for a page; those below that page have changed then, as on Linux.
+    /// ESRCH, EINVAL, SPENT, and ENOMEM or EACCES for a page; the pages below it have then changed, as on Linux.
     pub fn protect(&mut self, pid: u32, addr: u64, len: u64, is_writable: bool) -> Answer<()> {
         done(unsafe { raw::nog_protect(&mut self.handle, pid, addr, len, u32::from(is_writable)) })
     }
 
-    /// Another machine with the same state, memory and swap areas. Each goes on without the other.
+    /// A second machine with the same state, memory and swap areas. The two are independent from then on.
     ///
     /// # Errors
     /// NO_MEMORY.
@@ -653,7 +654,7 @@ impl Machine {
         })
     }
 
-    /// Reads bytes of any length, by a load for each page.
+    /// Reads bytes of any length, by one load for each page.
     ///
     /// # Errors
     /// As [`Machine::load`], with how many bytes were read before.
@@ -663,20 +664,21 @@ impl Machine {
         stopped(code, count)
     }
 
-    /// Writes bytes of any length, by a store for each page.
+    /// Writes bytes of any length, by one store for each page.
     ///
     /// # Errors
-    /// As [`Machine::store`], with how many bytes were written before: they stay written.
+    /// As [`Machine::store`], with how many bytes were written before; they remain written.
     pub fn write(&mut self, pid: u32, addr: u64, bytes: &[u8]) -> Result<(), Stopped> {
         let mut count = 0;
         let code = unsafe { raw::nog_write(&mut self.handle, pid, addr, bytes.as_ptr(), bytes.len(), &mut count) };
         stopped(code, count)
     }
 
-    /// Copies bytes of a process to a process, which may be the same; the ranges may overlap.
+    /// Copies bytes from a process to another, or to the same one; the ranges may overlap.
     ///
     /// # Errors
-    /// As [`Machine::store`], else as [`Machine::load`], with how many bytes were copied before; and NO_MEMORY, with none.
+    /// Those of [`Machine::store`] and of [`Machine::load`], with how many bytes were copied before; the store's if both were
+    /// refused. NO_MEMORY, with no byte copied.
     pub fn copy(&mut self, from: u32, from_addr: u64, to: u32, to_addr: u64, len: u64) -> Result<(), Stopped> {
         let mut count = 0;
         let code = unsafe { raw::nog_copy(&mut self.handle, from, from_addr, to, to_addr, len, &mut count) };
@@ -691,31 +693,31 @@ impl Machine {
         flushed
     }
 
-    /// The counts as they are.
+    /// The current counts.
     pub fn tally(&mut self) -> Tally {
         let mut tally = Tally::default();
         unsafe { raw::nog_tally_of(&mut self.handle, &mut tally) };
         tally
     }
 
-    /// The live segments, by their place in the table, whoever may read them.
+    /// All segments in the order of their indexes, without a permission check.
     pub fn segments(&mut self) -> Vec<Segment> {
         let mut indexes = 0;
         unsafe { raw::nog_indexes(&mut self.handle, &mut indexes) };
         (0..indexes).filter_map(|index| self.segment_at(index)).collect()
     }
 
-    /// The segment at an index of the table, or none.
+    /// The segment at an index of the table, if there is one.
     pub fn segment_at(&mut self, index: u32) -> Option<Segment> {
         let mut segment = Segment::default();
         let code = unsafe { raw::nog_segment_at(&mut self.handle, index, &mut segment) };
         (code == 0).then_some(segment)
     }
 
-    /// shmctl(2), SHM_STAT: the segment at an index of the table, where the process may read it. It is no call.
+    /// shmctl(2), SHM_STAT: the segment at an index of the table, if the process may read it. It is not counted as a call.
     ///
     /// # Errors
-    /// ESRCH, EINVAL where no segment has the index, EACCES.
+    /// ESRCH, EINVAL if no segment has the index, EACCES.
     pub fn stat_at(&mut self, pid: u32, index: u32) -> Answer<Segment> {
         let mut segment = Segment::default();
         done(unsafe { raw::nog_stat_at(&mut self.handle, pid, index, &mut segment) })?;
@@ -730,7 +732,7 @@ impl Machine {
         usage
     }
 
-    /// The pieces of a live process by rising address, as `/proc/PID/maps` lists mappings.
+    /// The pieces of a live process in the order of their addresses, as `/proc/PID/maps` lists mappings.
     ///
     /// # Errors
     /// ESRCH.
@@ -755,7 +757,7 @@ impl Machine {
         Ok(pieces)
     }
 
-    /// All processes by their pids: live ones, children that are not born, and those that have ended and were not dismissed.
+    /// All processes by their pids: live ones, children that are not born, and ended ones that were not dismissed.
     pub fn processes(&mut self) -> Vec<(u32, State)> {
         let mut it = raw::Process::default();
         let mut processes = Vec::new();
@@ -776,23 +778,23 @@ impl Machine {
         processes
     }
 
-    /// Where an access is a SIGSEGV: the address of its first byte that is not attached, or, for a write, not attached for
-    /// writing. None where each byte is attached as the access asks.
+    /// The address of the first byte at which an access would get SIGSEGV: it is not attached, or, for a write, not attached for
+    /// writing. None if each byte is attached as the access needs.
     pub fn failed_at(&mut self, pid: u32, addr: u64, len: u64, is_write: bool) -> Option<u64> {
         let mut at = 0;
         let code = unsafe { raw::nog_failed_at(&mut self.handle, pid, addr, len, u32::from(is_write), &mut at) };
         (code == 0).then_some(at)
     }
 
-    /// Where an access was a SIGBUS, asked right after it: the address of its first byte whose page is in no frame, if each
-    /// byte before it is attached. None where there is no such byte.
+    /// Call it right after a SIGBUS: the address of the access's first byte whose page is in no frame, if each byte before it is
+    /// attached. None if there is no such byte.
     pub fn absent_at(&mut self, pid: u32, addr: u64, len: u64) -> Option<u64> {
         let mut at = 0;
         let code = unsafe { raw::nog_absent_at(&mut self.handle, pid, addr, len, &mut at) };
         (code == 0).then_some(at)
     }
 
-    /// How many calls were answered.
+    /// How many calls the machine has answered.
     pub fn calls(&mut self) -> u64 {
         let mut calls = 0;
         unsafe { raw::nog_calls(&mut self.handle, &mut calls) };
@@ -800,7 +802,7 @@ impl Machine {
     }
 }
 
-/// The version of the library: 10000 for the first number, 100 for the second, 1 for the third.
+/// The version of the library: 10000 times the first number, plus 100 times the second, plus the third.
 pub fn version() -> u32 {
     // SAFETY: it has no arguments.
     unsafe { raw::nog_version() }
