@@ -1,4 +1,4 @@
-"""The programs as they were built."""
+"""The built programs."""
 import os
 import subprocess
 
@@ -10,7 +10,7 @@ def is_source(name):
 
 
 def newest_source():
-    """When a source changed last."""
+    """The time of the last change of a source."""
     times = [os.stat(f"{TOP}/crates.txt").st_mtime]
     for at, folders, names in os.walk(f"{TOP}/crates"):
         if "out" in folders:
@@ -20,7 +20,7 @@ def newest_source():
 
 
 def program_of(crate):
-    """Returns a crate's program. It is proved and built first where it is missing, or older than a source."""
+    """Returns a crate's program. If it is missing, or older than a source, it is proved and built first."""
     program = f"{TOP}/crates/{crate}/out/{crate}"
     if os.path.exists(program) and os.stat(program).st_mtime >= newest_source():
         return program

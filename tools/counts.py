@@ -2,12 +2,12 @@
 import os
 import sys
 
-# set by tests/breaks, which asks only whether anything fails
+# tests/breaks sets this: it only needs to know whether anything fails
 STOPS = bool(os.environ.get("STOP_AT_FAILURE"))
 
 
 class Count:
-    """What passed, failed and was skipped; a failure and a skip are told where they come."""
+    """Counts what passed, failed and was skipped; prints each failure and skip at once."""
 
     def __init__(self, part):
         self.part = part

@@ -1,9 +1,8 @@
-"""The crates of the repository as crates.txt names them, and rooms in which one is worked on beside others. As a command
-it prints how many checks may run side by side.
+"""The crates that crates.txt names, and rooms in which several can be built at the same time. As a command it prints how many
+checks may run at the same time.
 
-A run of rt in a crate keeps every other out of the crates below it. So what is worked on beside others gets a room: for a
-build a folder with the sources of a crate and of all below it, and with the libraries below it as they were built, by hard
-links where that is possible (`furnish`).
+While rt runs in a crate, no other run can use the crates below it. So each build gets a room: a folder with the sources of the
+crate and of all crates below it, and with the built libraries below it, as hard links if possible (`furnish`).
 """
 import contextlib
 import fcntl
@@ -14,13 +13,13 @@ import tempfile
 
 TOP = os.path.dirname(os.path.dirname(os.path.realpath(__file__)))
 ROOMS = f"{TOP}/build"
-# about the most bytes that a check takes
+# about the most bytes that a check needs
 CHECK = 2_500_000_000
 
 
 @contextlib.contextmanager
 def alone():
-    """Keeps other runs of the tools out of the rooms. What a run left that was killed goes."""
+    """Keeps other runs of the tools out of the rooms. Removes the files of a run that was killed."""
     os.makedirs(ROOMS, exist_ok=True)
     with open(f"{ROOMS}/lock", "w", encoding="utf-8") as lock:
         fcntl.flock(lock, fcntl.LOCK_EX)
@@ -46,7 +45,7 @@ def graph():
 
 
 def all_below(below, crate):
-    """Returns the crates on which a crate stands, by whatever way."""
+    """Returns all crates that a crate uses, directly or through others."""
     found = set()
     for it in below[crate]:
         found |= {it} | all_below(below, it)
@@ -54,7 +53,7 @@ def all_below(below, crate):
 
 
 def lines(crate):
-    """Returns about how much there is to prove, in lines of code without tests: a lemma costs next to nothing."""
+    """Returns about how much there is to prove, in lines of code without tests; lemmas cost little."""
     found = 0
     for at, _, files in os.walk(f"{TOP}/crates/{crate}/src"):
         for name in files:
@@ -70,7 +69,7 @@ def free_memory():
 
 
 def lanes():
-    """Returns how many checks of one job may run side by side."""
+    """Returns how many checks of one job may run at the same time."""
     return max(1, min(len(os.sched_getaffinity(0)), free_memory() // CHECK))
 
 
@@ -82,7 +81,7 @@ def link_or_copy(source, to):
 
 
 def furnish(room, crate, below):
-    """Puts the sources of the crate and of those below it into the room, and the libraries that were built of those below."""
+    """Puts the sources of the crate and of those below it into the room, and the built libraries of those below."""
     with open(f"{TOP}/crates.txt", encoding="utf-8") as file, open(f"{room}/crates.txt", "w", encoding="utf-8") as to:
         to.writelines(line for line in file if re.match(r"\w*", line)[0] in {crate, *below})
     for it in [crate, *below]:

@@ -1,12 +1,11 @@
-//! The cell of a gauge: four words that one seat stores and others load, no lock between them. There are four
-//! kinds of step on it and no other: it is made with the keeper's seat, a reader's seat is split off, a reader
-//! loads, and the keeper stores.
+//! The cell of a gauge: four words that one seat stores and other seats load, without a lock. Only four kinds of
+//! step exist: the cell is made together with the keeper's seat, a reader's seat is split off, a reader loads, and
+//! the keeper stores.
 use atomic_table::Split;
 use crossbeam_utils::atomic::seq_cell::{Pass, RuledSeqCell};
 use crossbeam_utils::rule::{Outcome, Protocol};
 
-/// Four counts of one world at one moment: its events, its frames in use, those that are dirty, and the swap
-/// slots in use.
+/// Four counts of one world at one moment: events, frames in use, dirty frames, and swap slots in use.
 #[derive(Clone, Copy, PartialEq, Eq, Debug)]
 pub struct Reading {
     pub events: u64,
@@ -15,8 +14,8 @@ pub struct Reading {
     pub used: u64,
 }
 
-/// What a seat knows: whether it is the keeper's, and four counts. The keeper's are those that it stored last, a
-/// reader's those that it loaded last. No value of it is made.
+/// What a seat knows: whether it is the keeper's, and four counts. The keeper's counts are those that it stored
+/// last, a reader's those that it loaded last. The program never makes a value of this type.
 pub struct SeatView {
     pub is_keeper: bool,
     pub seen: Reading,
@@ -33,7 +32,7 @@ impl Protocol<[u64; 4], SeatView> for Gauged {
     ghost first = { keeping zeros };
 }
 
-/// A reader's load: what it has seen are the words.
+/// A reader's load: the seat then knows the words.
 pub struct Loads;
 
 impl Outcome<[u64; 4], SeatView> for Loads {
@@ -42,7 +41,7 @@ impl Outcome<[u64; 4], SeatView> for Loads {
     ghost then = { IsLoad };
 }
 
-/// The keeper's store: what it knows are the words that it stored.
+/// The keeper's store: the seat then knows the words that it stored.
 pub struct Stores;
 
 impl Outcome<[u64; 4], SeatView> for Stores {
@@ -51,7 +50,7 @@ impl Outcome<[u64; 4], SeatView> for Stores {
     ghost then = { IsStore };
 }
 
-/// A reader's seat, split off the keeper's: it has seen what the keeper stored last.
+/// A reader's seat, split off the keeper's. It knows what the keeper stored last.
 pub struct NewReader;
 
 impl Split<SeatView> for NewReader {

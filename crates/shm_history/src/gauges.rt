@@ -1,6 +1,6 @@
-//! A gauge is read without the world's lock; the one keeper stores what it shows. Gauge, keeper and readers'
-//! seats are of one cell. A reading is what the keeper stored at one moment, all four counts together, and a
-//! seat's readings never go back in events. How old a reading is, is not said.
+//! A gauge shows counts without the world's lock; only its keeper stores them. Gauge, keeper and readers' seats
+//! share one cell. A reading has all four counts that the keeper stored at one moment, and the events of a seat's
+//! readings never decrease. A reading may be of any age.
 ghost use Rattle.std.specs.Prelude.{◌≡◌, ◌≤◌, IfOk};
 ghost use Rattle.std.specs.Arc.{arc_value};
 ghost use Rattle.crossbeam_utils.specs.Seq.{cell_view};
@@ -12,7 +12,7 @@ use std::alloc::Global;
 use std::marker::Model;
 use std::sync::{Arc, Wait};
 
-/// Shows the counts that its keeper stored last. It is shared by reference. To a contract it is the name of
+/// Shows the counts that its keeper stored last. It is shared by reference. In contracts its value is the name of
 /// its cell.
 pub struct Gauge {
     cell: Arc<Cell, Global>,
@@ -34,7 +34,7 @@ impl Model for Gauge {
     ghost view = { λ g. (arc_value g.cell).table.shared.table_id };
 }
 
-/// The one seat that stores. To a contract it is the name of its cell, and the counts that it stored last.
+/// The only seat that stores. In contracts its value is the name of its cell and the counts that it stored last.
 pub struct Keeper {
     cell: Arc<Cell, Global>,
     pass: SeatPass,
@@ -66,7 +66,7 @@ impl Model for Keeper {
     ghost invariant = { λ k. (k.pass.table_id ≡ (arc_value k.cell).table.shared.table_id) × (cell_view k.pass ≡ keeping k.last) };
 }
 
-/// A reader's seat. To a contract it is the name of its cell, and what its last reading was.
+/// A reader's seat. In contracts its value is the name of its cell and its last reading.
 pub struct ReaderSeat {
     pass: SeatPass,
 }
@@ -91,8 +91,8 @@ impl Model for ReaderSeat {
 }
 
 impl Gauge {
-    /// The counts that the keeper stored last, or since this call began. Its events are not fewer than those of
-    /// the seat's earlier readings; the other counts may have fallen.
+    /// The counts that the keeper stored last, or since this call began. The events are at least those of the
+    /// seat's earlier readings; the other counts may be lower.
     pub fn read<R: Wait>(&self, rt: &R, seat: &mut ReaderSeat) -> Reading
         requires { seat.old.cell ≡ self.now }
         ensures seen { result ≡ seat.new.numbers }
@@ -111,7 +111,7 @@ impl Gauge {
 }
 
 impl Keeper {
-    /// A gauge of a new cell, all of whose counts are zeros, with its keeper.
+    /// A gauge with a new cell, whose counts are zeros, and its keeper.
     pub(crate) fn new(alloc: Global) -> Result<(Gauge, Keeper), HostMemory>
         ensures cell { IfOk result (λ g. g.1.cell ≡ g.0) }
         ensures numbers { IfOk result (λ g. g.1.numbers ≡ zeros) }
@@ -124,7 +124,7 @@ impl Keeper {
         Ok((gauge, of(cell, pass)))
     }
 
-    /// A reader's seat, which has seen the counts that were stored last.
+    /// A reader's seat. It knows the counts that were stored last.
     pub(crate) fn split_reader(&mut self) -> ReaderSeat
         ensures keeper { self.new ≡ self.old }
         ensures seat { result ≡ self.old }

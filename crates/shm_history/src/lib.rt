@@ -1,4 +1,4 @@
-//! A system with the history of its calls, which is legal at all times, and a gauge of its counts.
+//! A system with the history of its calls, which is always legal, and a gauge of its counts.
 #![tactic(auto)]
 
 mod cell;

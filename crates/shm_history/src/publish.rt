@@ -1,4 +1,4 @@
-//! What a world's gauge shows.
+//! The gauge of a world.
 ghost use Rattle.std.specs.Prelude.{◌≡◌, ◌<◌, ◌↔◌, ◌⊎◌, false, length, IsTrue, IsFalse, IfOk, IfSome, IsNone, Err};
 ghost use Rattle.shm_history.specs.Gauges.{reading_of, has_gauge, IsReading};
 ghost use Rattle.shm_history.specs.WorldState.{tally_of};
@@ -13,8 +13,8 @@ use std::alloc::Global;
 use std::sync::Wait;
 use thiserror::Error;
 
-/// Why a world has no gauge: `Limits`, since its limits are larger than the profile's (over 4096 frames, or over
-/// 65536 pages in SHMALL), and `HostMemory`, since the host refused memory.
+/// Why a world has no gauge. `Limits`: its limits are larger than the profile's (over 4096 frames, or over 65536
+/// pages in SHMALL). `HostMemory`: out of memory.
 #[derive(Clone, Copy, Debug, PartialEq, Eq, Error)]
 pub enum GaugeRefused {
     #[error("a gauge has at most 4096 frames and 65536 pages")]
@@ -24,7 +24,7 @@ pub enum GaugeRefused {
 }
 
 impl<P: Pager> World<P> {
-    // The gauge's counts, which keep their bounds, or none where the limits are larger than the profile's.
+    // The counts for the gauge, within its bounds; none if the limits are larger than the profile's.
     fn reading(&self) -> Option<Reading>
         ensures counts { IfSome result (λ r. r ≡ reading_of (tally_of self.now)) }
         ensures bounds { IfSome result IsReading }
@@ -43,8 +43,8 @@ impl<P: Pager> World<P> {
         })
     }
 
-    /// Stores the world's counts for the readers of the keeper's gauge. False, and nothing is done, where the
-    /// keeper has stored more events than this world has, and where this world has no gauge.
+    /// Stores the world's counts for the readers of the keeper's gauge. It does nothing and answers false if the
+    /// keeper has already stored more events than this world has, or if this world can have no gauge.
     pub fn publish<R: Wait>(&self, rt: &R, keeper: &mut Keeper) -> bool
         ensures cell { keeper.new.cell ≡ keeper.old.cell }
         ensures stored { IsTrue result → keeper.new.numbers ≡ reading_of (tally_of self.now) }
@@ -62,8 +62,8 @@ impl<P: Pager> World<P> {
     }
 }
 
-/// A gauge of a world, with its keeper, which has stored the world's counts, and the seat of a reader, which has
-/// seen them. It is for worlds of the profile's size: see [`GaugeRefused`].
+/// A gauge of a world, its keeper, which has stored the world's counts, and a reader's seat, which knows them. Only
+/// worlds of the profile's size have one: see [`GaugeRefused`].
 pub fn gauge<R: Wait, P: Pager>(
     rt: &R,
     alloc: Global,

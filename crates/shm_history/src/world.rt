@@ -1,7 +1,7 @@
 //! A system with the history of its calls.
 //!
-//! The rule that the type keeps: the history is legal on the flat machine from the opening, and leads
-//! to the machine that the system shows. A call and its reply are recorded together or not at all.
+//! The invariant of the type: the history is legal on the flat machine from the opening, and leads to the machine
+//! that the system shows. A call and its reply are recorded together or not at all.
 ghost use Rattle.std.specs.Prelude.{◌≡◌, ◌+◌, ◌-◌, ◌<◌, ◌≤◌, [], ◌++◌, length, drop, vec_len, vec_capacity, IfOk, OnOk, OnErr, IsOk, All, true, false};
 ghost use Rattle.shm_base.specs.History.{IsHistory, is_refusal};
 ghost use Rattle.shm_base.specs.Step.{step};
@@ -53,7 +53,7 @@ impl<P: Pager> Model for World<P> {
     ghost invariant = { λ w. (w.system.calls ≡ length w.history.items) × IsHistory w.system.opening w.history.items w.system.machine × AreCounted w.history.items w.system.memory.swap × (w.system.only_calls ≡ true) × (w.system.clock ≡ None) };
 }
 
-// Makes room for one more event, where there is none.
+// Makes room for one more event, if there is none.
 #[inline(always)]
 fn make_room(history: &mut Vec<Event>) -> Result<(), HostMemory>
     ensures items { history.new.items ≡ history.old.items }
@@ -69,8 +69,8 @@ fn make_room(history: &mut Vec<Event>) -> Result<(), HostMemory>
 
 impl<P: Pager> World<P> {
     #[tactic(auto, using(crate::proofs::Counted::counted_none))]
-    /// A world with no history yet, of a system that nothing has changed: its host admitted and dismissed no process, set no
-    /// credentials, and gave no time.
+    /// A world without events, over a system that nothing has changed: no process was admitted or dismissed, and no
+    /// credentials and no time were set.
     pub fn new(alloc: Global, system: System<P>) -> World<P>
         requires new { system.calls ≡ 0 }
         requires only_calls { system.only_calls ≡ true }
@@ -85,14 +85,14 @@ impl<P: Pager> World<P> {
         }
     }
 
-    /// What its machine started from.
+    /// The opening of its machine.
     pub fn opening(&self) -> &Opening
         ensures { result.now ≡ self.now.opening }
     {
         self.system.opening()
     }
 
-    /// The system, to be looked at: it has the machine and the memory of this world.
+    /// The system of this world, for reading: its machine and its memory.
     pub fn system(&self) -> &System<P>
         ensures opening { result.now.opening ≡ self.now.opening }
         ensures machine { result.now.machine ≡ self.now.machine }
@@ -101,29 +101,28 @@ impl<P: Pager> World<P> {
         &self.system
     }
 
-    /// The calls so far with their replies. They are legal, and lead to the machine, which the memory
-    /// shows exactly. Those that name a pager's failure are at most the failures that were counted, where
-    /// no area was ever spent.
+    /// The calls so far with their replies. They are legal and lead to the machine, and the memory shows that machine
+    /// exactly. If no area was ever spent, at most as many replies name a pager's failure as failures were counted.
     pub fn history(&self) -> &[Event]
         ensures events { result.now ≡ self.now.events }
         ensures legal { IsHistory self.now.opening self.now.events self.now.machine }
         ensures counted { AreCounted self.now.events self.now.memory.swap }
         ensures exact { IsExactly self.now.machine self.now.memory }
     {
-        // The memory that the system lends is exact.
+        // The memory of the system is exact.
         let _ = self.system.store();
         self.history.as_slice()
     }
 
-    /// The segment at an index of the table as stat shows it, with no permission test. None only where no
-    /// segment holds the index.
+    /// The segment at an index of the table as stat shows it, without a permission check. None exactly if no segment
+    /// has the index.
     pub fn segment(&self, index: u32) -> Option<(ShmId, ShmidDs)>
         ensures { result ≡ segment_at self.now.machine index }
     {
         self.system.segment(index)
     }
 
-    /// How many calls can be recorded before memory is asked for.
+    /// How many calls can be recorded before memory is requested.
     pub fn room(&self) -> usize
         ensures { result ≡ self.now.room }
     {
@@ -140,9 +139,9 @@ impl<P: Pager> World<P> {
         Ok(())
     }
 
-    /// One call, which is recorded with its reply. Where memory is out, nothing changes but the room, and
-    /// nothing is recorded; with room left, that comes only where the flat machine refuses nothing, and the
-    /// calls that take no memory always get their reply.
+    /// Makes one call and records it with its reply. If memory is out, nothing is recorded and nothing changes except
+    /// the room. With room left, that happens only at calls that take memory and that the flat machine does not
+    /// refuse.
     pub fn call(&mut self, pid: u32, call: &Call) -> Result<Reply, HostMemory>
         ensures called { IfOk result (λ r. IsCalled self.old pid call.now r self.new) }
         ensures err { OnErr result (self.new ≡ record self.old { room = self.new.room }) }
@@ -151,9 +150,9 @@ impl<P: Pager> World<P> {
         ensures room { OnErr result (self.old.room ≤ self.new.room) }
     {
         make_room(&mut self.history)?;
-        // The memory that the system lends is exact, before the call too.
+        // The memory of the system is exact before the call, too.
         let _ = self.system.store();
-        // The reply is put where the event keeps it.
+        // The reply goes straight into the event.
         let place = self.history.len();
         self.history.push_reserved(Event {
             pid,
@@ -168,8 +167,8 @@ impl<P: Pager> World<P> {
         Ok(self.history[place].reply)
     }
 
-    /// A flush round: the first `pages` dirty frames of segments that are not locked are written out to
-    /// their slots. It is no event, and nothing but the memory changes.
+    /// A flush round: writes the first `pages` dirty frames of segments that are not locked out to their slots. It is
+    /// not an event, and changes only the memory.
     pub fn flush(&mut self, pages: u64) -> FlushReport
         ensures rest { self.new ≡ record self.old { memory = self.new.memory } }
         ensures flushed { IsFlushed self.old.memory self.new.memory pages result }
@@ -178,7 +177,7 @@ impl<P: Pager> World<P> {
         self.system.flush(pages)
     }
 
-    /// The counts of the machine as they are, and of what its pagers did. They keep their bounds.
+    /// The current counts of the machine and of its pagers' work, within their bounds.
     pub fn tally(&self) -> Tally
         ensures counts { result ≡ tally_of self.now }
         ensures counted { AreCountsOf P.failed self.now.memory.swap }
@@ -187,8 +186,8 @@ impl<P: Pager> World<P> {
         self.system.tally()
     }
 
-    // One step. Where memory is out, nothing changes but the room, which does not shrink; that comes only at a step that
-    // may find none.
+    // One step. If memory is out, nothing changes except the room, which does not shrink; that happens only at a step
+    // that may take memory.
     fn run_step(&mut self, step: &Step) -> Result<(), HostMemory>
         ensures ran { OnOk result (IsRun self.old step.now self.new) }
         ensures stopped { OnErr result (self.new ≡ record self.old { room = self.new.room }) }
@@ -206,9 +205,9 @@ impl<P: Pager> World<P> {
         Ok(())
     }
 
-    /// Runs the steps in order. It stops where memory is out first, and keeps the steps before that one. Each
-    /// recorded call takes the room of one event at most, and nothing else takes any. With room for every call, and
-    /// no call that takes memory, it runs them all.
+    /// Runs the steps in order. It stops at the first step that is out of memory, and keeps the steps before it. Each
+    /// recorded call takes room for at most one event, and nothing else takes room. With room for every call, and if
+    /// no call takes memory, it runs all steps.
     pub fn run_steps(&mut self, steps: &[Step]) -> Result<(), HostMemory>
         ensures steps { OnOk result (RunTo self.old steps.now self.new) }
         ensures stopped { OnErr result (StopsIn self.old steps.now self.new) }

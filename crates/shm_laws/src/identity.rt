@@ -6,8 +6,8 @@ use shm_history::World;
 use shm_pager::Pager;
 
 #[tactic(auto, using(crate::proofs::Naming::names_one_segment))]
-/// The history of the world. In it an identifier that names a segment names that one until it is destroyed,
-/// and then none; and a new segment gets an identifier that was never issued.
+/// The history of the world. An identifier names the same segment until that is destroyed, and then none. A new segment
+/// gets an identifier that was never issued before.
 pub fn named_once<P: Pager>(world: &World<P>) -> &[Event]
     ensures law { NamesOneSegment world.now.opening result.now world.now.machine }
     ensures events { result.now ≡ world.now.events }

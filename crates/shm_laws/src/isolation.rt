@@ -6,9 +6,8 @@ use shm_history::World;
 use shm_pager::Pager;
 
 #[tactic(auto, using(crate::proofs::Isolating::is_isolated))]
-/// The history of the world. In it no reply and no byte that is seen depends on the bytes of segments of
-/// which the process that calls has no piece: had these been others, each call would have been answered the
-/// same.
+/// The history of the world. A process's replies never depend on the bytes of segments of which it has no piece: with
+/// other bytes there, each call would have the same reply.
 pub fn isolated<P: Pager>(world: &World<P>) -> &[Event]
     ensures law { IsIsolated world.now.opening result.now world.now.machine }
     ensures events { result.now ≡ world.now.events }

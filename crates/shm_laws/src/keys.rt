@@ -5,9 +5,9 @@ use shm_base::Event;
 use shm_history::World;
 use shm_pager::Pager;
 
-/// The history of the world. In it at most one segment at a time has a key other than 0, and a marked one has
-/// none; a shmget that is answered finds the segment that has its key, or makes a new one where none has it;
-/// and a segment keeps its key until it is marked.
+/// The history of the world. At most one segment at a time has a given key other than 0, and a marked segment has none. A
+/// shmget that succeeds finds the segment with its key, or makes one if no segment has the key. A segment keeps its key
+/// until it is marked.
 pub fn found_by_key<P: Pager>(world: &World<P>) -> &[Event]
     ensures law { KeysLeadToOne world.now.opening result.now world.now.machine }
     ensures events { result.now ≡ world.now.events }

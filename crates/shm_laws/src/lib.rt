@@ -1,5 +1,5 @@
-//! Laws of whole histories, in the words of those who rely on the machine: each function shows one of the
-//! world at hand.
+//! Laws of whole histories, in the words of those who rely on the machine. Each function shows that its law holds of the
+//! given world.
 #![tactic(auto)]
 
 mod identity;

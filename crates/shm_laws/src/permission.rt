@@ -6,10 +6,10 @@ use shm_history::World;
 use shm_pager::Pager;
 
 #[tactic(auto, using(crate::proofs::Granting::no_way_in))]
-/// The history of the world. In it each piece of a process goes back, through forks alone, to a shmat that
-/// was granted; each access stays inside the pieces of its process; set, rmid, lock and unlock are granted to
-/// owners alone, and swapoff to user 0; stat, and a shmget of a segment that exists, are answered only to
-/// processes with the permission; and no call gives a process other credentials.
+/// The history of the world. Each piece of a process descends, through forks only, from a shmat that had permission. Each
+/// access stays inside the pieces of its process. Only owners are granted set, rmid, lock and unlock, and only user 0 is
+/// granted swapoff. Only processes with permission succeed at stat, or at a shmget of an existing segment. No call
+/// changes the credentials of a process.
 pub fn kept_out<P: Pager>(world: &World<P>) -> &[Event]
     ensures law { NoWayIn world.now.opening result.now world.now.machine }
     ensures events { result.now ≡ world.now.events }

@@ -5,8 +5,8 @@ use shm_base::Event;
 use shm_history::World;
 use shm_pager::Pager;
 
-/// The history of the world. In it each segment has, as long as it exists, the bytes of the fewest whole
-/// pages that hold its size, and its size never changes.
+/// The history of the world. The size of a segment never changes, and as long as it exists it has the bytes of the fewest
+/// whole pages that hold its size.
 pub fn pages_kept<P: Pager>(world: &World<P>) -> &[Event]
     ensures law { HaveTheirPages world.now.opening result.now world.now.machine }
     ensures events { result.now ≡ world.now.events }

@@ -1,8 +1,8 @@
-//! A run that is watched. The script on standard input runs with threads, and beside it a monitor reads the gauge,
-//! which waits for no lock: a pager may be slow, and calls may wait for the world. At the end the monitor says how
-//! many events it saw at last, and how many of its readings went back, of which there are none.
+//! A watched run. The script on standard input runs with threads, while a monitor reads the gauge. The monitor waits for no
+//! lock, also if a pager is slow and calls wait for the world. At the end it prints the events of its last reading, and how
+//! many readings had fewer events than the one before, which is always 0.
 //!
-//! With the word `gauged` nothing reads, and with `plain` nothing is published either: so one sees what they cost.
+//! With the word `gauged` nothing reads, and with `plain` nothing is published either; a comparison shows their cost.
 #![tactic(auto)]
 
 mod monitor;

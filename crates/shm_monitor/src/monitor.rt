@@ -1,4 +1,4 @@
-//! The run, and the monitor beside it.
+//! The run and its monitor.
 ghost use Rattle.std.specs.Prelude.{◌≡◌};
 
 use shm_base::{HostMemory, PROFILE_SLOTS};
@@ -12,7 +12,7 @@ use std::sync::atomic::{AtomicBool, Ordering};
 use std::thread::{Threads, join};
 use thiserror::Error;
 
-/// What runs beside the script's workers and its flusher: a keeper that publishes, and a monitor that reads.
+/// The additions to the script's workers and flusher: a keeper that publishes, and a monitor that reads.
 #[derive(Clone, Copy, Debug, PartialEq, Eq)]
 pub(crate) enum Company {
     Plain,
@@ -20,8 +20,7 @@ pub(crate) enum Company {
     Watched,
 }
 
-/// How many events were there at the end, how many readings were taken, and how many of them had fewer events
-/// than the one before.
+/// The events at the end, the number of readings, and the number of readings with fewer events than the one before.
 #[derive(Clone, Copy, Debug, PartialEq, Eq)]
 pub(crate) struct Watched {
     pub(crate) events: u64,

@@ -61,7 +61,7 @@ fn area_of(alloc: Global, swap: SwapWord) -> Result<AreaPager, HostMemory>
     )
 }
 
-/// A pager for each of the words, in their order. Of a fuse just the read or the write that its word names will fail.
+/// A pager for each of the words, in their order. A fuse fails only at the read or the write that its word names.
 pub fn areas_of(alloc: Global, swaps: &[SwapWord]) -> Result<Vec<AreaPager>, HostMemory>
     ensures { IfOk result (λ pagers. AllZip IsAreaOf swaps.now pagers.items) }
 {

@@ -1,4 +1,4 @@
-//! The whole input, which is a script, and the whole output.
+//! Reading the whole input, which is a script, and writing the whole output.
 ghost use Rattle.std.specs.Prelude.{◌≡◌, ◌⊎◌, ◌++◌, ◌<◌, ◌≤◌, ◌+◌, ◌-◌, List, ℕ, Ok, true, length, OnOk, IfOk, IfErr, IfSome};
 ghost use Rattle.std.specs.Io.KnownBytes.{Appends, Consumes, IsAtEnd};
 ghost use Rattle.shm_text.specs.Reading.{script_of};
@@ -13,21 +13,21 @@ use std::alloc::Global;
 use std::io::{ErrorKind, Read, Write};
 use thiserror::Error;
 
-/// How often a reader is asked at most, interruptions included.
+/// The most reads, including interrupted ones.
 const ASKS: u32 = 2_097_152;
 
-// How many bytes are asked for at once.
+// The bytes of one read.
 const BUFFER: usize = 4096;
 
-// Whether a reader that failed so is asked again: an interruption alone. A reader that does not wait answers
-// `WouldBlock` where it has nothing yet; that is a failure, since to ask it again at once would keep a processor busy.
+// Whether to read again after this failure: only after an interruption. A reader that does not wait answers `WouldBlock`
+// if it has nothing yet; that is a failure, because reading again at once would keep a processor busy.
 fn is_asked_again(kind: ErrorKind) -> bool
     ensures { result ≡ is_asked_again kind }
 {
     kind == ErrorKind::Interrupted
 }
 
-// Appends bytes to those that were read.
+// Appends bytes to those read before.
 fn keep(input: &mut Vec<u8>, bytes: &[u8]) -> Result<(), RunFault>
     ensures kept { OnOk result (input.new.items ≡ input.old.items ++ bytes.now) }
     ensures err { IfErr result (λ f. f ≡ RunFault.HostMemory) }
@@ -35,7 +35,7 @@ fn keep(input: &mut Vec<u8>, bytes: &[u8]) -> Result<(), RunFault>
     Ok(input.extend_from_slice(bytes)?)
 }
 
-/// Reads all there is, up to one byte more than the longest script.
+/// Reads the whole input, up to one byte more than the longest script.
 fn read_input<R: Read>(alloc: Global, reader: &mut R) -> Result<Vec<u8>, RunFault>
     ensures taken { IfOk result (λ v. Consumes (R.remaining reader.old) (R.remaining reader.new) v.items) }
     ensures whole { IfOk result (λ v. length v.items ≤ LONGEST_SCRIPT → IsAtEnd (R.remaining reader.new)) }
@@ -64,8 +64,7 @@ fn read_input<R: Read>(alloc: Global, reader: &mut R) -> Result<Vec<u8>, RunFaul
     Err(RunFault::ReadFailed)
 }
 
-/// The script that the whole input is. It fails by the script's first fault, or where the reader failed or the host
-/// refused memory.
+/// The whole input as a script. It fails by the script's first fault, or if the reader failed or memory is out.
 pub fn whole_script<R: Read>(alloc: Global, reader: &mut R) -> Result<Script, RunFault>
     ensures read { IfOk result (λ script. IfSome (R.remaining reader.old) (λ input. script_of input ≡ Ok script)) }
     ensures whole { OnOk result (IsAtEnd (R.remaining reader.new)) }
@@ -83,7 +82,7 @@ pub fn whole_script<R: Read>(alloc: Global, reader: &mut R) -> Result<Script, Ru
     }
 }
 
-/// The writer took less than all.
+/// The writer did not take all bytes.
 #[derive(Clone, Copy, Debug, PartialEq, Eq, Error)]
 #[error("write failed")]
 pub struct WriteFault;
@@ -96,8 +95,7 @@ impl From<WriteFault> for RunFault {
     }
 }
 
-/// Writes the bytes, each once. Any fault of the writer ends it, an interruption and a write of no byte
-/// too.
+/// Writes the bytes, each once. Any fault of the writer ends it, also an interruption or a write of no byte.
 pub fn write_output<W: Write>(writer: &mut W, bytes: &[u8]) -> Result<(), WriteFault>
     ensures { OnOk result (Appends (W.contents writer.old) (W.contents writer.new) bytes.now) }
 {

@@ -1,4 +1,4 @@
-//! Why a run ends without its whole output, and how the program says so.
+//! Why a run ends without its whole output, with the program's texts and statuses.
 ghost use Rattle.std.specs.Prelude.{◌≡◌};
 ghost use Rattle.shm_program.specs.Faults.{refused_as, stopped_as};
 ghost use Rattle.shm_program.specs.declared.fault.RunFault.TheVariants as faults;
@@ -9,12 +9,12 @@ use shm_text::{ReadRefused, ScriptFault};
 use std::alloc::AllocError;
 use std::{error, fmt};
 
-/// Why a run ended without its whole output. `Script`: the input is no script, by its first fault.
-/// `StartRefused`: the first start error that holds, by its number. `ReadFailed`: the reader failed, or was
-/// asked 2,097,152 times without an end. `WriteFailed`: the writer failed, was interrupted, or took no
-/// byte; an unknown beginning was written. `HostMemory`: the host refused memory. Of a run with threads
-/// also: `Gate`: the gate ended a worker, of which this is the least pid. `Mismatch`: a worker's calls and
-/// the history disagree, of which this is the least pid, or 0. `ThreadRefused`: the host refused a thread.
+/// Why a run ended without its whole output. `Script`: the input is not a script; it has the first fault.
+/// `StartRefused`: the number of the first start error. `ReadFailed`: the reader failed, or was asked 2,097,152
+/// times without an end. `WriteFailed`: the writer failed, was interrupted, or took no byte; an unknown beginning
+/// was written. `HostMemory`: out of memory. Only a run with threads has the others. `Gate`: the gate ended a
+/// worker; it has the least such pid. `Mismatch`: a worker's calls and the history disagree; it has the least such
+/// pid, or 0. `ThreadRefused`: the host refused a thread.
 #[derive(Clone, Copy, Debug, PartialEq, Eq)]
 pub enum RunFault {
     Script(ScriptFault),
@@ -30,7 +30,7 @@ pub enum RunFault {
 impl RunFault {
     ghost use Rattle.shm_program.specs.Faults.{exit_status};
 
-    /// The exit status of the program: 1 for a script fault, 3 for a fault of the run, 4 out of memory.
+    /// The exit status of the program: 1 for a script fault, 3 for a fault of the run, 4 for out of memory.
     pub fn status(self) -> u8
         ensures { result ≡ exit_status self }
     {
@@ -72,7 +72,7 @@ impl fmt::Display for RunFault {
 
 impl error::Error for RunFault {}
 
-// Where the host refuses memory, a run is out of memory, whatever it was doing.
+// If the host refuses memory, the run is out of memory, whatever it was doing.
 impl From<AllocError> for RunFault {
     ghost from_gives = { λ _ r. r ≡ faults.HostMemory };
 

@@ -9,8 +9,8 @@ use shm_pager::Pager;
 use shm_text::Script;
 use std::alloc::Global;
 
-/// A world as a script opens it, with no event yet, over the pagers as they are handed in. It fails as the start of its
-/// system does: by the first start error that holds, or out of memory; the pagers are dropped then.
+/// The world that a script opens, without events, over the given pagers. It fails as the start of its system does: with
+/// the first start error, or out of memory; then the pagers are dropped.
 pub fn open_world<P: Pager>(
     alloc: Global,
     script: &Script,

@@ -8,8 +8,8 @@ use shm_text::read_decimal;
 use std::alloc::{AllocError, Global};
 use std::convert::AsStr;
 
-/// A swap area: its kind, its slots (1 to 65536), and of a fuse the place, from 1, of the read or the write
-/// that fails.
+/// A swap area: its kind, its slots (1 to 65536), and for a fuse the number, from 1, of the read or the write that
+/// fails.
 #[derive(Clone, Copy, Debug, PartialEq, Eq)]
 pub enum SwapWord {
     Ram(u32),
@@ -106,7 +106,7 @@ fn read_swap(word: &[u8]) -> Option<SwapWord>
 }
 
 /// The swap areas that words name, in their order: `ram:N`, `sparse:N`, `mirror:N`, `fuse:N:rK` or `fuse:N:wK` each.
-/// None where there are not one to eight words, or where one of them names no area.
+/// None if there are not one to eight words, or if one of them names no area.
 pub fn read_swaps<W: AsStr>(alloc: Global, words: &[W]) -> Result<Option<Vec<SwapWord>>, AllocError>
     ensures { IfOk result (λ found. option_map (λ v. v.items) found ≡ swaps_of (map W.text words.now)) }
 {

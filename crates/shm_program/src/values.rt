@@ -23,7 +23,7 @@ impl Model for Holder {
     ghost view = { λ h. record { pid = h.pid; values = h.vars } };
 }
 
-/// The variables of the declared processes. What a process that is not declared takes is forgotten.
+/// The variables of the declared processes. A process that is not declared has none.
 #[derive(Drop)]
 pub struct Values {
     holders: Vec<Holder>,
@@ -39,7 +39,7 @@ impl Model for Values {
 }
 
 impl Values {
-    /// The variables of these processes, as they begin.
+    /// The variables of these processes at the start.
     pub fn new(alloc: Global, processes: &[Process]) -> Result<Values, AllocError>
         ensures { IfOk result (λ v. v ≡ map fresh_holder processes.now) }
     {

@@ -1,5 +1,5 @@
-//! What is printed of a world: the listing and the usage, and the record of a run that is looked at, step by step: what the
-//! step did, the segments, the pieces of the processes, the frames, the swap areas and the counts.
+//! The texts of a world: the listing, the usage, and the record of each step for the viewer. A record has the step's action,
+//! the segments, the pieces of the processes, the frames, the swap areas and the counts.
 #![tactic(auto)]
 
 mod action;

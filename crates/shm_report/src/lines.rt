@@ -7,7 +7,7 @@ use shm_pager::Pager;
 use shm_print::{header_line, segment_line};
 use std::alloc::{AllocError, Global};
 
-// Appends the line of a segment to a text, where there is one.
+// Appends the line of a segment to a text, if there is one.
 fn push_line(
     alloc: Global,
     text: &mut String,
@@ -22,8 +22,8 @@ fn push_line(
     Ok(())
 }
 
-/// The listing of a machine: the header, and a line for each segment by rising index, those included that
-/// are marked for removal.
+/// The listing of a machine: the header, and a line for each segment in the order of their indexes, including those
+/// marked for removal.
 pub fn listing<P: Pager>(alloc: Global, world: &World<P>) -> Result<String, AllocError>
     ensures { IfOk result (λ s. string_bytes s ≡ listing_of world.now.machine) }
 {

@@ -11,8 +11,8 @@ use shm_pager::Pager;
 use shm_slots::Swap;
 use std::alloc::AllocError;
 
-// Appends the line of a frame to a text, where a page owns it. This look at a referenced bit is none of the
-// clock's, and counts for itself.
+// Appends the line of a frame to a text, if a page owns it. Its look at the referenced bit is not counted as one of the
+// clock's.
 fn push_frame(text: &mut String, frames: &Frames, frame: u32) -> Result<(), AllocError>
     requires { frame < length frames.now }
     ensures { OnOk result (string_bytes text.new ≡ string_bytes text.old ++ frame_line frame (frame_at frames.now frame)) }

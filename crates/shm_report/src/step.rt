@@ -46,9 +46,9 @@ fn push_counts<P: Pager>(
     text.push_str(&usage(alloc, world)?)
 }
 
-/// Appends the record of a step to a text: its number, what it did, and how the world is after it, as the
-/// segments of the listing, the processes with their pieces, the frames, the swap areas and the usage. Each line
-/// begins with a word that says what it shows. Where memory is refused a part of the record may stand there.
+/// Appends the record of a step to a text: its number, its action, and the world after it: the segments of the listing,
+/// the processes with their pieces, the frames, the swap areas and the usage. Each line begins with a word that names
+/// its subject. If memory is out, the text may end with a part of the record.
 pub fn push_step<P: Pager>(
     alloc: Global,
     text: &mut String,

@@ -1,4 +1,4 @@
-//! How a run with threads ends, as a fault of the program.
+//! The program's fault for a run with threads that has no outcome.
 ghost use Rattle.std.specs.Prelude.{◌≡◌};
 ghost use Rattle.shm_runner.specs.Faults.{ended_as};
 

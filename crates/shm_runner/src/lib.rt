@@ -1,5 +1,4 @@
-//! A whole run: a script comes from a reader, its lines run in file order or each process in a thread of its own, and
-//! what was answered goes to a writer.
+//! A whole run: reads a script, runs its lines in file order or each process in its own thread, and writes the replies.
 #![tactic(auto)]
 
 mod fault;

@@ -1,5 +1,4 @@
-//! A serial run: a script comes from a reader, its lines run in file order, and the texts of what was
-//! answered go to a writer.
+//! A serial run: reads a script, runs its lines in file order, and writes the replies.
 ghost use Rattle.std.specs.Prelude.{◌≡◌, ◌⊎◌, [], length, true, map, OnOk, IfErr, IfSome};
 ghost use Rattle.std.specs.Io.KnownBytes.{IsAtEnd};
 ghost use Rattle.shm_slots.specs.Cause.{GoesOn};
@@ -16,11 +15,11 @@ use shm_text::{Line, Script};
 use std::alloc::Global;
 use std::io::{Read, Write};
 
-/// Runs the script that the reader gives over swap areas behind these pagers, and writes an event line for
-/// each command line, the listing of the segments, and the usage. Before the first byte is written the whole
-/// output is there, so at any fault but `WriteFailed` nothing is written. Faults are looked for in this order:
-/// reading, script, start, run, writing. Over pagers that never fail, such as [`shm_pager::RamPager`], the event lines and
-/// the listing are what the script makes of the flat machine, whatever was paged out.
+/// Reads a script, runs it over swap areas with these pagers, and writes an event line for each command line, the
+/// listing of the segments, and the usage. The whole output is made before its first byte is written, so at every
+/// fault except `WriteFailed` nothing is written. Faults are found in this order: reading, script, start, run,
+/// writing. With pagers that never fail, such as [`shm_pager::RamPager`], the event lines and the listing are those
+/// of the flat machine, whatever was paged out.
 pub fn run_serial<R: Read, W: Write, P: Pager>(
     alloc: Global,
     reader: &mut R,
@@ -42,7 +41,7 @@ pub fn run_serial<R: Read, W: Write, P: Pager>(
     }
 }
 
-// Runs a script, and writes what is printed of it.
+// Runs a script, and writes its output.
 fn run_script<W: Write, P: Pager>(
     alloc: Global,
     writer: &mut W,
@@ -62,7 +61,7 @@ fn run_script<W: Write, P: Pager>(
     }
 }
 
-// Runs a script in a world that it opened, and writes what is printed of it. The script's memory is given back before.
+// Runs a script in a world that it opened, and writes its output. The script's memory is freed before that.
 fn run_in<W: Write, P: Pager>(
     alloc: Global,
     writer: &mut W,
@@ -84,7 +83,7 @@ fn run_in<W: Write, P: Pager>(
     }
 }
 
-// Runs the lines of a script in file order, in a world without history. It stops where it is first out of
+// Runs the lines of a script in file order, in a world without history. It stops at the first line that is out of
 // memory.
 fn run_lines<P: Pager>(
     alloc: Global,

@@ -1,5 +1,4 @@
-//! A run with threads: a script comes from a reader, each of its processes runs in a thread of its own, and
-//! the texts of the history that they made go to a writer.
+//! A run with threads: reads a script, runs each of its processes in its own thread, and writes their history.
 ghost use Rattle.std.specs.Prelude.{◌≡◌, ◌⊎◌, true, false, length, map, OnOk, IfErr};
 ghost use Rattle.std.specs.Io.KnownBytes.{Appends};
 ghost use Rattle.shm_slots.specs.View.{AreCountsOf, AreUntouched};
@@ -20,13 +19,13 @@ use std::io::{Read, Write};
 use std::sync::Wait;
 use std::thread::Threads;
 
-/// Runs the script that the reader gives over swap areas behind these pagers, each process in a thread of
-/// its own, and writes an event line for each call in the order of the history, the listing of the segments,
-/// and the usage. Before the first byte is written the whole output is there. At any fault but `WriteFailed`
-/// nothing is written, with one exception: where the host refused memory to a call of the run, the whole
-/// output is written and the answer is `HostMemory`; that call is not in the history. Faults are looked for
-/// in this order: reading, script, start, run, writing. Nothing is said of the order in which the processes'
-/// calls come, nor that a run ends: its threads wait for each other.
+/// Reads a script, runs it over swap areas with these pagers, each process in its own thread, and writes an event
+/// line for each call in the order of the history, the listing of the segments, and the usage. The whole output is
+/// made before its first byte is written. At every fault except `WriteFailed` nothing is written, with one
+/// exception: if the host refused memory to a call of the run, the whole output is written and the answer is
+/// `HostMemory`; that call is not in the history. Faults are found in this order: reading, script, start, run,
+/// writing. Nothing is claimed about the order of calls of different processes, or that a run ends: its threads wait
+/// for each other.
 pub fn run_threaded<T: Threads + Wait + Sync, R: Read, W: Write, P: Pager + Send>(
     rt: &T,
     alloc: Global,
@@ -44,7 +43,7 @@ pub fn run_threaded<T: Threads + Wait + Sync, R: Read, W: Write, P: Pager + Send
     }
 }
 
-// Runs a script, and writes what is printed of it.
+// Runs a script, and writes its output.
 fn run_script<T: Threads + Wait + Sync, W: Write, P: Pager + Send>(
     rt: &T,
     alloc: Global,
@@ -67,7 +66,7 @@ fn run_script<T: Threads + Wait + Sync, W: Write, P: Pager + Send>(
     }
 }
 
-// Runs a script in a world that it opened, and writes what is printed of it.
+// Runs a script in a world that it opened, and writes its output.
 fn run_in<T: Threads + Wait + Sync, W: Write, P: Pager + Send>(
     rt: &T,
     alloc: Global,
@@ -90,9 +89,9 @@ fn run_in<T: Threads + Wait + Sync, W: Write, P: Pager + Send>(
     }
 }
 
-/// Writes what is printed of a run with threads, as `run_threaded` does; for whoever makes the run with a gate or a world of
-/// their own. The whole text is there before its first byte is written: it fails by `WriteFailed` where the writer does, and
-/// by `HostMemory` before the first byte, or after the last one where the host refused memory to a call of the run.
+/// Writes the output of a run with threads as `run_threaded` does, for a run with another gate or world. The whole text is
+/// made before its first byte is written. It fails with `WriteFailed` if the writer fails, and with `HostMemory` before
+/// the first byte, or after the last one if the host refused memory to a call of the run.
 pub fn write_outcome<W: Write, P: Pager>(
     alloc: Global,
     writer: &mut W,
@@ -119,7 +118,7 @@ pub fn write_outcome<W: Write, P: Pager>(
     }
 }
 
-// Whether a call of the run found no memory.
+// Whether a call of the run was out of memory.
 fn have_mark(transcripts: &[Transcript]) -> bool
     ensures { result ≡ have_mark transcripts.now }
 {

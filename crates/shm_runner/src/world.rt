@@ -1,4 +1,4 @@
-//! The text of a world is written.
+//! Writes the text of a world.
 ghost use Rattle.std.specs.Prelude.{◌≡◌, ◌⊎◌, OnOk, IfErr, IfOk, string_bytes};
 ghost use Rattle.std.specs.Io.KnownBytes.{Appends};
 ghost use Rattle.shm_print.specs.Text.{events_text};
@@ -30,7 +30,7 @@ fn history_text(alloc: Global, history: &[Event]) -> Result<String, AllocError>
     Ok(text)
 }
 
-// What is printed of a world: its event lines, the listing of its segments, and its usage.
+// The text of a world: its event lines, the listing of its segments, and its usage.
 fn world_text<P: Pager>(alloc: Global, world: &World<P>) -> Result<String, AllocError>
     ensures text { IfOk result (λ text. string_bytes text ≡ world_text world.now) }
     ensures sound { IsWorldSound world.now }
@@ -44,7 +44,7 @@ fn world_text<P: Pager>(alloc: Global, world: &World<P>) -> Result<String, Alloc
     Ok(text)
 }
 
-/// Writes what is printed of a world. The whole text is there before its first byte is written.
+/// Writes the text of a world. The whole text is made before its first byte is written.
 pub(crate) fn write_world<W: Write, P: Pager>(
     alloc: Global,
     writer: &mut W,

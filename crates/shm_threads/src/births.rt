@@ -1,4 +1,4 @@
-//! Who of the processes is born and who has left.
+//! Which processes are born and which have left.
 ghost use Rattle.std.specs.Prelude.{◌≡◌, map};
 ghost use Rattle.shm_threads.specs.Births.{with_birth, with_end, is_born_in, may_fork_in};
 
@@ -14,14 +14,15 @@ pub(crate) struct ProcessState {
     has_ended: bool,
 }
 
-/// A birth or an end that was noted, and that those who wait have not heard of. It can be let go only by announcing it.
+/// A birth or an end that was noted but not yet announced to the threads that wait. It can only be used up by
+/// announcing it.
 #[must_use]
 pub(crate) struct News {
     is_noted: (),
 }
 
 impl News {
-    /// Wakes all who wait.
+    /// Wakes all threads that wait.
     pub(crate) fn announce(self, changed: &Condvar) {
         let News { is_noted: () } = self;
         changed.notify_all();
@@ -76,7 +77,7 @@ pub(crate) fn is_born(processes: &[ProcessState], pid: u32) -> bool
         .any(|process| process.pid == pid && process.is_born)
 }
 
-/// Whether a born process has not left, which may yet fork.
+/// Whether a born process has not left, and so may still fork.
 pub(crate) fn may_fork(processes: &[ProcessState]) -> bool
     ensures { result ≡ may_fork_in processes.now }
 {

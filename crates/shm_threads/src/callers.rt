@@ -1,4 +1,4 @@
-//! What the threads of a run ask: the gate without the lock, the world under it.
+//! What the threads of a run use: the gate without the lock, the world under the lock.
 ghost use Rattle.std.specs.Prelude.{◌≡◌};
 ghost use Rattle.shm_threads.specs.Keepers.{cell_of};
 ghost use Rattle.shm_threads.specs.Plans.{HasRoom};
@@ -93,7 +93,7 @@ impl<R: Wait, G: Gate, P: Pager> Flusher for RoundFlusher<'_, R, G, P> {
     }
 }
 
-/// The keeper that the flusher had, if there is one, and whether the gate ended the flusher.
+/// The flusher's keeper, if it has one, and whether the gate ended the flusher.
 #[derive(Drop)]
 pub(crate) struct FlusherEnded {
     pub(crate) keeper: Option<Keeper>,

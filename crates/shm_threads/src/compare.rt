@@ -1,5 +1,5 @@
-//! The comparison of transcripts with a history. It ties what the workers of a run with threads did to the one history
-//! that the lock kept: each worker promises what it asked for, and this finds that the history has just those calls.
+//! Compares transcripts with a history. It connects the work of a run's threads with the one history kept under the
+//! lock: each worker guarantees its transcript, and this checks that the history has exactly those calls.
 ghost use Rattle.std.specs.Prelude.{◌≡◌, ℕ, ◌↔◌, ◌<◌, ◌≤◌, IsTrue, All, map, length, drop, true, slice_get};
 ghost use Rattle.shm_base.specs.History.{own_part};
 ghost use Rattle.shm_text.specs.Variables.{no_values};
@@ -9,9 +9,10 @@ use crate::transcript::{Answer, Entry, Transcript};
 use shm_base::{Call, Errno, Event, Process, Reply, has_pid};
 use shm_text::{Line, Script, Vars};
 
-/// The least pid that disagrees: its transcript is not its process's, or the history has an event of it though it is
-/// no declared process or was not live. 0 where there is not one transcript for each process of the script, in its
-/// order. None exactly where the transcripts are those of the script's processes in this history.
+/// The least pid with a disagreement: its transcript is not that of its process, or the history has an event of it
+/// although it is not declared or was not live. 0 if there is not exactly one transcript for each process of the
+/// script, in the script's order. None exactly if the transcripts are those of the script's processes in this
+/// history.
 pub fn disagreement(
     script: &Script,
     history: &[Event],
@@ -45,7 +46,7 @@ fn has_each(processes: &[Process], transcripts: &[Transcript]) -> bool
     true
 }
 
-// The least pid of an event that is of no declared process, or of one that was not live.
+// The least pid of an event whose process is not declared or was not live.
 fn first_stranger(processes: &[Process], history: &[Event]) -> Option<u32>
     ensures { IsLeastOf pid_at (IsAdmitted processes.now) history.now result }
 {
@@ -64,7 +65,7 @@ fn is_admitted(processes: &[Process], event: &Event) -> bool
     has_pid(processes, event.pid) && event.reply != Reply::Refused(Errno::Esrch)
 }
 
-/// The lesser of the least pid so far and another.
+/// The smaller of the least pid so far and another.
 pub fn least(so_far: Option<u32>, pid: u32) -> u32
     ensures { result ≡ least_of so_far pid }
 {
@@ -126,7 +127,7 @@ fn is_fork_of(event: &Event, child: u32) -> bool
     }
 }
 
-// Whether only calls that may take memory are marked.
+// Whether only calls that may take memory are marked as out of memory.
 fn are_marks_allowed(entries: &[Entry]) -> bool
     ensures { IsTrue result ↔ All IsMarkAllowed entries.now }
 {

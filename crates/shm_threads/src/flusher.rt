@@ -1,4 +1,4 @@
-//! What the flusher's thread does, whoever makes its rounds.
+//! The work of the flusher's thread, whoever makes its rounds.
 ghost use Rattle.std.specs.Prelude.{◌≡◌, [], ◌∷◌, List, Option};
 ghost use Rattle.shm_history.specs.Gauges.{CellName};
 ghost use Rattle.shm_threads.specs.Asked.{RoundAsked, Adds, May, Round, Made, RunsRounds, rounds_of};
@@ -7,10 +7,10 @@ use shm_text::Line;
 
 /// What makes the flusher's rounds.
 pub(crate) trait Flusher {
-    /// That these may be what it was asked for so far.
+    /// Whether these may be the rounds so far.
     ghost asked: { Self → List RoundAsked → Type 0 };
 
-    /// The cell in which it publishes, if it does.
+    /// The cell that it publishes to, if it publishes.
     ghost cell: { Self → Option CellName };
 
     /// Whether the n-th round may be made. False ends the flusher.
@@ -18,12 +18,12 @@ pub(crate) trait Flusher {
         ensures asked { Adds (asked self.old) (May n result ∷ []) (asked self.new) }
         ensures cell { cell self.new ≡ cell self.old };
 
-    /// Makes a round of at most this many pages, and publishes what is then counted.
+    /// Makes a round of at most this many pages, and publishes the counts after it.
     fn round(&mut self, pages: u32)
         ensures asked { Adds (asked self.old) (Round pages ∷ []) (asked self.new) }
         ensures cell { cell self.new ≡ cell self.old };
 
-    /// The n-th round is made.
+    /// Called after the n-th round.
     fn after(&mut self, n: u64)
         ensures asked { Adds (asked self.old) (Made n ∷ []) (asked self.new) }
         ensures cell { cell self.new ≡ cell self.old };

@@ -1,8 +1,8 @@
-//! What may hold a worker between its calls.
+//! A gate may hold a worker between its calls.
 
-/// Is asked before each call of a worker, and told after it, both without the lock. A process's calls are
-/// counted from 1, and so are the flusher's rounds, whose pid is 0. A gate that waits for another worker
-/// should not wait without bound: where a thread is refused, the other worker never comes.
+/// It is called before and after each call of a worker, both times without the lock. A process's calls are counted
+/// from 1. So are the flusher's rounds; its pid is 0. A gate that waits for another worker should not wait without
+/// bound: if a thread is refused, the other worker never comes.
 pub trait Gate: Sync {
     /// Whether the worker may make its call. False ends the worker.
     fn before(&self, pid: u32, n: u64) -> bool;

@@ -1,4 +1,4 @@
-//! The comparison of what a run gave with what was handed in, once all workers have ended.
+//! Compares the result of a run with its input, once all workers have ended.
 ghost use Rattle.std.specs.Prelude.{◌≡◌, ◌↔◌, IfOk, IsTrue};
 ghost use Rattle.shm_slots.specs.View.{first_counts};
 ghost use Rattle.shm_threads.specs.Outcomes.{IsMismatch, StartedFrom};
@@ -12,16 +12,16 @@ use shm_slots::Swap;
 use shm_text::Script;
 use std::alloc::Global;
 
-/// What a world started from.
+/// The start of a world.
 #[derive(Drop)]
 pub(crate) struct Origin {
     pub(crate) opening: Opening,
-    // What each area's count of failures stood at when its pager was handed in.
+    // Each area's count of failures when its pager was handed in.
     pub(crate) counts: Vec<u64>,
 }
 
 impl Origin {
-    /// What this world started from.
+    /// The start of this world.
     pub(crate) fn of<P: Pager>(alloc: Global, world: &World<P>) -> Result<Origin, HostMemory>
         ensures opening { IfOk result (λ o. o.opening ≡ world.now.opening) }
         ensures counts { IfOk result (λ o. o.counts.items ≡ first_counts world.now.memory.swap) }
@@ -40,7 +40,7 @@ impl Origin {
     }
 }
 
-// What each area's count stood at when its pager was handed in.
+// Each area's count of failures when its pager was handed in.
 fn first_counts<P: Pager>(alloc: Global, swap: &Swap<P>) -> Result<Vec<u64>, HostMemory>
     ensures { IfOk result (λ counts. counts.items ≡ first_counts swap.now) }
 {
@@ -94,8 +94,8 @@ fn are_same(one: &[Process], other: &[Process]) -> bool
     one == other
 }
 
-/// The least pid of which the history and the transcripts disagree, or 0 if the world did not start from this or the
-/// list of transcripts is not as it was handed in. None exactly where they are an outcome.
+/// The least pid on which the history and the transcripts disagree. 0 if the world has another start, or the list of
+/// transcripts does not fit the script. None exactly if they are an outcome.
 pub(crate) fn mismatch<P: Pager>(
     origin: &Origin,
     world: &World<P>,

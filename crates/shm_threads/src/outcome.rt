@@ -1,4 +1,4 @@
-//! What a run gives, and why it gives nothing.
+//! The outcome of a run, or why it has none.
 use crate::transcript::Transcript;
 use shm_base::HostMemory;
 use shm_history::World;
@@ -12,11 +12,10 @@ pub struct Outcome<P: Pager> {
     pub transcripts: Vec<Transcript>,
 }
 
-/// Why a run has no outcome. `HostMemory`: the host refused memory before a worker was started.
-/// `GateExpired`: the gate ended a worker, of which this is the least pid; the flusher's is 0.
-/// `HistoryMismatch`: a transcript and the history disagree, of which this is the least pid, or 0 where the
-/// opening or the list of transcripts is not the one that was handed in. `ThreadRefused`: the host refused a
-/// thread. Of several, `ThreadRefused` comes before `GateExpired` and that before `HistoryMismatch`. The
+/// Why a run has no outcome. `HostMemory`: the host refused memory before a worker was started. `GateExpired`: the
+/// gate ended a worker; it has the least such pid, 0 for the flusher. `HistoryMismatch`: a transcript and the history
+/// disagree; it has the least such pid, or 0 if the opening or the list of transcripts is wrong. `ThreadRefused`: the
+/// host refused a thread. `ThreadRefused` takes precedence over `GateExpired`, and that over `HistoryMismatch`. The
 /// world is dropped.
 #[derive(Clone, Copy, Debug, PartialEq, Eq, Error)]
 pub enum RunError {

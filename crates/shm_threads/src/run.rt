@@ -1,4 +1,4 @@
-//! A run with threads: start, joins, comparison.
+//! A run with threads: it starts them, joins them, and compares the result.
 ghost use Rattle.std.specs.Prelude.{◌≡◌, ◌+◌, ◌≤◌, true, false, All, IfOk, OnOk, IfNone, IfSome, length, vec_len, vec_capacity};
 ghost use Rattle.shm_slots.specs.View.{first_counts};
 ghost use Rattle.shm_threads.specs.Ends.{IsFirst};
@@ -26,20 +26,22 @@ use std::sync::Wait;
 use std::thread;
 use std::thread::{Builder, JoinHandle, Promise, Scope, Threads};
 
-/// Runs the lines of a script on a world, with a worker in a thread of its own for each process: its command
-/// lines in order, up to the last or to its exit. The world is opened with the script's processes and has no
-/// history yet; a run on one that has a history gives no outcome. Each call takes the world's one lock and
-/// lets it go. A child's worker waits until the child is born, or until none that could fork it is left. A
-/// call for which the host refused memory is marked in the transcript, its variable becomes -1, and the
-/// worker goes on. Another thread, the flusher, runs the flush lines in order, one round for each taking of
-/// the lock. Nothing is said of the order in which threads get the lock, nor that a run ends: workers wait,
-/// and the gate may.
+/// Runs the lines of a script on a world. Each process has a worker, which is a thread of its own: it makes the
+/// process's command lines in order, up to the last one or to its exit. The world must be opened with the script's
+/// processes and have no history yet; a run on a world with a history has no outcome. Each call takes the world's
+/// lock and releases it. A child's worker waits until the child is born, or until no process that could fork it is
+/// left. If the host refuses memory for a call, the call is marked in the transcript, its variable becomes -1, and
+/// the worker continues. Another thread, the flusher, runs the flush lines in order, and takes the lock once for
+/// each round. Nothing is claimed about the order in which threads get the lock, or that a run ends: workers wait,
+/// and the gate may wait.
 ///
-/// The clause says of an outcome: its world has the opening that was handed in, and its areas the counts of failures that
-/// they were handed in with; its history is legal; it has a
-/// transcript for each process, in the script's order, which follows the process's lines, or is empty and that
-/// of a child never born; without its marked calls a transcript is the process's own part of the history; only
-/// shmget and shmat are marked; the history has no other pids, and no call of one that was not live.
+/// The clause says about an outcome:
+/// - Its world has the opening that was handed in, and its areas had the counts of failures that were handed in.
+/// - Its history is legal.
+/// - It has a transcript for each process, in the script's order. A transcript follows the process's lines, or is
+///   empty if the process is a child that was never born.
+/// - A transcript without its marked calls is the process's part of the history. Only shmget and shmat are marked.
+/// - The history has no other pids, and no call of a process that was not live.
 pub fn run_threads<R: Threads + Wait + Sync, G: Gate, P: Pager + Send>(
     rt: &R,
     alloc: Global,
@@ -54,10 +56,10 @@ pub fn run_threads<R: Threads + Wait + Sync, G: Gate, P: Pager + Send>(
     Ok(outcome)
 }
 
-/// As `run_threads`, with a gauge. The flusher has its keeper and publishes in each round, under the lock, and
-/// the call publishes once more when the workers have ended: so the keeper that comes back has stored the
-/// counts of the outcome's world, unless it had stored those of more events. The keeper is dropped where there
-/// is no outcome. How often the gauge changes while the run goes on, is not said.
+/// Like `run_threads`, with a gauge. The flusher has the keeper and publishes in each round, under the lock. The run
+/// publishes once more when the workers have ended, so the keeper that comes back has stored the counts of the
+/// outcome's world, unless it had stored those of more events before. Without an outcome the keeper is dropped.
+/// Nothing is claimed about how often the gauge changes during the run.
 pub fn run_threads_gauged<R: Threads + Wait + Sync, G: Gate, P: Pager + Send>(
     rt: &R,
     alloc: Global,
@@ -125,7 +127,7 @@ fn run_prepared<R: Threads + Wait + Sync, G: Gate, P: Pager + Send>(
     }
 }
 
-// All that a run takes memory for before its workers start, but for the room in its world.
+// Everything that a run takes memory for before its workers start, except the room in its world.
 #[derive(Drop)]
 struct Start {
     origin: Origin,
@@ -143,7 +145,7 @@ struct Plan {
     transcripts: Vec<Transcript>,
 }
 
-// What the world started from, and what the workers need. There is room for an event of each line.
+// The start of the world, and what the workers need. There is room for an event of each line.
 fn prepared<P: Pager>(
     alloc: Global,
     world: &mut World<P>,
@@ -179,7 +181,7 @@ fn planned(alloc: Global, script: &Script) -> Result<Plan, HostMemory>
     })
 }
 
-// What the joins gave: beside the transcripts and the keeper, the least pid of a worker that the gate ended, and
+// The result of the joins: the transcripts and the keeper, the least pid of a worker that the gate ended, and
 // whether a thread was refused.
 #[derive(Drop)]
 struct Joined {
@@ -230,7 +232,7 @@ fn outcome_of<P: Pager>(world: World<P>, run: Joined) -> (Outcome<P>, Option<Kee
     (Outcome { world, transcripts }, keeper)
 }
 
-// The keeper that comes back, if there is one, is of the same cell.
+// The keeper that comes back, if there is one, has the same cell.
 #[derive(Drop)]
 struct SameCell(Snapshot<Option<Keeper>>);
 
@@ -241,8 +243,7 @@ impl Promise<FlusherEnded> for SameCell {
     ghost kept_by = { λ p r. cell_of r.keeper ≡ cell_of p.0.value };
 }
 
-// Starts the flusher and a worker for each job, and joins them all. Where a thread is refused no more are
-// started.
+// Starts the flusher and a worker for each job, and joins them all. After a refused thread it starts no other.
 fn run_all<R: Threads + Wait + Sync, G: Gate, P: Pager + Send>(
     rt: &R,
     shared: &Shared<P>,
@@ -297,7 +298,7 @@ fn run_all<R: Threads + Wait + Sync, G: Gate, P: Pager + Send>(
     )
 }
 
-// Starts a worker for each job, until a thread is refused: whether one was. The list has room for each.
+// Starts a worker for each job, until a thread is refused; says whether one was. The list has room for each.
 fn start_all<'s, E, R: Threads + Wait + Sync, G: Gate, P: Pager + Send>(
     scope: &Scope<'s, E>,
     rt: &'s R,
@@ -334,7 +335,7 @@ fn start_all<'s, E, R: Threads + Wait + Sync, G: Gate, P: Pager + Send>(
     (handles, is_refused)
 }
 
-// Where the flusher is refused its thread, no worker is started.
+// If the flusher's thread is refused, no worker is started.
 fn refused(transcripts: Vec<Transcript>) -> Joined
     ensures { result.is_refused ≡ true }
 {
@@ -346,7 +347,7 @@ fn refused(transcripts: Vec<Transcript>) -> Joined
     }
 }
 
-// Joins the workers: their transcripts, and the least pid of one that the gate ended. The list has room for each.
+// Joins the workers. Gives their transcripts, and the least pid of one that the gate ended. The list has room for each.
 fn join_all<R: Threads + Wait>(
     rt: &R,
     handles: Vec<JoinHandle<Ended>>,

@@ -1,7 +1,7 @@
 //! The world under its lock, and the state of each process.
 //!
-//! What holds of the world is a fact of its type, so it holds whenever the lock is free. Who notes a birth or an end has
-//! news, which cannot be let go without waking those who wait.
+//! The world's guarantees are invariants of its type, so they hold whenever the lock is free. To note a birth or an end gives
+//! news, which can only be used up by waking the threads that wait.
 ghost use Rattle.std.specs.Prelude.{◌≡◌, ◌++◌, [], is_some, map};
 ghost use Rattle.shm_history.specs.WorldState.{IsRound};
 ghost use Rattle.shm_text.specs.Variables.{call_of};
@@ -24,7 +24,7 @@ struct RunState<P: Pager> {
 }
 
 impl<P: Pager> RunState<P> {
-    // Makes a command line's call. A child that it forks is noted, which is news.
+    // Makes a command line's call. If it forks a child, that is noted as news.
     fn call(&mut self, command: &Command, vars: &Vars) -> (Entry, Option<News>)
         ensures line { result.0.call ≡ call_of vars.now command.now.call }
         ensures recorded { let of = events_of command.now.pid result.0.call result.0.answer in
@@ -61,7 +61,7 @@ impl<P: Pager> RunState<P> {
         }
     }
 
-    // A flush round of at most this many pages. Where there is a keeper, it publishes what is then counted.
+    // A flush round of at most this many pages. If there is a keeper, it publishes the counts after it.
     fn flush<R: Wait>(&mut self, rt: &R, pages: u32, keeper: &mut Option<Keeper>) -> FlushReport
         ensures round { IsRound self.old.world pages result self.new.world }
         ensures cell { cell_of keeper.new ≡ cell_of keeper.old }
@@ -74,7 +74,7 @@ impl<P: Pager> RunState<P> {
         report
     }
 
-    // Notes that a process has left, which is news.
+    // Notes that a process has left, as news.
     fn end(&mut self, pid: u32) -> News
         ensures ended { self.new.processes.items ≡ map (with_end pid) self.old.processes.items }
         ensures world { self.new.world ≡ self.old.world }
@@ -83,8 +83,8 @@ impl<P: Pager> RunState<P> {
     }
 }
 
-/// What the threads of a run share: the world under its lock, and the condition that a child was forked or a process
-/// has left.
+/// What the threads of a run share: the world under its lock, and a condition variable for forks and for processes that
+/// leave.
 #[derive(Drop)]
 pub(crate) struct Shared<P: Pager> {
     state: Mutex<RunState<P>>,

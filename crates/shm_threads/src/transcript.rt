@@ -1,4 +1,4 @@
-//! What a worker called and was answered.
+//! The calls of a worker and their answers.
 use shm_base::{Call, Reply};
 
 /// The answer to a worker's call: the system's reply, or that the host refused memory. A call without
@@ -23,7 +23,7 @@ impl Answer {
     ghost use Rattle.std.specs.Option.{option_copied};
     ghost use Rattle.shm_threads.specs.Transcripts.{reply_in};
 
-    /// The reply, where there is one.
+    /// The reply, if there is one.
     pub fn reply(&self) -> Option<&Reply>
         ensures { option_copied result ≡ reply_in self.now }
     {

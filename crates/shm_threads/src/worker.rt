@@ -1,7 +1,7 @@
-//! What a process's thread does, whoever makes its calls.
+//! The work of a process's thread, whoever makes its calls.
 //!
-//! A worker asks its caller for each step. What it asks for, and in which order, is its contract: the caller may have
-//! any meaning.
+//! A worker asks its caller for each step. Its contract says what it asks for and in which order; the caller may do
+//! anything.
 ghost use Rattle.std.specs.Prelude.{◌≡◌, [], ◌∷◌, List, not};
 ghost use Rattle.shm_text.specs.Variables.{call_of};
 ghost use Rattle.shm_threads.specs.Asked.{Asked, Adds, Born, Before, Called, After, Left, RunsLines, Works};
@@ -13,7 +13,7 @@ use shm_text::{Command, Line, Vars};
 
 /// What makes a process's calls for its worker.
 pub(crate) trait Caller {
-    /// That these may be what it was asked for so far.
+    /// Whether these may be the requests so far.
     ghost asked: { Self → List Asked → Type 0 };
 
     /// Waits until the process is born. False if it never will be.

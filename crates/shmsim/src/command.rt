@@ -22,7 +22,7 @@ pub(crate) enum Stop {
 }
 
 impl Stop {
-    /// The exit status: 2 for usage, else that of the fault.
+    /// The exit status: 2 for usage, otherwise that of the fault.
     pub(crate) fn status(self) -> u8
         ensures { result ≡ stop_status self }
     {
@@ -60,7 +60,7 @@ impl From<HostMemory> for Stop {
     }
 }
 
-// A word that is no text is a usage fault.
+// A word that is not valid UTF-8 is a usage fault.
 impl From<io::Error> for Stop {
     ghost from_gives = { λ e r. r ≡ io_stop (error_kind e) };
 
@@ -101,7 +101,7 @@ pub(crate) fn read_command<R: Env + AllocGlobal>(
     read_words(alloc, &words)
 }
 
-// What the words say, the first of which is the program's name.
+// The meaning of the words; the first word is the program's name.
 fn read_words(alloc: Global, words: &[String]) -> Result<(Mode, Vec<SwapWord>), Stop> {
     let matches = matched(alloc, words)?;
     read_matches(alloc, &matches)

@@ -1,4 +1,4 @@
-//! The simulator: a script of processes and calls goes in on standard input, each reply comes out.
+//! The simulator: it reads a script of processes and calls from standard input and writes each reply.
 #![tactic(auto)]
 
 mod command;

@@ -6,7 +6,7 @@ use std::alloc::Global;
 use std::env;
 use std::rt::Env;
 
-/// The steps that are asked for, and the swap areas.
+/// The chosen steps, and the swap areas.
 pub(crate) fn read_command<R: Env + AllocGlobal>(
     rt: &R,
     alloc: Global,

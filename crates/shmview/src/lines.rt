@@ -1,4 +1,4 @@
-//! The lines of a script are run, and the record of each step is appended to a text.
+//! Runs the lines of a script, and appends the record of each step to a text.
 ghost use Rattle.std.specs.Prelude.{◌≡◌, ◌++◌, List, ℕ, map, IfOk, OnOk, string_bytes};
 ghost use Rattle.shm_report.specs.declared.action.Action.TheVariants.{Start};
 ghost use Rattle.shm_laws.specs.Worlds.{IsWorldSound};
@@ -39,7 +39,7 @@ fn run_line<P: Pager>(
     }
 }
 
-// Appends the record of a step to a text, where the step is to be shown.
+// Appends the record of a step to a text, if the step is one of those to show.
 fn push_shown<P: Pager>(
     alloc: Global,
     text: &mut String,
@@ -51,7 +51,7 @@ fn push_shown<P: Pager>(
     ensures text { OnOk result (string_bytes text.new ≡ string_bytes text.old ++ shown_text steps number action.now world.now) }
     ensures sound { IsWorldSound world.now }
 {
-    // What the history tells is true of each world that is shown.
+    // The laws of the history hold of each world that is shown.
     let _sound = lawful(world);
     if steps.is_among(number) {
         push_step(alloc, text, number, action, world)?;
@@ -79,7 +79,7 @@ fn push_lines<P: Pager>(
     Ok(())
 }
 
-/// The record of a script's run in the world that it opened: of the world as it is, and of each step.
+/// The record of a script's run in the world that it opened: of the world at the start, and of each step.
 pub(crate) fn record<P: Pager>(
     alloc: Global,
     steps: Steps,

@@ -1,4 +1,4 @@
-//! The viewer: a script of processes and calls goes in on standard input, the record of each step comes out.
+//! The viewer: it reads a script of processes and calls from standard input and writes the record of each step.
 #![tactic(auto)]
 
 mod command;

@@ -1,4 +1,4 @@
-//! Which steps of a run are shown.
+//! The steps of a run that are shown.
 ghost use Rattle.std.specs.Prelude.{◌≡◌, ◌+◌, ◌<◌, length, IfSome};
 ghost use Rattle.shmview.specs.Steps.{has_step, hyphen, steps_of, steps_asked};
 
@@ -11,11 +11,11 @@ pub(crate) struct Steps {
     pub(crate) to: u64,
 }
 
-/// How many steps a run has at most that is shown whole.
+/// The most steps of a run that is shown whole.
 pub(crate) const MOST_STEPS: u64 = 2000;
 
 impl Steps {
-    /// Those that are shown: all of a run that is not too long, where none are asked for.
+    /// The steps to show: the chosen ones, or all steps of a run that is not too long.
     pub(crate) fn asked(steps: Option<Steps>) -> Steps
         ensures { result ≡ steps_asked steps }
     {

@@ -10,8 +10,8 @@ use shm_program::RunFault;
 use std::alloc::{AllocError, AllocFailed};
 use std::{fmt, io};
 
-/// Why the program stops: wrong words on the command line; a run of this many steps, over 2,000, of which none
-/// were chosen; or a fault of the run.
+/// Why the program stops: wrong words on the command line; a run of this many steps, over 2,000, without chosen steps;
+/// or a fault of the run.
 #[derive(Clone, Copy, Debug, PartialEq, Eq)]
 pub(crate) enum Stop {
     Usage,
@@ -20,7 +20,7 @@ pub(crate) enum Stop {
 }
 
 impl Stop {
-    /// The exit status: 2 for usage and for too many steps, else that of the fault.
+    /// The exit status: 2 for usage and for too many steps, otherwise that of the fault.
     pub(crate) fn status(self) -> u8
         ensures { result ≡ stop_status self }
     {
@@ -70,7 +70,7 @@ impl From<HostMemory> for Stop {
     }
 }
 
-// A word that is no text is a usage fault.
+// A word that is not valid UTF-8 is a usage fault.
 impl From<io::Error> for Stop {
     ghost from_gives = { λ e r. r ≡ io_stop (error_kind e) };
 

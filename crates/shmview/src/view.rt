@@ -1,5 +1,4 @@
-//! A run that is looked at: a script comes from a reader, its lines run in file order, and the record of each
-//! step goes to a writer.
+//! A run to look at: reads a script, runs its lines in file order, and writes the record of each step.
 ghost use Rattle.std.specs.Prelude.{◌≡◌, ◌⊎◌, ◌≤◌, [], length, map, None, OnOk, IfErr, IfSome, MatchOption};
 ghost use Rattle.std.specs.Io.KnownBytes.{Appends, IsAtEnd};
 ghost use Rattle.shm_program.specs.Runs.{Prints, IsWritten, IsOpening, IsFresh, handed_in};
@@ -18,10 +17,10 @@ use shm_text::Script;
 use std::alloc::Global;
 use std::io::{Read, Write};
 
-/// Runs the script that the reader gives over swap areas behind these pagers, and writes the record of each step
-/// that is asked for: of all where none are, and then the script has at most 2,000 lines. Before the first byte
-/// is written the whole output is there, so at any stop but by a writer that fails nothing is written. It stops
-/// as a serial run does, and for too many steps once the script is read.
+/// Reads a script, runs it over swap areas with these pagers, and writes the record of each chosen step. Without chosen
+/// steps it writes all, and the script may have at most 2,000 lines. The whole output is made before its first byte is
+/// written, so nothing is written unless the writer fails. It stops as a serial run does, and also for too many steps
+/// once the script is read.
 #[tactic(auto, using(crate::proofs::Stops::nothing_written))]
 pub(crate) fn view<R: Read, W: Write, P: Pager>(
     alloc: Global,
@@ -44,7 +43,7 @@ pub(crate) fn view<R: Read, W: Write, P: Pager>(
     }
 }
 
-// How many lines there are, where they are too many to be shown whole and no steps are asked for.
+// The number of lines, if they are too many to show and no steps are chosen.
 fn too_many(script: &Script, asked: Option<Steps>) -> Option<u64>
     ensures { MatchOption result (asked ≡ None → length script.now.lines ≤ 2000) (IsTooLong asked script.now) }
 {
@@ -98,7 +97,7 @@ fn view_in<W: Write, P: Pager>(
     ensures fault { IfErr result (λ s. (s ≡ Stop.Fault RunFault.HostMemory) ⊎ (s ≡ Stop.Fault RunFault.WriteFailed)) }
     ensures silent { IfErr result (λ s. WritesNothing s (W.contents writer.old) (W.contents writer.new)) }
 {
-    // What is told here of the world is true before its first step.
+    // The laws hold of the world before its first step, too.
     let _sound = lawful(world);
     match record(alloc, Steps::asked(asked), world, script) {
         Ok(text) => write_text(writer, text.as_bytes()),
