@@ -63,7 +63,8 @@ impl Model for Keeper {
 
     ghost view = { λ k. record { cell = k.pass.table_id; numbers = k.last } };
 
-    ghost invariant = { λ k. (k.pass.table_id ≡ (arc_value k.cell).table.shared.table_id) × (cell_view k.pass ≡ keeping k.last) };
+    ghost invariant = { λ k. (k.pass.table_id ≡ (arc_value k.cell).table.shared.table_id)
+        × (cell_view k.pass ≡ keeping k.last) };
 }
 
 /// A reader's seat. In contracts its value is the name of its cell and its last reading.

@@ -49,7 +49,9 @@ impl<P: Pager> World<P> {
         ensures cell { keeper.new.cell ≡ keeper.old.cell }
         ensures stored { IsTrue result → keeper.new.numbers ≡ reading_of (tally_of self.now) }
         ensures ahead { IsFalse result → keeper.new ≡ keeper.old }
-        ensures when { IsFalse result ↔ ((length self.now.events < keeper.old.numbers.events) ⊎ (has_gauge self.now.machine.limits ≡ false)) }
+        ensures when { IsFalse result ↔
+            ((length self.now.events < keeper.old.numbers.events)
+            ⊎ (has_gauge self.now.machine.limits ≡ false)) }
     {
         let Some(next) = self.reading() else {
             return false;

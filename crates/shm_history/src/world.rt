@@ -50,7 +50,10 @@ impl<P: Pager> Model for World<P> {
       room = vec_capacity w.history - vec_len w.history;
     } };
 
-    ghost invariant = { λ w. (w.system.calls ≡ length w.history.items) × IsHistory w.system.opening w.history.items w.system.machine × AreCounted w.history.items w.system.memory.swap × (w.system.only_calls ≡ true) × (w.system.clock ≡ None) };
+    ghost invariant = { λ w. (w.system.calls ≡ length w.history.items)
+        × IsHistory w.system.opening w.history.items w.system.machine
+        × AreCounted w.history.items w.system.memory.swap × (w.system.only_calls ≡ true)
+        × (w.system.clock ≡ None) };
 }
 
 // Makes room for one more event, if there is none.
@@ -145,7 +148,9 @@ impl<P: Pager> World<P> {
     pub fn call(&mut self, pid: u32, call: &Call) -> Result<Reply, HostMemory>
         ensures called { IfOk result (λ r. IsCalled self.old pid call.now r self.new) }
         ensures err { OnErr result (self.new ≡ record self.old { room = self.new.room }) }
-        ensures memory { OnErr result (0 < self.old.room → is_refusal (step self.old.machine (length self.old.events + 1) pid call.now).reply ≡ false) }
+        ensures memory { OnErr result
+            (0 < self.old.room
+            → is_refusal (step self.old.machine (length self.old.events + 1) pid call.now).reply ≡ false) }
         ensures no_memory { TakesNoMemory call.now → 0 < self.old.room → IsOk result }
         ensures room { OnErr result (self.old.room ≤ self.new.room) }
     {
@@ -211,9 +216,12 @@ impl<P: Pager> World<P> {
     pub fn run_steps(&mut self, steps: &[Step]) -> Result<(), HostMemory>
         ensures steps { OnOk result (RunTo self.old steps.now self.new) }
         ensures stopped { OnErr result (StopsIn self.old steps.now self.new) }
-        ensures no_memory { All StepTakesNone steps.now → length (step_calls steps.now) ≤ self.old.room → IsOk result }
-        ensures ran { OnOk result (calls_of self.new.events ≡ calls_of self.old.events ++ step_calls steps.now) }
-        ensures part { IsPrefix (calls_of self.new.events) (calls_of self.old.events ++ step_calls steps.now) }
+        ensures no_memory { All StepTakesNone steps.now → length (step_calls steps.now) ≤ self.old.room
+            → IsOk result }
+        ensures ran { OnOk result
+            (calls_of self.new.events ≡ calls_of self.old.events ++ step_calls steps.now) }
+        ensures part { IsPrefix (calls_of self.new.events)
+            (calls_of self.old.events ++ step_calls steps.now) }
         ensures kept { self.new.events ≡ self.old.events ++ drop (length self.old.events) self.new.events }
         ensures opening { self.new.opening ≡ self.old.opening }
     {

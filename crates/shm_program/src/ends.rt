@@ -66,9 +66,11 @@ fn read_input<R: Read>(alloc: Global, reader: &mut R) -> Result<Vec<u8>, RunFaul
 
 /// The whole input as a script. It fails by the script's first fault, or if the reader failed or memory is out.
 pub fn whole_script<R: Read>(alloc: Global, reader: &mut R) -> Result<Script, RunFault>
-    ensures read { IfOk result (λ script. IfSome (R.remaining reader.old) (λ input. script_of input ≡ Ok script)) }
+    ensures read { IfOk result
+        (λ script. IfSome (R.remaining reader.old) (λ input. script_of input ≡ Ok script)) }
     ensures whole { OnOk result (IsAtEnd (R.remaining reader.new)) }
-    ensures cause { IfErr result (λ f. IfSome (R.remaining reader.old) (λ input. (areas : List ℕ) → IsCause f areas input)) }
+    ensures cause { IfErr result
+        (λ f. IfSome (R.remaining reader.old) (λ input. (areas : List ℕ) → IsCause f areas input)) }
     ensures serial { IfErr result (λ f. is_serial f ≡ true) }
     ensures which { IfErr result (λ f. is_reading f ≡ true) }
 {

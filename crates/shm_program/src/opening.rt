@@ -20,7 +20,9 @@ pub fn open_world<P: Pager>(
     ensures areas { IfOk result (λ w. w.opening.areas ≡ map (λ p. length (P.content p)) pagers.items) }
     ensures events { IfOk result (λ w. w.events ≡ []) }
     ensures memory { IfOk result (λ w. IsFresh (handed_in P.content P.failed pagers.items) w.memory) }
-    ensures err { IfErr result (λ f. IsStop f (start_error script.now.limits (map (λ p. length (P.content p)) pagers.items) script.now.processes)) }
+    ensures err { IfErr result
+        (λ f. IsStop f
+        (start_error script.now.limits (map (λ p. length (P.content p)) pagers.items) script.now.processes)) }
 {
     match System::start(alloc, script.limits, pagers, &script.processes) {
         Ok(system) => Ok(World::new(alloc, system)),

@@ -15,7 +15,8 @@ use std::alloc::AllocError;
 // clock's.
 fn push_frame(text: &mut String, frames: &Frames, frame: u32) -> Result<(), AllocError>
     requires { frame < length frames.now }
-    ensures { OnOk result (string_bytes text.new ≡ string_bytes text.old ++ frame_line frame (frame_at frames.now frame)) }
+    ensures { OnOk result
+        (string_bytes text.new ≡ string_bytes text.old ++ frame_line frame (frame_at frames.now frame)) }
 {
     let Some(PageRef { seg, page }) = frames.owner(frame) else {
         return Ok(());
@@ -30,7 +31,8 @@ fn push_frame(text: &mut String, frames: &Frames, frame: u32) -> Result<(), Allo
 }
 
 fn push_owned(text: &mut String, frames: &Frames) -> Result<(), AllocError>
-    ensures { OnOk result (string_bytes text.new ≡ string_bytes text.old ++ numbered frame_line 0 frames.now) }
+    ensures { OnOk result
+        (string_bytes text.new ≡ string_bytes text.old ++ numbered frame_line 0 frames.now) }
 {
     for frame in 0..frames.count() {
         push_frame(text, frames, frame)?;
@@ -66,7 +68,8 @@ fn push_slot(
 }
 
 fn push_slots(text: &mut String, area: u32, owners: &[Option<PageRef>]) -> Result<(), AllocError>
-    ensures { OnOk result (string_bytes text.new ≡ string_bytes text.old ++ numbered (slot_line area) 0 owners.now) }
+    ensures { OnOk result
+        (string_bytes text.new ≡ string_bytes text.old ++ numbered (slot_line area) 0 owners.now) }
 {
     for slot in 0..owners.len() {
         push_slot(text, area, slot, owners[slot])?;
@@ -84,7 +87,8 @@ fn push_owners<P: Pager>(text: &mut String, swap: &Swap<P>, area: u32) -> Result
 
 fn push_area<P: Pager>(text: &mut String, swap: &Swap<P>, area: u32) -> Result<(), AllocError>
     requires { area < length swap.now.areas }
-    ensures { OnOk result (string_bytes text.new ≡ string_bytes text.old ++ area_text area (area_at swap.now area)) }
+    ensures { OnOk result
+        (string_bytes text.new ≡ string_bytes text.old ++ area_text area (area_at swap.now area)) }
 {
     match swap.size(area) {
         Some(slots) => write!(text, "area {area} {slots}\n")?,

@@ -17,7 +17,8 @@ fn push_piece(text: &mut String, piece: &Piece) -> Result<(), AllocError>
 }
 
 fn push_pieces(text: &mut String, pieces: &[Piece]) -> Result<(), AllocError>
-    ensures { OnOk result (string_bytes text.new ≡ string_bytes text.old ++ pieces_text (bare_all pieces.now)) }
+    ensures { OnOk result
+        (string_bytes text.new ≡ string_bytes text.old ++ pieces_text (bare_all pieces.now)) }
 {
     for piece in pieces {
         push_piece(text, piece)?;
@@ -26,7 +27,8 @@ fn push_pieces(text: &mut String, pieces: &[Piece]) -> Result<(), AllocError>
 }
 
 fn push_process(text: &mut String, spaces: &Spaces, pid: u32) -> Result<(), AllocError>
-    ensures { OnOk result (string_bytes text.new ≡ string_bytes text.old ++ process_text spaces.now.runners pid) }
+    ensures { OnOk result
+        (string_bytes text.new ≡ string_bytes text.old ++ process_text spaces.now.runners pid) }
 {
     let Some(caller) = spaces.caller(pid) else {
         let state = match spaces.child(pid) {
@@ -46,7 +48,8 @@ pub(crate) fn push_processes(
     spaces: &Spaces,
     processes: &[Process],
 ) -> Result<(), AllocError>
-    ensures { OnOk result (string_bytes text.new ≡ string_bytes text.old ++ processes_text spaces.now.runners processes.now) }
+    ensures { OnOk result
+        (string_bytes text.new ≡ string_bytes text.old ++ processes_text spaces.now.runners processes.now) }
 {
     for process in processes {
         push_process(text, spaces, process.pid)?;

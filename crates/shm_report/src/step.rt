@@ -56,7 +56,8 @@ pub fn push_step<P: Pager>(
     action: &Action,
     world: &World<P>,
 ) -> Result<(), AllocError>
-    ensures { OnOk result (string_bytes text.new ≡ string_bytes text.old ++ step_text number action.now world.now) }
+    ensures { OnOk result
+        (string_bytes text.new ≡ string_bytes text.old ++ step_text number action.now world.now) }
 {
     write!(text, "step {number}\n")?;
     push_action(text, world.history().len() as u64, action)?;

@@ -31,7 +31,9 @@ pub fn run_serial<R: Read, W: Write, P: Pager>(
         OnOk result (IfSome (R.remaining reader.old) (λ input.
         Prints text (W.contents writer.old) (W.contents writer.new) areas input)) }
     ensures whole { OnOk result (IsAtEnd (R.remaining reader.new)) }
-    ensures cause { IfErr result (λ f. IfSome (R.remaining reader.old) (λ input. IsCause f (map (λ p. length (P.content p)) pagers.items) input)) }
+    ensures cause { IfErr result
+        (λ f. IfSome (R.remaining reader.old)
+        (λ input. IsCause f (map (λ p. length (P.content p)) pagers.items) input)) }
     ensures serial { IfErr result (λ f. is_serial f ≡ true) }
     ensures silent { IfErr result (λ f. IsSilent f (W.contents writer.old) (W.contents writer.new)) }
 {
@@ -91,7 +93,8 @@ fn run_lines<P: Pager>(
     script: &Script,
 ) -> Result<(), HostMemory>
     requires { world.old.events ≡ [] }
-    ensures follows { OnOk result (RunsInOrder (map fresh_holder script.now.processes) script.now.lines world.new.events) }
+    ensures follows { OnOk result
+        (RunsInOrder (map fresh_holder script.now.processes) script.now.lines world.new.events) }
     ensures opening { world.new.opening ≡ world.old.opening }
     ensures counts { OnOk result (GoesOn world.old.memory.swap world.new.memory.swap) }
 {

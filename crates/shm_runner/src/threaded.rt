@@ -54,7 +54,8 @@ fn run_script<T: Threads + Wait + Sync, W: Write, P: Pager + Send>(
     ensures ok { let text = IsThreadedOutput P.failed (handed_in P.content P.failed pagers.items) false script.now in
         let areas = map (λ p. length (P.content p)) pagers.items in
         OnOk result (IsWritten (text areas) (W.contents writer.old) (W.contents writer.new)) }
-    ensures cause { IfErr result (λ f. IsCauseIn f (map (λ p. length (P.content p)) pagers.items) script.now) }
+    ensures cause { IfErr result
+        (λ f. IsCauseIn f (map (λ p. length (P.content p)) pagers.items) script.now) }
     ensures written { let text = IsThreadedOutput P.failed (handed_in P.content P.failed pagers.items) true script.now in
         let areas = map (λ p. length (P.content p)) pagers.items in
         let marked = IsWritten (text areas) (W.contents writer.old) (W.contents writer.new) in

@@ -50,7 +50,8 @@ pub(crate) fn write_world<W: Write, P: Pager>(
     writer: &mut W,
     world: &World<P>,
 ) -> Result<(), RunFault>
-    ensures written { OnOk result (Appends (W.contents writer.old) (W.contents writer.new) (world_text world.now)) }
+    ensures written { OnOk result
+        (Appends (W.contents writer.old) (W.contents writer.new) (world_text world.now)) }
     ensures sound { IsWorldSound world.now }
     ensures counted { AreCountsOf P.failed world.now.memory.swap }
     ensures fault { IfErr result (λ f. (f ≡ RunFault.HostMemory) ⊎ (f ≡ RunFault.WriteFailed)) }

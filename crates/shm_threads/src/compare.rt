@@ -200,7 +200,8 @@ fn is_own(history: &[Event], pid: u32, entries: &[Entry]) -> bool
 
 // Whether the entry is the event's call with its reply.
 fn is_event(entry: &Entry, event: &Event) -> bool
-    ensures { IsTrue result ↔ (entry.now.call ≡ event.now.call) × (entry.now.answer ≡ Answer.Reply event.now.reply) }
+    ensures { IsTrue result ↔ (entry.now.call ≡ event.now.call)
+        × (entry.now.answer ≡ Answer.Reply event.now.reply) }
 {
     match &entry.answer {
         Answer::Reply(reply) => entry.call == event.call && *reply == event.reply,
@@ -212,7 +213,8 @@ fn is_event(entry: &Entry, event: &Event) -> bool
 fn next_answered(entries: &[Entry], from: usize) -> usize
     requires { from ≤ length entries.now }
     ensures bound { result ≤ length entries.now }
-    ensures same { (pid : ℕ) → transcript_events pid (drop from entries.now) ≡ transcript_events pid (drop result entries.now) }
+    ensures same { (pid : ℕ)
+        → transcript_events pid (drop from entries.now) ≡ transcript_events pid (drop result entries.now) }
     ensures answered { result < length entries.now → is_answered (slice_get entries.now result) ≡ true }
 {
     let mut next = from;

@@ -48,7 +48,8 @@ fn push_shown<P: Pager>(
     action: &Action,
     world: &World<P>,
 ) -> Result<(), HostMemory>
-    ensures text { OnOk result (string_bytes text.new ≡ string_bytes text.old ++ shown_text steps number action.now world.now) }
+    ensures text { OnOk result
+        (string_bytes text.new ≡ string_bytes text.old ++ shown_text steps number action.now world.now) }
     ensures sound { IsWorldSound world.now }
 {
     // The laws of the history hold of each world that is shown.
@@ -67,7 +68,10 @@ fn push_lines<P: Pager>(
     world: &mut World<P>,
     script: &Script,
 ) -> Result<(), HostMemory>
-    ensures { OnOk result ((rest : List ℕ) × Leads steps (map fresh_holder script.now.processes) 1 world.old script.now.lines rest × (string_bytes text.new ≡ string_bytes text.old ++ rest)) }
+    ensures { OnOk result
+        ((rest : List ℕ)
+        × Leads steps (map fresh_holder script.now.processes) 1 world.old script.now.lines rest
+        × (string_bytes text.new ≡ string_bytes text.old ++ rest)) }
 {
     let mut values = Values::new(alloc, &script.processes)?;
     let mut number = 1u64;
@@ -86,7 +90,10 @@ pub(crate) fn record<P: Pager>(
     world: &mut World<P>,
     script: &Script,
 ) -> Result<String, HostMemory>
-    ensures { IfOk result (λ text. (rest : List ℕ) × Leads steps (map fresh_holder script.now.processes) 1 world.old script.now.lines rest × (string_bytes text ≡ shown_text steps 0 Start world.old ++ rest)) }
+    ensures { IfOk result
+        (λ text. (rest : List ℕ)
+        × Leads steps (map fresh_holder script.now.processes) 1 world.old script.now.lines rest
+        × (string_bytes text ≡ shown_text steps 0 Start world.old ++ rest)) }
 {
     let mut text = String::new(alloc);
     push_shown(alloc, &mut text, steps, 0, &Action::Start, world)?;

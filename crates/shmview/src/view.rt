@@ -34,7 +34,9 @@ pub(crate) fn view<R: Read, W: Write, P: Pager>(
         OnOk result (IfSome (R.remaining reader.old) (λ input.
         Prints text (W.contents writer.old) (W.contents writer.new) areas input)) }
     ensures whole { OnOk result (IsAtEnd (R.remaining reader.new)) }
-    ensures cause { IfErr result (λ s. IfSome (R.remaining reader.old) (λ input. IsStopOf s asked (map (λ p. length (P.content p)) pagers.items) input)) }
+    ensures cause { IfErr result
+        (λ s. IfSome (R.remaining reader.old)
+        (λ input. IsStopOf s asked (map (λ p. length (P.content p)) pagers.items) input)) }
     ensures silent { IfErr result (λ s. WritesNothing s (W.contents writer.old) (W.contents writer.new)) }
 {
     match whole_script(alloc, reader) {
@@ -45,7 +47,8 @@ pub(crate) fn view<R: Read, W: Write, P: Pager>(
 
 // The number of lines, if they are too many to show and no steps are chosen.
 fn too_many(script: &Script, asked: Option<Steps>) -> Option<u64>
-    ensures { MatchOption result (asked ≡ None → length script.now.lines ≤ 2000) (IsTooLong asked script.now) }
+    ensures { MatchOption result (asked ≡ None → length script.now.lines ≤ 2000)
+        (IsTooLong asked script.now) }
 {
     let lines = script.lines.len() as u64;
     if asked.is_none() && lines > MOST_STEPS {
@@ -67,7 +70,8 @@ fn view_script<W: Write, P: Pager>(
     ensures ok { let text = IsRecord (handed_in P.content P.failed pagers.items) asked in
         let areas = map (λ p. length (P.content p)) pagers.items in
         OnOk result (IsWritten (text script.now areas) (W.contents writer.old) (W.contents writer.new)) }
-    ensures cause { IfErr result (λ s. IsStopIn s asked (map (λ p. length (P.content p)) pagers.items) script.now) }
+    ensures cause { IfErr result
+        (λ s. IsStopIn s asked (map (λ p. length (P.content p)) pagers.items) script.now) }
     ensures silent { IfErr result (λ s. WritesNothing s (W.contents writer.old) (W.contents writer.new)) }
 {
     if let Some(lines) = too_many(script, asked) {
@@ -94,7 +98,8 @@ fn view_in<W: Write, P: Pager>(
     requires few { asked ≡ None → length script.now.lines ≤ 2000 }
     ensures ok { let text = IsRecord world.old.memory.swap asked script.now world.old.opening.areas in
         OnOk result (IsWritten text (W.contents writer.old) (W.contents writer.new)) }
-    ensures fault { IfErr result (λ s. (s ≡ Stop.Fault RunFault.HostMemory) ⊎ (s ≡ Stop.Fault RunFault.WriteFailed)) }
+    ensures fault { IfErr result
+        (λ s. (s ≡ Stop.Fault RunFault.HostMemory) ⊎ (s ≡ Stop.Fault RunFault.WriteFailed)) }
     ensures silent { IfErr result (λ s. WritesNothing s (W.contents writer.old) (W.contents writer.new)) }
 {
     // The laws hold of the world before its first step, too.
