@@ -27,7 +27,7 @@ def by_cffi(cffi, text, library):
     for which, name in enumerate(NAMES):
         if shared.nog_layout(which, 0, sizes) != 0 or sizes[0] != ffi.sizeof(f"nog_{name}"):
             sys.exit(f"nog_{name} has {sizes[0]} bytes in the library, and {ffi.sizeof(f'nog_{name}')} by cffi")
-    if shared.nog_version() < 900 or shared.nog_close(ffi.new("nog_machine *")) != shared.NOG_CLOSED:
+    if shared.nog_version() < 10000 or shared.nog_close(ffi.new("nog_machine *")) != shared.NOG_CLOSED:
         sys.exit("a function is answered wrongly")
 
 

@@ -80,12 +80,12 @@ pub extern "C" fn nog_text(code: u32, text: &mut [u8], len: &mut usize) -> u32
     DONE
 }
 
-/// The version: 900 is 0.9.0.
+/// The version: 10000 is 1.0.0.
 #[unsafe(no_mangle)]
 pub extern "C" fn nog_version() -> u32
-    ensures { result ≡ 900 }
+    ensures { result ≡ 10000 }
 {
-    900
+    10000
 }
 
 const MACHINE: [usize; 3] = [size_of::<Handle>(), 0, 8];
