@@ -1,9 +1,9 @@
-"""Scripts whose processes run at once on the running kernel, and the judge of what each run answered.
+"""Scripts whose processes run at once on the running kernel, and the judge of each run's replies.
 
-The peer makes each script's calls many times, every process alone from a common start. ./shmcheck judge says of each different
-log whether some order of the calls has its replies under Linux's rules. Linux makes shmat and the end of a segment in several
-steps, so that another process may meet the middle of one: EXPLANATIONS names what can be seen there, and a log that has only
-that is explained.
+The peer makes each script's calls many times, all processes from a common start. For each different log, ./shmcheck judge says
+whether some order of the calls has its replies under Linux's rules. Linux makes shmat and the destruction of a segment in several
+steps, so another process may see the middle of one. EXPLANATIONS names what can be seen there; a log that has only that is
+explained.
 """
 
 import itertools
@@ -19,41 +19,41 @@ from running import TOP, Stopped, end_group
 from script import DECLARATIONS
 
 JUDGES = ("crates/shmcheck/out/shmcheck", "build/unproved/shmcheck")
-# how far the judge searches, where the order of a log's lines is not one that has its replies
+# how far the judge searches if the order of a log's lines does not have its replies
 MOST, SECONDS = 4000, 60
 LINE = re.compile(r"(\d+) ([a-z]+)((?: \S+)*) = (\S.*)")
 SPAN = re.compile(r"# (\d+) (\d+)")
 # how many orders of a log's lines are tried before a search
 ORDERS = 40
-# how many changed logs are tried for one explanation, by the order of their lines and by a search, and for all together
+# how many changed logs are tried for one explanation, by the order of their lines and by a search, and for all explanations
 TRIES, SEARCHES, MIXED = 12, 4, 128
 
 
 class Skipped(Exception):
-    """The peer can't make a script here."""
+    """The peer can't run a script here."""
 
 
 @dataclass
 class Log:
-    """What each process was answered, in the order in which the calls ended, and when each call began and ended."""
+    """The answers of each process, in the order in which the calls ended, and when each call began and ended."""
 
     lines: list = field(default_factory=list)
     spans: list = field(default_factory=list)
 
     @property
     def by_process(self):
-        """The same for all logs with the same replies of each process."""
+        """A key that is the same for all logs with the same replies of each process."""
         return tuple(sorted(self.lines, key=pid_of))
 
     def orders(self):
-        """Orders that the times allow: by the ends, and some by chance, the same at each run."""
+        """Orders that the times allow: the order of the ends, and some random ones that are the same at each run."""
         yield self.lines
         chance = random.Random(0)
         for _ in range(ORDERS - 1):
             yield [self.lines[place] for place in self.order_by(chance)]
 
     def order_by(self, chance):
-        """A call is next if it is its process's first that is left, and no other one ended before it began."""
+        """A call may be next if it is the first remaining one of its process, and no other call ended before it began."""
         left, order = {}, []
         for place, line in enumerate(self.lines):
             left.setdefault(pid_of(line), []).append(place)
@@ -70,14 +70,14 @@ class Log:
 USERS = ((0, 0), (100, 100), (100, 200), (200, 100))
 BASES = (0x50000000, 0x50004000, 0x50008000)
 KEYS = ("0x10", "0x11")
-# the most lines of each process, by how many processes there are: the judge searches an order of them all
+# the most lines of each process, by the number of processes: the judge searches all orders of them
 LINES = {2: 6, 3: 4, 4: 3}
 WORDS = ("01", "0203", "04050607", "0102030405060708")
 
 
 class Generator:
-    """Processes that ask for the same keys and use what they get. An identifier is only used as a variable, and an address that
-    the system chooses comes once in a process, since both differ from system to system."""
+    """Processes that create and use segments with the same keys. An identifier is used only as a variable, and an address that the
+    system chooses occurs once in a process, because both differ from system to system."""
 
     def __init__(self, seed):
         self.random = random.Random(seed)
@@ -134,7 +134,7 @@ class Generator:
         return "rmid s"
 
     def lines(self, pid, count):
-        """The lines of a process; `own` is where it may have attached."""
+        """The lines of a process; `own` are the addresses where it may have attached."""
         own, lines = [], []
         for number in range(count):
             makes = ((self.make_shmget, 1), (self.make_stat, 3), (self.make_set, 1), (self.make_rmid, 2),
@@ -153,12 +153,12 @@ class Generator:
 
 
 def make_script(seed, number):
-    """The script with this number of this seed: the same at each run."""
+    """The script with this number of this seed; it is the same at each run."""
     return Generator(f"at once/{seed}/{number}").script()
 
 
 def calls_of(text):
-    """How many lines each process of a script has."""
+    """The number of lines of each process of a script."""
     firsts = [line.split()[0] for line in text.splitlines() if line.split() and not line.startswith("#")]
     return Counter(first for first in firsts if first not in (*DECLARATIONS, "0"))
 
@@ -166,7 +166,7 @@ def calls_of(text):
 # ---- the peer ----
 
 class RacingPeer:
-    """A command that makes a script's calls at once."""
+    """A command that runs a script's processes at once."""
 
     def __init__(self, words, runs, limit):
         self.words = [*words, "--limit", str(limit), "--at-once", str(runs)]
@@ -220,20 +220,20 @@ def reply_of(line):
 # ---- the judge ----
 
 def find_judge(command):
-    """The judge's words, or none where it was not built."""
+    """The judge's command, or none if it is not built."""
     if command:
         return command.split()
     return next(([path] for path in (os.path.join(TOP, it) for it in JUDGES) if os.path.isfile(path)), None)
 
 
 class Judge:
-    """./shmcheck judge, or another command that takes its words."""
+    """./shmcheck judge, or another command with the same words."""
 
     def __init__(self, words):
         self.words = words
 
     def verdict(self, text, lines, most=MOST):
-        """`legal`, `illegal` or `undecided`, and what the judge said. It tries the order of the lines first."""
+        """`legal`, `illegal` or `undecided`, and the judge's output. It tries the order of the lines first."""
         with tempfile.NamedTemporaryFile("w", encoding="ascii", prefix="conform.") as file:
             file.write("\n".join(lines) + "\n")
             file.flush()
@@ -251,13 +251,13 @@ class Judge:
         return word, said
 
     def find_order(self, text, log):
-        """What the judge said of a log if one of the orders that its times allow is legal; or nothing."""
+        """The judge's output on a log if one of the orders that its times allow is legal; or nothing."""
         tried = (self.verdict(text, lines, 1) for lines in log.orders())
         return next((said for word, said in tried if word == "legal"), "")
 
 
 def is_verdict(word, said, lines):
-    """Whether the judge's output is one for its status: behind `legal` comes an order of all lines of the log."""
+    """Whether the judge's output fits its status: `legal` is followed by an order of all lines of the log."""
     if word == "legal":
         order = re.fullmatch(r"legal\nschedule((?: \d+)*)\n", said)
         return order is not None and Counter(order[1].split()) == Counter(pid_of(line) for line in lines)
@@ -267,7 +267,7 @@ def is_verdict(word, said, lines):
 # ---- what Linux shows of a call under way ----
 
 def attachers(lines, but):
-    """The other processes that attach a segment that they were given."""
+    """The other processes that attach a segment given to them."""
     calls = {(pid_of(line), LINE.fullmatch(line)[2], reply_of(line) == "?") for line in lines}
     attaching = {pid for pid, call, _ in calls if call == "shmat"}
     return (attaching & {pid for pid, call, is_given in calls if call == "shmget" and is_given}) - {but}
@@ -278,7 +278,7 @@ def has_removal(lines, but):
 
 
 def with_fewer_attached(line, lines):
-    """The reply of a stat with each smaller nattch that attaches under way explain."""
+    """The replies of a stat with each smaller nattch that attaches under way explain."""
     found = re.fullmatch(r"(.* nattch=)(\d+)( .*)", line)
     if not found:
         return [line]
@@ -286,7 +286,7 @@ def with_fewer_attached(line, lines):
 
 
 def with_any_segment(line, lines):
-    """A segment that is marked and nowhere attached: it is there while a shmat of it is under way."""
+    """A marked segment without attachments: it exists while a shmat of it is under way."""
     if " status=dest" in line and attachers(lines, pid_of(line)):
         return [line, line.partition(" = ")[0] + " = ?"]
     return [line]
@@ -301,7 +301,7 @@ def with_marks(line, lines):
 
 
 def with_no_identifier(line, lines):
-    """EIDRM tells that the segment went between two steps of the call."""
+    """EIDRM shows that the segment was destroyed between two steps of the call."""
     if line.endswith(" = EIDRM") and has_removal(lines, pid_of(line)):
         return [line, line.replace(" = EIDRM", " = EINVAL")]
     return [line]
@@ -316,7 +316,7 @@ EXPLANATIONS = (
 
 
 def changed_logs(log, changes_of):
-    """The log with replies that an explanation allows, those with few changes first."""
+    """The log with replies changed as an explanation allows, those with few changes first."""
     choices = [changes_of(line, log.lines) for line in log.lines]
     places = sorted(itertools.islice(itertools.product(*(range(len(it)) for it in choices)), 1000), key=sum)
     for chosen in places[1:]:
@@ -324,8 +324,7 @@ def changed_logs(log, changes_of):
 
 
 def mixed_logs(log):
-    """The same with the names of what changed it, where each line may have an explanation of its own: those with the fewest
-    explanations first."""
+    """The same with the names of the explanations, if each line may have its own: those with the fewest explanations first."""
     choices = [[(line, "")] + [(other, name) for name, changes_of in EXPLANATIONS for other in changes_of(line, log.lines)[1:]]
                for line in log.lines]
     mixed = itertools.islice(itertools.product(*choices), 4000)
@@ -336,7 +335,7 @@ def mixed_logs(log):
 
 
 def explanation_of(text, log, tries, is_legal):
-    """The name of what explains a log, or nothing: a legal log that differs from it only so."""
+    """The name of the explanation of a log, or nothing. An explained log differs from a legal one only in what the explanation allows."""
     for name, changes_of in EXPLANATIONS:
         if any(is_legal(text, other) for other in itertools.islice(changed_logs(log, changes_of), tries)):
             return name
@@ -344,8 +343,8 @@ def explanation_of(text, log, tries, is_legal):
 
 
 def judge_log(judge, text, log):
-    """The verdict on a log, its explanation, and what the judge said. Orders that the times allow are tried first, since an
-    order is judged at once: a search of all orders takes seconds."""
+    """The verdict on a log, its explanation, and the judge's output. It first tries orders that the times allow, because an order is
+    judged at once, while a search of all orders takes seconds."""
     said = judge.find_order(text, log)
     if said:
         return "legal", "", said
@@ -364,7 +363,7 @@ def judge_log(judge, text, log):
 # ---- all scripts ----
 
 class Tally:
-    """What was counted."""
+    """The counts of a run."""
 
     def __init__(self):
         self.scripts = self.runs = 0
@@ -389,7 +388,7 @@ class Tally:
 
 
 def told(title, text, lines, said):
-    """A log that is not legal, with its script and what the judge said."""
+    """A log that is not legal, with its script and the judge's output."""
     parts = (("the script", text.splitlines()), ("the log", lines), ("the judge", said.splitlines()))
     return "\n".join([title] + [line for name, lines in parts for line in (f"  {name}:", *("    " + it for it in lines))])
 

@@ -1,4 +1,4 @@
-"""What conformance/check asks of ./conform at-once: what the peer prints, what a judge may answer, and what is explained."""
+"""What conformance/check tests of ./conform at-once: the peer's output, the judge's answers, and the explanations."""
 
 import os
 import re
@@ -13,7 +13,7 @@ from script import BadInput, read_case
 USER, GROUP = os.geteuid(), os.getegid()
 HEAD = f"limits 65536 16 64 16 4\nprocess 1 {USER} {GROUP}\nprocess 2 {USER} {GROUP}\n"
 SHOWN = f"key=0x00000000 uid={USER} gid={GROUP} cuid={USER} cgid={GROUP} mode=600 status=- size=4096 "
-# no process meets another one, so that each run is answered so
+# no process meets another one, so each run has these answers
 ALONE = HEAD + """1 s = shmget private 4096 600
 1 a = shmat s null -
 1 shmat s 0x50000000 rdonly
@@ -44,7 +44,7 @@ REPLIES = (f"? ? 0x50000000 ok 0102030405060708 0 5 0700 00000000 SIGSEGV skippe
 TWO = HEAD + "1 s = shmget 7 4096 600,creat,excl\n2 s = shmget 7 4096 600,creat,excl\n"
 ONE_WINS = ["2 shmget 0x00000007 4096 600,creat,excl = EEXIST", "1 shmget 0x00000007 4096 600,creat,excl = ?"]
 BOTH_WIN = [line.replace("EEXIST", "?") for line in ONE_WINS]
-# prints a log in which all is answered so, twice
+# prints a log in which every call has this answer, twice
 ALL_SO = """import sys
 lines = [line for line in sys.stdin if line[0].isdigit()]
 for run in (1, 2):
@@ -71,7 +71,7 @@ class Told:
 
 
 class Knows(Judge):
-    """A judge to whom only these logs are legal."""
+    """A judge for whom only these logs are legal."""
 
     def __init__(self, *legal):
         super().__init__([])
@@ -86,7 +86,7 @@ def log_of(lines):
 
 
 def check_explanations(count):
-    """What is explained, and what is close to it and is not."""
+    """What is explained, and near misses that are not."""
     nobody, refused = "nothing", GIVEN.replace("?", "EEXIST")
     for lines, legal, wanted in (
             ([STAT.format("-", 1), ATTACH], [STAT.format("-", 0), ATTACH], "nattch counts an attach under way"),
@@ -122,7 +122,7 @@ def check_explanations(count):
 
 
 def check_orders(count):
-    """Orders keep each process's own, and what ended before another call began."""
+    """Orders keep each process's own order, and the order of calls that did not overlap."""
     log = Log(["1 stat s = a", "2 stat s = b", "1 rmid s = c", "2 rmid s = d"], [(0, 4), (1, 5), (6, 9), (7, 8)])
     orders = [*log.orders()]
     seen = {tuple(lines) for lines in orders}
@@ -132,7 +132,7 @@ def check_orders(count):
 
 
 def check_verdicts(count):
-    """An answer of the judge's that is none ends the run."""
+    """An answer that is not one of the judge's ends the run."""
     for status, said, wanted in (
             (0, "legal\\nschedule 1 2\\n", "legal"), (6, "illegal\\n", "illegal"), (5, "", "undecided"), (0, "illegal\\n", None),
             (0, "legal\\n", None), (0, "legal\\nschedule 1 1\\n", None), (0, "legal\\nschedule 1\\n", None), (6, "legal\\n", None),
@@ -145,7 +145,7 @@ def check_verdicts(count):
 
 
 def check_real_judge(count):
-    """The built judge, if there is one, under Linux's rules: both can't create a key."""
+    """The built judge, if there is one, under Linux's rules: two processes can't both create a key."""
     words = find_judge(None)
     if not words:
         count.skip(2, "the judge was not built")
@@ -163,7 +163,7 @@ def check_real_judge(count):
 
 
 def check_words(count, folder, conform):
-    """Bad words, tools that are missing, and what is printed of a log that no order has."""
+    """Wrong words, missing tools, and the output for a log that no order has."""
     fake = os.path.join(folder, "all_so.py")
     for reply in ("ok", "skipped: here"):
         with open(fake + reply[:2], "w", encoding="ascii") as file:
@@ -198,7 +198,7 @@ def check_words(count, folder, conform):
 
 
 def check_scripts(count):
-    """Random scripts are scripts, and have what is compared."""
+    """Random scripts are valid, and have the calls to compare."""
     seen = {word: 0 for word in ("creat,excl", "rdonly", "shmdt", "load", "store", "xadd", "stat", "set", "rmid", "null")}
     sizes = set()
     for number in range(200):
@@ -218,7 +218,7 @@ def check_scripts(count):
 
 
 def check_kit(count, folder, conform):
-    """What no peer is needed for."""
+    """The checks that need no peer."""
     check_explanations(count)
     check_orders(count)
     check_verdicts(count)
@@ -228,7 +228,7 @@ def check_kit(count, folder, conform):
 
 
 def check_peer(count, peer):
-    """The peer's logs, and what it does not make at once."""
+    """The peer's logs, and the scripts that it does not run at once."""
     logs = RacingPeer([peer], 6, 10).run(ALONE)
     for log in logs:
         replies = ["; ".join(" ".join(line.partition(" = ")[2].replace("skipped: an access at once is of 1, 2, 4 or 8 aligned bytes", "skipped")

@@ -1,4 +1,4 @@
-"""Compares what the program, the rules and the peer answer to one script."""
+"""Compares the answers of the program, the rules and the peer to one script."""
 
 import re
 from dataclasses import dataclass, field, replace
@@ -6,7 +6,7 @@ from dataclasses import dataclass, field, replace
 from rules import STOPS, Machine, classify
 from script import has_form, is_expected, stat_words, without_clock
 
-# calls that change nothing though they are answered with more than a refusal
+# calls that change nothing although they are not refused
 READS = ("load", "stat", "swapoff")
 
 
@@ -26,7 +26,7 @@ class Difference:
 
 @dataclass
 class Result:
-    """How many commands were alike, which differ and by which rule, and what was not compared and why."""
+    """The number of equal commands, the different ones with their rules, and those not compared with the reasons."""
 
     agree: int = 0
     by_rule: dict = field(default_factory=dict)
@@ -53,7 +53,7 @@ class Result:
 
 
 def against_rules(case, events, is_linux=False):
-    """The commands whose reply is not the one that the case tells."""
+    """The commands whose reply is not the one that the case requires."""
     told = [command.told(is_linux) for command in case.commands]
     wrong = [Difference(command, event.call, event.reply, reply)
              for command, reply, event in zip(case.commands, told, events) if not is_expected(reply, event.reply)]
@@ -64,8 +64,8 @@ def against_rules(case, events, is_linux=False):
 
 
 def against_peer(case, events, others, has_clock=False, has_system_limits=False, is_linux=False):
-    """Each command of the program beside the peer's, till the two are in different states. With Linux's rules a rule explains
-    only what they leave."""
+    """Compares each command of the program with the peer's, until the two are in different states. Under Linux's rules only the rules
+    that they leave can explain a difference."""
     result = Result(whole=len(events))
     slots = [int(word.split(":")[1]) for word in case.swap]
     may_fail = any(word.startswith("fuse:") for word in case.swap)
@@ -81,12 +81,12 @@ def against_peer(case, events, others, has_clock=False, has_system_limits=False,
 
 
 def changes_nothing(event):
-    """Whether the call was refused; a protect changes what lies below the page that it is refused for."""
+    """Whether the call was refused and changed nothing; a refused protect has changed the pages below the refused one."""
     return event.is_refused and not (event.word == "protect" and event.reply in STOPS)
 
 
 def compare_one(result, machine, command, event, other):
-    """Counts one command; whether program and peer are in like states behind it."""
+    """Counts one command. Returns whether program and peer are in the same state after it."""
     if other.is_skipped:
         result.skip(other.reply[len("skipped: "):])
         return changes_nothing(event) or event.word in READS
@@ -103,7 +103,7 @@ def compare_one(result, machine, command, event, other):
 
 
 def told_events(case, others, is_linux, has_clock=False):
-    """What a program would print that gives each reply of the case; the words of stat that the case leaves out are the peer's."""
+    """The output of a program that gives each reply of the case; words of stat that the case leaves out are the peer's."""
     events = []
     for command, other in zip(case.commands, others):
         told = command.told(is_linux)

@@ -11,9 +11,9 @@ LETTERS = "abc"
 
 
 class Generator:
-    """Knows which processes live, and which segments were asked for; what the calls answer it does not know. With mappings it
-    makes the words unmap and protect too. With flags it makes those of the kit: exec where it makes no protect, since a piece
-    of exec has a right that protect takes, and hugetlb never with noreserve, since then Linux makes a segment of no page."""
+    """It keeps track of the live processes and of the segments that were asked for, but not of the calls' answers. With mappings it
+    also makes the words unmap and protect. With flags it makes the kit's flags: exec if it makes no protect, because a piece with
+    exec has a right that protect takes away; and hugetlb never with noreserve, because Linux then makes a segment without pages."""
 
     def __init__(self, seed, has_mappings=False, has_flags=False):
         self.random = random.Random(seed)
@@ -47,7 +47,7 @@ class Generator:
         return self.random.choice(values)
 
     def identifier(self, pid):
-        """Mostly one of the first segments, or what the process got itself; seldom a number that was not given."""
+        """Mostly one of the first segments, or a variable of the process; seldom a number that was never given."""
         if self.holds[pid] and self.one_in(3):
             return self.random.choice(sorted(self.holds[pid]))
         return str(self.random.choice((0, 0, 1, 1, 2, 2, 3, 4)) + 32768 * (self.one_in(6) + self.one_in(20)))
@@ -58,7 +58,7 @@ class Generator:
         return hex(self.random.choice(BASES) + (self.pick(1, 4095) if self.one_in(12) else 0))
 
     def place(self):
-        """Where bytes are read or written: near the edges of pages."""
+        """An address to read or write: near the edges of pages."""
         if self.one_in(60):
             return hex(self.pick(0x0, 0x10000, 2 ** 64 - 4))
         return hex(self.random.choice(BASES) + self.pick(0, 8, 100, 4088, 4092, 4095))
@@ -89,7 +89,7 @@ class Generator:
         return f"shmat {self.identifier(pid)} {self.address_of_attach(pid)} {','.join(flags) or '-'}"
 
     def address_of_attach(self, pid):
-        """Under Linux's rules user 0's attaches below the lowest address are the one common difference that is left: fewer."""
+        """Under Linux's rules, attaches of user 0 below the lowest address are the only common difference that is left, so it makes fewer."""
         address = self.address()
         is_left = self.has_flags and pid in self.roots and int(address, 16) < 0x10000
         return hex(self.random.choice(BASES)) if is_left and not self.one_in(4) else address
@@ -122,7 +122,7 @@ class Generator:
         return f"x = xadd {self.place()} {self.pick(1, 255, 2 ** 64 - 1)}"
 
     def range(self):
-        """Mostly whole pages near the bases; seldom an end that is none of a page, or one beyond all addresses."""
+        """Mostly whole pages near the bases; seldom an end inside a page, or beyond all addresses."""
         if self.one_in(40):
             return f"{self.address()} {self.pick(0, 1, 2 ** 47, 2 ** 64 - 4096, 2 ** 64 - 1, 2 ** 63)}"
         length = 4096 * self.pick(1, 1, 1, 2, 2, 3, 4, 6) - (self.pick(1, 4095) if self.one_in(8) else 0)
@@ -133,7 +133,7 @@ class Generator:
         return f"unmap {self.range()}"
 
     def make_protect(self, pid):
-        """Often side by side with the last one, and with the same rights: there borders move."""
+        """Often next to the last one and with the same rights, because borders move there."""
         if pid not in self.protected or self.one_in(3):
             self.protected[pid] = self.random.choice(BASES), self.pick(1, 1, 2, 3), self.pick("r", "r", "rw")
             return f"protect {self.range()} {self.pick('r', 'rw')}"
@@ -166,7 +166,7 @@ class Generator:
         return f"{pid} {make(pid)}"
 
     def opening(self):
-        """A few segments, and attaches of them side by side; with mappings also one that is long enough to be split."""
+        """A few segments, with attaches next to each other; with mappings also one that is long enough to be split."""
         if self.has_mappings:
             self.lines.append(f"{self.live[0]} shmget private 24576 666")
             self.lines += [f"{pid} shmat 0 {self.random.choice(BASES[:7]):#x} -" for pid in self.live]
@@ -189,5 +189,5 @@ class Generator:
 
 
 def make_script(seed, number, has_mappings=False, has_flags=False):
-    """The script with this number of this seed: the same at each run."""
+    """The script with this number of this seed; it is the same at each run."""
     return Generator(f"{seed}/{number}", has_mappings, has_flags).script()

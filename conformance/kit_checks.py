@@ -1,5 +1,5 @@
-"""What conformance/check asks of the kit itself: malformed cases, citations, the list, TAP and JUnit XML, and odd replies.
-No program of the project is run: a small script answers in its place."""
+"""What conformance/check tests of the kit itself: malformed cases, citations, the list, TAP and JUnit XML, and odd replies.
+It runs no program of the project; a small script answers instead."""
 
 import contextlib
 import io
@@ -27,7 +27,7 @@ ALONE = "a call of the library alone, which ./shmsim has not: run the case with 
 FLAG_ALONE = ALONE.replace("a call", "a flag")
 NO_SOURCE = "no comment above it names the source of Linux's reply, as observed on Linux 6.18, or Linux: shmget(2)"
 LINUX = "# Under Linux's rules 1: observed on Linux 6.18\n"
-# what is wrong with a case, and all that is said of it
+# each malformed case with the expected message
 MALFORMED = (
     ("limits 4096 x 1 2 0\n", "c.shm: line 1: 'x': bad line, allowed here: a number"),
     ("limits 4096 1 1 2\n", "c.shm: line 1: "),
@@ -58,7 +58,7 @@ MALFORMED = (
     ("#swap" + 9 * " ram:1" + "\n" + RIGHT, "c.shm: line 1: '#swap': " + SWAP),
     ("#swaps ram:1\n" + RIGHT, "c.shm: line 1: '#swaps': " + SWAP),
 )
-# the kit's own words: where the language has them, and where it has not
+# the kit's own words: lines that are valid, and lines that are not
 MAPPED = (
     (True, "1 unmap 0x50000000 8192", ""),
     (True, "1 protect a+4096 0x1000 rw", ""),
@@ -151,7 +151,7 @@ def check_malformed(count):
 
 
 def write_cases(folder):
-    """A right case and four that are not, with a program that gives one reply and a folder of the peer's."""
+    """A valid case and four malformed ones, with a program that gives one reply and a folder of the peer's output."""
     program = write_file(folder, "one_reply", f"#!/bin/sh\necho '{EVENT}'\n", 0o755)
     paths = [write_file(folder, "right.shm", RIGHT), write_file(folder, "bad.shm", HEAD + "1 exit\n"),
              write_file(folder, "other.shm", RIGHT.replace("= 0", "= 1").replace("A seg", "A # seg")),
@@ -163,7 +163,7 @@ def write_cases(folder):
 
 
 def check_results(count, folder, conform):
-    """Malformed cases do not keep the others from running, whatever form the results have."""
+    """Malformed cases do not keep the others from running, in every form of the results."""
     os.mkdir(folder)
     words, paths = write_cases(folder)
     status, said = conform(*words, *paths)
@@ -197,9 +197,9 @@ def check_junit(count, file):
 
 
 def check_odd_text(count, folder, conform):
-    """Marks of TAP, and what is no character of XML, do not break the results; and the time of a case is there."""
+    """Marks of TAP, and characters that XML does not allow, do not break the results. The results have each case's time."""
     file, path = os.path.join(folder, "odd.xml"), write_file(folder, "odd#1.shm", HEAD + "1 sh\x01\n")
-    status, said = conform("--tap", "--junit", file, path)
+    status, said = conform("--program", "true", "--tap", "--junit", file, path)
     line = next((it for it in said.splitlines() if it.startswith("not ok")), "")
     count.take(status == 2 and "odd\\#1: MALFORMED" in line and not re.search(r"(?<!\\)#", line), f"--tap: status {status}, {line!r}")
     count.take(xml.parse(file).getroot().find("testsuite/testcase").get("name") == "odd#1", "--junit: a case has another name")
@@ -219,8 +219,7 @@ def check_odd_text(count, folder, conform):
 
 
 def check_own_program(count, folder):
-    """The project's own program is started once before the first case, so that a build of it is under no limit of time; another
-    one is not."""
+    """The project's own program is started once before the first case, so that its build has no time limit; another program is not."""
     log, top = os.path.join(folder, "log"), running.TOP
     own = write_file(folder, "shmsim", f"#!/bin/sh\necho \"$@\" >> {log}\nexit $(cat {folder}/status)\n", 0o755)
     other = write_file(folder, "other", f"#!/bin/sh\necho other >> {log}\n", 0o755)
@@ -258,7 +257,7 @@ def check_kit(count, folder, conform):
 
 
 def check_mappings(count, folder, conform):
-    """A case with the kit's own words is run with --library alone; a library without these calls skips it."""
+    """A case with the kit's own words runs only with --library; a library without these calls skips it."""
     case = write_file(folder, "mapped.shm", HEAD + RULE + "1 unmap null 4096\n#= ok\n")
     status, said = conform("--program", os.path.join(folder, "one_reply"), case)
     is_right = status == 2 and said.startswith(f"mapped: MALFORMED: {case}: line 4: 'unmap': {ALONE}\n")
@@ -276,7 +275,7 @@ def check_mappings(count, folder, conform):
 
 
 def over_library(folder, case, event, *options, under_linux=None):
-    """What ./conform says of a case over a library whose program prints one line, and under Linux's rules another one."""
+    """What ./conform prints for a case over a library whose program prints one line, and another one under Linux's rules."""
     text = f"#!/bin/sh\nif [ \"$1 $2\" = '--rules linux' ]; then echo '{under_linux or event}'; else echo '{event}'; fi\n"
     program = write_file(folder, "library.sh", text, 0o755)
     compiler = write_file(folder, "cc", f"#!/bin/sh\nwhile [ \"$1\" != -o ]; do shift; done\ncp {program} \"$2\"\n", 0o755)
@@ -287,8 +286,8 @@ def over_library(folder, case, event, *options, under_linux=None):
 
 
 def check_rules(count, folder, conform):
-    """Under Linux's rules the library is opened with them, the case's own replies of Linux are wanted, and a rule of the profile
-    explains nothing."""
+    """Under Linux's rules the library is opened with them, the case's replies for Linux are required, and rules of the profile explain
+    nothing."""
     for words, told in (["--rules", "nosuch"], "--rules takes profile or linux: nosuch"), (["--rules"], "it lacks its value: --rules"):
         status, said = conform(*words)
         count.take(status == 2 and told in said, f"{words}: status {status}, {said!r}")
@@ -314,7 +313,7 @@ def check_rules(count, folder, conform):
 
 
 def check_flags_of_random_scripts(count):
-    """The kit's flags are in random scripts under Linux's rules alone; exec never beside a protect, hugetlb never with noreserve."""
+    """Only random scripts under Linux's rules have the kit's flags; exec never together with protect, hugetlb never with noreserve."""
     seen = {name: 0 for name in ("exec", "hugetlb", "noreserve", "protect")}
     for number in range(100):
         text, plain = (make_script("flags", number, True, has_flags) for has_flags in (True, False))
@@ -330,7 +329,7 @@ def check_flags_of_random_scripts(count):
 
 
 def check_said_once(count, folder, conform):
-    """What is missing for every case is said once, before the first."""
+    """What is missing for every case is reported once, before the first."""
     words, paths = write_cases(folder)
     for name, given, wanted, text in (
             ("peer", [*words[:2], *paths, "--peer", "/nosuch/peer"], 3, "the peer was not started: no such command: /nosuch/peer"),
@@ -365,7 +364,7 @@ def check_list(count, folder, conform):
 
 
 def check_odd_replies(count):
-    """A reply of no form is a difference, and one of another call's form ends no run."""
+    """A malformed reply is a difference, and a reply of another call's form does not end the run."""
     for table, line, _said in near_misses.judged():
         history = [it for it in table.lines if not it.is_tried and it.number < line.number]
         for odd in NO_FORM + OTHER_FORM:

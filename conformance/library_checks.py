@@ -1,4 +1,5 @@
-"""What conformance/check asks of the program over the C library: what ./shmsim prints, byte for byte, and the kit's own words."""
+"""What conformance/check tests of the program over the C library: it prints what ./shmsim prints, byte for byte, and has the kit's
+own words."""
 
 import os
 import re
@@ -27,7 +28,7 @@ FAULTS = ((["serial"], HEAD, 2, b"usage: library [--rules profile|linux] serial|
 
 
 def is_old(library):
-    """Whether a source of the crates, or the header, is newer than the archive that is there."""
+    """Whether a source of the crates, or the header, is newer than the archive."""
     archive = os.path.join(library, "libnogcuvema.a")
     if not os.path.exists(archive):
         return False
@@ -70,7 +71,7 @@ def check_output(count, program):
 
 
 def first_other(found, wanted):
-    """Where two outputs part."""
+    """The first difference of two outputs."""
     lines = zip(found[1].splitlines(), wanted[1].splitlines())
     other = next(((ours, theirs) for ours, theirs in lines if ours != theirs), "")
     return f"status {found[0]} and {wanted[0]}, {found[2][:300]!r} and {wanted[2][:300]!r}, {other}"
@@ -83,7 +84,7 @@ def check_words(count, program):
 
 
 def check_conform(count, library, has_mappings, conform):
-    """./conform over the library: the replies that the rules give, and where there is a peer what this system answers."""
+    """./conform over the library: the replies that the rules require, and this system's answers if there is a peer."""
     words = ["--library=" + library]
     mappings, rules = (names_of(os.path.join(CASES, folder)) for folder in ("mappings", "rules"))
     for peer, good in (["--no-peer"], ("as told",)), ([], ("agree", "profile", "skipped")):
@@ -102,7 +103,7 @@ def check_conform(count, library, has_mappings, conform):
 
 
 def check_rules(count, library, program, has_rules, conform):
-    """Linux's rules: the replies that the cases tell, and what this system answers, as root, where a rule explains little."""
+    """Linux's rules: the replies of the cases, and this system's answers, as root, where few rules explain a difference."""
     words = ["--library=" + library, "--rules", "linux"]
     if not has_rules:
         status, _printed, told = ran([program, "--rules", "linux", "serial", "ram:1"], HEAD)
@@ -127,7 +128,7 @@ def check_rules(count, library, program, has_rules, conform):
 
 
 def check_library(count, library, folder, conform):
-    """All of it, over the archive and the header in a folder; skipped where they are not there."""
+    """All checks, over the archive and the header in a folder; skipped if they are missing."""
     try:
         program, has_mappings, has_rules = build_library(folder, library)
     except Stopped as error:

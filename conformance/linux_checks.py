@@ -1,4 +1,4 @@
-"""What conformance/check asks of the replies under Linux's rules: this system gives them, but for what the rules leave."""
+"""What conformance/check tests of the replies under Linux's rules: this system gives them, except for what the rules leave."""
 
 import os
 
@@ -20,14 +20,14 @@ def read_cases():
 
 
 def check_needed(count):
-    """A reply of Linux is told where it is another one, and nowhere else."""
+    """A case has a reply for Linux exactly where it differs."""
     for case in read_cases():
         same = [command.line for command in case.commands if command.linux == command.expected]
         count.take(not same, f"{case.name}: lines {same} tell Linux's reply, which is that of the profile")
 
 
 def check_told(count, peer):
-    """Each case that the peer can make as this user: what it tells for the profile and for Linux's rules, beside this system."""
+    """Compares each case that the peer can run as this user with this system: the replies for the profile and for Linux's rules."""
     for case in read_cases():
         others = Peer([peer]).run(case.text, len(case.commands))
         for is_linux in (False, True):

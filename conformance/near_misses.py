@@ -1,4 +1,4 @@
-"""Reads near_misses.txt, and says of each of its lines what the comparison makes of it."""
+"""Reads near_misses.txt, and gives the comparison's result for each of its lines."""
 
 import os
 import re
@@ -29,7 +29,7 @@ class Table:
 
 @dataclass
 class Line:
-    """A call with both replies, and what is to be said of it."""
+    """A call with both replies, and the expected result."""
 
     number: int
     is_tried: bool
@@ -41,7 +41,7 @@ class Line:
 
 
 def whole_stat(reply):
-    """A reply of stat with the words that were left out."""
+    """A reply of stat with default values for the words left out."""
     if "=" not in reply:
         return reply
     words = dict(word.split("=") for word in STAT.split()) | dict(word.split("=") for word in reply.split())
@@ -49,7 +49,7 @@ def whole_stat(reply):
 
 
 def read_lines(number, line):
-    """The calls of a line: one, or several, each one page after the one before."""
+    """The calls of a line: one, or several, each one page above the one before."""
     found = LINE.fullmatch(line)
     if found is None:
         raise ValueError(f"near_misses.txt: line {number}: no such line: {line}")
@@ -90,7 +90,7 @@ def read_tables():
 
 
 def compare(table, lines):
-    """What the comparison counts of these calls, by its words."""
+    """The comparison's counts for these calls, by its words."""
     case = Case("near_misses", "", [line.command for line in lines], table.case.swap, table.case.limits, table.case.users)
     sides = [[read_event(f"{place} {line.call} = {reply}") for place, (line, reply) in enumerate(zip(lines, replies), 1)]
              for replies in ([line.ours for line in lines], [line.theirs for line in lines])]
@@ -110,14 +110,14 @@ def said_of(table, history, line):
 
 
 def wanted_of(line):
-    """The word that is wanted. A DIFFER ends the comparison, except where both sides refused and had changed nothing before."""
+    """The expected word. A DIFFER ends the comparison, unless both sides refused and had changed nothing before."""
     refused = [re.fullmatch("E[A-Z]+|SIG[A-Z]+", reply) for reply in (line.ours, line.theirs)]
     may_change = " protect " in line.call and {line.ours, line.theirs} & {"ENOMEM", "EACCES"}
     return line.word + ", ends" * (line.word == "DIFFER" and bool(may_change or not all(refused)))
 
 
 def judged():
-    """Yields each line that has a word, with its table and with what the comparison says of it."""
+    """Yields each line with an expected word, with its table and the comparison's result."""
     for table in read_tables():
         history = []
         for line in table.lines:

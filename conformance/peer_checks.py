@@ -1,4 +1,4 @@
-"""What conformance/check asks of the peer besides its replies: what ends it, what exec runs, and where its own memory is."""
+"""What conformance/check tests of the peer besides its replies: how it ends, what exec runs, and where its own memory is."""
 
 import os
 import re
@@ -12,16 +12,16 @@ from script import is_expected, read_case
 
 SEGMENTS = "/proc/sysvipc/shm"
 MAPPINGS = os.path.join(HERE, "cases", "mappings")
-# what this project answers to a command of those cases, by a rule of its own: removed identifier, whole access, rest is attached
+# this project's replies to commands of those cases by its own rules: removed identifier, whole access, rest is attached
 BY_RULE = {("unmap_of_marked", "EIDRM"), ("protect_middle", "0003"),
            ("splits_are_no_attaches", "atime=set dtime=set lpid=2 nattch=3")}
 HEAD = "limits 65536 16 64 16 4\nprocess 1 {0} {1}\nchild 2\n".format(os.geteuid(), os.getegid())
-# more than a pipe takes: the peer waits till somebody reads it
+# more than a pipe holds: the peer waits until somebody reads it
 MANY = "1 stat 0\n" * 1000
 LONG = HEAD + "1 s = shmget private 4096 600\n1 shmat s null -\n1 fork 2\n" + "2 stat 0\n1 stat 0\n" * 1000
-# as much, of a process that never is: no worker is asked, so nobody sees that the guardian is gone
+# as much, of a process that is never born: no worker is asked, so nobody notices that the guardian is gone
 IDLE = HEAD + "1 s = shmget private 4096 600\n1 shmat s null -\n" + "2 stat 0\n" * 3000
-# each of the guardian's calls takes its time
+# slows down each of the guardian's calls
 SLOW = """#define _GNU_SOURCE
 #include <signal.h>
 #include <sys/wait.h>
@@ -39,7 +39,7 @@ static inline pid_t slow_waitpid(pid_t p, int *s, int o) { usleep(30000); return
 
 
 def segments_of(pid):
-    """The system's segments that a process made."""
+    """The system's segments that a process created."""
     with open(SEGMENTS, encoding="ascii") as file:
         rows = [line.split() for line in file.readlines()[1:]]
     return {row[1] for row in rows if row[4] == str(pid)}
@@ -51,7 +51,7 @@ def children(pid):
 
 
 def start_peer(peer, options, text, lines):
-    """A peer in mid-case: it made this number of commands, and waits because nobody reads what is more than a pipe takes."""
+    """A peer in the middle of a case: it has made this number of commands, and waits because its output pipe is full."""
     script = tempfile.TemporaryFile()
     script.write(text.encode())
     script.seek(0)
@@ -61,8 +61,8 @@ def start_peer(peer, options, text, lines):
 
 
 def end_of(process, needs_no_reader):
-    """What else a peer said that was ended. Till it is read the director waits, so that its end comes in mid-case; but it
-    finds a worker gone only when it goes on. All processes have closed their ends of the pipes then."""
+    """The rest of the output of a peer that was killed. Until it is read, the director waits, so it ends in the middle of a case; but
+    it notices a missing worker only when it continues. By then all processes have closed their ends of the pipes."""
     try:
         if needs_no_reader:
             process.wait(timeout=30)
@@ -72,7 +72,7 @@ def end_of(process, needs_no_reader):
 
 
 def check_killed(count, peer):
-    """Whoever of the peer's processes is ended: the others end, and no segment is left."""
+    """If any of the peer's processes is killed, the others end, and no segment is left."""
     table = (("guardian", signal.SIGKILL), ("guardian", signal.SIGTERM), ("group", signal.SIGINT),
              ("director", signal.SIGKILL), ("worker", signal.SIGKILL), ("worker", signal.SIGSTOP))
     for who, number in table:
@@ -91,7 +91,7 @@ def check_killed(count, peer):
 
 
 def check_guardian_gone(count, peer):
-    """The guardian is killed while no worker is asked: the director removes what was made when the script is done."""
+    """The guardian is killed while no worker is busy: the director removes the segments when the script is done."""
     process, _said = start_peer(peer, ["--shared"], IDLE, 2)
     worker = children(children(process.pid)[0])[0]
     made = segments_of(worker)
@@ -102,7 +102,7 @@ def check_guardian_gone(count, peer):
 
 
 def check_interrupted(count, folder):
-    """An interrupt is not lost, whatever the guardian does: here it made only its fork, or some more of its calls."""
+    """An interrupt is not lost, whatever the guardian is doing: here it has made only its fork, or some more of its calls."""
     header, peer = os.path.join(folder, "slow.h"), os.path.join(folder, "slow_peer")
     with open(header, "w", encoding="ascii") as file:
         file.write(SLOW)
@@ -126,7 +126,7 @@ def replies_of(said):
 
 
 def check_own_memory(count, peer):
-    """Where the peer's own memory is nothing is attached, read or written; beside it everything is."""
+    """Nothing is attached, read or written where the peer's own memory is; everywhere else it is."""
     process = subprocess.Popen([peer], stdin=subprocess.PIPE, stdout=subprocess.PIPE, stderr=subprocess.DEVNULL)
     # it reads its whole script before it makes a process
     begins = []
@@ -147,15 +147,15 @@ def check_own_memory(count, peer):
 
 
 def check_own_ranges(count, peer):
-    """Where the peer's own memory is nothing is unmapped or protected, but a call that comes nowhere is made."""
+    """Nothing is unmapped or protected where the peer's own memory is, but a call that reaches nothing is made."""
     skip, end = "skipped: the peer's own memory is there", 0x7ffffffff000
     all_of_it = end - 0x10000
     calls = ((f"unmap 0x10000 {all_of_it}", skip), (f"unmap 0x10000 {all_of_it + 1}", "EINVAL"), ("unmap 0x10001 4096", "EINVAL"),
              ("unmap 0x50000000 268435456", "ok"), ("shmat 0 0x50000000 -", "0x50000000"),
-             # it ends at the first page without an attach, which is none of the peer's
+             # it ends at the first page that is not attached, which is not the peer's
              (f"protect 0x50000000 {end - 0x50000000} r", "ENOMEM"), ("store 0x50000000 00", "SIGSEGV"),
              (f"protect 0x10000 {all_of_it} rw", "ENOMEM"), (f"protect 0x10000 {2 ** 64 - 1} rw", "ENOMEM"),
-             # the second lies elsewhere than the script has it: the two are no one range
+             # the second one has another address than in the script: the two are not one range
              ("shmat 0 0x3fffe000 -", "0x3fffe000"), ("shmat 0 null -", "0x40000000"),
              ("unmap 0x3ffff000 8192", "skipped: the range is not one range of the system"),
              ("protect 0x40000000 12288 r", "skipped: the range is not one range of the system"),
@@ -167,7 +167,7 @@ def check_own_ranges(count, peer):
 
 
 def check_mappings(count, peer):
-    """The cases of munmap and mprotect, which need no library: the replies that they tell, but for those of this project's rules."""
+    """The cases of munmap and mprotect without a library: the replies are those of the cases, except by this project's own rules."""
     found = set()
     for name in sorted(os.listdir(MAPPINGS)):
         with open(os.path.join(MAPPINGS, name), encoding="ascii") as file:
@@ -184,7 +184,7 @@ def check_mappings(count, peer):
 
 
 def check_bus_error(count, peer):
-    """A segment whose file is cut off under its attach: the system answers each access with SIGBUS."""
+    """A segment whose file is truncated while it is attached: the system answers each access with SIGBUS."""
     text = HEAD + "1 shmget private 4096 600\n1 shmat 0 0x50000000 -\n1 store 0x50000000 01\n" + MANY + \
         "1 load 0x50000000 1\n1 store 0x50000000 02\n1 xadd 0x50000000 1\n1 load 0x50001000 1\n1 load 0x50000000 1\n" \
         "1 shmdt 0x50000000\n"
@@ -203,7 +203,7 @@ def check_bus_error(count, peer):
 
 
 def check_exec(count, peer, folder, conform):
-    """Under an emulator, exec runs the emulator again: here a script of its name, which notes what it runs."""
+    """Under an emulator, exec runs the emulator again; here that is a script with its name, which notes what it runs."""
     emulator, log = os.path.join(folder, "qemu-none"), os.path.join(folder, "log")
     for path, text, mode in ((emulator, f'#!/bin/sh\necho "$@" >> {log}\nexec "$@"\n', 0o755), (log, "", 0o666)):
         with open(path, "w", encoding="ascii") as file:
@@ -220,7 +220,7 @@ def check_exec(count, peer, folder, conform):
 
 
 def words_without_root():
-    """The words that run a command as an ordinary user, or none where that user has no namespace."""
+    """The words that run a command as an ordinary user, or none if that user gets no namespace."""
     words = ["setpriv", "--reuid=65534", "--regid=65534", "--clear-groups"]
     if os.geteuid() != 0 or shutil.which("setpriv") is None or shutil.which("unshare") is None:
         return None

@@ -1,4 +1,4 @@
-"""How each case went, as text for people, as TAP or as JUnit XML for the CI of a test bench."""
+"""The results of the cases, as text for people, as TAP, or as JUnit XML for the CI of a test bench."""
 
 import re
 import time
@@ -6,13 +6,13 @@ import xml.etree.ElementTree as xml
 from dataclasses import dataclass, field
 
 PASSED = ("agree", "profile", "as told")
-# what is none of XML's characters
+# what is not a character of XML
 NO_TEXT = re.compile("[^\t\n\x20-\ud7ff\ue000-\ufffd]")
 
 
 @dataclass
 class Outcome:
-    """A case: its name, the word for how it went, what is told of it in its line, and the lines below."""
+    """A case: its name, the word for its result, the text in its line, and the lines below."""
 
     name: str
     word: str
@@ -27,7 +27,7 @@ class Outcome:
 
 
 class Results:
-    """Takes one outcome after the other and prints each at once."""
+    """Takes the outcomes one after another and prints each at once."""
 
     def __init__(self, is_tap=False, junit=None):
         self.is_tap = is_tap
@@ -60,7 +60,7 @@ class Results:
         print("# " + text if self.is_tap else text, flush=True)
 
     def stop(self, reason):
-        """No case is run, or no other one."""
+        """No case was run, or none after this one."""
         if self.is_tap:
             print(f"Bail out! {reason}", flush=True)
 
@@ -96,7 +96,7 @@ def junit_of(outcomes):
 
 
 def open_junit(path):
-    """The file is opened before the first case, so that a wrong name is told at once."""
+    """Opens the file before the first case, so that a wrong name is reported at once."""
     return open(path, "w", encoding="utf-8") if path else None
 
 

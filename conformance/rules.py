@@ -1,8 +1,8 @@
-"""This project's own rules: where its answer and Linux's differ, and what Linux answers there.
+"""This project's own rules: where its answer differs from Linux's, and what Linux answers there.
 
-The machine's events are followed, so that each rule names one answer of Linux; any other one is a difference of its
-own. The names stand in docs/CONFORMANCE.md, with what each side answers and why. Under Linux's rules those that are LEFT
-explain a reply, and no other.
+The rules follow the machine's events, so each rule allows exactly one answer of Linux; any other one is a difference. The names
+of the rules are in docs/CONFORMANCE.md, with both answers and the reason. Under Linux's rules only the rules in LEFT explain a
+reply.
 """
 
 from __future__ import annotations
@@ -18,14 +18,14 @@ NUMBERS = 2 ** 64
 PIECES = 256
 INVALID_USER = 4294967295
 
-# refusals of a protect, which comes to them after it changed what lies below
+# refusals of a protect, which has then changed the pages below the refused one
 STOPS = ("ENOMEM", "EACCES")
 
 RULES = ("removed identifier", "locked pages", "lowest address", "end of addresses", "execute bits", "whole access",
          "reserved swap", "largest user", "time of fork", "time of remap", "rest is attached", "number of pieces",
          "failing pager", "limits of the system", "execute flag", "huge pages")
 
-# what Linux's rules leave: of the lowest address user 0's, of locked pages the frames, and of the system's limits some more
+# what Linux's rules leave: for the lowest address only user 0, for locked pages the frames, and some of the system's limits
 LEFT = ("lowest address", "locked pages", "whole access", "reserved swap", "failing pager", "limits of the system")
 
 
@@ -66,7 +66,7 @@ class Piece:
 
 @dataclass
 class Machine:
-    """What the events say of segments, users and pieces, and what Linux has otherwise."""
+    """The segments, users and pieces after the events so far, and what differs on Linux."""
 
     limits: list
     users: dict
@@ -77,7 +77,7 @@ class Machine:
     data: dict = field(default_factory=dict)        # (identifier, offset) -> (rule, Linux's byte, or None for any)
     marked: set = field(default_factory=set)
     has_system_limits: bool = False
-    areas: list = field(default_factory=list)       # for each area its slots, 0 where it is gone
+    areas: list = field(default_factory=list)       # for each area its slots, 0 if it is gone
     may_fail: bool = False                          # whether an area fails
     is_linux: bool = False                          # whether the machine has Linux's rules
 
@@ -89,12 +89,12 @@ class Machine:
         return [segment for segment in self.segments.values() if not segment.is_gone]
 
     def segment(self, word):
-        """The segment of an identifier, None where there is none, or none any more."""
+        """The segment of an identifier, None if there is none or it is destroyed."""
         segment = self.segments.get(number_of(word))
         return None if segment is None or segment.is_gone else segment
 
     def follow(self, event, other):
-        """Takes in an event of the program, and what the peer answered."""
+        """Follows an event of the program and the peer's answer."""
         act = getattr(self, "follow_" + event.word, None)
         if event.word in ("store", "xadd"):
             self.follow_write(event, other)
@@ -105,7 +105,7 @@ class Machine:
         self.sweep()
 
     def sweep(self):
-        """A marked segment that nobody has goes, and with it its lock."""
+        """A marked segment without attachments is destroyed, and its lock ends."""
         held = {piece.segment for pieces in self.pieces.values() for piece in pieces}
         for name in [name for name in self.marked if name not in held]:
             self.unlock(name)
@@ -143,7 +143,7 @@ class Machine:
         self.pieces[event.pid].append(new)
 
     def cut(self, event, begin, end, rule):
-        """Takes a range away from the caller's pieces; Linux attaches anew what is left of a piece."""
+        """Removes a range from the caller's pieces; Linux attaches the rest of a piece anew."""
         self.pieces[event.pid], lost = cut(self.pieces.get(event.pid, []), begin, end)
         for name, is_split in lost:
             self.words.pop((name, "lpid"), None)
@@ -155,7 +155,7 @@ class Machine:
         self.cut(event, begin, begin + whole_pages(length), "rest is attached")
 
     def follow_protect(self, event, address, length, rights):
-        """Linux attaches anew each part of a piece that comes to be a piece."""
+        """Linux attaches anew each part of a piece that becomes a piece."""
         begin, size = number_of(address), whole_pages(length)
         if begin + size >= NUMBERS:
             return
@@ -195,7 +195,7 @@ class Machine:
         self.unlock(int(name))
 
     def follow_write(self, event, other):
-        """A store that is refused leaves on Linux what it had written before; an add reads all bytes before it writes one."""
+        """On Linux a refused store leaves the bytes that it wrote before; an add reads all bytes before it writes one."""
         address = number_of(event.operands[0])
         touched = [self.byte_at(event.pid, address + i) for i in range(length_of(event))]
         if event.reply == "ESRCH" or other.is_skipped or event.word == "xadd" and None in touched:
@@ -216,7 +216,7 @@ class Machine:
         return next(self.data[at[0]][0] for at in touched if at and at[0] in self.data)
 
     def byte_at(self, pid, address):
-        """The segment and offset at an address, and whether it is writable; None where nothing is."""
+        """The segment and offset at an address, and whether it is writable; None if nothing is there."""
         for piece in self.pieces.get(pid, []):
             if piece.base <= address < piece.end:
                 return (piece.segment, address - piece.origin), piece.is_writable
@@ -228,7 +228,7 @@ def length_of(event):
 
 
 def written_by(event, side):
-    """The bytes that a store or an add writes where this is its answer; None for any, of an add that was refused."""
+    """The bytes that a store or an add with this answer writes; None for any bytes, after a refused add."""
     if event.word == "store":
         return list(bytes.fromhex(event.operands[1]))
     if side.is_refused:
@@ -237,7 +237,7 @@ def written_by(event, side):
 
 
 def cut(pieces, begin, end):
-    """Pieces without a range: what is left, and for each that lost pages its segment, and whether a part stays."""
+    """The pieces without a range: what is left, and for each piece that lost pages its segment and whether a part stays."""
     lost, kept = [], []
     for piece in pieces:
         if piece.end <= begin or end <= piece.base:
@@ -259,13 +259,13 @@ def part_of(piece, begin, end):
 
 
 def whole_pages(length):
-    """As many bytes as its pages have; the rounding of a number of 64 bits may pass its end."""
+    """The bytes of all whole pages; rounding up a 64-bit number may overflow."""
     return -(-int(length) // PAGE) * PAGE % NUMBERS
 
 
 def protect(pieces, begin, end, is_writable):
-    """Changes a range from below, to the first page that has no piece or may not be written. The segments of which new pieces
-    came are returned."""
+    """Changes a range from its start to the first page that has no piece or may not be written. Returns the segments that got new
+    pieces."""
     split = []
     for piece in sorted(pieces, key=lambda it: it.base):
         if piece.end <= begin:
@@ -279,8 +279,8 @@ def protect(pieces, begin, end, is_writable):
 
 
 def protect_part(pieces, piece, begin, end):
-    """Turns a part of a piece, or the whole. Returns whether pieces came: none does where the part goes to a neighbour of the
-    same attach that has what the part gets."""
+    """Changes a part of a piece, or the whole piece. Returns whether a new piece was made: none is if the part joins a neighbour of
+    the same attach that already has the new rights."""
     pieces.remove(piece)
     turned = replace(piece, is_writable=not piece.is_writable)
     if (begin, end) == (piece.base, piece.end):
@@ -303,7 +303,7 @@ def number_of(word):
 
 
 def classify(machine, event, other, command):
-    """The rule that Linux's other reply to an event is by, and whether the two are alike from there on."""
+    """The rule by which Linux's other reply is explained, and whether both sides are in the same state after it."""
     found = rule_of(machine, event, other, command)
     return None if machine.is_linux and found and found[0] not in LEFT else found
 
@@ -320,7 +320,7 @@ def rule_of(machine, event, other, command):
 
 
 def is_removed(machine, event):
-    """Whether the call names a segment that was made and is destroyed."""
+    """Whether the call names a segment that is destroyed."""
     has_identifier = event.word in ("shmat", "stat", "set", "rmid", "lock", "unlock")
     segment = machine.segments.get(number_of(event.operands[0])) if has_identifier else None
     return segment is not None and segment.is_gone
@@ -346,8 +346,8 @@ def may_execute(machine, pid, segment):
 
 
 def is_by_huge_pages(machine, event, other):
-    """Whether Linux refuses a new segment of huge pages: user 0 and group 0 may have some and there is none, others may not. It
-    does so before it counts the segments."""
+    """Whether Linux refuses a new segment of huge pages: user 0 and group 0 are allowed some but there are none, others are not
+    allowed any. It does so before it counts the segments."""
     is_full = event.reply == "ENOSPC" and len(machine.live) >= machine.limits[1]
     is_new = is_full or event.reply == "ENOMEM" or not event.is_refused and machine.segment(event.reply) is None
     wanted = "ENOMEM" if 0 in machine.users[event.pid] else "EPERM"
@@ -355,7 +355,7 @@ def is_by_huge_pages(machine, event, other):
 
 
 def of_refused_creation(machine, event):
-    """Linux made a segment: by more pages than slots, or under limits of its own that are wider; huge pages are one."""
+    """Linux made a segment: there are more pages than slots, or its own limits are wider; huge pages are one such limit."""
     if machine.is_linux and event.reply == "ENOMEM" and "hugetlb" in event.operands[2]:
         return "limits of the system", False
     size, held = int(event.operands[1]), sum(segment.pages for segment in machine.live)
@@ -396,7 +396,7 @@ def of_attach(machine, event, other, _command):
 
 
 def has_most_pieces(machine, event, segment, at):
-    """Whether an attach there makes one piece too many."""
+    """Whether an attach there would make one piece too many."""
     kept, _lost = cut(machine.pieces.get(event.pid, []), at, at + segment.pages * PAGE)
     return len(kept) >= PIECES
 
@@ -418,7 +418,7 @@ def of_attach_left(machine, event, other, base, at):
 
 
 def is_invalid_there(machine, event, base, segment):
-    """Whether Linux refuses the range itself: without SHM_REMAP, one that passes 2^64 or meets another attach."""
+    """Whether Linux refuses the range itself: without SHM_REMAP, a range that passes 2^64 or meets another attach."""
     end = base + segment.size
     is_met = any(piece.base < end and base < piece.end for piece in machine.pieces.get(event.pid, []))
     return "remap" not in event.operands[2] and (end >= NUMBERS or is_met)
@@ -462,7 +462,7 @@ def of_set(_machine, event, other, _command):
 
 
 def of_lock(machine, event, other, _command):
-    """Linux counts for each user, not user 0, and refuses all with EPERM where the limit is 0."""
+    """Linux counts for each user except user 0, and refuses all with EPERM if the limit is 0."""
     segment = machine.segment(event.operands[0])
     if machine.is_linux:
         return of_lock_left(machine, event, other, segment)
@@ -478,7 +478,7 @@ def of_lock(machine, event, other, _command):
 
 
 def of_lock_left(machine, event, other, segment):
-    """Under Linux's rules the machine still keeps two frames."""
+    """Under Linux's rules the machine still keeps two frames free of locks."""
     if segment is None or segment.locked_by is not None or event.reply != "ENOMEM" or other.reply != "ok":
         return None
     is_full = locked_pages(machine) + segment.pages > machine.limits[3] - 2
@@ -490,7 +490,7 @@ def locked_pages(machine):
 
 
 def exceeds_limit(machine, segment):
-    """Whether the one limit of this project refuses the lock."""
+    """Whether this project's single limit refuses the lock."""
     return segment.locked_by is None and locked_pages(machine) + segment.pages > machine.limits[4]
 
 
@@ -515,7 +515,7 @@ def of_load(machine, event, other, _command):
 
 
 def of_add(machine, event, other, _command):
-    """The number that stood there differs by the bytes of which Linux has others, and by no other byte."""
+    """The old number differs exactly in the bytes that differ on Linux."""
     if event.is_refused or other.is_refused:
         return None
     touched = [machine.byte_at(event.pid, number_of(event.operands[0]) + i)[0] for i in range(8)]

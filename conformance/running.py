@@ -1,4 +1,4 @@
-"""Runs the program and the peer, each with a limit of time, and leaves nothing behind."""
+"""Runs the program and the peer, each with a time limit, and leaves no process or file behind."""
 
 import contextlib
 import fcntl
@@ -20,17 +20,17 @@ FLAGS = ["-std=gnu11", "-O1", "-Wall", "-Wextra", "-Werror"]
 
 
 class Stopped(Exception):
-    """A tool died, hung, or printed what is no event line."""
+    """A tool died, hung, or printed something that is not an event line."""
 
 
 def require_command(words, whose):
-    """Says once what would be said of each case."""
+    """Reports once what would otherwise be reported for each case."""
     if not words or shutil.which(words[0]) is None:
         raise Stopped(f"{whose} was not started: no such command: {words[0] if words else 'nothing'}")
 
 
 def start_own_program(words):
-    """This project's own program is built first where that is needed: no limit of time is on that, and its progress is seen."""
+    """Builds this project's own program first if needed: without a time limit, and with its progress shown."""
     if not words or os.path.realpath(words[0]) != os.path.realpath(os.path.join(TOP, "shmsim")):
         return
     done = subprocess.run(words + ["serial", "ram:1"], input=b"limits 1 1 1 2 0\n", stdout=subprocess.DEVNULL, check=False)
@@ -72,7 +72,7 @@ def compile_program(path, words, whose):
 
 
 def build_library(folder, library):
-    """The program over the C library whose archive and header are in a folder, and whether it has unmap and protect, and rules."""
+    """The program over the C library whose archive and header are in a folder, and whether it has unmap, protect and rules."""
     archive, header = (os.path.join(library, name) for name in ("libnogcuvema.a", "nogcuvema.h"))
     missing = next((path for path in (archive, header) if not os.path.isfile(path)), None)
     if missing:
@@ -86,7 +86,7 @@ def build_library(folder, library):
 
 
 def open_folder():
-    """A folder for what is built; another user may run what is in it."""
+    """A folder for built programs; another user may run them."""
     folder = tempfile.TemporaryDirectory(prefix="conform.")
     os.chmod(folder.name, 0o755)
     return folder
@@ -97,7 +97,7 @@ class Peer:
 
     def __init__(self, words, options=(), limit=10):
         self.words = list(words) + list(options)
-        # behind an exec the emulator runs again, or the process would leave it
+        # after an exec the emulator runs again, or the process would leave it
         if os.path.basename(words[0]).startswith("qemu"):
             self.words += ["--exec", " ".join(words)]
         self.limit = limit
@@ -141,7 +141,7 @@ class Peer:
 
 @contextlib.contextmanager
 def only_one():
-    """One peer at a time on this machine: Linux counts a user's locked pages for all of its processes."""
+    """Only one peer at a time on this machine: Linux counts a user's locked pages over all of its processes."""
     folder = os.open(tempfile.gettempdir(), os.O_RDONLY)
     try:
         fcntl.flock(folder, fcntl.LOCK_EX)
@@ -156,7 +156,7 @@ def text_of(file):
 
 
 def lines_within(stream, limit):
-    """Each line, which must come within so many seconds of the one before."""
+    """Each line; it must come within so many seconds after the one before."""
     rest = b""
     with selectors.DefaultSelector() as selector:
         selector.register(stream, selectors.EVENT_READ)
@@ -173,7 +173,7 @@ def lines_within(stream, limit):
 
 
 def end_group(process):
-    """Ends what is left of a peer: asked first, so that it removes what it made."""
+    """Ends the remaining processes of a peer: first by a request, so that it removes its segments."""
     for number, seconds in ((signal.SIGTERM, 5), (signal.SIGKILL, 5)):
         if not is_group_there(process.pid):
             break
@@ -196,7 +196,7 @@ def wait_for_group(process, seconds):
 
 
 def is_group_there(group):
-    """Whether a process of the group runs; one that only waits for its parent does not."""
+    """Whether a process of the group runs; one that only waits for its parent does not count."""
     try:
         os.killpg(group, 0)
     except ProcessLookupError:
@@ -214,7 +214,7 @@ def is_running(pid, group):
 
 
 def why_no_peer():
-    """Why the peer can't be run here, or nothing."""
+    """Why the peer can't run here, or nothing."""
     if shutil.which("cc") is None:
         return "no C compiler (cc) is here"
     if os.geteuid() == 0:

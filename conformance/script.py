@@ -1,10 +1,10 @@
 """Scripts, cases and event lines.
 
-A case is a script in which each command has a comment above it, with the rule and its source, and behind it a line
-`#= REPLY`: the reply that the rule gives, of `stat` any of its words. A line `#linux= REPLY` behind that tells the reply under
-Linux's rules where it is another one. A line `#swap WORDS` names other swap areas.
+A case is a script with more comments. Above each command is a comment with its rule and source. After it a line `#= REPLY` has the
+reply of the rule; for `stat` only some words may be given. A line `#linux= REPLY` after that has the reply under Linux's rules if
+it differs. A line `#swap WORDS` names other swap areas.
 
-The kit has words that the language of docs/SCRIPT.md has not: `unmap ADDRESS LENGTH` and `protect ADDRESS LENGTH r|rw`, the
+The kit has words that are not in the language of docs/SCRIPT.md: `unmap ADDRESS LENGTH` and `protect ADDRESS LENGTH r|rw`, the
 flag `exec` of shmat, and the flags `hugetlb` and `noreserve` of shmget.
 """
 
@@ -41,14 +41,14 @@ REPLY = {"shmget": re.compile(r"\d{1,10}"), "shmat": re.compile(r"null|0x[0-9a-f
 
 
 def rights_of(text):
-    """Whether bytes may be written too."""
+    """Whether the bytes may be written, too."""
     if text not in ("r", "rw"):
         raise NoForm
     return text == "rw"
 
 
 def flags_of_kit(kind, names):
-    """Flags as the language has them, with other names among them, each at most once."""
+    """Flags of the language, with the kit's other names among them, each at most once."""
     def flags_of(text):
         words = text.split(",")
         rest = [word for word in words if word not in names]
@@ -68,11 +68,11 @@ FLAGGED = {"shmget": CALLS["shmget"][:-1] + (("flags", flags_of_kit(GET_FLAGS, F
 
 
 class BadInput(Exception):
-    """Something that was handed in has no form that is read."""
+    """An input that is not well formed."""
 
 
 class BadCase(BadInput):
-    """A case that can't be run: its file, the line (0: the whole file), the word (nothing: the line) and what is wrong."""
+    """A case that can't run: its file, the line (0: the whole file), the word (nothing: the whole line) and the cause."""
 
     def __init__(self, path, line, word, cause):
         place = f"{path}: line {line}: " if line else f"{path}: "
@@ -85,7 +85,7 @@ class Command:
     text: str
     rule: str = ""
     expected: str | None = None
-    linux: str | None = None    # where it is another one
+    linux: str | None = None    # if it differs
 
     @property
     def has_variable(self):
@@ -129,7 +129,7 @@ class Event:
 
 
 def read_event(line):
-    """The event of a line, or None where the line has no event's form."""
+    """The event of a line, or None if the line is not an event line."""
     match = EVENT.fullmatch(line)
     if match is None:
         return None
@@ -138,7 +138,7 @@ def read_event(line):
 
 
 def read_events(text, whose):
-    """The event lines at the beginning of an output; the program's listing ends them."""
+    """The event lines at the beginning of an output; the program's listing follows them."""
     events = []
     for line in text.splitlines():
         if line.startswith("key  "):
@@ -151,7 +151,7 @@ def read_events(text, whose):
 
 
 def read_case(path, text, is_strict=True, has_mappings=False):
-    """A case; a strict one has a rule and a reply for each command. Without mappings it has none of the kit's own words."""
+    """A case. A strict one needs a rule and a reply for each command. Without mappings it may not use the kit's own words."""
     case = Case(os.path.splitext(os.path.basename(path))[0], text)
     if not has_mappings:
         require_own_words(path, text)
@@ -177,7 +177,7 @@ def read_case(path, text, is_strict=True, has_mappings=False):
 
 @contextlib.contextmanager
 def language_of_the_kit():
-    """The reader of scripts knows the kit's own words too."""
+    """Lets the reader of scripts accept the kit's own words."""
     before = dict(CALLS)
     CALLS.update(MAPPINGS | FLAGGED)
     try:
@@ -188,7 +188,7 @@ def language_of_the_kit():
 
 
 def require_language(path, text, has_mappings):
-    """The case is a script; the fault of one that is none is told as ./shmsim --explain tells it."""
+    """Checks that the case is a script; a fault is reported as ./shmsim --explain does."""
     with language_of_the_kit() if has_mappings else contextlib.nullcontext():
         try:
             read_script(text)
@@ -200,7 +200,7 @@ def require_language(path, text, has_mappings):
 
 
 def require_own_words(path, text):
-    """Where the program is ./shmsim, no word is the kit's alone."""
+    """With ./shmsim as the program, checks that the case uses none of the kit's own words."""
     for number, line in enumerate(text.split("\n"), 1):
         words = [] if line.lstrip().startswith("#") else [word.text for word in words_of(line)]
         call = next((word for word in words[1:2] if word in MAPPINGS), "")
@@ -265,7 +265,7 @@ def has_form(event):
 
 
 def stat_words(reply):
-    """What stat shows, by name; None for another reply."""
+    """The words of stat by name; None for another reply."""
     if not reply.startswith("key="):
         return None
     return dict(word.split("=", 1) for word in reply.split())

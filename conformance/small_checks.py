@@ -1,5 +1,5 @@
-"""What conformance/check asks of the peer for small kernels: the same replies as the full peer gives, no call but those that it
-may make, and what tools/small_peer makes of scripts and of a console's record."""
+"""What conformance/check tests of the peer for small kernels: it gives the same replies as the full peer, and makes only the calls
+that it may make. Also what tools/small_peer makes of scripts and of a console's record."""
 
 import os
 import re
@@ -17,7 +17,7 @@ TOOL = os.path.join(TOP, "tools", "small_peer")
 C89 = ["-std=c89", "-pedantic", "-Wall", "-Wextra", "-Werror"]
 NOBODY = 65534
 SECONDS = 20
-# what both peers make of the cases: fewer would be a peer that skips what it can make
+# how many commands of the cases both peers make: fewer would be a peer that skips too much
 LEAST_COMPARED = 540
 MAY_END = "skipped: the access may end its process"
 # every form of an operand and of a reply, and numbers of more than 32 bits
@@ -99,7 +99,7 @@ atime=set dtime=set ctime=set
 35 1 exit = ok
 36 1 stat 0 = skipped: no process makes this call
 """
-# a peer and a system with little room: what goes beyond it is skipped
+# a peer and a system with little room: commands beyond it are skipped
 FULL = """limits 65536 16 64 16 4
 process 1 100 110
 1 shmget private 4096 600
@@ -157,7 +157,7 @@ def write_file(path, text):
 
 
 def build(folder, paths, compiler="cc", port="port_of_linux", words=()):
-    """The small peer with these scripts; its path, or what the compiler said."""
+    """Builds the small peer with these scripts. Returns its path, or the compiler's output."""
     os.makedirs(folder, exist_ok=True)
     done = run_tool("data", *paths)
     if done.returncode != 0:
@@ -170,7 +170,7 @@ def build(folder, paths, compiler="cc", port="port_of_linux", words=()):
 
 
 def check_alone(count, folder):
-    """It is compiled and linked with the calls that it may make and nothing else, by each compiler that is here."""
+    """The peer is compiled and linked with the allowed calls and nothing else, by each compiler of this machine."""
     calls = os.path.join(HERE, "port_of_nothing", "calls.c")
     case = os.path.join(HERE, "cases", "fork.shm")
     for compiler in filter(shutil.which, ("gcc", "clang")):
@@ -196,7 +196,7 @@ def has_words():
 
 
 def run_group(words, file):
-    """The status of a program, of which no process is left; one that hangs is ended."""
+    """The status of a program after all its processes have ended; one that hangs is killed."""
     process = subprocess.Popen(words, stdout=file, start_new_session=True)
     try:
         return process.wait(SECONDS)
@@ -211,7 +211,7 @@ def run_group(words, file):
 
 
 def run_small(folder, paths, limits, is_root, words=(), files=64):
-    """What the small peer prints for each of these scripts, by its name; it may have so many open files."""
+    """The small peer's output for each of these scripts, by name, with a limit on open files."""
     program, said = build(folder, paths, words=words)
     if not program:
         return {}, said
@@ -231,7 +231,7 @@ def run_small(folder, paths, limits, is_root, words=(), files=64):
 
 
 def compare_case(case, small, full):
-    """How many commands both made, and the first one that they answer in different ways."""
+    """How many commands both peers made, and the first one with different answers."""
     made = 0
     for line, other in zip(small, full):
         event = read_event(line)
@@ -239,7 +239,7 @@ def compare_case(case, small, full):
             return made, f"no event line: {line!r}"
         theirs = f"{other.call} = {other.reply}"
         if event.is_skipped:
-            # both are in like states as long as the full peer was refused, or only looked
+            # both are in the same state as long as the full peer was refused, or only looked
             is_made = not (other.is_skipped or other.is_refused)
             if event.call != other.call or (event.reply == MAY_END and is_made):
                 return made, f"{line} where the full peer has {theirs}"
@@ -254,7 +254,7 @@ def compare_case(case, small, full):
 
 
 def groups_of_cases():
-    """The cases by their limits and by whether their user is 0."""
+    """The cases grouped by their limits and by whether their user is 0."""
     groups = {}
     for name in sorted(it for it in os.listdir(os.path.join(HERE, "cases")) if it.endswith(".shm")):
         path = os.path.join(HERE, "cases", name)
@@ -266,7 +266,7 @@ def groups_of_cases():
 
 
 def check_compared(count, replies, conform):
-    """The kit compares what the small peer printed as it does with any other peer, and says under which limits that was."""
+    """The kit compares the small peer's output as it does with any other peer, and reports under which limits it was made."""
     status, said = conform("--replies", replies)
     is_right = status == 0 and re.search("^cases: agree \\d+, profile \\d+, skipped \\d+$", said, re.M)
     is_right = is_right and "\nnote: under the limits of this system\n" in said
@@ -279,7 +279,7 @@ def check_compared(count, replies, conform):
 
 
 def check_same_replies(count, peer, folder, conform):
-    """Each command that both peers make has the same reply of both."""
+    """Each command that both peers make has the same reply."""
     made = 0
     for number, ((limits, is_root), cases) in enumerate(groups_of_cases().items()):
         small, said = run_small(os.path.join(folder, f"group{number}"), [path for path, _ in cases], limits, is_root)
@@ -294,7 +294,7 @@ def check_same_replies(count, peer, folder, conform):
 
 
 def check_forms(count, folder):
-    """Every form of an operand and a reply, as written by hand; and who is not user 0 is not taken for it."""
+    """Every form of an operand and a reply, compared with a hand-written list; and another user is not taken for user 0."""
     limits = [16777216, 16, 64, 0, 4]
     for name, uid, is_root in (("ordinary", 100, False), ("root", 0, True), ("other", 0, False)):
         gid = uid and uid + 10
@@ -309,7 +309,7 @@ def check_forms(count, folder):
 
 
 def check_room(count, folder):
-    """What the peer or the system has no room for is skipped, and the rest is made."""
+    """Commands for which the peer or the system has no room are skipped, and the others are made."""
     limits, words = [16777216, 16, 64, 0, 4], ["-DPROCESSES=1", "-DPIECES=3", "-DSEGMENTS=1"]
     full, two = write_file(os.path.join(folder, "full.shm"), FULL), write_file(os.path.join(folder, "two.shm"), TWO)
     few = "skipped: there are too few pipes for the script's processes"
@@ -324,7 +324,7 @@ def check_room(count, folder):
 
 
 def check_tool(count, folder):
-    """What tools/small_peer makes of a script, of a console's record, and of bad words."""
+    """What tools/small_peer makes of a script, of a console's record, and of wrong words."""
     path = write_file(os.path.join(folder, "data.shm"), DATA_SCRIPT)
     done = run_tool("data", path)
     count.take((done.returncode, done.stdout) == (0, DATA), f"tools/small_peer data: {done.stdout}{done.stderr}")
@@ -357,6 +357,6 @@ def check_small_peer(count, peer, folder, conform):
         return
     check_forms(count, folder)
     check_room(count, folder)
-    # the cases take longest, and tell nothing more of a peer that is wrong already
+    # the cases take longest, and show nothing more about a peer that is already wrong
     if count.failed == failed:
         check_same_replies(count, peer, folder, conform)

@@ -1,7 +1,7 @@
-"""Reads what strace -f prints: calls with the lines of their entry and return, and the ends of processes.
+"""Reads the output of strace -f: calls with the lines of their entry and return, and the ends of processes.
 
-strace handles one stop after the other, so the order of its lines is the order in time: a call whose line is complete overlaps
-with no other, and one that is unfinished overlaps with those up to the line where it is resumed.
+strace handles one stop after another, so the order of its lines is the order in time. A call on one complete line overlaps with no
+other call. An unfinished one overlaps with those up to the line where it is resumed.
 """
 
 from __future__ import annotations
@@ -24,7 +24,7 @@ MADE_BY = ("clone", "clone3", "fork", "vfork")
 
 
 class BadTrace(Exception):
-    """A line that can't be read, by its number; 0 is the whole."""
+    """A line that can't be read, by its number; 0 is the whole trace."""
 
     def __init__(self, line, cause):
         super().__init__(f"line {line}: {cause}" if line else cause)
@@ -32,7 +32,7 @@ class BadTrace(Exception):
 
 @dataclass
 class Call:
-    """A call of a thread. Without `last` it never returned. The end of a thread is `+++`, or `superseded` by another's execve."""
+    """A call of a thread. Without `last` it never returned. The end of a thread is `+++`, or `superseded` by an execve of another one."""
 
     thread: str
     name: str
@@ -57,7 +57,7 @@ class Call:
 
 @dataclass
 class Thread:
-    """One life of a number of a thread; numbers come again."""
+    """One thread with this number; numbers are used again."""
 
     name: str
     number: int
@@ -69,11 +69,11 @@ class Thread:
 class Trace:
     calls: list = field(default_factory=list)
     threads: dict = field(default_factory=dict)     # by name, in the order of their first lines
-    lives: dict = field(default_factory=dict)       # of each number, the names of its threads
+    lives: dict = field(default_factory=dict)       # for each number, the names of its threads
 
 
 def split_words(text):
-    """The operands of a call: what is between the commas outside of brackets and strings."""
+    """The operands of a call: the texts between the commas outside of brackets and strings."""
     words, depth, start, is_string, place = [], 0, 0, False, 0
     while place < len(text):
         letter = text[place]
@@ -100,8 +100,8 @@ class Reader:
     def __init__(self):
         self.trace = Trace()
         self.live = {}          # by number
-        self.unnamed = None     # the thread of the lines that name none
-        self.announced = set()  # numbers of threads that were made
+        self.unnamed = None     # the thread of the lines without a number
+        self.announced = set()  # numbers of threads that a call made
 
     def thread_of(self, number, line):
         if number is None:
@@ -121,7 +121,7 @@ class Reader:
         return thread
 
     def only_thread(self, line):
-        """strace without -o names no process where it traces one."""
+        """Without -o, strace names no process if it traces only one."""
         if not self.trace.threads:
             self.unnamed = self.begin(0, line)
         if len(self.live) != 1:
@@ -129,7 +129,7 @@ class Reader:
         return next(iter(self.live.values()))
 
     def name_unnamed(self, number):
-        """The first number that nothing made is that of the process whose lines had none."""
+        """The first number that no call made is that of the process whose lines have no number."""
         thread = self.unnamed
         thread.number = number
         self.trace.lives[number] = self.trace.lives.pop(0)
@@ -195,14 +195,14 @@ class Reader:
         superseded = SUPERSEDED.fullmatch(rest)
         self.trace.calls.append(Call(thread.name, "superseded" if superseded else "+++", "", line, line))
         if superseded and int(superseded[1]) in self.live:
-            # the thread that made the execve goes on under this number
+            # the thread that called execve continues under this number
             heir = self.live.pop(int(superseded[1]))
             heir.number = thread.number
             self.live[thread.number] = heir
 
 
 def read_trace(lines):
-    """The trace that these lines are."""
+    """The trace in these lines."""
     reader = Reader()
     begun = None
     for line, text in enumerate(lines, 1):
@@ -211,7 +211,7 @@ def read_trace(lines):
             continue
         interrupted = INTERRUPTED.fullmatch(text)
         if begun:
-            # strace without -o says within a call's line that a process is attached, and goes on in the next line
+            # without -o, strace says within a call's line that a process is attached, and continues the call in the next line
             first, head, note = begun
             reader.take(first, head + text)
             reader.take(line, note)

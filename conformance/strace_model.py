@@ -1,13 +1,13 @@
-"""Segments and attachments as a trace tells of them: what is where in the process, and where the script's machine has it."""
+"""The segments and attachments of a trace: where each is in the process, and where it is in the script's machine."""
 
 from __future__ import annotations
 
 from dataclasses import dataclass, field
 
 PAGE = 4096
-FIRST_CHOSEN = 0x40000000       # the machine's first address where the caller names none
+FIRST_CHOSEN = 0x40000000       # the machine's first address if the caller names none
 LAST = 0x7ffffffff000
-INDEXES = 32768                 # an identifier of the machine is its index, and this times how often the index came before
+INDEXES = 32768                 # an identifier of the machine is its index, plus this times the number of earlier uses of the index
 NEVER_ISSUED = 2147483647
 
 
@@ -26,7 +26,7 @@ class Segment:
     out: str = ""               # why it is left out of the script
     pieces: int = 0
     made_key: int = 0
-    is_touched: bool = False    # by calls that the script has not
+    is_touched: bool = False    # by calls that the script does not have
 
 
 @dataclass
@@ -36,7 +36,7 @@ class Attach:
     segment: Segment
     address: int                # of the trace
     number: int                 # of the machine
-    is_literal: bool            # the machine has it where the script says
+    is_literal: bool            # whether the script gives the machine its address
     stays: bool = False         # a child does not inherit it (MADV_DONTFORK)
 
 
@@ -66,7 +66,7 @@ class Piece:
 
 
 def without(piece, start, stop):
-    """What is left of a piece outside of a range of the trace."""
+    """The parts of a piece outside of a range of the trace."""
     if piece.stop <= start or stop <= piece.start:
         return [piece]
     parts = []
@@ -84,12 +84,12 @@ class Memory:
     live: dict = field(default_factory=dict)        # by identifier
     gone: dict = field(default_factory=dict)        # the last segment that had an identifier
     indexes: set = field(default_factory=set)       # those that a segment holds
-    lives: dict = field(default_factory=dict)       # how many segments an index had
+    lives: dict = field(default_factory=dict)       # how many segments each index had
     pages: int = 0
     most_pages: int = 0
     most_segments: int = 0
     created: int = 0
-    changes: list = field(default_factory=list)     # of attachments, since they were last taken
+    changes: list = field(default_factory=list)     # of attachments, since they were last read
 
     def create(self, identifier, key, size, real_size, out):
         if identifier in self.live:
@@ -132,7 +132,7 @@ class Memory:
             self.destroy(segment)
 
     def known(self, identifier):
-        """The segment of an identifier; one that is gone, because a call that overlaps with its end may come before it."""
+        """The segment of an identifier; also a destroyed one, because a call that overlaps with its end may come before it."""
         return self.live.get(identifier) or self.gone.get(identifier)
 
     def had_key(self, key):
@@ -142,7 +142,7 @@ class Memory:
         return next((it for it in self.live.values() if it.key == key and key != 0), None)
 
     def put(self, process, pieces):
-        """The process has other pieces now."""
+        """Replaces the pieces of a process."""
         before = process.pieces
         process.pieces = pieces
         kept = {id(it) for it in before} & {id(it) for it in pieces}
@@ -173,7 +173,7 @@ class Process:
         return [it for it in self.pieces if it.attach.address == address]
 
     def gap(self, size):
-        """Where the machine attaches that many bytes if it may choose."""
+        """The address at which the machine attaches that many bytes if it may choose."""
         start = FIRST_CHOSEN
         for piece in sorted(self.pieces, key=lambda it: it.machine_start):
             if piece.attach.segment.out or piece.machine_stop <= start:

@@ -1,7 +1,7 @@
-"""Looks for an order of the calls that overlap in which Linux would give the replies of the trace.
+"""Looks for an order of the overlapping calls in which Linux would give the replies of the trace.
 
-It is the order that the judge tries first, so a wrong one costs time and nothing else. A call with no effect is made as soon as
-its reply fits. Runs in which each process is as far, and the last pids are the same, go on alike.
+The judge tries this order first, so a wrong one only costs time. A call without effect is made as soon as its reply fits. Runs in
+which all processes are equally far and the last pids are equal continue in the same way.
 """
 
 from __future__ import annotations
@@ -16,18 +16,18 @@ OF_ONE = ("stat", "rmid", "set", "lock", "unlock")
 
 
 class State:
-    """What replies depend on: of each segment the attachments, the last pid, how often it was attached and detached, and whether
-    it is there and marked."""
+    """The state that replies depend on: for each segment its attachments, the last pid, how often it was attached and detached, and
+    whether it exists and is marked."""
 
     def __init__(self, slack=None):
-        self.slack = slack or {}        # by how much the attach count of a stat may be too high
+        self.slack = slack or {}        # how much the attach count of a stat may be too high
         self.counts, self.pids = {}, {}
         self.attached, self.detached = {}, {}
         self.there, self.marked = set(), set()
         self.keys = {}
 
     def fits(self, command):
-        """Whether Linux could answer this now; what is not looked at fits."""
+        """Whether Linux could give this answer now; replies that are not checked fit."""
         if command.word == "shmget":
             return self.fits_get(command)
         segment = command.parts[0] if command.parts and isinstance(command.parts[0], Segment) else None
@@ -54,7 +54,7 @@ class State:
         return found is None or command.reply != "ENOENT"
 
     def make(self, command):
-        """Makes a call; what was before, for `undo`."""
+        """Makes a call. Returns what `undo` needs."""
         touched = [segment for segment, _ in command.effects]
         touched += [it for it in (command.result, *command.parts) if isinstance(it, Segment)]
         before = [(it, self.counts.get(id(it), 0), self.pids.get(id(it), 0), id(it) in self.there, id(it) in self.marked,
@@ -107,14 +107,14 @@ def unexplained(commands):
 
 
 def slack_of(commands):
-    """Linux raises the attach count by two in a shmat, and lowers it by one at its end: a stat between may show that."""
+    """Linux raises the attach count by two in a shmat, and lowers it by one at its end; a stat in between may show that."""
     attaches = [it for it in commands if it.word == "shmat" and it.result is not None]
     return {id(stat): sum(it.first < stat.last and stat.first < it.last and it.process is not stat.process for it in attaches)
             for stat in commands if stat.word == "stat"}
 
 
 class Search:
-    """A search in depth, with the calls of each process in their order and no call before one that had returned."""
+    """A depth-first search, with the calls of each process in their order, and no call before one that had returned when it began."""
 
     def __init__(self, commands, slack=None):
         self.own, self.state = {}, State(slack)
@@ -152,13 +152,13 @@ class Search:
                 self.state.count_time(segment, change, -1)
 
     def choices(self):
-        """A call without effects is the only choice if its reply fits."""
+        """The possible next calls. A call without effects is the only one if its reply fits."""
         fitting = [it for it in self.offered() if self.state.fits(it)]
         quiet = next((it for it in fitting if it.is_quiet), None)
         return [quiet] if quiet else fitting
 
     def run(self):
-        """Whether an order was found, which is then the longest beginning."""
+        """Whether an order was found; it is then the longest beginning."""
         stack, steps = [iter(self.choices())], 0
         while stack and steps < MOST_STEPS:
             steps += 1
@@ -182,10 +182,10 @@ class Search:
 
 
 def better_order(commands):
-    """An order of the commands, those whose replies may be any in it, and whether that explains all.
+    """An order of the commands, those commands whose reply may be any, and whether the order explains all replies.
 
-    It is this order or another one in which all replies fit; or one in which those of some stats fit but for the attach count while
-    a shmat overlaps; or one with the longest beginning that was met.
+    All replies fit in this order; or all except the attach counts of stats that overlap with a shmat; or it has the longest
+    beginning that was found.
     """
     if not unexplained(commands):
         return commands, [], True

@@ -1,4 +1,4 @@
-"""Turns a trace into the commands of a script and what was answered to each."""
+"""Turns a trace into the commands of a script and their replies."""
 
 from __future__ import annotations
 
@@ -29,7 +29,7 @@ class LeftOut(Exception):
 
 @dataclass
 class Command:
-    """A line of the script. A part of its operands is a text, a segment, or an attach with an offset."""
+    """A line of the script. Each part of its operands is a text, a segment, or an attach with an offset."""
 
     process: Process
     word: str
@@ -38,7 +38,7 @@ class Command:
     reply: str
     place: float                # in the order of the trace's lines
     first: int                  # the line where it began
-    last: int                   # and that where it ended
+    last: int                   # the line where it ended
     result: object = None       # the segment or attach of its reply
     child: object = None
     effects: list = field(default_factory=list)     # segments that lost or got an attachment
@@ -52,7 +52,7 @@ class Command:
 
     @property
     def middle(self):
-        """An end takes its attachments away some time after it began."""
+        """The end of a process removes its attachments some time after it began."""
         return (self.first + self.last) / 2 if self.word in ("exit", "exec") else self.first
 
 
@@ -72,7 +72,7 @@ class Notes:
 
 
 def number_of(word):
-    """A number as strace prints it, NULL and negative ones too."""
+    """A number as strace prints it, also NULL and negative ones."""
     if word == "NULL":
         return 0
     try:
@@ -88,7 +88,7 @@ def member(text, name):
 
 
 class Tree:
-    """Which thread made which, and the processes that they are."""
+    """The tree of threads: which thread made which, and which processes they are."""
 
     def __init__(self, trace, notes):
         self.trace, self.notes = trace, notes
@@ -148,8 +148,8 @@ def kind_of(call):
 
 
 class Converter:
-    """Goes through a trace once. `sizes` gives other sizes to the script, `order` other places to calls, and the calls in `loose`
-    may have any reply."""
+    """Converts a trace in one pass. `sizes` gives segments other sizes, `order` gives calls other places, and the calls in `loose` may
+    have any reply."""
 
     def __init__(self, trace, sizes=None, order=None, loose=()):
         self.trace, self.sizes, self.order, self.loose = trace, sizes or {}, order or {}, loose
@@ -158,7 +158,7 @@ class Converter:
         self.memory = Memory()
         self.commands = []
         self.asked = set()          # sizes that were asked for
-        self.most_size = 1          # of those that were not refused as wrong
+        self.most_size = 1          # of those not refused as wrong
         self.users = set()          # user and group of each creator that stat shows
         self.matter = set()         # names of the processes that are in the script
 
@@ -174,7 +174,7 @@ class Converter:
         return self
 
     def placed(self):
-        """The calls with their places, which are their first lines: a call is made soon after strace lets it go on."""
+        """The calls with their places. A place is a call's first line, because a call is made soon after strace lets it continue."""
         for index, call in enumerate(self.trace.calls):
             made = self.makes.get(id(call))
             if made is not None:
@@ -250,7 +250,7 @@ class Converter:
         return call.error
 
     def segment_of(self, word, call):
-        """The segment of an identifier, or None where it never was one. A refusal may be of one that is gone."""
+        """The segment of an identifier, or None if it never was one. A refusal may be about a destroyed segment."""
         identifier = number_of(word)
         segment = self.memory.known(identifier)
         if segment is None and not (call.is_refused and call.error in ("EINVAL", "EIDRM")):
@@ -289,7 +289,7 @@ class Converter:
                  is_new=self.memory.created > created)
 
     def got(self, call, key, size, real_size, may_create, is_huge):
-        """The segment whose identifier was answered: one that is there, or a new one."""
+        """The segment with the returned identifier: an existing one, or a new one."""
         identifier = number_of(call.value)
         segment = self.memory.known(identifier)
         is_there = segment is not None and (identifier in self.memory.live or not may_create)
@@ -327,7 +327,7 @@ class Converter:
         self.put(process, call, place, "shmat", parts, shown, reply, result=attach)
 
     def attach_unseen(self, process, call, segment, identifier):
-        """What it replaces or occupies is known even so, if the segment's size is."""
+        """Notes an attach that the script does not have: it still replaces or occupies a range, if the segment's size is known."""
         if segment is not None:
             size = pages_of(segment.real_size) * PAGE
             start = number_of(call.value)
@@ -338,7 +338,7 @@ class Converter:
         raise LeftOut(f"calls on {BEFORE}")
 
     def refused_attach(self, process, call, segment, address, flags, others):
-        """Leaves out a refusal for something that the script's machine has not."""
+        """Leaves out a refusal whose cause the script's machine does not have."""
         if call.error == "EACCES" and "SHM_EXEC" in others:
             raise LeftOut("shmat with SHM_EXEC, refused with EACCES")
         if call.error == "ENOMEM" and address == 0:
@@ -352,7 +352,7 @@ class Converter:
             raise LeftOut("shmat refused where other memory of the process is")
 
     def where(self, process, call, address, rounded, size):
-        """The address in the script: where the attach that is there is, or as the trace has it."""
+        """The address in the script: that of the attach at this address, or the trace's own."""
         if address == 0:
             return Place(None, 0, ["null"])
         piece = process.at(rounded, rounded + size)
@@ -369,7 +369,7 @@ class Converter:
         return Place(piece, number, [(piece.attach, offset)])
 
     def attached(self, process, call, segment, where, rounded, size):
-        """Puts the pieces of an attach that succeeded; the attach and its reply."""
+        """Adds the pieces of a successful attach. Returns the attach and its reply."""
         start = number_of(call.value)
         if where.parts == ["null"]:
             machine, is_literal = process.gap(pages_of(segment.size) * PAGE), False
@@ -467,7 +467,7 @@ class Converter:
         child = self.tree.processes[made]
         child.program = process.program
         if kind == "vfork" and process.pieces:
-            # it runs in the memory of its maker until its exec, and inherits nothing
+            # it runs in its maker's memory until its exec, and inherits nothing
             self.notes.add("changed", "vfork of a process with attachments: its child is a process of its own", call.first)
             return
         if process.pieces:
@@ -479,7 +479,7 @@ class Converter:
         self.take_kept(child, call, place)
 
     def take_kept(self, child, call, place):
-        """In the script a child inherits attachments with MADV_DONTFORK too, so it begins by a shmdt of them."""
+        """In the script a child also inherits attachments with MADV_DONTFORK, so it begins with a shmdt of them."""
         for attach in {id(piece.attach): piece.attach for piece in child.pieces if piece.attach.stays}.values():
             self.notes.add("changed", "a child without an attachment of MADV_DONTFORK begins by shmdt", call.first)
             self.memory.put(child, [piece for piece in child.pieces if piece.attach is not attach])
@@ -501,7 +501,7 @@ class Converter:
         self.lose_all(process, call, place, "exec")
 
     def lose_all(self, process, call, place, word):
-        """An end or an exec without attachments changes nothing, and is in no script."""
+        """An end or an exec without attachments changes nothing, and is left out of the script."""
         is_in_script = any(not it.attach.segment.out for it in process.pieces)
         if process.pieces:
             self.memory.put(process, [])
@@ -509,7 +509,7 @@ class Converter:
             self.put(process, call, place, word, [], "", "ok")
 
     def take_mapping(self, process, call, place):
-        """A call that may change attached memory; the language has shmdt alone."""
+        """A call that may change attached memory; the language only has shmdt."""
         words = call.words
         if call.is_refused or len(words) < 2 or words[0] == "NULL" or not words[1].isdigit():
             return
@@ -560,7 +560,7 @@ def shown_address(address):
 
 
 def flags_of_get(text):
-    """The mode, the flags of the language, and those that it has not."""
+    """The mode, the flags of the language, and the flags that it does not have."""
     mode, flags, others = 0, [], []
     for word in text.split("|"):
         if word in FLAGS_OF_GET:
