@@ -1,9 +1,11 @@
 -- Where no gap begins that is large enough, the walk to the least gap may begin behind.
-use Rattle.shm_areas.proofs.Names.{◌≡◌, ℕ, zero, suc, ◌+◌, ◌*◌, ◌-◌, ◌%◌, ◌<◌, ◌≤◌, ◌⊎◌, inl, inr, true, false, List, [], ◌∷◌, ◌++◌, length, get_or, drop, max, refl, sym, ap, ◌∙◌, arith, common_steps, lt-leb, cases_lt, cases_Bool, both_ways, false_from_ne_true, is_gap, end_address, end_of, meets, parts, occupied, inserted, cut, without_named, first_chosen, lowest_address, gap_from, leb-true, stored_inserted, stored_cut, stored_without, IsPieceRange, Piece, bare, bare_all, Arranged, IsFit}
-use Rattle.std.specs.Prelude.{min, if◌then◌else◌, nat_le}
+use Rattle.shm_areas.proofs.Names.{◌≡◌, ℕ, zero, suc, ◌+◌, ◌*◌, ◌-◌, ◌%◌, ◌<◌, ◌≤◌, ◌⊎◌, inl, inr, true, false, List, [], ◌∷◌, ◌++◌, length, get_or, take, drop, max, refl, sym, ap, ◌∙◌, arith, common_steps, lt-leb, cases_lt, cases_Bool, both_ways, false_from_ne_true, is_gap, end_address, end_of, meets, parts, occupied, inserted, cut, without_named, first_chosen, lowest_address, gap_from, leb-true, stored_inserted, stored_cut, stored_without, IsPieceRange, Piece, bare, bare_all, Arranged, IsFit}
+use Rattle.std.specs.Prelude.{min, if◌then◌else◌, nat_le, All, map}
+use Rattle.std.proofs.lemmas.List.Elements.{All-head, All-tail, All-map, All-weaker}
 use Rattle.shm_base.specs.State as flat
-use Rattle.shm_areas.specs.Gap.{IsFilled, IsPassed, IsHint, IsLeastGap}
-use Rattle.shm_areas.specs.declared.filling.Passed.{Passed}
+use Rattle.shm_areas.specs.Gap.{IsFilled, IsPassed, IsHint, IsHints, IsLeastGap, known_of, lowered_to, start_over}
+use Rattle.shm_areas.specs.declared.hints.Passed.{Passed}
+use Rattle.shm_areas.specs.declared.hints.Hints.{Hints}
 use Rattle.shm_areas.proofs.Edits.{lower, bare_inserted, bare_cut, bare_filter, end_upto}
 use Rattle.std.proofs.lemmas.List.Concat.{flat_map-cons}
 use Rattle.shm_areas.proofs.Gaps.{free_below, left_past, low_gap, too_high, gap_here}
@@ -150,7 +152,7 @@ passed-more few pages to ps le f =
       none = λ a from lt. occupied-longer (bare_all ps) a (a + 4096 * few) (a + 4096 * pages) (omega (arith, le)) (f.none a from lt);
     }
 
-filled-passed : (pages filled : ℕ) (ps : List Piece) → 1 ≤ pages → IsFilled filled ps → IsPassed pages filled ps
+pub filled-passed : (pages filled : ℕ) (ps : List Piece) → 1 ≤ pages → IsFilled filled ps → IsPassed pages filled ps
 filled-passed pages filled ps some f =
     record {
       first = f.first;
@@ -158,16 +160,23 @@ filled-passed pages filled ps some f =
       none = λ a from lt. occupied-longer (bare_all ps) a (a + 1) (a + 4096 * pages) (omega (arith, some)) (f.full a from lt);
     }
 
--- where a walk may begin
-pub passed-start : (few to filled pages : ℕ) (ps : List Piece) → 1 ≤ pages → IsFilled filled ps → IsPassed few to ps
-    → IsPassed pages (if nat_le few pages then max filled to else filled) ps
-passed-start few to filled pages ps some f g = elim (cases_Bool (nat_le few pages)) [
-  | inl h ↦ rw h (elim (cases_lt filled to) [
-    | inl lt ↦ let same : max filled to ≡ to = omega (arith, lt) in rw same (passed-more few pages to ps (leb-true few pages h) g)
-    | inr le ↦ let same : max filled to ≡ filled = omega (arith, le) in rw same (filled-passed pages filled ps some f)
+-- where a walk may begin, by one entry more
+passed-start : (from pages : ℕ) (h : Passed) (ps : List Piece) → IsPassed pages from ps → IsPassed h.pages h.to ps
+    → IsPassed pages (if nat_le h.pages pages then max from h.to else from) ps
+passed-start from pages h ps f g = elim (cases_Bool (nat_le h.pages pages)) [
+  | inl yes' ↦ rw yes' (elim (cases_lt from h.to) [
+    | inl lt ↦ let same : max from h.to ≡ h.to = omega (arith, lt) in rw same (passed-more h.pages pages h.to ps (leb-true h.pages pages yes') g)
+    | inr le ↦ let same : max from h.to ≡ from = omega (arith, le) in rw same f
   ])
-  | inr h ↦ rw h (filled-passed pages filled ps some f)
+  | inr no' ↦ rw no' f
 ]
+
+-- and by all of them
+pub passed-over : (from pages : ℕ) (hs : List Passed) (ps : List Piece) → IsPassed pages from ps → All (λ (h : Passed). IsHint h ps) hs → IsPassed pages (start_over pages from hs) ps
+passed-over from pages [] ps f known = f
+passed-over from pages (h ∷ hs) ps f known =
+    let own = All-head (λ (h : Passed). IsHint h ps) h hs known in
+    passed-over (if nat_le h.pages pages then max from h.to else from) pages hs ps (passed-start from pages h ps f own.passed) (All-tail (λ (h : Passed). IsHint h ps) h hs known)
 
 high_gap : (all : List flat.Piece) (pages b : ℕ) → is_gap all pages b ≡ true → (end_address < b + 4096 * pages) ⊎ (b + 4096 * pages ≤ end_address) → b ≤ end_address
 high_gap all pages b gap (inl h) = absurd (both_ways (is_gap all pages b) (too_high all pages b h) gap)
@@ -211,9 +220,6 @@ lowered-passed pages to from ps qs f kept =
       none = λ a ge lt. kept a (omega (arith, ge, lt)) (f.none a ge (omega (arith, lt)));
     }
 
-pub hint-inserted : (h : Passed) (p : Piece) (ps : List Piece) → IsHint h ps → IsHint h (stored_inserted p ps)
-hint-inserted h p ps f = record { some = f.some; few = f.few; passed = passed-inserted h.pages h.to p ps f.passed }
-
 passed-cut : (pages to from last : ℕ) (ps : List Piece) → 1 ≤ pages → Arranged lowest_address (bare_all ps) → from % 4096 ≡ 0 → IsPassed pages to ps
     → IsPassed pages (min to (max (from - 4096 * pages) first_chosen)) (stored_cut from last ps)
 passed-cut pages to from last ps some ar page f =
@@ -227,15 +233,40 @@ passed-without pages to addr seg ps f =
     lowered-passed pages to addr ps (stored_without addr seg ps) f
     (λ a lt full. rw (bare_filter addr seg ps) (occupied-without a (a + 4096 * pages) addr seg (bare_all ps) (omega (arith, lt)) full))
 
-pub hint-cut : (h after : Passed) (from last : ℕ) (ps : List Piece) → Arranged lowest_address (bare_all ps) → from % 4096 ≡ 0 → after.pages ≡ h.pages
-    → after.to ≡ min h.to (max (from - 4096 * h.pages) first_chosen) → IsHint h ps → IsHint after (stored_cut from last ps)
-hint-cut h after from last ps ar page same to f =
-    record { some = rw same f.some; few = rw same f.few; passed = rw (same, to) (passed-cut h.pages h.to from last ps f.some ar page f.passed) }
+pub taken-mapped : (f : Passed → Passed) (n : ℕ) (xs ys : List Passed) → n ≤ length xs → take n (map f (take n xs) ++ ys) ≡ map f (take n xs)
+taken-mapped f zero xs ys le = refl
+taken-mapped f (suc n) [] ys le = absurd (omega (arith, le))
+taken-mapped f (suc n) (x ∷ xs) ys le = rw (taken-mapped f n xs ys (omega (arith, le))) refl
 
-pub hint-without : (h after : Passed) (addr seg : ℕ) (ps : List Piece) → after.pages ≡ h.pages
-    → after.to ≡ min h.to (max (addr - 4096 * h.pages) first_chosen) → IsHint h ps → IsHint after (stored_without addr seg ps)
-hint-without h after addr seg ps same to f =
-    record { some = rw same f.some; few = rw same f.few; passed = rw (same, to) (passed-without h.pages h.to addr seg ps f.passed) }
+pub hints-inserted : (hs : Hints) (p : Piece) (ps : List Piece) → IsHints hs ps → IsHints hs (stored_inserted p ps)
+hints-inserted hs p ps f =
+    record {
+      few = f.few;
+      known = All-weaker (λ (h : Passed). IsHint h ps) (λ (h : Passed). IsHint h (stored_inserted p ps))
+          (λ h g. record { some = g.some; few = g.few; passed = passed-inserted h.pages h.to p ps g.passed }) (known_of hs) f.known;
+    }
+
+-- entries that are lowered hold of what is left, if each of them does
+hints-lowered : (from : ℕ) (hs after : Hints) (ps qs : List Piece) → after.count ≡ hs.count → known_of after ≡ map (lowered_to from) (known_of hs)
+    → ((h : Passed) → IsHint h ps → IsPassed h.pages (lowered_to from h).to qs) → IsHints hs ps → IsHints after qs
+hints-lowered from hs after ps qs count known each f =
+    record {
+      few = rw count f.few;
+      known = rw known
+          (All-map (λ (h : Passed). IsHint h qs) (lowered_to from) (known_of hs)
+          (All-weaker (λ (h : Passed). IsHint h ps) (λ (h : Passed). IsHint (lowered_to from h) qs)
+          (λ h g. record { some = g.some; few = g.few; passed = each h g }) (known_of hs) f.known));
+    }
+
+pub hints-cut : (hs after : Hints) (from last : ℕ) (ps : List Piece) → Arranged lowest_address (bare_all ps) → from % 4096 ≡ 0 → after.count ≡ hs.count
+    → known_of after ≡ map (lowered_to from) (known_of hs) → IsHints hs ps → IsHints after (stored_cut from last ps)
+hints-cut hs after from last ps ar page count known f =
+    hints-lowered from hs after ps (stored_cut from last ps) count known (λ h g. passed-cut h.pages h.to from last ps g.some ar page g.passed) f
+
+pub hints-without : (hs after : Hints) (addr seg : ℕ) (ps : List Piece) → after.count ≡ hs.count
+    → known_of after ≡ map (lowered_to addr) (known_of hs) → IsHints hs ps → IsHints after (stored_without addr seg ps)
+hints-without hs after addr seg ps count known f =
+    hints-lowered addr hs after ps (stored_without addr seg ps) count known (λ h g. passed-without h.pages h.to addr seg ps g.passed) f
 
 -- the walk that begins there finds the least gap
 pub gap-behind : (pages to last n : ℕ) (ps : List Piece) → 1 ≤ pages → Arranged lowest_address (bare_all ps) → IsPassed pages to ps → IsPieceRange to (to + 1) ps n last

@@ -1,11 +1,13 @@
 -- The least gap, in the subject's words, and the way it is looked for.
-use Rattle.std.specs.Prelude.{◌≡◌, ℕ, ◌+◌, ◌*◌, ◌%◌, ◌≤◌, ◌<◌, true, false, nat_le, if◌then◌else◌, List, [], ◌∷◌, Option, Some, None, max}
+use Rattle.std.specs.Prelude.{◌≡◌, ℕ, ◌+◌, ◌-◌, ◌*◌, ◌%◌, ◌≤◌, ◌<◌, true, false, nat_le, if◌then◌else◌, List, [], ◌∷◌, All, take, Option, Some, None, max, min}
 use Rattle.shm_base.specs.State.{Piece}
 use Rattle.shm_base.specs.Access.{end_of}
 use Rattle.shm_base.specs.Space.{first_chosen, end_address, occupied, is_gap}
 use Rattle.shm_areas.specs.Arranged.{bare_all}
 use Rattle.shm_areas.specs.declared.piece.Piece.{Piece as Stored}
-use Rattle.shm_areas.specs.declared.filling.Passed.{Passed}
+use Rattle.shm_areas.specs.declared.hints.Passed.{Passed}
+use Rattle.shm_areas.specs.declared.hints.Hints.{Hints}
+use Rattle.shm_areas.specs.declared.hints.TheConstants.{MOST_HINTS}
 use Rattle.shm_base.specs.declared.bounds.TheConstants.{MOST_SHMALL}
 use Rattle.shm_base.specs.declared.paging.TheConstants.{PAGE_SIZE}
 
@@ -35,8 +37,26 @@ pub record IsPassed (pages to : ℕ) (ps : List Stored) : Type 0 where
   pub high : to ≤ end_address
   pub none : (a : ℕ) → first_chosen ≤ a → a < to → occupied (bare_all ps) a (a + PAGE_SIZE * pages) ≡ true
 
--- so it is with what a space remembers, for pages that a segment may have
+-- so it is with an entry of what a space remembers, for pages that a segment may have
 pub record IsHint (h : Passed) (ps : List Stored) : Type 0 where
   pub some : 1 ≤ h.pages
   pub few : h.pages ≤ MOST_SHMALL
   pub passed : IsPassed h.pages h.to ps
+
+-- the entries that say something
+abbrev pub known_of : Hints → List Passed
+known_of h = take h.count h.known
+
+-- so it is with each of them
+pub record IsHints (h : Hints) (ps : List Stored) : Type 0 where
+  pub few : h.count ≤ MOST_HINTS
+  pub known : All (λ (x : Passed). IsHint x ps) (known_of h)
+
+-- the highest address up to which a known entry says that gaps for so many pages are too small
+abbrev pub start_over : ℕ → ℕ → List Passed → ℕ
+start_over pages from [] = from
+start_over pages from (h ∷ hs) = start_over pages (if nat_le h.pages pages then max from h.to else from) hs
+
+-- what an entry still says once addresses from one on are free
+abbrev pub lowered_to : ℕ → Passed → Passed
+lowered_to from h = record h { to = min h.to (max (from - PAGE_SIZE * h.pages) first_chosen) }

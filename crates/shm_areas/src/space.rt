@@ -11,7 +11,8 @@ ghost use Rattle.shm_base.specs.declared.bounds.TheConstants.{MOST_PIECES, MOST_
 ghost use Rattle.shm_base.specs.declared.paging.TheConstants.{PAGE_SIZE};
 
 use crate::cut::{count_left, cut_of, replace};
-use crate::filling::{Passed, lowered, raised, start_of};
+use crate::filling::{lowered, raised};
+use crate::hints::{Hints, Passed};
 use crate::piece::{Piece, Place};
 use crate::rests::{Rests, rests_of};
 use crate::search::{count_below, count_to, least_gap, run_in, run_of_origin};
@@ -29,9 +30,9 @@ pub struct Space {
     reach: u32,
     // Each address from 0x40000000 up to this one lies in a piece: so no gap begins below.
     filled: u64,
-    // No gap of this many pages begins below this address. It is noted when a piece comes right after another, as one does
-    // where the machine chooses.
-    passed: Passed,
+    // Up to where gaps are known to be too small. It is noted when a piece comes right after another, as one does where the
+    // machine chooses.
+    hints: Hints,
 }
 
 impl Drop for Space {
@@ -41,7 +42,7 @@ impl Drop for Space {
             most: _,
             reach: _,
             filled: _,
-            passed: _,
+            hints: _,
         } = self;
     }
 }
@@ -49,7 +50,7 @@ impl Drop for Space {
 impl Model for Space {
     ghost use Rattle.std.specs.Prelude.{◌≤◌, vec_capacity};
     ghost use Rattle.shm_areas.specs.Arranged.{SpaceView, IsSpace, AreWithin};
-    ghost use Rattle.shm_areas.specs.Gap.{IsFilled, IsHint};
+    ghost use Rattle.shm_areas.specs.Gap.{IsFilled, IsHints};
 
     ghost Value = { SpaceView };
 
@@ -57,7 +58,7 @@ impl Model for Space {
 
     ghost invariant = { λ s. IsSpace (record { pieces = s.pieces.items; most = s.most })
         × (s.most ≤ vec_capacity s.pieces) × AreWithin s.reach s.pieces.items
-        × IsFilled s.filled s.pieces.items × IsHint s.passed s.pieces.items };
+        × IsFilled s.filled s.pieces.items × IsHints s.hints s.pieces.items };
 }
 
 impl Clone for Space {
@@ -72,7 +73,7 @@ impl Clone for Space {
             most: self.most,
             reach: self.reach,
             filled: self.filled,
-            passed: self.passed,
+            hints: self.hints,
         })
     }
 }
@@ -91,7 +92,7 @@ impl Space {
             most,
             reach: 0,
             filled: FIRST_GAP,
-            passed: Passed::new(),
+            hints: Hints::new(),
         })
     }
 
@@ -158,28 +159,28 @@ impl Space {
         ensures least { MatchOption result (HasNoGap (bare_all self.now.pieces) pages)
             (λ base. IsLeastGap (bare_all self.now.pieces) pages base) }
     {
-        let start = start_of(self.filled, self.passed, pages);
+        let start = self.hints.start(self.filled, pages);
         let run = run_in(&self.pieces, start, start + 1);
         least_gap(&self.pieces[run.first..], start, pages)
     }
 
-    // What is known of the gaps once a piece comes, after this many others. A piece that comes right after one is often
+    // What is learned of the gaps when a piece comes, after this many others. A piece that comes right after one is often
     // at the least gap for its pages: so this walks as `choose` did, and the next choice need not.
-    fn passed_with(&self, piece: &Piece, count: usize) -> Passed
+    fn learned(&self, piece: &Piece, count: usize) -> Option<Passed>
         requires fit { IsFit (bare piece.now) }
         requires count { count ≤ length self.now.pieces }
-        ensures { IsHint result self.now.pieces }
+        ensures { IfSome result (λ h. IsHint h self.now.pieces) }
     {
         if piece.base <= self.filled || count == 0 || self.pieces[count - 1].end() != piece.base {
-            return self.passed;
+            return None;
         }
-        match self.choose(piece.pages) {
-            Some(base) => Passed {
-                pages: piece.pages,
-                to: base,
-            },
-            None => self.passed,
-        }
+        let Some(base) = self.choose(piece.pages) else {
+            return None;
+        };
+        Some(Passed {
+            pages: piece.pages,
+            to: base,
+        })
     }
 
     /// Whether a piece has a page among this many from an address on. The range may reach beyond the last address.
@@ -235,7 +236,8 @@ impl Space {
         ensures flat { bare_all self.new.pieces ≡ flat.inserted (bare piece) (bare_all self.old.pieces) }
     {
         let at = count_to(&self.pieces, piece.base);
-        self.passed = self.passed_with(&piece, at);
+        let learned = self.learned(&piece, at);
+        self.hints.note(learned);
         self.reach = self.reach.max(piece.first_page);
         self.filled = raised(self.filled, &piece);
         let put = self.pieces.insert(at, piece);
@@ -255,7 +257,7 @@ impl Space {
         let cut = cut_of(&self.pieces, from, to);
         self.reach = self.reach.max(cut.reach());
         self.filled = lowered(self.filled, from);
-        self.passed = self.passed.lowered(from);
+        self.hints.lower(from);
         replace(&mut self.pieces, cut);
     }
 
@@ -284,7 +286,7 @@ impl Space {
     {
         let run = run_of_origin(&self.pieces, addr, self.reach);
         self.filled = lowered(self.filled, addr);
-        self.passed = self.passed.lowered(addr);
+        self.hints.lower(addr);
         take_named(&mut self.pieces, run, addr, seg);
     }
 }

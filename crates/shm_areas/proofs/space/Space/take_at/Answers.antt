@@ -3,7 +3,7 @@ use Rattle.std.proofs.lemmas.List.Elements.{All-filter}
 use Rattle.std.proofs.lemmas.List.Sums.{length-filter, count_by-le-length}
 use Rattle.shm_areas.specs.Arranged.{SpaceView}
 use Rattle.shm_areas.proofs.Edits.{arranged_filter, bare_filter}
-use Rattle.shm_areas.proofs.Filled.{filled-without, hint-without}
+use Rattle.shm_areas.proofs.Filled.{filled-without, hints-without}
 use Rattle.shm_areas.proofs.Origins.{taken-run}
 use Rattle.shm_areas.proofs.space.Space.take_at.Goals.{After-take_named}
 use Rattle.shm_areas.proofs.space.Space.take_at.Goals as goal
@@ -37,5 +37,5 @@ invariant_of-self c =
       omega (arith, c.take_named.ensures.capacity, c.self.invariant.1),
       All-filter stays (λ (p : Piece). p.first_page ≤ c.self.inside.reach) ps c.self.invariant.2,
       rw c.lowered-self-inside.ensures (filled-without c.self.inside.filled c.args.addr c.args.seg ps c.self.invariant.3),
-      hint-without c.self.inside.passed c.lowered-self-inside-2.result c.args.addr c.args.seg ps c.lowered-self-inside-2.ensures.pages c.lowered-self-inside-2.ensures.to c.self.invariant.4,
+      hints-without c.self.inside.hints c.lower.new.self c.args.addr c.args.seg ps c.lower.ensures.count c.lower.ensures.known c.self.invariant.4,
     )

@@ -1,6 +1,6 @@
 use Rattle.shm_areas.proofs.Names.{◌-◌, ◌≤◌, length, arith, lowest_address}
 use Rattle.shm_areas.proofs.Placing.{fit_at}
-use Rattle.shm_areas.proofs.space.Space.passed_with.Goals as goal
+use Rattle.shm_areas.proofs.space.Space.learned.Goals as goal
 
 pub end-requires : goal.end-requires
 end-requires c =
