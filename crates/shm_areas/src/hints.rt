@@ -1,21 +1,28 @@
-//! Up to where no gap of so many pages begins, for several numbers of pages. What holds for so many holds for more.
-ghost use Rattle.std.specs.Prelude.{◌≡◌, ◌≤◌, ◌<◌, List, Contains, map, IfSome, nat_le, if◌then◌else◌, max};
-ghost use Rattle.shm_areas.specs.Gap.{known_of, lowered_to, start_over, IsHint, IsHints};
+//! Between which addresses no gap of so many pages begins. What holds for so many holds for more.
+//!
+//! All that is known holds of the pieces at hand. What is forgotten, as where sizes and gaps are many, costs a walk.
+ghost use Rattle.std.specs.Prelude.{◌≡◌, ◌≤◌, ◌<◌, ℕ, List, Contains, IfSome, max, if◌then◌else◌};
+ghost use Rattle.shm_base.specs.Access as access;
+ghost use Rattle.shm_areas.specs.Arranged.{bare, IsFit};
+ghost use Rattle.shm_areas.specs.Edit.{stored_inserted};
+ghost use Rattle.shm_areas.specs.Gap.{known_of, jumped, jumped_over};
+ghost use Rattle.shm_areas.specs.Gap.{IsFilled, IsHint, IsHints, IsPassed, IsKeptOutside};
 ghost use Rattle.shm_areas.specs.declared.hints.TheConstants.{MOST_HINTS};
 ghost use Rattle.shm_areas.specs.declared.piece.Piece.{Piece as Stored};
 
+use crate::piece::Piece;
 use shm_base::{FIRST_GAP, PAGE_SIZE};
 
-/// From 0x40000000 up to an address no gap of this many pages begins.
+/// No gap of this many pages begins from an address on up to another.
 #[derive(Clone, Copy)]
 pub(crate) struct Passed {
     pub(crate) pages: u32,
+    pub(crate) from: u64,
     pub(crate) to: u64,
 }
 
-/// For how many numbers of pages a space remembers how far the gaps are too small. A process has room for them from the
-/// beginning, so they are few.
-pub(crate) const MOST_HINTS: usize = 16;
+/// How many ranges a space remembers. Each process has room for them, so they are few.
+pub(crate) const MOST_HINTS: usize = 10;
 
 /// What a space remembers of its gaps. The entries after the first `count` say nothing.
 #[derive(Clone, Copy)]
@@ -24,32 +31,80 @@ pub(crate) struct Hints {
     pub(crate) count: usize,
 }
 
+/// What the filled addresses say of those after a range that ends at an address.
+pub(crate) fn filled_after(filled: u64, to: u64) -> Option<Passed>
+    ensures { (ps : List Stored) → IsFilled filled ps → IfSome result (λ h. IsHint h ps) }
+{
+    if to.max(FIRST_GAP) >= filled {
+        return None;
+    }
+    Some(Passed {
+        pages: 1,
+        from: to.max(FIRST_GAP),
+        to: filled,
+    })
+}
+
+/// Up to where no gap for a piece's pages begins once it is put in, if none began below an address.
+pub(crate) fn passed_with(piece: &Piece, base: u64) -> u64
+    requires { IsFit (bare piece.now) }
+    ensures { (ps : List Stored) → IsPassed piece.now.pages base ps
+        → IsPassed piece.now.pages result (stored_inserted piece.now ps) }
+{
+    if base == piece.base {
+        piece.end()
+    } else {
+        base
+    }
+}
+
 impl Passed {
     const NOTHING: Passed = Passed {
         pages: 1,
+        from: FIRST_GAP,
         to: FIRST_GAP,
     };
 
-    // Where a walk to a gap for this many pages begins that would begin at an address otherwise.
-    fn start(&self, from: u64, pages: u32) -> u64
-        ensures { result ≡ (if nat_le self.now.pages pages then max from self.now.to else from) }
+    // Where a walk to a gap for this many pages goes on that is at an address.
+    fn jump(&self, from: u64, pages: u32) -> u64
+        ensures { result ≡ jumped pages from self.now }
     {
-        if self.pages <= pages {
+        if self.pages <= pages && self.from <= from {
             from.max(self.to)
         } else {
             from
         }
     }
 
-    // What is still known once addresses from one on are free.
-    fn lowered(&self, from: u64) -> Passed
-        ensures { result ≡ lowered_to from self.now }
+    // Whether another says no more.
+    fn covers(&self, other: &Passed) -> bool {
+        self.pages <= other.pages && self.from <= other.from && other.to <= self.to
+    }
+
+    // What still holds below a range that becomes free.
+    fn below(&self, from: u64) -> Option<Passed>
+        ensures { (to : ℕ) (ps qs : List Stored) → IsKeptOutside from to ps qs → IsHint self.now ps
+            → IfSome result (λ h. IsHint h qs) }
     {
-        let from = from.saturating_sub(PAGE_SIZE * self.pages as u64);
-        Passed {
-            pages: self.pages,
-            to: self.to.min(from.max(FIRST_GAP)),
+        let to = self
+            .to
+            .min(from.saturating_sub(PAGE_SIZE * self.pages as u64));
+        if to <= self.from {
+            return None;
         }
+        Some(Passed { to, ..*self })
+    }
+
+    // What still holds above it.
+    fn above(&self, to: u64) -> Option<Passed>
+        ensures { (from : ℕ) (ps qs : List Stored) → IsKeptOutside from to ps qs → IsHint self.now ps
+            → IfSome result (λ h. IsHint h qs) }
+    {
+        let from = self.from.max(to);
+        if self.to <= from {
+            return None;
+        }
+        Some(Passed { from, ..*self })
     }
 }
 
@@ -64,59 +119,84 @@ impl Hints {
         }
     }
 
-    /// Where the walk to a gap for this many pages begins, if the addresses below `filled` lie in pieces.
-    pub(crate) fn start(&self, filled: u64, pages: u32) -> u64
+    /// Where a walk to a gap for this many pages goes on that is at an address.
+    pub(crate) fn jump(&self, from: u64, pages: u32) -> u64
         requires { self.now.count ≤ MOST_HINTS }
-        ensures { result ≡ start_over pages filled (known_of self.now) }
+        ensures { result ≡ jumped_over pages from (known_of self.now) }
     {
-        let mut start = filled;
+        let mut reached = from;
         for passed in &self.known[..self.count] {
-            start = passed.start(start, pages);
+            reached = passed.jump(reached, pages);
         }
-        start
+        reached
     }
 
-    // Where to note what was learned: in the place of what it says too, or else after what is known. Where all places
-    // are taken it is one by the address, so that no entry stays for good.
-    fn place_for(&self, passed: Passed) -> usize
+    /// The next address from which a walk for this many pages goes on elsewhere.
+    pub(crate) fn next(&self, from: u64, pages: u32) -> Option<u64>
         requires { self.now.count ≤ MOST_HINTS }
-        ensures within { result < MOST_HINTS }
-        ensures next { result ≤ self.now.count }
     {
-        for k in 0..self.count {
-            let known = self.known[k];
-            if passed.pages <= known.pages && known.to <= passed.to {
-                return k;
+        let mut next = None;
+        for passed in &self.known[..self.count] {
+            if passed.pages <= pages && from < passed.from {
+                next = Some(passed.from.min(next.unwrap_or(passed.from)));
             }
         }
-        if self.count < MOST_HINTS {
-            return self.count;
-        }
-        (passed.to / PAGE_SIZE) as usize % MOST_HINTS
+        next
     }
 
-    /// Notes what was learned, if anything was.
+    // Forgets what says no more than this.
+    fn forget_covered(&mut self, passed: &Passed)
+        requires { self.old.count ≤ MOST_HINTS }
+        ensures few { self.new.count ≤ MOST_HINTS }
+        ensures holds { (ps : List Stored) → IsHints self.old ps → IsHints self.new ps }
+    {
+        let mut kept = 0;
+        for place in 0..self.count {
+            let other = self.known[place];
+            if !passed.covers(&other) {
+                self.known[kept] = other;
+                kept += 1;
+            }
+        }
+        self.count = kept;
+    }
+
+    /// Notes what was learned, if anything was. If all places are taken, it takes one by the address.
     pub(crate) fn note(&mut self, learned: Option<Passed>)
         requires { self.old.count ≤ MOST_HINTS }
+        ensures few { self.new.count ≤ MOST_HINTS }
         ensures noted { IfSome learned (λ h. Contains (known_of self.new) h) }
-        ensures holds { (ps : List Stored) → IfSome learned (λ h. IsHint h ps) → IsHints self.old ps → IsHints self.new ps }
+        ensures holds { (ps : List Stored) → IfSome learned (λ h. IsHint h ps) → IsHints self.old ps
+            → IsHints self.new ps }
     {
         let Some(passed) = learned else {
             return;
         };
-        let place = self.place_for(passed);
+        self.forget_covered(&passed);
+        let place = if self.count < MOST_HINTS {
+            self.count
+        } else {
+            (passed.to / PAGE_SIZE) as usize % MOST_HINTS
+        };
         self.known[place] = passed;
         self.count = self.count.max(place + 1);
     }
 
-    /// Forgets what no longer holds once addresses from one on are free.
-    pub(crate) fn lower(&mut self, from: u64)
+    /// Forgets what no longer holds once a range is free.
+    pub(crate) fn lower(&mut self, from: u64, to: u64)
         requires { self.old.count ≤ MOST_HINTS }
-        ensures count { self.new.count ≡ self.old.count }
-        ensures known { known_of self.new ≡ map (lowered_to from) (known_of self.old) }
+        ensures few { self.new.count ≤ MOST_HINTS }
+        ensures holds { (ps qs : List Stored) → IsKeptOutside from to ps qs → IsHints self.old ps
+            → IsHints self.new qs }
     {
-        for place in 0..self.count {
-            self.known[place] = self.known[place].lowered(from);
+        if self.count == 0 {
+            return;
+        }
+        let before = *self;
+        self.count = 0;
+        for passed in &before.known[..before.count] {
+            self.note(passed.below(from));
+            self.note(passed.above(to));
         }
     }
 }

@@ -1,19 +1,26 @@
-use Rattle.shm_areas.proofs.Names.{◌≡◌, ◌<◌, length, get_or, get_or_default, arith}
-use Rattle.std.proofs.lemmas.List.Edits.{map_over_more}
-use Rattle.shm_areas.specs.Gap.{lowered_to}
+use Rattle.shm_areas.proofs.Names.{arith}
 use Rattle.shm_areas.specs.declared.hints.Passed.{Passed}
-use Rattle.shm_areas.proofs.Filled.{taken-mapped}
 use Rattle.shm_areas.proofs.hints.Hints.lower.Goals as goal
 
-pub loop-place-preserved : goal.loop-place-preserved
-loop-place-preserved c =
-    let ys = c.loop-place.self.known in
-    let nothing : Passed = record { pages = 0; to = 0 } in
-    let x = get_or ys c.loop-place.place nothing in
-    let within : c.loop-place.place < length ys = omega arith in
-    (c.loop-place.invariant.0, rw c.lowered.ensures (map_over_more (lowered_to c.args.from) c.args.self.now.known ys c.loop-place.place x (omega arith) c.loop-place.invariant.1 (get_or_default ys c.loop-place.place nothing x within)))
+pub loop-passed-init : goal.loop-passed-init
+loop-passed-init c = record { few = omega arith; holds = λ ps qs kept all. record { few = omega arith; known = λ k d lt. absurd (omega (arith, lt)) } }
 
-pub returns-clause-known : goal.returns-clause-known
-returns-clause-known c =
-    let end : c.loop-place.place ≡ c.args.self.now.count = omega arith in
-    rw (c.loop-place.invariant.0, c.loop-place.invariant.1, end) (taken-mapped (lowered_to c.args.from) c.args.self.now.count c.args.self.now.known _ (omega arith))
+pub note-requires : goal.note-requires
+note-requires c = c.loop-passed.invariant.few
+
+pub loop-passed-preserved : goal.loop-passed-preserved
+loop-passed-preserved c =
+    let nothing : Passed = record { pages = 0; from = 0; to = 0 } in
+    record {
+      few = c.note-in-loop-passed.ensures.few;
+      holds = λ ps qs kept all.
+          let own = all c.loop-passed.passed-index nothing (omega arith) in
+          c.note-in-loop-passed.ensures.holds qs (c.above.ensures c.args.from ps qs kept own)
+          (c.note.ensures.holds qs (c.below.ensures c.args.to ps qs kept own) (c.loop-passed.invariant.holds ps qs kept all));
+    }
+
+pub returns-clause-few : goal.returns-clause-few
+returns-clause-few c = c.loop-passed.invariant.few
+
+pub returns-clause-holds : goal.returns-clause-holds
+returns-clause-holds c ps qs kept f = c.loop-passed.invariant.holds ps qs kept f.known

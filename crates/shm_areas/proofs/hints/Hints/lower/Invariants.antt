@@ -1,8 +1,14 @@
-use Rattle.shm_areas.proofs.Names.{◌≡◌, ◌++◌, take, drop, map}
-use Rattle.shm_areas.specs.Gap.{lowered_to}
+use Rattle.shm_areas.proofs.Names.{◌≤◌, List, Piece}
+use Rattle.std.specs.Prelude.{All}
+use Rattle.shm_areas.specs.Gap.{IsHint, IsHints, IsKeptOutside}
+use Rattle.shm_areas.specs.declared.hints.Passed.{Passed}
+use Rattle.shm_areas.specs.declared.hints.TheConstants.{MOST_HINTS}
 use Rattle.shm_areas.proofs.hints.Hints.lower.Given as goal
 
-abbrev pub invariant-loop-place : goal.invariant-loop-place
-invariant-loop-place l =
-    (l.self.count ≡ l.initial.self.count)
-    × (l.self.known ≡ map (lowered_to l.from) (take l.place l.initial.self.known) ++ drop l.place l.initial.self.known)
+-- what was put in holds of what is left, if all that was known held before
+abbrev pub invariant-loop-passed : goal.invariant-loop-passed
+invariant-loop-passed l =
+    record {
+      few : l.self.count ≤ MOST_HINTS;
+      holds : (ps qs : List Piece) → IsKeptOutside l.from l.to ps qs → All (λ (h : Passed). IsHint h ps) l.passed-items → IsHints l.self qs;
+    }

@@ -1,9 +1,9 @@
 use Rattle.shm_areas.proofs.Names.{◌≡◌, ◌∙◌, ◌-◌, arith, sym, ap, length, take, drop, take_all, length-drop, lowest_address, first_chosen, choose, gap_from, bare_all, List, Piece}
 use Rattle.shm_areas.specs.Arranged.{SpaceView}
-use Rattle.shm_areas.specs.Gap.{IsPassed, known_of}
+use Rattle.shm_areas.specs.Gap.{IsPassed}
 use Rattle.shm_areas.proofs.Gaps.{choose_is, gap_is_least}
-use Rattle.shm_areas.proofs.Filled.{arranged-drop, gap-behind, filled-passed, passed-over}
-use Rattle.shm_areas.proofs.space.Space.choose.Goals.{After-least_gap, After-start-start}
+use Rattle.shm_areas.proofs.Filled.{arranged-drop, gap-behind}
+use Rattle.shm_areas.proofs.space.Space.choose.Goals.{After-least_gap, After-run_in-run}
 use Rattle.shm_areas.proofs.space.Space.choose.Goals as goal
 
 pub least_gap-requires-clause-arranged : goal.least_gap-requires-clause-arranged
@@ -15,21 +15,11 @@ least_gap-requires-clause-arranged c =
     rw rest (arranged-drop lowest_address n ps (rw own c.self.invariant.0.arranged))
 
 -- where the walk begins
-start : (c : After-start-start) → IsPassed c.args.pages c.start-start.result c.self.inside.pieces.items
-start c =
-    let hints = c.self.inside.hints in
-    let ps = c.self.inside.pieces.items in
-    let filled = c.self.inside.filled in
-    rw c.start-start.ensures
-    (passed-over filled c.args.pages (known_of hints) ps (filled-passed c.args.pages filled ps c.requires.0 c.self.invariant.3) c.self.invariant.4.known)
-
-pub overflow_add-start : goal.overflow_add-start
-overflow_add-start c =
-    let high = (start (goal.at.overflow_add-start c).After-start-start).high in
-    omega (arith, high)
+start : (c : After-run_in-run) → IsPassed c.args.pages c.start-start.result c.self.inside.pieces.items
+start c = rw (← c.self.view_is) at c.start-start.ensures
 
 pub least_gap-requires-clause-from : goal.least_gap-requires-clause-from
-least_gap-requires-clause-from c = (start (goal.at.least_gap-requires-clause-from c).After-start-start).high
+least_gap-requires-clause-from c = (start (goal.at.least_gap-requires-clause-from c).After-run_in-run).high
 
 -- the walk finds what one from the first address on does
 found : (c : After-least_gap) → IsPassed c.args.pages c.start-start.result c.self.inside.pieces.items → c.least_gap.result ≡ gap_from c.args.pages first_chosen (bare_all c.self.inside.pieces.items)
@@ -47,11 +37,11 @@ found c begins =
 pub returns-clause-value : goal.returns-clause-value
 returns-clause-value c =
     let all = c.self.inside.pieces.items in
-    found (goal.at.returns-clause-value c).After-least_gap (start (goal.at.returns-clause-value c).After-start-start)
+    found (goal.at.returns-clause-value c).After-least_gap (start (goal.at.returns-clause-value c).After-run_in-run)
     ∙ choose_is (bare_all all) c.args.pages c.self.invariant.0.arranged
     ∙ ap (λ (s : SpaceView). choose (bare_all s.pieces) c.args.pages) c.self.view_is
 
 pub returns-clause-least : goal.returns-clause-least
 returns-clause-least c =
     let all = c.self.inside.pieces.items in
-    rw (found (goal.at.returns-clause-least c).After-least_gap (start (goal.at.returns-clause-least c).After-start-start), ← c.self.view_is) (gap_is_least (bare_all all) c.args.pages c.self.invariant.0.arranged)
+    rw (found (goal.at.returns-clause-least c).After-least_gap (start (goal.at.returns-clause-least c).After-run_in-run), ← c.self.view_is) (gap_is_least (bare_all all) c.args.pages c.self.invariant.0.arranged)
