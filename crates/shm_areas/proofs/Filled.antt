@@ -1,10 +1,13 @@
 -- Where no gap begins that is large enough, the walk to the least gap may begin behind.
-use Rattle.shm_areas.proofs.Names.{◌≡◌, ℕ, zero, suc, ◌+◌, ◌*◌, ◌-◌, ◌%◌, ◌<◌, ◌≤◌, ◌⊎◌, inl, inr, true, false, List, [], ◌∷◌, ◌++◌, length, get_or, drop, max, refl, sym, ap, ◌∙◌, arith, common_steps, lt-leb, cases_lt, cases_Bool, both_ways, false_from_ne_true, is_gap, end_address, end_of, meets, parts, occupied, inserted, cut, without_named, first_chosen, lowest_address, gap_from, leb-true, stored_inserted, stored_cut, stored_without, IsPieceRange, Piece, bare, bare_all, Arranged, IsFit}
-use Rattle.std.specs.Prelude.{min, if◌then◌else◌, nat_le}
+use Rattle.shm_areas.proofs.Names.{◌≡◌, ℕ, zero, suc, ◌+◌, ◌*◌, ◌%◌, ◌<◌, ◌≤◌, ◌⊎◌, inl, inr, true, false, List, [], ◌∷◌, ◌++◌, length, get_or, drop, max, refl, sym, ap, ◌∙◌, arith, common_steps, lt-leb, cases_lt, cases_Bool, both_ways, false_from_ne_true, is_gap, end_address, end_of, meets, parts, occupied, inserted, cut, without_named, stored_named, first_chosen, lowest_address, gap_from, leb-true, stored_inserted, stored_cut, stored_without, IsPieceRange, Piece, bare, bare_all, Arranged, IsFit}
+use Rattle.std.specs.Prelude.{min, if◌then◌else◌, nat_le, All}
+use Rattle.std.proofs.lemmas.List.Elements.{All-head, All-tail, All-weaker}
 use Rattle.shm_base.specs.State as flat
-use Rattle.shm_areas.specs.Gap.{IsFilled, IsPassed, IsHint, IsLeastGap}
-use Rattle.shm_areas.specs.declared.filling.Passed.{Passed}
-use Rattle.shm_areas.proofs.Edits.{lower, bare_inserted, bare_cut, bare_filter, end_upto}
+use Rattle.shm_areas.specs.Gap.{IsFilled, IsPassed, IsHint, IsHints, IsLeastGap, IsKeptOutside, known_of, jumped, jumped_over}
+use Rattle.shm_areas.specs.declared.hints.Passed.{Passed}
+use Rattle.shm_areas.specs.declared.hints.Hints.{Hints}
+use Rattle.shm_areas.proofs.Origins.{NamedEnd}
+use Rattle.shm_areas.proofs.Edits.{lower, bare_inserted, bare_cut, bare_filter, end_upto, end_beyond}
 use Rattle.std.proofs.lemmas.List.Concat.{flat_map-cons}
 use Rattle.shm_areas.proofs.Gaps.{free_below, left_past, low_gap, too_high, gap_here}
 
@@ -142,15 +145,7 @@ filled-without filled addr seg ps f =
 
 -- WHERE NO GAP OF SO MANY PAGES BEGINS
 
-pub passed-more : (few pages to : ℕ) (ps : List Piece) → few ≤ pages → IsPassed few to ps → IsPassed pages to ps
-passed-more few pages to ps le f =
-    record {
-      first = f.first;
-      high = f.high;
-      none = λ a from lt. occupied-longer (bare_all ps) a (a + 4096 * few) (a + 4096 * pages) (omega (arith, le)) (f.none a from lt);
-    }
-
-filled-passed : (pages filled : ℕ) (ps : List Piece) → 1 ≤ pages → IsFilled filled ps → IsPassed pages filled ps
+pub filled-passed : (pages filled : ℕ) (ps : List Piece) → 1 ≤ pages → IsFilled filled ps → IsPassed pages filled ps
 filled-passed pages filled ps some f =
     record {
       first = f.first;
@@ -158,16 +153,56 @@ filled-passed pages filled ps some f =
       none = λ a from lt. occupied-longer (bare_all ps) a (a + 1) (a + 4096 * pages) (omega (arith, some)) (f.full a from lt);
     }
 
--- where a walk may begin
-pub passed-start : (few to filled pages : ℕ) (ps : List Piece) → 1 ≤ pages → IsFilled filled ps → IsPassed few to ps
-    → IsPassed pages (if nat_le few pages then max filled to else filled) ps
-passed-start few to filled pages ps some f g = elim (cases_Bool (nat_le few pages)) [
-  | inl h ↦ rw h (elim (cases_lt filled to) [
-    | inl lt ↦ let same : max filled to ≡ to = omega (arith, lt) in rw same (passed-more few pages to ps (leb-true few pages h) g)
-    | inr le ↦ let same : max filled to ≡ filled = omega (arith, le) in rw same (filled-passed pages filled ps some f)
-  ])
-  | inr h ↦ rw h (filled-passed pages filled ps some f)
+-- where a walk goes on, by one entry
+passed-jump : (pages from : ℕ) (h : Passed) (ps : List Piece) → IsPassed pages from ps → IsHint h ps → IsPassed pages (jumped pages from h) ps
+passed-jump pages from h ps f g = elim (cases_Bool (nat_le h.pages pages)) [
+  | inl few ↦ elim (cases_Bool (nat_le h.from from)) [
+    | inl begun ↦ rw (few, begun) (elim (cases_lt from h.to) [
+      | inl lt ↦
+          let same : max from h.to ≡ h.to = omega (arith, lt) in
+          rw same
+          record {
+            first = omega (arith, lt, f.first);
+            high = g.high;
+            none = λ a ge below. elim (cases_lt a from) [
+              | inl before ↦ f.none a ge before
+              | inr past ↦
+                  occupied-longer (bare_all ps) a (a + 4096 * h.pages) (a + 4096 * pages) (omega (arith, leb-true h.pages pages few))
+                  (g.none a (omega (arith, past, leb-true h.from from begun)) below)
+            ];
+          }
+      | inr le ↦ let same : max from h.to ≡ from = omega (arith, le) in rw same f
+    ])
+    | inr no' ↦ rw (few, no') f
+  ]
+  | inr no' ↦ rw no' f
 ]
+
+-- and by all of them
+pub passed-over : (pages from : ℕ) (hs : List Passed) (ps : List Piece) → IsPassed pages from ps → All (λ (h : Passed). IsHint h ps) hs → IsPassed pages (jumped_over pages from hs) ps
+passed-over pages from [] ps f known = f
+passed-over pages from (h ∷ hs) ps f known =
+    passed-over pages (jumped pages from h) hs ps (passed-jump pages from h ps f (All-head (λ (h : Passed). IsHint h ps) h hs known))
+    (All-tail (λ (h : Passed). IsHint h ps) h hs known)
+
+-- a piece that meets a range occupies it
+occupied-at : (ps : List Piece) (i a b : ℕ) (d : Piece) → i < length ps → meets a b (bare (get_or ps i d)) ≡ true → occupied (bare_all ps) a b ≡ true
+occupied-at [] i a b d lt m = absurd (omega (arith, lt))
+occupied-at (p ∷ ps) zero a b d lt m = rw m refl
+occupied-at (p ∷ ps) (suc i) a b d lt m = grind (arith, common_steps, occupied-at ps i a b d (omega (arith, lt)) m)
+
+-- no gap begins between an address and the end of a piece that is too near for it
+pub passed-piece : (pages base i : ℕ) (ps : List Piece) (d : Piece) → i < length ps → IsFit (bare (get_or ps i d)) → (get_or ps i d).base < base + 4096 * pages → IsPassed pages base ps
+    → IsPassed pages (max base (end_of (bare (get_or ps i d)))) ps
+passed-piece pages base i ps d lt fit near f =
+    record {
+      first = omega (arith, f.first);
+      high = omega (arith, f.high, fit.within);
+      none = λ a ge below. elim (cases_lt a base) [
+        | inl before ↦ f.none a ge before
+        | inr past ↦ occupied-at ps i a (a + 4096 * pages) d lt (grind (arith, common_steps, past, below, near))
+      ];
+    }
 
 high_gap : (all : List flat.Piece) (pages b : ℕ) → is_gap all pages b ≡ true → (end_address < b + 4096 * pages) ⊎ (b + 4096 * pages ≤ end_address) → b ≤ end_address
 high_gap all pages b gap (inl h) = absurd (both_ways (is_gap all pages b) (too_high all pages b h) gap)
@@ -193,7 +228,7 @@ passed-least pages base ps g =
           (false_from_ne_true (is_gap (bare_all ps) pages a) (λ here. absurd (omega (arith, lt, g.least a here))));
     }
 
-passed-inserted : (pages to : ℕ) (p : Piece) (ps : List Piece) → IsPassed pages to ps → IsPassed pages to (stored_inserted p ps)
+pub passed-inserted : (pages to : ℕ) (p : Piece) (ps : List Piece) → IsPassed pages to ps → IsPassed pages to (stored_inserted p ps)
 passed-inserted pages to p ps f =
     record {
       first = f.first;
@@ -201,41 +236,86 @@ passed-inserted pages to p ps f =
       none = λ a from lt. rw (bare_inserted p ps) (occupied-more a (a + 4096 * pages) (bare p) (bare_all ps) (f.none a from lt));
     }
 
-lowered-passed : (pages to from : ℕ) (ps qs : List Piece) → IsPassed pages to ps
-    → ((a : ℕ) → a + 4096 * pages < from → occupied (bare_all ps) a (a + 4096 * pages) ≡ true → occupied (bare_all qs) a (a + 4096 * pages) ≡ true)
-    → IsPassed pages (min to (max (from - 4096 * pages) first_chosen)) qs
-lowered-passed pages to from ps qs f kept =
+pub passed-own : (p : Piece) (ps : List Piece) → IsFit (bare p) → IsPassed p.pages p.base ps → IsPassed p.pages (end_of (bare p)) (stored_inserted p ps)
+passed-own p ps fit f =
     record {
       first = omega (arith, f.first);
-      high = omega (arith, f.high);
-      none = λ a ge lt. kept a (omega (arith, ge, lt)) (f.none a ge (omega (arith, lt)));
+      high = fit.within;
+      none = λ a ge below.
+          rw (bare_inserted p ps)
+          (elim (cases_lt a p.base) [
+            | inl lt ↦ occupied-more a (a + 4096 * p.pages) (bare p) (bare_all ps) (f.none a ge lt)
+            | inr past ↦ occupied-own a (a + 4096 * p.pages) (bare p) (bare_all ps) (grind (arith, common_steps, past, below, fit.some))
+          ]);
     }
 
-pub hint-inserted : (h : Passed) (p : Piece) (ps : List Piece) → IsHint h ps → IsHint h (stored_inserted p ps)
-hint-inserted h p ps f = record { some = f.some; few = f.few; passed = passed-inserted h.pages h.to p ps f.passed }
+-- filled addresses are an entry for one page
+pub filled-hint : (filled : ℕ) (h : Passed) (ps : List Piece) → first_chosen ≤ h.from → h.to ≡ filled → h.pages ≡ 1 → IsFilled filled ps → IsHint h ps
+filled-hint filled h ps low to one f =
+    record {
+      some = omega (arith, one);
+      few = omega (arith, one);
+      high = omega (arith, to, f.high);
+      none = λ a ge lt. occupied-longer (bare_all ps) a (a + 1) (a + 4096 * h.pages) (omega (arith, one)) (f.full a (omega (arith, ge, low)) (omega (arith, lt, to)));
+    }
 
-passed-cut : (pages to from last : ℕ) (ps : List Piece) → 1 ≤ pages → Arranged lowest_address (bare_all ps) → from % 4096 ≡ 0 → IsPassed pages to ps
-    → IsPassed pages (min to (max (from - 4096 * pages) first_chosen)) (stored_cut from last ps)
-passed-cut pages to from last ps some ar page f =
-    lowered-passed pages to from ps (stored_cut from last ps) f
-    (λ a lt full.
-    rw (bare_cut from last ps)
-    (occupied-cut_below lowest_address a (a + 4096 * pages) from last (bare_all ps) ar page (omega (arith, some)) (omega (arith, lt)) full))
+pub hints-inserted : (hs : Hints) (p : Piece) (ps : List Piece) → IsHints hs ps → IsHints hs (stored_inserted p ps)
+hints-inserted hs p ps f =
+    record {
+      few = f.few;
+      known = All-weaker (λ (h : Passed). IsHint h ps) (λ (h : Passed). IsHint h (stored_inserted p ps))
+          (λ h g.
+          record {
+            some = g.some;
+            few = g.few;
+            high = g.high;
+            none = λ a ge lt. rw (bare_inserted p ps) (occupied-more a (a + 4096 * h.pages) (bare p) (bare_all ps) (g.none a ge lt));
+          })
+          (known_of hs) f.known;
+    }
 
-passed-without : (pages to addr seg : ℕ) (ps : List Piece) → IsPassed pages to ps → IsPassed pages (min to (max (addr - 4096 * pages) first_chosen)) (stored_without addr seg ps)
-passed-without pages to addr seg ps f =
-    lowered-passed pages to addr ps (stored_without addr seg ps) f
-    (λ a lt full. rw (bare_filter addr seg ps) (occupied-without a (a + 4096 * pages) addr seg (bare_all ps) (omega (arith, lt)) full))
+-- WHAT A REMOVAL KEEPS
 
-pub hint-cut : (h after : Passed) (from last : ℕ) (ps : List Piece) → Arranged lowest_address (bare_all ps) → from % 4096 ≡ 0 → after.pages ≡ h.pages
-    → after.to ≡ min h.to (max (from - 4096 * h.pages) first_chosen) → IsHint h ps → IsHint after (stored_cut from last ps)
-hint-cut h after from last ps ar page same to f =
-    record { some = rw same f.some; few = rw same f.few; passed = rw (same, to) (passed-cut h.pages h.to from last ps f.some ar page f.passed) }
+-- the part of a piece above a range still has the addresses that it had there
+own-part-above : (a b from to : ℕ) (p : flat.Piece) → IsFit p → to % 4096 ≡ 0 → a < b → to ≤ a → meets a b p ≡ true → occupied (parts from to p) a b ≡ true
+own-part-above a b from to p fit page lt le m = grind (arith, common_steps, m, end_beyond to p fit page)
 
-pub hint-without : (h after : Passed) (addr seg : ℕ) (ps : List Piece) → after.pages ≡ h.pages
-    → after.to ≡ min h.to (max (addr - 4096 * h.pages) first_chosen) → IsHint h ps → IsHint after (stored_without addr seg ps)
-hint-without h after addr seg ps same to f =
-    record { some = rw same f.some; few = rw same f.few; passed = rw (same, to) (passed-without h.pages h.to addr seg ps f.passed) }
+occupied-cut_above : (low a b from to : ℕ) (ps : List flat.Piece) → Arranged low ps → to % 4096 ≡ 0 → a < b → to ≤ a → occupied ps a b ≡ true → occupied (cut from to ps) a b ≡ true
+occupied-cut_above low a b from to [] ar page lt le full = full
+occupied-cut_above low a b from to (p ∷ ps) ar page lt le full =
+    rw (flat_map-cons (parts from to) p ps)
+    (occupied-either (parts from to p) (cut from to ps) a b
+    (elim (cases_Bool (meets a b p)) [
+      | inl h ↦ inl (own-part-above a b from to p ar.1.0 page lt le h)
+      | inr h ↦ inr (occupied-cut_above (end_of p) a b from to ps ar.1.1 page lt le (rw h at full))
+    ]))
+
+pub kept-cut : (from to : ℕ) (ps : List Piece) → Arranged lowest_address (bare_all ps) → from % 4096 ≡ 0 → to % 4096 ≡ 0 → IsKeptOutside from to ps (stored_cut from to ps)
+kept-cut from to ps ar first last =
+    record {
+      below = λ a b lt le full. rw (bare_cut from to ps) (occupied-cut_below lowest_address a b from to (bare_all ps) ar first lt le full);
+      above = λ a b lt le full. rw (bare_cut from to ps) (occupied-cut_above lowest_address a b from to (bare_all ps) ar last lt le full);
+    }
+
+occupied-without_above : (a b addr seg end : ℕ) (ps : List Piece) → NamedEnd addr seg end ps → end ≤ a → occupied (bare_all ps) a b ≡ true → occupied (bare_all (stored_without addr seg ps)) a b ≡ true
+occupied-without_above a b addr seg end [] named le full = full
+occupied-without_above a b addr seg end (p ∷ ps) named le full =
+    let own = All-head (λ (p : Piece). stored_named addr seg p ≡ true → end_of (bare p) ≤ end) p ps named in
+    let rest = occupied-without_above a b addr seg end ps (All-tail (λ (p : Piece). stored_named addr seg p ≡ true → end_of (bare p) ≤ end) p ps named) le in
+    elim (cases_Bool (stored_named addr seg p)) [
+      | inl h ↦ rw h (rest (sym (left_past (bare_all ps) (bare p) a b (omega (arith, own h, le))) ∙ full))
+      | inr h ↦ rw h (elim (cases_Bool (meets a b (bare p))) [
+        | inl m ↦ rw m refl
+        | inr m ↦ rw m (rest (rw m at full))
+      ])
+    ]
+
+pub kept-without : (addr seg end : ℕ) (ps : List Piece) → NamedEnd addr seg end ps → IsKeptOutside addr end ps (stored_without addr seg ps)
+kept-without addr seg end ps named =
+    record {
+      below = λ a b lt le full. rw (bare_filter addr seg ps) (occupied-without a b addr seg (bare_all ps) le full);
+      above = λ a b lt le full. occupied-without_above a b addr seg end ps named le full;
+    }
 
 -- the walk that begins there finds the least gap
 pub gap-behind : (pages to last n : ℕ) (ps : List Piece) → 1 ≤ pages → Arranged lowest_address (bare_all ps) → IsPassed pages to ps → IsPieceRange to (to + 1) ps n last

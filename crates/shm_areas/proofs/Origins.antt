@@ -1,5 +1,6 @@
 -- The piece with an origin, among the stored pieces and among what they show.
-use Rattle.shm_areas.proofs.Names.{◌≡◌, ◌∙◌, sym, ap, ℕ, zero, suc, ◌+◌, ◌*◌, ◌<◌, ◌≤◌, Bool, true, false, cond, Some, find, option_map, None, List, [], ◌∷◌, ◌++◌, ◌-◌, length, get_or, take, drop, refl, arith, ne_eqb, inl, inr, cases_Bool, has_origin, origin_of, stored_named, stored_without, lowest_address, length-drop, get_or_default, Piece, Arranged, bare, bare_all}
+use Rattle.shm_areas.proofs.Names.{◌≡◌, ◌∙◌, sym, ap, ℕ, zero, suc, ◌+◌, ◌*◌, ◌<◌, ◌≤◌, Bool, true, false, cond, Some, find, option_map, None, List, [], ◌∷◌, ◌++◌, ◌-◌, length, get_or, take, drop, refl, arith, ne_eqb, inl, inr, cases_Bool, cases_lt, both_ways, end_of, has_origin, origin_of, stored_named, stored_without, lowest_address, length-drop, get_or_default, Piece, Arranged, bare, bare_all}
+use Rattle.std.specs.Prelude.{All}
 use Rattle.std.proofs.Common.{append_assoc, drop-cons, set}
 use Rattle.std.proofs.lemmas.List.{take_more_set, drop-set-lt}
 use Rattle.std.proofs.lemmas.List.Elements.{All-head, All-tail, All-drop}
@@ -96,6 +97,21 @@ taken-run addr seg reach (suc first) (suc last) (p ∷ ps) within r =
     let shifted : suc last - suc first ≡ last - first = omega arith in
     rw (shifted, other-below addr p (r.below 0 p (omega arith)))
     (ap (λ (xs : List Piece). p ∷ xs) (taken-run addr seg reach first last ps (All-tail (Within reach) p ps within) (rest_range r (omega arith) (omega arith) (omega arith))))
+
+-- the named pieces end at or below an address
+abbrev pub NamedEnd : ℕ → ℕ → ℕ → List Piece → Type 0
+NamedEnd addr seg end ps = All (λ (p : Piece). stored_named addr seg p ≡ true → end_of (bare p) ≤ end) ps
+
+-- so they do where the pieces of the run end there
+pub named-end : (addr seg reach first last end : ℕ) (ps : List Piece) → AreWithin reach ps → IsOriginRange addr reach ps first last
+    → ((k : ℕ) (d : Piece) → first ≤ k → k < last → end_of (bare (get_or ps k d)) ≤ end) → NamedEnd addr seg end ps
+named-end addr seg reach first last end ps within r ends k d lt named = elim (cases_lt k first) [
+  | inl low ↦ absurd (both_ways false refl (rw (other-below addr (get_or ps k d) (r.below k d low)) at named))
+  | inr from ↦ elim (cases_lt k last) [
+    | inl there ↦ ends k d from there
+    | inr past ↦ absurd (both_ways false refl (rw (other-above addr reach (get_or ps k d) (within k d lt) (r.above k d past lt)) at named))
+  ]
+]
 
 -- ONE BY ONE
 

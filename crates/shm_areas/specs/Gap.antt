@@ -1,11 +1,13 @@
 -- The least gap, in the subject's words, and the way it is looked for.
-use Rattle.std.specs.Prelude.{◌≡◌, ℕ, ◌+◌, ◌*◌, ◌%◌, ◌≤◌, ◌<◌, true, false, nat_le, if◌then◌else◌, List, [], ◌∷◌, Option, Some, None, max}
+use Rattle.std.specs.Prelude.{◌≡◌, ℕ, ◌+◌, ◌*◌, ◌%◌, ◌≤◌, ◌<◌, true, false, nat_le, if◌then◌else◌, List, [], ◌∷◌, All, take, Option, Some, None, max, ◌&&◌}
 use Rattle.shm_base.specs.State.{Piece}
 use Rattle.shm_base.specs.Access.{end_of}
 use Rattle.shm_base.specs.Space.{first_chosen, end_address, occupied, is_gap}
 use Rattle.shm_areas.specs.Arranged.{bare_all}
 use Rattle.shm_areas.specs.declared.piece.Piece.{Piece as Stored}
-use Rattle.shm_areas.specs.declared.filling.Passed.{Passed}
+use Rattle.shm_areas.specs.declared.hints.Passed.{Passed}
+use Rattle.shm_areas.specs.declared.hints.Hints.{Hints}
+use Rattle.shm_areas.specs.declared.hints.TheConstants.{MOST_HINTS}
 use Rattle.shm_base.specs.declared.bounds.TheConstants.{MOST_SHMALL}
 use Rattle.shm_base.specs.declared.paging.TheConstants.{PAGE_SIZE}
 
@@ -35,8 +37,31 @@ pub record IsPassed (pages to : ℕ) (ps : List Stored) : Type 0 where
   pub high : to ≤ end_address
   pub none : (a : ℕ) → first_chosen ≤ a → a < to → occupied (bare_all ps) a (a + PAGE_SIZE * pages) ≡ true
 
--- so it is with what a space remembers, for pages that a segment may have
+-- so it is from one address up to another with an entry of what a space remembers, for pages that a segment may have
 pub record IsHint (h : Passed) (ps : List Stored) : Type 0 where
   pub some : 1 ≤ h.pages
   pub few : h.pages ≤ MOST_SHMALL
-  pub passed : IsPassed h.pages h.to ps
+  pub high : h.to ≤ end_address
+  pub none : (a : ℕ) → h.from ≤ a → a < h.to → occupied (bare_all ps) a (a + PAGE_SIZE * h.pages) ≡ true
+
+-- the entries that say something
+abbrev pub known_of : Hints → List Passed
+known_of h = take h.count h.known
+
+-- so it is with each of them
+pub record IsHints (h : Hints) (ps : List Stored) : Type 0 where
+  pub few : h.count ≤ MOST_HINTS
+  pub known : All (λ (x : Passed). IsHint x ps) (known_of h)
+
+-- a walk for so many pages that is at an address goes on at the end of an entry that reaches from there
+abbrev pub jumped : ℕ → ℕ → Passed → ℕ
+jumped pages from h = if nat_le h.pages pages && nat_le h.from from then max from h.to else from
+
+abbrev pub jumped_over : ℕ → ℕ → List Passed → ℕ
+jumped_over pages from [] = from
+jumped_over pages from (h ∷ hs) = jumped_over pages (jumped pages from h) hs
+
+-- what is occupied outside a range stays so
+pub record IsKeptOutside (from to : ℕ) (ps qs : List Stored) : Type 0 where
+  pub below : (a b : ℕ) → a < b → b ≤ from → occupied (bare_all ps) a b ≡ true → occupied (bare_all qs) a b ≡ true
+  pub above : (a b : ℕ) → a < b → to ≤ a → occupied (bare_all ps) a b ≡ true → occupied (bare_all qs) a b ≡ true

@@ -3,6 +3,7 @@
 
 mod cut;
 mod filling;
+mod hints;
 mod piece;
 mod rests;
 mod search;

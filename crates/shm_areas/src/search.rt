@@ -2,8 +2,9 @@
 ghost use Rattle.std.specs.Prelude.{◌≡◌, ◌+◌, ◌*◌, ◌<◌, ◌≤◌, ℕ, length, slice_index_or};
 ghost use Rattle.shm_base.specs.Space as flat;
 ghost use Rattle.shm_base.specs.declared.bounds.TheConstants.{MOST_SHMALL};
-ghost use Rattle.shm_areas.specs.Arranged.{bare_all, Arranged};
-ghost use Rattle.shm_areas.specs.Gap.{gap_from};
+ghost use Rattle.shm_base.specs.Access as access;
+ghost use Rattle.shm_areas.specs.Arranged.{bare, bare_all, Arranged};
+ghost use Rattle.shm_areas.specs.Gap.{gap_from, IsPassed};
 ghost use Rattle.shm_areas.specs.Met.{IsPieceRange, IsOriginRange};
 ghost use Rattle.shm_areas.specs.declared.piece.Piece.{Piece as Stored};
 
@@ -74,6 +75,41 @@ pub(crate) fn run_of_origin(pieces: &[Piece], addr: u64, reach: u32) -> PieceRan
         first: count_below(pieces, addr),
         last: count_to(pieces, to),
     }
+}
+
+/// Where the pieces of a run end, or an address where there is none.
+pub(crate) fn end_of_run(pieces: &[Piece], run: PieceRange, addr: u64) -> u64
+    requires arranged { Arranged flat.lowest_address (bare_all pieces.now) }
+    requires order { run.first ≤ run.last }
+    requires bound { run.last ≤ length pieces.now }
+    ensures { (k : ℕ) (d : Stored) → run.first ≤ k → k < run.last
+        → access.end_of (bare (slice_index_or pieces.now k d)) ≤ result }
+{
+    if run.first == run.last {
+        return addr;
+    }
+    pieces[run.last - 1].end()
+}
+
+/// Up to where no gap for this many pages begins, if none begins below an address: walking up the pieces that
+/// end above it, to a gap or to an address to stop at.
+pub(crate) fn passed_to(pieces: &[Piece], from: u64, pages: u32, stop: u64) -> u64
+    requires pages { (1 ≤ pages) × (pages ≤ MOST_SHMALL) }
+    requires arranged { Arranged flat.lowest_address (bare_all pieces.now) }
+    requires passed { IsPassed pages from pieces.now }
+    ensures { IsPassed pages result pieces.now }
+{
+    let size = PAGE_SIZE * pages as u64;
+    let run = run_in(pieces, from, from + 1);
+    let mut reached = from;
+    for place in run.first..pieces.len() {
+        let piece = &pieces[place];
+        if stop <= reached || piece.base >= reached + size {
+            return reached;
+        }
+        reached = reached.max(piece.end());
+    }
+    reached
 }
 
 /// The least gap for this many pages at or above an address, walking up the pieces that end above it.

@@ -4,17 +4,20 @@ ghost use Rattle.shm_base.specs.Access as access;
 ghost use Rattle.shm_base.specs.Space as flat;
 ghost use Rattle.shm_areas.specs.Arranged.{bare, bare_all, Arranged, IsFit, IsCovering};
 ghost use Rattle.shm_areas.specs.Edit.{stored_inserted, stored_cut, stored_without};
-ghost use Rattle.shm_areas.specs.Gap.{HasNoGap, IsHint, IsLeastGap};
+ghost use Rattle.shm_areas.specs.Gap.{HasNoGap, IsHint, IsLeastGap, IsPassed};
 ghost use Rattle.shm_areas.specs.Met.{met};
 ghost use Rattle.shm_areas.specs.declared.piece.Piece.{Piece as Stored};
 ghost use Rattle.shm_base.specs.declared.bounds.TheConstants.{MOST_PIECES, MOST_SHMALL};
 ghost use Rattle.shm_base.specs.declared.paging.TheConstants.{PAGE_SIZE};
 
 use crate::cut::{count_left, cut_of, replace};
-use crate::filling::{Passed, lowered, raised, start_of};
+use crate::filling::{lowered, raised};
+use crate::hints::{Hints, Passed, filled_after, passed_with};
 use crate::piece::{Piece, Place};
 use crate::rests::{Rests, rests_of};
-use crate::search::{count_below, count_to, least_gap, run_in, run_of_origin};
+use crate::search::{
+    count_below, count_to, end_of_run, least_gap, passed_to, run_in, run_of_origin,
+};
 use crate::taking::take_named;
 use shm_base::{END_ADDRESS, FIRST_GAP, HostMemory, PAGE_SIZE};
 use std::alloc::{AllocError, Global};
@@ -29,9 +32,9 @@ pub struct Space {
     reach: u32,
     // Each address from 0x40000000 up to this one lies in a piece: so no gap begins below.
     filled: u64,
-    // No gap of this many pages begins below this address. It is noted when a piece comes right after another, as one does
-    // where the machine chooses.
-    passed: Passed,
+    // Between which addresses gaps are known to be too small. It is noted when a piece comes right after another,
+    // as one does where the machine chooses.
+    hints: Hints,
 }
 
 impl Drop for Space {
@@ -41,7 +44,7 @@ impl Drop for Space {
             most: _,
             reach: _,
             filled: _,
-            passed: _,
+            hints: _,
         } = self;
     }
 }
@@ -49,7 +52,7 @@ impl Drop for Space {
 impl Model for Space {
     ghost use Rattle.std.specs.Prelude.{◌≤◌, vec_capacity};
     ghost use Rattle.shm_areas.specs.Arranged.{SpaceView, IsSpace, AreWithin};
-    ghost use Rattle.shm_areas.specs.Gap.{IsFilled, IsHint};
+    ghost use Rattle.shm_areas.specs.Gap.{IsFilled, IsHints};
 
     ghost Value = { SpaceView };
 
@@ -57,7 +60,7 @@ impl Model for Space {
 
     ghost invariant = { λ s. IsSpace (record { pieces = s.pieces.items; most = s.most })
         × (s.most ≤ vec_capacity s.pieces) × AreWithin s.reach s.pieces.items
-        × IsFilled s.filled s.pieces.items × IsHint s.passed s.pieces.items };
+        × IsFilled s.filled s.pieces.items × IsHints s.hints s.pieces.items };
 }
 
 impl Clone for Space {
@@ -72,7 +75,7 @@ impl Clone for Space {
             most: self.most,
             reach: self.reach,
             filled: self.filled,
-            passed: self.passed,
+            hints: self.hints,
         })
     }
 }
@@ -91,7 +94,7 @@ impl Space {
             most,
             reach: 0,
             filled: FIRST_GAP,
-            passed: Passed::new(),
+            hints: Hints::new(),
         })
     }
 
@@ -149,6 +152,25 @@ impl Space {
         })
     }
 
+    // Up to where no gap for this many pages begins, by what is known. Pieces are walked between that alone.
+    fn start(&self, pages: u32) -> u64
+        requires { (1 ≤ pages) × (pages ≤ MOST_SHMALL) }
+        ensures { IsPassed pages result self.now.pieces }
+    {
+        let mut start = self.hints.jump(self.filled, pages);
+        for _hint in 0..self.hints.count {
+            let Some(stop) = self.hints.next(start, pages) else {
+                return start;
+            };
+            let reached = passed_to(&self.pieces, start, pages, stop);
+            if reached < stop {
+                return reached;
+            }
+            start = self.hints.jump(reached, pages);
+        }
+        start
+    }
+
     /// The least page-aligned gap for this many pages at or above 0x40000000 (this profile; shmop(2)
     /// leaves the choice to the system).
     #[tactic(auto, using(crate::proofs::Gaps::free_below))]
@@ -158,28 +180,30 @@ impl Space {
         ensures least { MatchOption result (HasNoGap (bare_all self.now.pieces) pages)
             (λ base. IsLeastGap (bare_all self.now.pieces) pages base) }
     {
-        let start = start_of(self.filled, self.passed, pages);
+        let start = self.start(pages);
         let run = run_in(&self.pieces, start, start + 1);
         least_gap(&self.pieces[run.first..], start, pages)
     }
 
-    // What is known of the gaps once a piece comes, after this many others. A piece that comes right after one is often
-    // at the least gap for its pages: so this walks as `choose` did, and the next choice need not.
-    fn passed_with(&self, piece: &Piece, count: usize) -> Passed
+    // What is learned of the gaps when a piece comes, after this many others. A piece that comes right after one
+    // is often at the least gap for its pages: so this walks as `choose` did, and the next choice need not.
+    fn learned(&self, piece: &Piece, count: usize) -> Option<Passed>
         requires fit { IsFit (bare piece.now) }
         requires count { count ≤ length self.now.pieces }
-        ensures { IsHint result self.now.pieces }
+        ensures { IfSome result (λ h. IsHint h (stored_inserted piece.now self.now.pieces)) }
     {
         if piece.base <= self.filled || count == 0 || self.pieces[count - 1].end() != piece.base {
-            return self.passed;
+            return None;
         }
-        match self.choose(piece.pages) {
-            Some(base) => Passed {
-                pages: piece.pages,
-                to: base,
-            },
-            None => self.passed,
-        }
+        let Some(base) = self.choose(piece.pages) else {
+            return None;
+        };
+        let to = passed_with(piece, base);
+        Some(Passed {
+            pages: piece.pages,
+            from: FIRST_GAP,
+            to: self.hints.jump(to, piece.pages),
+        })
     }
 
     /// Whether a piece has a page among this many from an address on. The range may reach beyond the last address.
@@ -235,7 +259,8 @@ impl Space {
         ensures flat { bare_all self.new.pieces ≡ flat.inserted (bare piece) (bare_all self.old.pieces) }
     {
         let at = count_to(&self.pieces, piece.base);
-        self.passed = self.passed_with(&piece, at);
+        let learned = self.learned(&piece, at);
+        self.hints.note(learned);
         self.reach = self.reach.max(piece.first_page);
         self.filled = raised(self.filled, &piece);
         let put = self.pieces.insert(at, piece);
@@ -254,8 +279,9 @@ impl Space {
     {
         let cut = cut_of(&self.pieces, from, to);
         self.reach = self.reach.max(cut.reach());
+        self.hints.note(filled_after(self.filled, to));
+        self.hints.lower(from, to);
         self.filled = lowered(self.filled, from);
-        self.passed = self.passed.lowered(from);
         replace(&mut self.pieces, cut);
     }
 
@@ -283,8 +309,10 @@ impl Space {
         ensures flat { bare_all self.new.pieces ≡ flat.without_named addr seg (bare_all self.old.pieces) }
     {
         let run = run_of_origin(&self.pieces, addr, self.reach);
+        let end = end_of_run(&self.pieces, run, addr);
+        self.hints.note(filled_after(self.filled, end));
+        self.hints.lower(addr, end);
         self.filled = lowered(self.filled, addr);
-        self.passed = self.passed.lowered(addr);
         take_named(&mut self.pieces, run, addr, seg);
     }
 }

@@ -2,8 +2,8 @@ use Rattle.shm_areas.proofs.Names.{◌≡◌, ◌∙◌, ◌-◌, arith, sym, ap
 use Rattle.shm_areas.specs.Arranged.{SpaceView}
 use Rattle.shm_areas.specs.Gap.{IsPassed}
 use Rattle.shm_areas.proofs.Gaps.{choose_is, gap_is_least}
-use Rattle.shm_areas.proofs.Filled.{arranged-drop, gap-behind, passed-start}
-use Rattle.shm_areas.proofs.space.Space.choose.Goals.{After-least_gap, After-start_of-start}
+use Rattle.shm_areas.proofs.Filled.{arranged-drop, gap-behind}
+use Rattle.shm_areas.proofs.space.Space.choose.Goals.{After-least_gap, After-run_in-run}
 use Rattle.shm_areas.proofs.space.Space.choose.Goals as goal
 
 pub least_gap-requires-clause-arranged : goal.least_gap-requires-clause-arranged
@@ -15,20 +15,17 @@ least_gap-requires-clause-arranged c =
     rw rest (arranged-drop lowest_address n ps (rw own c.self.invariant.0.arranged))
 
 -- where the walk begins
-start : (c : After-start_of-start) → IsPassed c.args.pages c.start_of-start.result c.self.inside.pieces.items
-start c =
-    let hint = c.self.inside.passed in
-    let known = c.self.invariant.4 in
-    rw c.start_of-start.ensures (passed-start hint.pages hint.to c.self.inside.filled c.args.pages c.self.inside.pieces.items c.requires.0 c.self.invariant.3 known.passed)
+start : (c : After-run_in-run) → IsPassed c.args.pages c.start-start.result c.self.inside.pieces.items
+start c = rw (← c.self.view_is) at c.start-start.ensures
 
 pub least_gap-requires-clause-from : goal.least_gap-requires-clause-from
-least_gap-requires-clause-from c = (start (goal.at.least_gap-requires-clause-from c).After-start_of-start).high
+least_gap-requires-clause-from c = (start (goal.at.least_gap-requires-clause-from c).After-run_in-run).high
 
 -- the walk finds what one from the first address on does
-found : (c : After-least_gap) → IsPassed c.args.pages c.start_of-start.result c.self.inside.pieces.items → c.least_gap.result ≡ gap_from c.args.pages first_chosen (bare_all c.self.inside.pieces.items)
+found : (c : After-least_gap) → IsPassed c.args.pages c.start-start.result c.self.inside.pieces.items → c.least_gap.result ≡ gap_from c.args.pages first_chosen (bare_all c.self.inside.pieces.items)
 found c begins =
     let n = c.run_in-run.result.first in
-    let from = c.start_of-start.result in
+    let from = c.start-start.result in
     let all = c.self.inside.pieces.items in
     let ps = c.deref-2.result.now in
     let own : c.deref.result.now ≡ all = c.deref.ensures.value in
@@ -40,11 +37,11 @@ found c begins =
 pub returns-clause-value : goal.returns-clause-value
 returns-clause-value c =
     let all = c.self.inside.pieces.items in
-    found (goal.at.returns-clause-value c).After-least_gap (start (goal.at.returns-clause-value c).After-start_of-start)
+    found (goal.at.returns-clause-value c).After-least_gap (start (goal.at.returns-clause-value c).After-run_in-run)
     ∙ choose_is (bare_all all) c.args.pages c.self.invariant.0.arranged
     ∙ ap (λ (s : SpaceView). choose (bare_all s.pieces) c.args.pages) c.self.view_is
 
 pub returns-clause-least : goal.returns-clause-least
 returns-clause-least c =
     let all = c.self.inside.pieces.items in
-    rw (found (goal.at.returns-clause-least c).After-least_gap (start (goal.at.returns-clause-least c).After-start_of-start), ← c.self.view_is) (gap_is_least (bare_all all) c.args.pages c.self.invariant.0.arranged)
+    rw (found (goal.at.returns-clause-least c).After-least_gap (start (goal.at.returns-clause-least c).After-run_in-run), ← c.self.view_is) (gap_is_least (bare_all all) c.args.pages c.self.invariant.0.arranged)

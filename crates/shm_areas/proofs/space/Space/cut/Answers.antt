@@ -1,7 +1,7 @@
 use Rattle.shm_areas.proofs.Names.{ap, ◌≡◌, ◌≤◌, ◌∙◌, length, List, arith, common_steps, length-map, cut, Piece, bare, bare_all, stored_cut, left_by}
 use Rattle.shm_areas.specs.Arranged.{SpaceView}
 use Rattle.shm_areas.proofs.Edits.{bare_cut, arranged_cut}
-use Rattle.shm_areas.proofs.Filled.{filled-cut, hint-cut}
+use Rattle.shm_areas.proofs.Filled.{filled-cut, kept-cut}
 use Rattle.shm_areas.proofs.Reaching.{within-left}
 use Rattle.shm_areas.proofs.space.Space.cut.Goals.{After-cut_of-cut}
 use Rattle.shm_areas.proofs.space.Space.cut.Goals as goal
@@ -33,6 +33,7 @@ invariant_of-self c = (
   rw (c.replace.ensures.items, left (goal.at.invariant_of-self c).After-cut_of-cut, c.lowered-self-inside.ensures, ← c.self.view_is)
       (filled-cut c.self.inside.filled c.args.from c.args.to c.self.inside.pieces.items c.self.invariant.0.arranged c.requires.from c.self.invariant.3),
   rw (c.replace.ensures.items, left (goal.at.invariant_of-self c).After-cut_of-cut, ← c.self.view_is)
-      (hint-cut c.self.inside.passed c.lowered-self-inside-2.result c.args.from c.args.to c.self.inside.pieces.items c.self.invariant.0.arranged c.requires.from c.lowered-self-inside-2.ensures.pages
-      c.lowered-self-inside-2.ensures.to c.self.invariant.4),
+      (c.lower.ensures.holds c.self.inside.pieces.items (stored_cut c.args.from c.args.to c.self.inside.pieces.items)
+      (kept-cut c.args.from c.args.to c.self.inside.pieces.items c.self.invariant.0.arranged c.requires.from c.requires.to)
+      (c.note.ensures.holds c.self.inside.pieces.items (c.filled_after.ensures c.self.inside.pieces.items c.self.invariant.3) c.self.invariant.4)),
 )

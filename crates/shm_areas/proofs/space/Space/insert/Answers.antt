@@ -1,7 +1,7 @@
-use Rattle.shm_areas.proofs.Names.{ap, ◌∙◌, bare_all, arith, common_steps}
+use Rattle.shm_areas.proofs.Names.{ap, ◌∙◌, bare_all, arith, common_steps, stored_inserted}
 use Rattle.shm_areas.specs.Arranged.{SpaceView}
 use Rattle.shm_areas.proofs.Edits.{bare_inserted, inserted_at, arranged_inserted, length_inserted}
-use Rattle.shm_areas.proofs.Filled.{filled-inserted, hint-inserted}
+use Rattle.shm_areas.proofs.Filled.{filled-inserted, hints-inserted}
 use Rattle.shm_areas.proofs.Reaching.{within-more, within-inserted}
 use Rattle.shm_areas.proofs.space.Space.insert.Goals as goal
 
@@ -19,5 +19,7 @@ invariant_of-self c = (
       (within-inserted c.max-self-inside.result c.args.piece c.self.inside.pieces.items (omega (arith, c.max-self-inside.ensures))
       (within-more c.self.inside.reach c.max-self-inside.result c.self.inside.pieces.items (omega (arith, c.max-self-inside.ensures)) c.self.invariant.2)),
   rw (ap (λ (s : SpaceView). s.pieces) (returns-clause-kept c), ← c.self.view_is, c.raised-self-inside.ensures) (filled-inserted c.self.inside.filled c.args.piece c.self.inside.pieces.items c.requires.fit c.self.invariant.3),
-  rw (ap (λ (s : SpaceView). s.pieces) (returns-clause-kept c), ← c.self.view_is) (hint-inserted c.passed_with-self-inside.result c.args.piece c.self.inside.pieces.items (rw (← c.self.view_is) at c.passed_with-self-inside.ensures)),
+  rw (ap (λ (s : SpaceView). s.pieces) (returns-clause-kept c), ← c.self.view_is)
+      (c.note.ensures.holds (stored_inserted c.args.piece c.self.inside.pieces.items) (rw (← c.self.view_is) at c.learned-learned.ensures)
+      (hints-inserted c.self.inside.hints c.args.piece c.self.inside.pieces.items c.self.invariant.4)),
 )

@@ -3,8 +3,8 @@ use Rattle.std.proofs.lemmas.List.Elements.{All-filter}
 use Rattle.std.proofs.lemmas.List.Sums.{length-filter, count_by-le-length}
 use Rattle.shm_areas.specs.Arranged.{SpaceView}
 use Rattle.shm_areas.proofs.Edits.{arranged_filter, bare_filter}
-use Rattle.shm_areas.proofs.Filled.{filled-without, hint-without}
-use Rattle.shm_areas.proofs.Origins.{taken-run}
+use Rattle.shm_areas.proofs.Filled.{filled-without, kept-without}
+use Rattle.shm_areas.proofs.Origins.{named-end, taken-run}
 use Rattle.shm_areas.proofs.space.Space.take_at.Goals.{After-take_named}
 use Rattle.shm_areas.proofs.space.Space.take_at.Goals as goal
 
@@ -27,6 +27,10 @@ pub invariant_of-self : goal.invariant_of-self
 invariant_of-self c =
     let ps = c.self.inside.pieces.items in
     let stays = λ (p : Piece). not (stored_named c.args.addr c.args.seg p) in
+    let run = c.run_of_origin-run.result in
+    let own : c.deref.result.now ≡ ps = cc in
+    let end-own : c.deref-2.result.now ≡ ps = cc in
+    let ends = rw end-own at c.end_of_run-end.ensures in
     let fewer : length (stored_without c.args.addr c.args.seg ps) ≤ length ps = rw (length-filter stays ps) (count_by-le-length stays ps) in
     rw (left (goal.at.invariant_of-self c).After-take_named) (
       record {
@@ -37,5 +41,8 @@ invariant_of-self c =
       omega (arith, c.take_named.ensures.capacity, c.self.invariant.1),
       All-filter stays (λ (p : Piece). p.first_page ≤ c.self.inside.reach) ps c.self.invariant.2,
       rw c.lowered-self-inside.ensures (filled-without c.self.inside.filled c.args.addr c.args.seg ps c.self.invariant.3),
-      hint-without c.self.inside.passed c.lowered-self-inside-2.result c.args.addr c.args.seg ps c.lowered-self-inside-2.ensures.pages c.lowered-self-inside-2.ensures.to c.self.invariant.4,
+      c.lower.ensures.holds ps (stored_without c.args.addr c.args.seg ps)
+          (kept-without c.args.addr c.args.seg c.end_of_run-end.result ps
+          (named-end c.args.addr c.args.seg c.self.inside.reach run.first run.last c.end_of_run-end.result ps c.self.invariant.2 (rw own at c.run_of_origin-run.ensures) ends))
+          (c.note.ensures.holds ps (c.filled_after.ensures ps c.self.invariant.3) c.self.invariant.4),
     )
