@@ -20,6 +20,7 @@ pub(crate) fn is_size(len: usize) -> bool
 }
 
 #[tactic(auto, using(crate::proofs::Answering::refused))]
+#[inline(always)]
 fn load(machine: &mut Machine, pid: u32, addr: u64, bytes: &mut [u8]) -> u32
     requires { (1 ≤ length bytes.old) × (length bytes.old ≤ 64) }
     ensures answers { let load = call.Load addr (length bytes.old) in
@@ -57,6 +58,7 @@ pub extern "C" fn nog_load(
 }
 
 #[tactic(auto, using(crate::proofs::Answering::refused))]
+#[inline(always)]
 fn store(machine: &mut Machine, pid: u32, addr: u64, bytes: &[u8]) -> u32
     requires { (1 ≤ length bytes.now) × (length bytes.now ≤ 64) }
     ensures { AnswersFor machine.old pid (call.Store addr bytes.now) reply.Done result machine.new }
@@ -90,6 +92,7 @@ pub extern "C" fn nog_store(
 }
 
 #[tactic(auto, using(crate::proofs::Answering::refused))]
+#[inline(always)]
 fn add_to(machine: &mut Machine, pid: u32, addr: u64, add: u64, before: &mut u64) -> u32
     ensures answers { AnswersFor machine.old pid (call.Xadd addr add) (reply.Number before.new) result machine.new }
     ensures before { result ≢ 0 → before.new ≡ before.old }

@@ -19,6 +19,7 @@ pub struct Handle {
 
 impl Handle {
     /// A handle with no machine.
+    #[inline(always)]
     pub fn empty() -> Handle
         ensures { result.kept.value ≡ None }
     {
@@ -29,6 +30,7 @@ impl Handle {
     }
 
     /// Takes the machine out, if there is one.
+    #[inline(always)]
     pub fn take(&mut self, alloc: Global) -> Option<Box<Machine>>
         ensures new { self.new.kept.value ≡ None }
         ensures old { option_map (λ c. c.value) result ≡ self.old.kept.value }
@@ -41,6 +43,7 @@ impl Handle {
     }
 
     /// Puts a machine in, where there is none.
+    #[inline(always)]
     pub fn put(&mut self, machine: Box<Machine>)
         requires { self.old.kept.value ≡ None }
         ensures { self.new.kept.value ≡ Some machine.value }

@@ -22,6 +22,7 @@ impl Model for Kept {
 
 impl Kept {
     /// Nothing.
+    #[inline(always)]
     pub fn none() -> Kept
         ensures { result.value ≡ None }
     {
@@ -31,6 +32,7 @@ impl Kept {
     }
 
     /// Takes over a machine's block.
+    #[inline(always)]
     pub fn of(parts: Parts<Machine, Global>) -> Kept
         ensures { result.value ≡ Some parts.value }
     {
@@ -39,6 +41,7 @@ impl Kept {
     }
 
     /// Gives the block back.
+    #[inline(always)]
     pub fn into_parts(self, alloc: Global) -> Parts<Machine, Global>
         requires { IsSome self.value }
         ensures { self.value ≡ Some result.value }

@@ -5,6 +5,8 @@ use Rattle.shm_attach.specs.declared.process.Caller.{Caller}
 use Rattle.shm_attach.specs.declared.process.Life.TheVariants.{Unborn}
 use Rattle.shm_attach.proofs.Keeping.{life_at-get_or, with_pieces_at-same}
 pub use Rattle.shm_attach.proofs.Processes.{first_runner}
+use Rattle.std.proofs.lemmas.Map.Keys.{apart_from_distinct}
+use Rattle.std.specs.List.{IsDistinct}
 
 -- what a list of entries answers past its end
 abbrev pub nobody : ℕ × Runner
@@ -95,12 +97,33 @@ no_place pid es none = by (cases_lt (position_or_len (nat_eq pid) (keys_of es)) 
         (rw (← key-at es k l) (fails_before_first (nat_eq pid) (keys_of es) k 0 (omega (arith, le, length-map es (λ (e : ℕ × Runner). e.0)))))
         (sym same)
 
-pub first-position : {X : Type 0} (f : ℕ → flat.Runner → Option X) (pid i : ℕ) (es : List (ℕ × Runner)) (e : ℕ × Runner) → position (nat_eq pid) (keys_of es) ≡ Some i
-    → slice_get es i ≡ Some e → first f 0 pid (runners_view es) ≡ f i (runner_view e)
-first-position f pid i es e found at =
-    let p = first_place pid i es e found at in
+-- each pid is there once, so a process is the first with its own
+own_place : (i : ℕ) (es : List (ℕ × Runner)) (e : ℕ × Runner) → IsDistinct nat_eq (keys_of es) → slice_get es i ≡ Some e → IsFirst e.0 i es
+own_place i es e distinct at =
+    let lt : i < length es = slice_get_within es i e at in
+    let own : (get_or es i nobody).0 ≡ e.0 = ap (λ (x : ℕ × Runner). x.0) (get_or_from_slice_get es i e nobody at) in
+    let within : i < length (keys_of es) = omega (arith, lt, length-map es (λ (x : ℕ × Runner). x.0)) in
+    record {
+      within = lt;
+      own = own;
+      others = λ k l same.
+          eqb-false (get_or es k nobody).0 (get_or es i nobody).0
+          (rw (← key-at es k (omega (arith, l, lt)), ← key-at es i lt) (apart_from_distinct nat_eq (keys_of es) k i 0 distinct l within))
+          (same ∙ sym own);
+    }
+
+first-at : {X : Type 0} (f : ℕ → flat.Runner → Option X) (pid i : ℕ) (es : List (ℕ × Runner)) (e : ℕ × Runner) → IsFirst pid i es → slice_get es i ≡ Some e → first f 0 pid (runners_view es) ≡ f i (runner_view e)
+first-at f pid i es e p at =
     let is : get_or es i nobody ≡ e = get_or_from_slice_get es i e nobody at in
     grind (arith, common_steps, first-found)
+
+pub first-position : {X : Type 0} (f : ℕ → flat.Runner → Option X) (pid i : ℕ) (es : List (ℕ × Runner)) (e : ℕ × Runner) → position (nat_eq pid) (keys_of es) ≡ Some i
+    → slice_get es i ≡ Some e → first f 0 pid (runners_view es) ≡ f i (runner_view e)
+first-position f pid i es e found at = first-at f pid i es e (first_place pid i es e found at) at
+
+pub caller_from-own : (i : ℕ) (es : List (ℕ × Runner)) (e : ℕ × Runner) → IsDistinct nat_eq (keys_of es) → slice_get es i ≡ Some e
+    → caller_from 0 e.0 (runners_view es) ≡ caller_by i e.0 (bare_all e.1.space.pieces) (life_view e.1.life)
+caller_from-own i es e distinct at = caller_from-first 0 e.0 (runners_view es) ∙ first-at (as_caller e.0) e.0 i es e (own_place i es e distinct at) at
 
 pub caller_from-position : (pid i : ℕ) (es : List (ℕ × Runner)) (e : ℕ × Runner) → position (nat_eq pid) (keys_of es) ≡ Some i → slice_get es i ≡ Some e
     → caller_from 0 pid (runners_view es) ≡ caller_by i pid (bare_all e.1.space.pieces) (life_view e.1.life)

@@ -14,6 +14,7 @@ impl Spaces {
             tables: self.tables.try_clone()?,
             lost: self.lost.try_clone()?,
             most: self.most,
+            last: self.last,
         })
     }
 }

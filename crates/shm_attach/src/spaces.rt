@@ -33,6 +33,8 @@ pub struct Spaces {
     pub(crate) lost: Lost,
     // The most pieces of a process.
     pub(crate) most: u32,
+    // Where the last caller was found. By now another process may be there, or none.
+    pub(crate) last: usize,
 }
 
 impl Drop for Spaces {
@@ -42,6 +44,7 @@ impl Drop for Spaces {
             tables: _,
             lost: _,
             most: _,
+            last: _,
         } = self;
     }
 }
@@ -98,6 +101,7 @@ impl Spaces {
             tables: Tables::new(alloc),
             lost,
             most,
+            last: 0,
         })
     }
 
@@ -112,6 +116,49 @@ impl Spaces {
         match runner.life {
             Life::Live(cred) => Some(Caller { index, pid, cred }),
             _ => None,
+        }
+    }
+
+    // The live process at a place, where it has the pid.
+    #[inline(always)]
+    fn caller_at(&self, index: usize, pid: u32) -> Option<Caller>
+        ensures pid { IfSome result (λ c. c.pid ≡ pid) }
+        ensures live { IfSome result (λ c. IsCaller c self.now.runners) }
+    {
+        let (key, runner) = self.processes.as_slice().get_index(index)?;
+        if *key != pid {
+            return None;
+        }
+        let Life::Live(cred) = runner.life else {
+            return None;
+        };
+        Some(Caller { index, pid, cred })
+    }
+
+    // Looks for the live process with a pid, and keeps where it was found.
+    #[inline(never)]
+    fn find_caller(&mut self, pid: u32) -> Option<Caller>
+        ensures pid { IfSome result (λ c. c.pid ≡ pid) }
+        ensures live { IfSome result (λ c. IsCaller c self.new.runners) }
+        ensures none { IfNone result (caller_from 0 pid self.new.runners ≡ None) }
+        ensures same { self.new ≡ self.old }
+    {
+        let caller = self.caller(pid)?;
+        self.last = caller.index;
+        Some(caller)
+    }
+
+    /// As [`Spaces::caller`]. A process that calls again is found where it was, with no search.
+    #[inline(always)]
+    pub fn caller_again(&mut self, pid: u32) -> Option<Caller>
+        ensures pid { IfSome result (λ c. c.pid ≡ pid) }
+        ensures live { IfSome result (λ c. IsCaller c self.new.runners) }
+        ensures none { IfNone result (caller_from 0 pid self.new.runners ≡ None) }
+        ensures same { self.new ≡ self.old }
+    {
+        match self.caller_at(self.last, pid) {
+            Some(caller) => Some(caller),
+            None => self.find_caller(pid),
         }
     }
 

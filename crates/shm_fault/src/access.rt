@@ -2,7 +2,7 @@
 //! the first stays while the second comes in; only then are bytes read or changed. `after_access` says
 //! where each page is then and which bits are set, and `Stops` says it where a pager failed. A page that
 //! comes in is clean; a write makes the frames of its pages dirty, whatever bytes it puts there.
-ghost use Rattle.std.specs.Prelude.{◌≡◌, ℕ, ◌+◌, ◌<◌, ◌≤◌, [], ◌∷◌, length, map, set, true, Some, is_ok, IfOk, OnOk, OnErr, All};
+ghost use Rattle.std.specs.Prelude.{◌≡◌, ℕ, ◌+◌, ◌<◌, ◌≤◌, [], ◌∷◌, length, map, set, true, Some, is_ok, IfOk, OnOk, OnErr, All, IsSome};
 ghost use Rattle.shm_base.specs.declared.paging.Span.{Span as SpanValue};
 ghost use Rattle.shm_base.specs.declared.paging.TheConstants.{PAGE_BYTES};
 ghost use Rattle.shm_fault.specs.Held.{FitsPage, read_from, written, pasted, paste, span_bytes};
@@ -37,6 +37,33 @@ impl InFrames {
     };
 }
 
+// Copies bytes. A number of 1, 2, 4 or 8 bytes moves in one instruction, with no call.
+#[inline(always)]
+fn copy_bytes(from: &[u8], to: &mut [u8])
+    requires { length from.now ≡ length to.old }
+    ensures { to.new ≡ from.now }
+{
+    match to.len() {
+        8 => to.copy_from_slice(&from[..8]),
+        4 => to.copy_from_slice(&from[..4]),
+        2 => to.copy_from_slice(&from[..2]),
+        1 => to.copy_from_slice(&from[..1]),
+        _ => to.copy_from_slice(from),
+    }
+}
+
+// Has an owned frame be dirty. One that is dirty stays as it is.
+#[inline(always)]
+fn make_dirty(frames: &mut Frames, frame: FrameNo)
+    requires there { frame < length frames.old }
+    requires owned { IsSome (frame_at frames.old frame).owner }
+    ensures { frames.new ≡ set frames.old frame (record (frame_at frames.old frame) { dirty = true }) }
+{
+    if !frames.is_dirty(frame) {
+        frames.set_dirty(frame, true);
+    }
+}
+
 // Puts bytes into a frame.
 #[inline(always)]
 fn paste_into(frames: &mut Frames, frame: FrameNo, from: usize, bytes: &[u8])
@@ -46,7 +73,7 @@ fn paste_into(frames: &mut Frames, frame: FrameNo, from: usize, bytes: &[u8])
         frames.new ≡ set frames.old frame (record before { bytes = paste before.bytes from bytes.now }) }
 {
     let page = frames.bytes_mut(frame);
-    page[from..from + bytes.len()].copy_from_slice(bytes);
+    copy_bytes(bytes, &mut page[from..from + bytes.len()]);
 }
 
 impl<P: Pager> PageStore<P> {
@@ -111,30 +138,31 @@ impl<P: Pager> PageStore<P> {
         })
     }
 
-    // Brings in the pages of two spans. Where that of the first fails the second is not tried.
+    // Brings in the pages of two spans. Where that of the first fails the second is not tried. It takes the
+    // spans by value, so that those of an access to one page can stay in registers.
     #[inline(never)]
     fn bring_two(
         &mut self,
-        first: &Span,
-        second: &Span,
+        first: Span,
+        second: Span,
         touched: &mut Touched,
     ) -> Result<InFrames, PagerFault>
-        requires fit { FitsPage (held self.old) first.now × FitsPage (held self.old) second.now }
-        requires frames { NamesFrame self.old first.now × NamesFrame self.old second.now }
+        requires fit { FitsPage (held self.old) first × FitsPage (held self.old) second }
+        requires frames { NamesFrame self.old first × NamesFrame self.old second }
         requires none { IsUntouched touched.old }
-        ensures here { IfOk result (AreIn self.new (first.now ∷ second.now ∷ [])) }
-        ensures brings { let spans = first.now ∷ second.now ∷ [] in
+        ensures here { IfOk result (AreIn self.new (first ∷ second ∷ [])) }
+        ensures brings { let spans = first ∷ second ∷ [] in
             Brings spans self.old self.new touched.new (is_ok result) }
-        ensures placed { let spans = first.now ∷ second.now ∷ [] in
+        ensures placed { let spans = first ∷ second ∷ [] in
             OnOk result (places self.new ≡ after_access spans (places self.old)) }
-        ensures stopped { let spans = first.now ∷ second.now ∷ [] in
+        ensures stopped { let spans = first ∷ second ∷ [] in
             OnErr result (Stops spans (places self.old) (places self.new)) }
     {
-        let page = self.page_at(first);
+        let page = self.page_at(&first);
         let near = self.visit(page, first.frame, 0, None, touched)?;
-        let page = self.page_at(second);
+        let page = self.page_at(&second);
         let table = self.table_now(page, touched);
-        let known = self.frame_now(second, page, table, touched);
+        let known = self.frame_now(&second, page, table, touched);
         let far = self.visit(page, known, table, Some(near), touched)?;
         Ok(InFrames {
             first: near,
@@ -162,7 +190,7 @@ impl<P: Pager> PageStore<P> {
         let brought = match spans {
             [] => Ok(InFrames::ANY),
             [first] => self.bring_one(first, touched),
-            [first, second, ..] => self.bring_two(first, second, touched),
+            [first, second, ..] => self.bring_two(*first, *second, touched),
         };
         // Read for the proof alone: the clause `sound` is the store's invariant.
         let _ = &self.segs;
@@ -179,7 +207,7 @@ impl<P: Pager> PageStore<P> {
     {
         let from = (span.at % PAGE_SIZE) as usize;
         let bytes = self.frames.bytes(frame);
-        out.copy_from_slice(&bytes[from..from + out.len()]);
+        copy_bytes(&bytes[from..from + out.len()], out);
     }
 
     // Puts bytes into the frame that the page of a span is in.
@@ -198,7 +226,7 @@ impl<P: Pager> PageStore<P> {
     {
         let from = (span.at % PAGE_SIZE) as usize;
         paste_into(&mut self.frames, frame, from, bytes);
-        self.frames.set_dirty(frame, true);
+        make_dirty(&mut self.frames, frame);
     }
 
     // Copies the bytes of spans out of the frames that their pages are in.

@@ -23,6 +23,7 @@ impl<P: Pager> PageStore<P> {
     /// Copies the bytes of at most two spans into `before`, and replaces them, once all their pages are resident; their
     /// frames are dirty then. Pages come in as for [`PageStore::read_with`]. On an error no byte of any segment has
     /// changed, and `before` is as it was.
+    #[inline(always)]
     pub fn exchange_with(
         &mut self,
         spans: &[Span],
@@ -46,6 +47,7 @@ impl<P: Pager> PageStore<P> {
 
     /// As [`PageStore::exchange_with`], but the bytes are replaced only if they are the expected ones; else their frames
     /// stay as clean as they were.
+    #[inline(always)]
     pub fn compare_with(
         &mut self,
         spans: &[Span],

@@ -19,3 +19,4 @@ pub mod Joining
 pub mod Peopled
 pub mod Exchanging
 pub mod Pids
+pub mod Accessing

@@ -13,3 +13,4 @@ pub mod Counts
 pub mod Guest
 pub mod Mapped
 pub mod Exchanged
+pub mod Accessing

@@ -1,18 +1,61 @@
 //! Loads, stores and additions.
-ghost use Rattle.std.specs.Prelude.{◌≡◌, ◌≤◌, ℕ, length, OnErr};
+ghost use Rattle.std.specs.Prelude.{◌≡◌, ◌≤◌, ℕ, false, length, IfOk, IfErr, OnOk, OnErr};
+ghost use Rattle.shm_base.specs.Access.{loaded, stored};
+ghost use Rattle.shm_base.specs.Spans.{span_places};
 ghost use Rattle.shm_base.specs.declared.call.Call.TheVariants as call;
 ghost use Rattle.shm_base.specs.declared.call.Reply.TheVariants.{Bytes, Number};
 ghost use Rattle.shm_base.specs.declared.paging.TheConstants.{PAGE_SIZE};
+ghost use Rattle.shm_fault.specs.Access.{NameFrames};
+ghost use Rattle.shm_fault.specs.Allowed.{IsAccess};
 ghost use Rattle.shm_attach.specs.Spaces.{IsCaller};
+ghost use Rattle.shm_segments.specs.Table.{SpanFits, loaded_number, added_at};
+ghost use Rattle.shm_segments.specs.View.{KeepsMemory};
+ghost use Rattle.shm_life.specs.Accessing.{sole_resident, IsBusError};
 ghost use Rattle.shm_life.specs.MachineView.{Served, done, replied, reply_in};
 
 use crate::kernel::Kernel;
 use shm_attach::Caller;
-use shm_base::{AccessLen, Chunk, Errno, LONGEST_ACCESS, Reply};
+use shm_base::{AccessLen, Chunk, Errno, LONGEST_ACCESS, Reply, Span};
 use shm_fault::Touched;
 use shm_pager::Pager;
 
+// The span, where there is one and its frame is known. No page has to come in then, and the compiler leaves out
+// of such an access what that would take.
+#[inline(always)]
+fn resident(spans: &[Span]) -> Option<Span>
+    ensures { result ≡ sole_resident spans.now }
+{
+    let [span] = spans else {
+        return None;
+    };
+    if span.frame.is_none() {
+        return None;
+    }
+    Some(*span)
+}
+
 impl<P: Pager> Kernel<P> {
+    // Reads the bytes of spans, and notes which pages moved.
+    #[inline(always)]
+    fn load_spans(&mut self, spans: &[Span], out: &mut [u8]) -> Result<(), Errno>
+        requires spans { IsAccess (SpanFits self.old.flat.table) spans.now (length out.old) }
+        requires frames { NameFrames self.old.memory spans.now }
+        ensures bytes { OnOk result (out.new ≡ loaded self.old.flat.table (span_places false spans.now)) }
+        ensures kept { OnErr result (out.new ≡ out.old) }
+        ensures same { self.new.flat ≡ self.old.flat }
+        ensures keeps { KeepsMemory self.old.memory self.new.memory }
+        ensures err { IfErr result (λ e. IsBusError e self.old.memory self.new.memory) }
+    {
+        let mut touched = Touched::none();
+        let read = self.segments.read(spans, out, &mut touched);
+        // Where a pager failed pages may have moved before.
+        self.spaces.note(touched.moved.as_slice());
+        if read.is_err() {
+            return Err(Errno::Sigbus);
+        }
+        Ok(())
+    }
+
     #[tactic(auto, using(crate::proofs::Running::kept_refl))]
     /// Reads bytes; Sigsegv where an address has no piece, Sigbus where a pager failed. Where it is refused,
     /// the buffer is as it was.
@@ -28,14 +71,10 @@ impl<P: Pager> Kernel<P> {
         let Ok(spans) = self.spaces.spans_of(caller, addr, out.len() as u64, false) else {
             return Err(Errno::Sigsegv);
         };
-        let mut touched = Touched::none();
-        let read = self.segments.read(spans.as_slice(), out, &mut touched);
-        // Where a pager failed pages may have moved before.
-        self.spaces.note(touched.moved.as_slice());
-        if read.is_err() {
-            return Err(Errno::Sigbus);
+        match resident(spans.as_slice()) {
+            Some(span) => self.load_spans(&[span], out),
+            None => self.load_spans(spans.as_slice(), out),
         }
-        Ok(())
     }
 
     /// Reads bytes into a reply; refused as [`Kernel::load`] is.
@@ -58,6 +97,27 @@ impl<P: Pager> Kernel<P> {
         Ok(())
     }
 
+    // Replaces the bytes of spans, and notes which pages moved.
+    #[inline(always)]
+    fn store_spans(&mut self, spans: &[Span], bytes: &[u8]) -> Result<(), Errno>
+        requires spans { IsAccess (SpanFits self.old.flat.table) spans.now (length bytes.now) }
+        requires frames { NameFrames self.old.memory spans.now }
+        ensures written { let after = stored self.old.flat.table (span_places false spans.now) bytes.now in
+            OnOk result (self.new.flat ≡ record self.old.flat { table = after }) }
+        ensures same { OnErr result (self.new.flat ≡ self.old.flat) }
+        ensures keeps { KeepsMemory self.old.memory self.new.memory }
+        ensures err { IfErr result (λ e. IsBusError e self.old.memory self.new.memory) }
+    {
+        let mut touched = Touched::none();
+        let written = self.segments.write(spans, bytes, &mut touched);
+        // Where a pager failed pages may have moved before.
+        self.spaces.note(touched.moved.as_slice());
+        if written.is_err() {
+            return Err(Errno::Sigbus);
+        }
+        Ok(())
+    }
+
     #[tactic(auto, using(crate::proofs::Running::kept_refl))]
     /// Replaces bytes; Sigsegv where an address has no piece, or one that is read-only, Sigbus where a pager
     /// failed, and then no byte has changed.
@@ -71,19 +131,39 @@ impl<P: Pager> Kernel<P> {
         let Ok(spans) = self.spaces.spans_of(caller, addr, bytes.len() as u64, true) else {
             return Err(Errno::Sigsegv);
         };
+        match resident(spans.as_slice()) {
+            Some(span) => self.store_spans(&[span], bytes),
+            None => self.store_spans(spans.as_slice(), bytes),
+        }
+    }
+
+    // Adds to the eight bytes of spans, and notes which pages moved. It answers the number that stood there.
+    #[inline(always)]
+    fn add_spans(&mut self, spans: &[Span], add: u64) -> Result<u64, Errno>
+        requires spans { IsAccess (SpanFits self.old.flat.table) spans.now 8 }
+        requires frames { NameFrames self.old.memory spans.now }
+        ensures number { IfOk result (λ n. n ≡ loaded_number self.old.flat.table (span_places false spans.now)) }
+        ensures written { let after = added_at self.old.flat.table (span_places false spans.now) add in
+            OnOk result (self.new.flat ≡ record self.old.flat { table = after }) }
+        ensures same { OnErr result (self.new.flat ≡ self.old.flat) }
+        ensures keeps { KeepsMemory self.old.memory self.new.memory }
+        ensures err { IfErr result (λ e. IsBusError e self.old.memory self.new.memory) }
+    {
+        let mut number = 0;
         let mut touched = Touched::none();
-        let written = self.segments.write(spans.as_slice(), bytes, &mut touched);
+        let added = self.segments.add(spans, add, &mut number, &mut touched);
         // Where a pager failed pages may have moved before.
         self.spaces.note(touched.moved.as_slice());
-        if written.is_err() {
+        if added.is_err() {
             return Err(Errno::Sigbus);
         }
-        Ok(())
+        Ok(number)
     }
 
     #[tactic(auto, using(crate::proofs::Running::kept_refl))]
     /// Adds to eight little-endian bytes modulo 2^64, and answers the number that stood there. It is refused
     /// as a store is.
+    #[inline(always)]
     pub(crate) fn xadd(&mut self, caller: &Caller, addr: u64, add: u64) -> Result<u64, Errno>
         requires { IsCaller caller.now self.old.flat.runners }
         ensures { let reply = replied Number result in
@@ -92,16 +172,9 @@ impl<P: Pager> Kernel<P> {
         let Ok(spans) = self.spaces.spans_of(caller, addr, 8, true) else {
             return Err(Errno::Sigsegv);
         };
-        let mut number = 0;
-        let mut touched = Touched::none();
-        let added = self
-            .segments
-            .add(spans.as_slice(), add, &mut number, &mut touched);
-        // Where a pager failed pages may have moved before.
-        self.spaces.note(touched.moved.as_slice());
-        if added.is_err() {
-            return Err(Errno::Sigbus);
+        match resident(spans.as_slice()) {
+            Some(span) => self.add_spans(&[span], add),
+            None => self.add_spans(spans.as_slice(), add),
         }
-        Ok(number)
     }
 }

@@ -67,7 +67,7 @@ impl<P: Pager> Kernel<P> {
             IsExchange outcome (reply_in (Bytes before.new) result) self.old self.new }
         ensures kept { OnErr result (before.new ≡ before.old) }
     {
-        let Some(caller) = self.spaces.caller(pid) else {
+        let Some(caller) = self.spaces.caller_again(pid) else {
             return Err(Errno::Esrch);
         };
         self.exchange(&caller, addr, expected, bytes, before)

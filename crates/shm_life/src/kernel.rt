@@ -66,7 +66,7 @@ impl<P: Pager> Kernel<P> {
             OnErr result (IsWithoutMemory outcome self.old self.new) }
         ensures no_memory { TakesNoMemory call.now → IsOk result }
     {
-        let Some(caller) = self.spaces.caller(pid) else {
+        let Some(caller) = self.spaces.caller_again(pid) else {
             *reply = Reply::Refused(Errno::Esrch);
             return Ok(());
         };

@@ -23,7 +23,7 @@ impl<P: Pager> Kernel<P> {
             (n : ℕ) → AnsweredBy self.old n pid load (reply_in (Bytes out.new) result) self.new }
         ensures kept { OnErr result (out.new ≡ out.old) }
     {
-        let Some(caller) = self.spaces.caller(pid) else {
+        let Some(caller) = self.spaces.caller_again(pid) else {
             return Err(Errno::Esrch);
         };
         self.load(&caller, addr, out)
@@ -36,7 +36,7 @@ impl<P: Pager> Kernel<P> {
         ensures { let store = call.Store addr bytes.now in
             (n : ℕ) → AnsweredBy self.old n pid store (replied done result) self.new }
     {
-        let Some(caller) = self.spaces.caller(pid) else {
+        let Some(caller) = self.spaces.caller_again(pid) else {
             return Err(Errno::Esrch);
         };
         self.store(&caller, addr, bytes)
@@ -47,7 +47,7 @@ impl<P: Pager> Kernel<P> {
     fn add_by(&mut self, pid: u32, addr: u64, add: u64) -> Result<u64, Errno>
         ensures { (n : ℕ) → AnsweredBy self.old n pid (call.Xadd addr add) (replied Number result) self.new }
     {
-        let Some(caller) = self.spaces.caller(pid) else {
+        let Some(caller) = self.spaces.caller_again(pid) else {
             return Err(Errno::Esrch);
         };
         self.xadd(&caller, addr, add)

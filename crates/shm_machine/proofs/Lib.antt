@@ -1,3 +1,4 @@
 mod Fitting
 mod Sizes
 mod Stretching
+mod Zeros

@@ -1,11 +1,27 @@
 //! Copies within a machine.
-ghost use Rattle.std.specs.Prelude.{IfOk, OnErr, ◌≡◌};
+ghost use Rattle.std.specs.Prelude.{IfOk, OnErr, replicate, ◌≡◌};
 ghost use Rattle.shm_machine.specs.Stretched.{CopiedTo};
 
 use crate::machine::Machine;
 use crate::stretch::Progress;
-use shm_base::HostMemory;
-use std::alloc::Global;
+use shm_base::{HostMemory, PAGE_BYTES};
+use std::alloc::{AllocError, Global};
+
+// What a buffer is filled with.
+const ZEROS: [u8; PAGE_BYTES] = [0; PAGE_BYTES];
+
+// A buffer of zeros. They are copied page by page: `resize` would write byte by byte.
+fn zeros(alloc: Global, len: usize) -> Result<Vec<u8>, AllocError>
+    ensures { IfOk result (λ v. v.items ≡ replicate len 0) }
+{
+    let page = &ZEROS;
+    let mut bytes = Vec::with_capacity(alloc, len)?;
+    while bytes.len() < len {
+        let more = (len - bytes.len()).min(PAGE_BYTES);
+        bytes.extend_from_slice(&page[..more])?;
+    }
+    Ok(bytes)
+}
 
 impl Machine {
     /// Copies attached memory of one process to that of another, or of the same one. It is one load of all bytes that can be
@@ -21,8 +37,7 @@ impl Machine {
         ensures ok { IfOk result (λ p. CopiedTo self.old.system from to len p self.new.system) }
         ensures err { OnErr result (self.new ≡ self.old) }
     {
-        let mut bytes = Vec::with_capacity(alloc, len)?;
-        bytes.resize(len, 0)?;
+        let mut bytes = zeros(alloc, len)?;
         let read = self.read(from.0, from.1, &mut bytes);
         let written = self.write(to.0, to.1, &bytes[..read.done]);
         Ok(Progress {

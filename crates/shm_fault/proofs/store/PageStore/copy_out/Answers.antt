@@ -12,4 +12,4 @@ returns g c =
     let read = span-read (seen c.self.inside) c.self.invariant c.args.span.now c.args.frame (rw (← c.self.view_is) at c.requires.fit) (rw (← c.self.view_is) at c.requires.here) in
     let off = c.args.span.now.at % 4096 in
     let size : off + length c.args.out.now - off ≡ c.args.span.now.len = omega (arith, c.requires.size) in
-    rw (c.copy_from_slice.ensures.after, ← c.self.view_is, read, size, c.bytes-bytes.ensures.value) refl
+    rw (c.copy_bytes.ensures, ← c.self.view_is, read, size, c.bytes-bytes.ensures.value) refl

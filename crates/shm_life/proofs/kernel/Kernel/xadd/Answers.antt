@@ -1,28 +1,39 @@
-use Rattle.shm_life.proofs.Names.{◌∙◌, arith, common_steps, false, span_places, stored-same, IsWell}
-use Rattle.shm_life.proofs.Changed.{spans-there, written-well}
+use Rattle.shm_life.proofs.Names.{◌≡◌, [], ◌∷◌, sym, ap, arith, common_steps, true, IsAccess, SpanFits, pieces_by}
+use Rattle.shm_attach.specs.Spans.{AreSpans}
+use Rattle.shm_life.specs.MachineView.{MachineView}
+use Rattle.shm_life.proofs.Accessing.{adds, sole-is}
+use Rattle.shm_life.proofs.Changed.{spans-there}
 use Rattle.shm_life.proofs.kernel.Kernel.xadd.Given.{Over}
 use Rattle.shm_life.proofs.kernel.Kernel.xadd.Goals as goal
-use Rattle.shm_life.proofs.kernel.Kernel.xadd.Goals.{After-note}
+use Rattle.shm_life.proofs.kernel.Kernel.xadd.Goals.{After-resident}
 
-pub add-added-requires-clause-spans : goal.add-added-requires-clause-spans
-add-added-requires-clause-spans g c =
-    rw c.as_slice.ensures.value (spans-there _ _ c.args.caller.now c.in-Ok.spans _ (rw (← c.self.view_is) at c.requires) c.self.invariant.0.kept.pieces (rw c.as_slice.ensures.value at c.as_slice.ensures.few.1) c.in-Ok.ensures.spans.within (grind (arith, common_steps, c.in-Ok.ensures.spans.sum)) c.in-Ok.ensures.spans.pages)
+there : (g : Over) (c : After-resident g) → IsAccess (SpanFits c.self.inside.segments.table) c.in-Ok.spans 8
+there g c =
+    spans-there _ _ c.args.caller.now c.in-Ok.spans _ (rw (← c.self.view_is) at c.requires) c.self.invariant.0.kept.pieces (rw c.as_slice.ensures.value at c.as_slice.ensures.few.1) c.in-Ok.ensures.spans.within
+    (grind (arith, common_steps, c.in-Ok.ensures.spans.sum)) c.in-Ok.ensures.spans.pages
 
--- done or not
-well : (g : Over) (c : After-note g) → IsWell c.self.inside.limits c.add-added.new.self.table c.note.new.self.runners c.note.new.self.translations c.add-added.new.self.memory
-well g c =
-    let e = c.add-added.ensures in
-    written-well c.add-added.result _ _ _ _ _ _ _ _ _ _ _ c.add-added.new.touched c.self.invariant.0 (stored-same (span_places false c.as_slice.result.now) _ c.self.inside.segments.table)
-    e.written e.same e.keeps.frames e.access c.note.ensures.runners (rw c.as_slice-2.ensures.value at c.note.ensures.translated)
+-- as the caller sees the machine
+seen : (g : Over) (c : After-resident g) → AreSpans true (pieces_by c.args.caller.now.pid c.args.self.now.flat.runners) c.args.addr 8 c.in-Ok.spans
+seen g c = rw (ap (λ (v : MachineView). v.flat.runners) c.self.view_is) at c.in-Ok.ensures.spans
 
-pub invariant_of-self : goal.invariant_of-self
-invariant_of-self g c = (
-  (well g (goal.at.invariant_of-self g c).After-note),
-  c.note.ensures.most ∙ c.self.invariant.1,
-)
+pub add_spans-requires-clause-spans : goal.add_spans-requires-clause-spans
+add_spans-requires-clause-spans g c =
+    let same : c.in-Ok.spans ≡ c.in-Some.span ∷ [] = sole-is c.in-Ok.spans c.in-Some.span (rw (c.as_slice.ensures.value, c.in-Some.is) at (sym c.resident.ensures)) in
+    rw (← c.self.view_is, ← same) (there g (goal.at.add_spans-requires-clause-spans g c).After-resident)
 
-pub invariant_of-self-2 : goal.invariant_of-self-2
-invariant_of-self-2 g c = (
-  (well g (goal.at.invariant_of-self-2 g c).After-note),
-  c.note.ensures.most ∙ c.self.invariant.1,
-)
+pub add_spans-requires-in-None-clause-spans : goal.add_spans-requires-in-None-clause-spans
+add_spans-requires-in-None-clause-spans g c =
+    rw (← c.self.view_is, c.as_slice-in-None.ensures.value) (there g (goal.at.add_spans-requires-in-None-clause-spans g c).After-resident)
+
+pub returns-in-Some : goal.returns-in-Some
+returns-in-Some g c = λ n.
+    let same : c.in-Ok.spans ≡ c.in-Some.span ∷ [] = sole-is c.in-Ok.spans c.in-Some.span (rw (c.as_slice.ensures.value, c.in-Some.is) at (sym c.resident.ensures)) in
+    let e = c.add_spans.ensures in
+    adds c.args.self.now c.add_spans.new.self n c.args.caller.now c.requires c.args.addr (c.in-Some.span ∷ []) e.keeps c.args.add c.add_spans.result
+    (rw same at (seen g (goal.at.returns-in-Some g c).After-resident)) e.number e.written e.same e.err
+
+pub returns-in-None : goal.returns-in-None
+returns-in-None g c = λ n.
+    let e = c.add_spans-in-None.ensures in
+    adds c.args.self.now c.add_spans-in-None.new.self n c.args.caller.now c.requires c.args.addr c.in-Ok.spans e.keeps c.args.add c.add_spans-in-None.result
+    (seen g (goal.at.returns-in-None g c).After-resident) (rw c.as_slice-in-None.ensures.value at e.number) (rw c.as_slice-in-None.ensures.value at e.written) e.same e.err
