@@ -9,3 +9,4 @@ pub mod Hiding
 pub mod Verdicts
 pub mod Entries
 pub mod Ordering
+pub mod Drawing

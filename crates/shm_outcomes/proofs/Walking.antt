@@ -59,7 +59,7 @@ followers-all script P run each (p ∷ ps) =
 one-contains : (o : Option Run) (m : Run) → o ≡ Some m → Contains (one_run o) m
 one-contains o m h = rw h (0, omega arith, refl)
 
-has-cases : (pid : ℕ) (p : Process) (ps : List Process) → has_pid pid (p ∷ ps) ≡ true → (p.pid ≡ pid) ⊎ (has_pid pid ps ≡ true)
+pub has-cases : (pid : ℕ) (p : Process) (ps : List Process) → has_pid pid (p ∷ ps) ≡ true → (p.pid ≡ pid) ⊎ (has_pid pid ps ≡ true)
 has-cases pid p ps h =
     elim (cases_eq p.pid pid) [
       | inl same ↦ inl same

@@ -13,3 +13,4 @@ pub mod Judge
 pub mod Reading
 pub mod Refusals
 pub mod Report
+pub mod Sampling

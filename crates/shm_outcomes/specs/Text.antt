@@ -7,7 +7,7 @@ use Rattle.shm_base.specs.declared.call.Process.{Process}
 use Rattle.shm_base.specs.declared.call.Reply.{Reply}
 use Rattle.shm_base.specs.declared.call.Reply.TheVariants as replies
 use Rattle.shm_base.specs.declared.call.ShmidDs.{ShmidDs}
-use Rattle.shm_print.specs.Text.{event_text, reply_text}
+use Rattle.shm_print.specs.Text.{event_text, events_text, reply_text}
 use Rattle.shm_text.specs.Script.{ScriptView}
 use Rattle.shm_outcomes.specs.Schedules.{schedule_of}
 use Rattle.shm_outcomes.specs.Search.{Finding}
@@ -79,3 +79,7 @@ findings_text masks script n (f ∷ found) = finding_text masks script n f ++ fi
 -- all outcomes, and how many there are
 abbrev pub outcomes_text : Bool → ScriptView → List Finding → List ℕ
 outcomes_text masks script found = findings_text masks script 1 found ++ (codes "outcomes " ++ (decimal (length found) ++ codes "\n"))
+
+-- a run: its number, and its calls in order, with their places and times
+abbrev pub run_text : ℕ → List Event → List ℕ
+run_text n events = codes "run " ++ (decimal n ++ (codes "\n" ++ events_text 1 events))

@@ -134,27 +134,41 @@ impl<M: Engine> Node<M> {
         let Some(call) = self.next(script, pid) else {
             return Ok(None);
         };
+        let next = self.make(pid, &call)?;
+        Ok(Some(next))
+    }
+
+    // The run after one more call of a process. This one is not needed any more.
+    pub(crate) fn make(self, pid: u32, call: &Call) -> Result<Node<M>, EngineError>
+        ensures { IfOk result (λ run. run ≡ after self pid call.now) }
+    {
         let Node {
             mut machine,
             mut events,
         } = self;
-        let reply = machine.call(pid, &call)?;
-        events.push(Event { pid, call, reply })?;
-        Ok(Some(Node { machine, events }))
-    }
-
-    // The run after one more call of a process.
-    pub(crate) fn after(&self, alloc: Global, pid: u32, call: &Call) -> Result<Node<M>, EngineError>
-        ensures { IfOk result (λ run. run ≡ after self.now pid call.now) }
-    {
-        let mut machine = self.machine.snapshot()?;
-        let mut events = Vec::from_slice(alloc, &self.events)?;
         let reply = machine.call(pid, call)?;
         events.push(Event {
             pid,
             call: *call,
             reply,
         })?;
+        Ok(Node { machine, events })
+    }
+
+    // The run after one more call of a process.
+    pub(crate) fn after(&self, alloc: Global, pid: u32, call: &Call) -> Result<Node<M>, EngineError>
+        ensures { IfOk result (λ run. run ≡ after self.now pid call.now) }
+    {
+        let copy = self.copied(alloc)?;
+        copy.make(pid, call)
+    }
+
+    // The same run once more.
+    fn copied(&self, alloc: Global) -> Result<Node<M>, EngineError>
+        ensures { IfOk result (λ run. run ≡ self.now) }
+    {
+        let machine = self.machine.snapshot()?;
+        let events = Vec::from_slice(alloc, &self.events)?;
         Ok(Node { machine, events })
     }
 }

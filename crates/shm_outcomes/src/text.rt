@@ -1,10 +1,10 @@
 //! The printed text of outcomes.
 ghost use Rattle.std.specs.Prelude.{◌≡◌, ◌+◌, ◌++◌, codes, drop, flat_map, length, OnOk, IfOk};
-ghost use Rattle.shm_print.specs.Text.{reply_text};
+ghost use Rattle.shm_print.specs.Text.{events_text, reply_text};
 ghost use Rattle.std.specs.Fmt.{decimal};
 ghost use Rattle.shm_base.specs.declared.call.Reply.TheVariants as replies;
 ghost use Rattle.shm_outcomes.specs.Schedules.{schedule_of};
-ghost use Rattle.shm_outcomes.specs.Text.{finding_text, line_as, line_by, line_text, placeless, outcomes_text, pid_text, process_text, reply_words, schedule_text, time_text, times_text, without_last, without_times};
+ghost use Rattle.shm_outcomes.specs.Text.{finding_text, line_as, line_by, line_text, placeless, outcomes_text, pid_text, process_text, reply_words, run_text, schedule_text, time_text, times_text, without_last, without_times};
 
 use crate::search::Finding;
 use shm_base::{Event, Process, Reply, ShmidDs};
@@ -246,4 +246,32 @@ pub fn outcomes_text(
     put_number(alloc, &mut text, found.len() as u64)?;
     put(&mut text, b"\n")?;
     Ok(text)
+}
+
+// Appends the lines of calls, with their places from 1 on.
+fn put_events(alloc: Global, text: &mut Vec<u8>, events: &[Event]) -> Result<(), AllocError>
+    ensures { OnOk result (text.new.items ≡ text.old.items ++ events_text 1 events.now) }
+{
+    let mut place = 1u64;
+    for event in events {
+        let line = event_text(alloc, place, event)?;
+        put(text, line.as_bytes())?;
+        place += 1;
+    }
+    Ok(())
+}
+
+/// Appends a run and its number to a text.
+pub(crate) fn put_run(
+    alloc: Global,
+    text: &mut Vec<u8>,
+    number: u64,
+    events: &[Event],
+) -> Result<(), AllocError>
+    ensures { OnOk result (text.new.items ≡ text.old.items ++ run_text number events.now) }
+{
+    put(text, b"run ")?;
+    put_number(alloc, text, number)?;
+    put(text, b"\n")?;
+    put_events(alloc, text, events)
 }

@@ -1,0 +1,121 @@
+//! Single schedules: each process that goes on is drawn among those that can.
+ghost use Rattle.std.specs.Prelude.{◌≡◌, ◌<◌, [], IfNone, IfOk, IfSome, OnOk, length};
+ghost use Rattle.shm_outcomes.specs.Sampling.{AreSamples, IsDrawn, IsPutSample, IsSample, below, turns};
+ghost use Rattle.shm_outcomes.specs.Schedules.{fresh};
+
+use crate::engine::{Engine, EngineError};
+use crate::search::Node;
+use crate::text::put_run;
+use rand::RngExt;
+use rand_core::Rng;
+use shm_base::{Call, Event};
+use shm_text::Script;
+use std::alloc::{AllocError, Global};
+
+// A process that can go on, and the call that it makes then.
+#[derive(Clone, Copy)]
+pub(crate) struct Turn {
+    pub pid: u32,
+    pub call: Call,
+}
+
+// The processes that can go on, in the script's order.
+fn turns<M: Engine>(alloc: Global, script: &Script, run: &Node<M>) -> Result<Vec<Turn>, AllocError>
+    ensures { IfOk result (λ all. all.items ≡ turns script.now run.now) }
+{
+    let mut all = Vec::new(alloc);
+    for process in &script.processes {
+        let Some(call) = run.next(script, process.pid) else {
+            continue;
+        };
+        let pid = process.pid;
+        all.push(Turn { pid, call })?;
+    }
+    Ok(all)
+}
+
+// A number below a count, drawn from all of them alike.
+fn below<R: Rng>(rng: &mut R, count: usize) -> usize
+    requires { 0 < count }
+    ensures bound { result < count }
+    ensures drawn { (result, R.stream rng.new) ≡ below count (R.stream rng.old) }
+{
+    rng.random_range(0..count)
+}
+
+// The process that goes on, drawn among those that can.
+fn draw<M: Engine, R: Rng>(
+    alloc: Global,
+    script: &Script,
+    run: &Node<M>,
+    rng: &mut R,
+) -> Result<Option<Turn>, AllocError>
+    ensures some { IfOk result (λ r. IfSome r (λ turn.
+        IsDrawn (turns script.now run.now) (R.stream rng.old) turn (R.stream rng.new))) }
+    ensures none { IfOk result (λ r. IfNone r (
+        (turns script.now run.now ≡ []) × (R.stream rng.new ≡ R.stream rng.old))) }
+{
+    let turns = turns(alloc, script, run)?;
+    if turns.is_empty() {
+        return Ok(None);
+    }
+    let place = below(rng, turns.len());
+    Ok(Some(turns[place]))
+}
+
+// The calls and replies of a whole schedule.
+fn sample<M: Engine, R: Rng>(
+    alloc: Global,
+    script: &Script,
+    machine: M,
+    rng: &mut R,
+) -> Result<Vec<Event>, EngineError>
+    requires new { M.calls machine ≡ 0 }
+    ensures { IfOk result (λ events.
+        IsSample script.now (fresh (M.flat machine)) (R.stream rng.old) events.items (R.stream rng.new)) }
+{
+    let mut run = Node::first(alloc, machine);
+    while let Some(turn) = draw(alloc, script, &run, rng)? {
+        run = run.make(turn.pid, &turn.call)?;
+    }
+    Ok(run.into_events())
+}
+
+// Appends one more run, of this number, to a text.
+fn put_sample<M: Engine, R: Rng>(
+    alloc: Global,
+    script: &Script,
+    machine: &M,
+    number: u64,
+    rng: &mut R,
+    text: &mut Vec<u8>,
+) -> Result<(), EngineError>
+    requires new { M.calls machine.now ≡ 0 }
+    ensures { OnOk result (IsPutSample script.now (fresh (M.flat machine.now)) number
+        (R.stream rng.old) (R.stream rng.new) text.old.items text.new.items) }
+{
+    let copy = machine.snapshot()?;
+    let events = sample(alloc, script, copy, rng)?;
+    put_run(alloc, text, number, &events)?;
+    Ok(())
+}
+
+/// The text of so many runs of a script from a machine that has answered no call yet. In each run the generator draws the
+/// process that goes on among those that can, until none can. The same generator gives the same runs.
+pub fn samples<M: Engine, R: Rng>(
+    alloc: Global,
+    script: &Script,
+    machine: &M,
+    count: u64,
+    rng: &mut R,
+) -> Result<Vec<u8>, EngineError>
+    requires new { M.calls machine.now ≡ 0 }
+    ensures { IfOk result (λ text. AreSamples script.now (fresh (M.flat machine.now)) count
+        (R.stream rng.old) (R.stream rng.new) text.items) }
+{
+    let mut text = Vec::new(alloc);
+    for done in 0..count {
+        put_sample(alloc, script, machine, done + 1, rng, &mut text)?;
+    }
+    Ok(text)
+}
