@@ -10,10 +10,12 @@
 
 enum { PID = 1, PAGE = 4096, FRAMES = 64, SLOTS = 1 << 20, MOST_BYTES = 64 * PAGE };
 #define FIRST UINT64_C(0x10000000)
+#define CHOSEN UINT64_C(0x40000000)   /* where the choice of an address begins */
 
 static nog_machine machine = NOG_MACHINE_INITIALIZER;
 static uint32_t refused;
 static int32_t usual;   /* a segment of two pages */
+static int32_t large;   /* one of sixteen */
 static uint64_t at;     /* where it is attached */
 static size_t length;   /* of an access, in bytes */
 static uint8_t bytes[MOST_BYTES], others[MOST_BYTES];
@@ -64,7 +66,15 @@ static void fill_pieces(uint64_t size) {
     at = attach(usual, UINT64_C(0x700000000000));
 }
 
-/* the same, and room for a child that gets them all */
+/* the same, but where addresses are chosen, with a gap of two pages below each */
+static void fill_gaps(uint64_t size) {
+    start(65530, 1);
+    large = make(16);
+    int32_t other = make(1);
+    for (uint64_t i = 0; i < size - 2; i++) attach(other, CHOSEN + (3 * i + 2) * PAGE);
+}
+
+/* pieces of another segment, and room for a child that gets them all */
 static void fill_lives(uint64_t size) {
     start(65530, 2);
     int32_t other = make(1);
@@ -128,6 +138,12 @@ static void stat_one(void) {
 static void attach_and_detach(void) { took(nog_detach(&machine, PID, attach(usual, UINT64_C(0x500000000000)))); }
 
 static void attach_chosen(void) { took(nog_detach(&machine, PID, attach(usual, 0))); }
+
+static void attach_in_turn(void) {
+    uint64_t low = attach(usual, 0), high = attach(large, 0);
+    took(nog_detach(&machine, PID, low));
+    took(nog_detach(&machine, PID, high));
+}
 
 static void load_one(void) {
     uint8_t bytes[8];
@@ -205,7 +221,8 @@ static void live(void) {
 static const struct { const char *name; void (*fill)(uint64_t size); void (*call)(void); } kinds[] = {
     {"segments-get", fill_segments, get_and_remove}, {"segments-stat", fill_segments, stat_one},
     {"segments-attach", fill_segments, attach_and_detach}, {"pieces-attach", fill_pieces, attach_and_detach},
-    {"pieces-chosen", fill_pieces, attach_chosen}, {"pieces-load", fill_pieces, load_one},
+    {"pieces-chosen", fill_pieces, attach_chosen}, {"pieces-turns", fill_gaps, attach_in_turn},
+    {"pieces-load", fill_pieces, load_one},
     {"pieces-protect", fill_pieces, protect_and_back}, {"pieces-unmap", fill_pieces, unmap_nothing},
     {"pieces-live", fill_lives, live},
     {"processes-load", fill_processes, load_one}, {"processes-attach", fill_processes, attach_and_detach},
