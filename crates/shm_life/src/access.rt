@@ -14,13 +14,12 @@ ghost use Rattle.shm_life.specs.Accessing.{sole_resident, IsBusError};
 ghost use Rattle.shm_life.specs.MachineView.{Served, done, replied, reply_in};
 
 use crate::kernel::Kernel;
-use shm_attach::Caller;
+use shm_attach::{Caller, Spans};
 use shm_base::{AccessLen, Chunk, Errno, LONGEST_ACCESS, Reply, Span};
 use shm_fault::Touched;
 use shm_pager::Pager;
 
-// The span, where there is one and its frame is known. No page has to come in then, and the compiler leaves out
-// of such an access what that would take.
+// The span, where there is one and its frame is known: then no page has to come in.
 #[inline(always)]
 fn resident(spans: &[Span]) -> Option<Span>
     ensures { result ≡ sole_resident spans.now }
@@ -56,6 +55,20 @@ impl<P: Pager> Kernel<P> {
         Ok(())
     }
 
+    // As [`Kernel::load_spans`], where pages may have to come in. Other accesses are kept free of that.
+    #[inline(never)]
+    fn load_paged(&mut self, spans: Spans, out: &mut [u8]) -> Result<(), Errno>
+        requires spans { IsAccess (SpanFits self.old.flat.table) spans (length out.old) }
+        requires frames { NameFrames self.old.memory spans }
+        ensures bytes { OnOk result (out.new ≡ loaded self.old.flat.table (span_places false spans)) }
+        ensures kept { OnErr result (out.new ≡ out.old) }
+        ensures same { self.new.flat ≡ self.old.flat }
+        ensures keeps { KeepsMemory self.old.memory self.new.memory }
+        ensures err { IfErr result (λ e. IsBusError e self.old.memory self.new.memory) }
+    {
+        self.load_spans(spans.as_slice(), out)
+    }
+
     #[tactic(auto, using(crate::proofs::Running::kept_refl))]
     /// Reads bytes; Sigsegv where an address has no piece, Sigbus where a pager failed. Where it is refused,
     /// the buffer is as it was.
@@ -73,7 +86,7 @@ impl<P: Pager> Kernel<P> {
         };
         match resident(spans.as_slice()) {
             Some(span) => self.load_spans(&[span], out),
-            None => self.load_spans(spans.as_slice(), out),
+            None => self.load_paged(spans, out),
         }
     }
 
@@ -118,6 +131,20 @@ impl<P: Pager> Kernel<P> {
         Ok(())
     }
 
+    // As [`Kernel::store_spans`], where pages may have to come in. Other accesses are kept free of that.
+    #[inline(never)]
+    fn store_paged(&mut self, spans: Spans, bytes: &[u8]) -> Result<(), Errno>
+        requires spans { IsAccess (SpanFits self.old.flat.table) spans (length bytes.now) }
+        requires frames { NameFrames self.old.memory spans }
+        ensures written { let after = stored self.old.flat.table (span_places false spans) bytes.now in
+            OnOk result (self.new.flat ≡ record self.old.flat { table = after }) }
+        ensures same { OnErr result (self.new.flat ≡ self.old.flat) }
+        ensures keeps { KeepsMemory self.old.memory self.new.memory }
+        ensures err { IfErr result (λ e. IsBusError e self.old.memory self.new.memory) }
+    {
+        self.store_spans(spans.as_slice(), bytes)
+    }
+
     #[tactic(auto, using(crate::proofs::Running::kept_refl))]
     /// Replaces bytes; Sigsegv where an address has no piece, or one that is read-only, Sigbus where a pager
     /// failed, and then no byte has changed.
@@ -133,7 +160,7 @@ impl<P: Pager> Kernel<P> {
         };
         match resident(spans.as_slice()) {
             Some(span) => self.store_spans(&[span], bytes),
-            None => self.store_spans(spans.as_slice(), bytes),
+            None => self.store_paged(spans, bytes),
         }
     }
 
@@ -160,6 +187,21 @@ impl<P: Pager> Kernel<P> {
         Ok(number)
     }
 
+    // As [`Kernel::add_spans`], where pages may have to come in. Other accesses are kept free of that.
+    #[inline(never)]
+    fn add_paged(&mut self, spans: Spans, add: u64) -> Result<u64, Errno>
+        requires spans { IsAccess (SpanFits self.old.flat.table) spans 8 }
+        requires frames { NameFrames self.old.memory spans }
+        ensures number { IfOk result (λ n. n ≡ loaded_number self.old.flat.table (span_places false spans)) }
+        ensures written { let after = added_at self.old.flat.table (span_places false spans) add in
+            OnOk result (self.new.flat ≡ record self.old.flat { table = after }) }
+        ensures same { OnErr result (self.new.flat ≡ self.old.flat) }
+        ensures keeps { KeepsMemory self.old.memory self.new.memory }
+        ensures err { IfErr result (λ e. IsBusError e self.old.memory self.new.memory) }
+    {
+        self.add_spans(spans.as_slice(), add)
+    }
+
     #[tactic(auto, using(crate::proofs::Running::kept_refl))]
     /// Adds to eight little-endian bytes modulo 2^64, and answers the number that stood there. It is refused
     /// as a store is.
@@ -174,7 +216,7 @@ impl<P: Pager> Kernel<P> {
         };
         match resident(spans.as_slice()) {
             Some(span) => self.add_spans(&[span], add),
-            None => self.add_spans(spans.as_slice(), add),
+            None => self.add_paged(spans, add),
         }
     }
 }

@@ -4,21 +4,21 @@ ghost use Rattle.shm_machine.specs.Stretched.{CopiedTo};
 
 use crate::machine::Machine;
 use crate::stretch::Progress;
-use shm_base::{HostMemory, PAGE_BYTES};
+use shm_base::HostMemory;
 use std::alloc::{AllocError, Global};
 
-// What a buffer is filled with.
-const ZEROS: [u8; PAGE_BYTES] = [0; PAGE_BYTES];
+// What a buffer is filled with: so few at a time that they are put down by vectors, and not byte by byte.
+const ZEROS: [u8; 1024] = [0; 1024];
 
-// A buffer of zeros. They are copied page by page: `resize` would write byte by byte.
+// A buffer of zeros.
 fn zeros(alloc: Global, len: usize) -> Result<Vec<u8>, AllocError>
     ensures { IfOk result (λ v. v.items ≡ replicate len 0) }
 {
-    let page = &ZEROS;
+    let some = &ZEROS;
     let mut bytes = Vec::with_capacity(alloc, len)?;
     while bytes.len() < len {
-        let more = (len - bytes.len()).min(PAGE_BYTES);
-        bytes.extend_from_slice(&page[..more])?;
+        let more = (len - bytes.len()).min(some.len());
+        bytes.extend_from_slice(&some[..more])?;
     }
     Ok(bytes)
 }

@@ -21,9 +21,9 @@ load_spans-requires-clause-spans g c =
     let same : c.in-Ok.spans ≡ c.in-Some.span ∷ [] = sole-is c.in-Ok.spans c.in-Some.span (rw (c.as_slice.ensures.value, c.in-Some.is) at (sym c.resident.ensures)) in
     rw (← c.self.view_is, ← same) (there g (goal.at.load_spans-requires-clause-spans g c).After-resident)
 
-pub load_spans-requires-in-None-clause-spans : goal.load_spans-requires-in-None-clause-spans
-load_spans-requires-in-None-clause-spans g c =
-    rw (← c.self.view_is, c.as_slice-in-None.ensures.value) (there g (goal.at.load_spans-requires-in-None-clause-spans g c).After-resident)
+pub load_paged-requires-clause-spans : goal.load_paged-requires-clause-spans
+load_paged-requires-clause-spans g c =
+    rw (← c.self.view_is) (there g (goal.at.load_paged-requires-clause-spans g c).After-resident)
 
 pub returns-in-Some-clause-served : goal.returns-in-Some-clause-served
 returns-in-Some-clause-served g c = λ n.
@@ -34,6 +34,6 @@ returns-in-Some-clause-served g c = λ n.
 
 pub returns-in-None-clause-served : goal.returns-in-None-clause-served
 returns-in-None-clause-served g c = λ n.
-    let e = c.load_spans-in-None.ensures in
-    loads c.args.self.now c.load_spans-in-None.new.self n c.args.caller.now c.requires.caller c.args.addr c.in-Ok.spans e.keeps (length c.args.out.now) c.load_spans-in-None.new.out c.load_spans-in-None.result
-    (seen g (goal.at.returns-in-None-clause-served g c).After-resident) (rw c.as_slice-in-None.ensures.value at e.bytes) e.same e.err
+    let e = c.load_paged.ensures in
+    loads c.args.self.now c.load_paged.new.self n c.args.caller.now c.requires.caller c.args.addr c.in-Ok.spans e.keeps (length c.args.out.now) c.load_paged.new.out c.load_paged.result
+    (seen g (goal.at.returns-in-None-clause-served g c).After-resident) e.bytes e.same e.err

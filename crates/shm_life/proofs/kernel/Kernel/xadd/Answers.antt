@@ -21,9 +21,9 @@ add_spans-requires-clause-spans g c =
     let same : c.in-Ok.spans ≡ c.in-Some.span ∷ [] = sole-is c.in-Ok.spans c.in-Some.span (rw (c.as_slice.ensures.value, c.in-Some.is) at (sym c.resident.ensures)) in
     rw (← c.self.view_is, ← same) (there g (goal.at.add_spans-requires-clause-spans g c).After-resident)
 
-pub add_spans-requires-in-None-clause-spans : goal.add_spans-requires-in-None-clause-spans
-add_spans-requires-in-None-clause-spans g c =
-    rw (← c.self.view_is, c.as_slice-in-None.ensures.value) (there g (goal.at.add_spans-requires-in-None-clause-spans g c).After-resident)
+pub add_paged-requires-clause-spans : goal.add_paged-requires-clause-spans
+add_paged-requires-clause-spans g c =
+    rw (← c.self.view_is) (there g (goal.at.add_paged-requires-clause-spans g c).After-resident)
 
 pub returns-in-Some : goal.returns-in-Some
 returns-in-Some g c = λ n.
@@ -34,6 +34,6 @@ returns-in-Some g c = λ n.
 
 pub returns-in-None : goal.returns-in-None
 returns-in-None g c = λ n.
-    let e = c.add_spans-in-None.ensures in
-    adds c.args.self.now c.add_spans-in-None.new.self n c.args.caller.now c.requires c.args.addr c.in-Ok.spans e.keeps c.args.add c.add_spans-in-None.result
-    (seen g (goal.at.returns-in-None g c).After-resident) (rw c.as_slice-in-None.ensures.value at e.number) (rw c.as_slice-in-None.ensures.value at e.written) e.same e.err
+    let e = c.add_paged.ensures in
+    adds c.args.self.now c.add_paged.new.self n c.args.caller.now c.requires c.args.addr c.in-Ok.spans e.keeps c.args.add c.add_paged.result
+    (seen g (goal.at.returns-in-None g c).After-resident) e.number e.written e.same e.err
