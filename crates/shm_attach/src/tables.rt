@@ -206,6 +206,7 @@ impl Tables {
     }
 
     /// Notes which pages moved, one after another, each in the table of its segment. It takes no memory.
+    #[inline(always)]
     pub(crate) fn note(&mut self, moves: &[PageMove])
         requires { OneTableEach self.old }
         ensures counts { KeepCounts self.old self.new }
