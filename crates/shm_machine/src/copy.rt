@@ -7,18 +7,18 @@ use crate::stretch::Progress;
 use shm_base::HostMemory;
 use std::alloc::{AllocError, Global};
 
-// What a buffer is filled with: so few at a time that they are put down by vectors, and not byte by byte.
+// A buffer is filled with these, a part at a time.
 const ZEROS: [u8; 1024] = [0; 1024];
 
 // A buffer of zeros.
 fn zeros(alloc: Global, len: usize) -> Result<Vec<u8>, AllocError>
     ensures { IfOk result (λ v. v.items ≡ replicate len 0) }
 {
-    let some = &ZEROS;
+    let part = &ZEROS;
     let mut bytes = Vec::with_capacity(alloc, len)?;
     while bytes.len() < len {
-        let more = (len - bytes.len()).min(some.len());
-        bytes.extend_from_slice(&some[..more])?;
+        let more = (len - bytes.len()).min(part.len());
+        bytes.extend_from_slice(&part[..more])?;
     }
     Ok(bytes)
 }

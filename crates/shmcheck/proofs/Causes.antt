@@ -3,6 +3,9 @@ use Rattle.std.specs.Prelude.{◌≡◌, ℕ, Bool, true, false, List}
 use Rattle.std.proofs.Common.{subst, sym}
 use Rattle.shm_base.specs.State.{Machine}
 use Rattle.shm_text.specs.Script.{ScriptView}
+use Rattle.rand_core.specs.Stream.{Stream}
+use Rattle.shm_outcomes.specs.Sampling.{AreSamples}
+use Rattle.shm_outcomes.specs.declared.engine.EngineError.{EngineError}
 use Rattle.shm_outcomes.specs.declared.engine.EngineError.TheVariants as engines
 use Rattle.shm_outcomes.specs.declared.search.SearchError.{SearchError}
 use Rattle.shm_outcomes.specs.declared.search.SearchError.TheVariants.{Engine, Bound}
@@ -11,8 +14,9 @@ use Rattle.shm_outcomes.specs.Schedules.{Run, fresh, start}
 use Rattle.shm_outcomes.specs.Search.{AreOutcomes, Finding}
 use Rattle.shm_outcomes.specs.Text.{outcomes_text}
 use Rattle.shmcheck.specs.Printed.{IsTextOf}
+use Rattle.shmcheck.specs.Sampled.{IsSamplesText, answers_from}
 use Rattle.shm_outcomes.specs.Merging.{IsCause}
-use Rattle.shmcheck.specs.Stop.{IsCauseIn, stop_of}
+use Rattle.shmcheck.specs.Stop.{IsCauseIn, engine_stop, stop_of}
 
 from-first : (script : ScriptView) (areas : List ℕ) (most : ℕ) (error : SearchError) → IsCause script (start script areas) most error → IsCauseIn (stop_of error most) areas script
 from-first script areas most (Engine engines.HostMemory) h = tt
@@ -24,6 +28,18 @@ pub cause_stop :
     → machine ≡ (start script areas).machine → IsCause script (fresh machine) most error → IsCauseIn (stop_of error most) areas script
 cause_stop script areas machine most error is h =
     from-first script areas most error (subst (λ (m : Machine). IsCause script (fresh m) most error) is h)
+
+-- a machine without a reply is no bound
+pub engine_cause : (script : ScriptView) (areas : List ℕ) (error : EngineError) → IsCauseIn (engine_stop error) areas script
+engine_cause script areas engines.HostMemory = tt
+engine_cause script areas engines.PagerFailed = tt
+
+-- the text of runs from the machine as a script opens it
+pub sampled :
+    (script : ScriptView) (areas : List ℕ) (machine : Machine) (seed runs : ℕ) (rest : Stream) (text : List ℕ)
+    → machine ≡ (start script areas).machine → AreSamples script (fresh machine) runs (answers_from seed) rest text → IsSamplesText seed runs script areas text
+sampled script areas machine seed runs rest text at are =
+    (rest, subst (λ (m : Machine). AreSamples script (fresh m) runs (answers_from seed) rest text) at are)
 
 -- what is listed without identifiers and addresses
 pub masked-text :

@@ -7,15 +7,15 @@ use Rattle.shm_outcomes.specs.Logs.{Entry}
 use Rattle.shm_outcomes.specs.Reading.{entries_of, log_of}
 use Rattle.shm_outcomes.specs.Report.{verdict_text}
 use Rattle.shm_outcomes.specs.Schedules.{start}
-use Rattle.shm_outcomes.specs.declared.engine.EngineError.TheVariants as engines
 use Rattle.shm_outcomes.specs.declared.fault.LogRefused.{LogRefused}
 use Rattle.shm_outcomes.specs.declared.fault.LogRefused.TheVariants as refusals
 use Rattle.shm_outcomes.specs.declared.search.SearchError.{SearchError}
 use Rattle.shm_outcomes.specs.declared.search.SearchError.TheVariants as searches
 use Rattle.shm_outcomes.specs.declared.verdict.Verdict.{Verdict}
 use Rattle.shm_outcomes.specs.declared.verdict.Verdict.TheVariants.{Legal, Illegal}
+use Rattle.shmcheck.specs.Stop.{engine_stop}
 use Rattle.shmcheck.specs.declared.stop.Stop.{Stop}
-use Rattle.shmcheck.specs.declared.stop.Stop.TheVariants.{Fault, PagerFailed, BadLog, Doubt}
+use Rattle.shmcheck.specs.declared.stop.Stop.TheVariants.{Fault, BadLog, Doubt}
 
 abbrev pub is_legal : Verdict → Bool
 is_legal (Legal events) = true
@@ -38,8 +38,7 @@ log_stop refusals.HostMemory = Fault HostMemory
 
 -- why there is no verdict, as a stop
 abbrev pub doubt_of : SearchError → ℕ → Stop
-doubt_of (searches.Engine engines.HostMemory) most = Fault HostMemory
-doubt_of (searches.Engine engines.PagerFailed) most = PagerFailed
+doubt_of (searches.Engine e) most = engine_stop e
 doubt_of searches.Bound most = Doubt most
 
 -- the log's first fault; or the log has more beginnings than the bound, no two of them alike

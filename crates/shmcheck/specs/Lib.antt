@@ -2,3 +2,4 @@ pub mod Printed
 pub mod Stop
 pub mod Judged
 pub mod Ruled
+pub mod Sampled

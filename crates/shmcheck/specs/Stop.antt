@@ -10,6 +10,7 @@ use Rattle.shm_text.specs.Script.{ScriptView}
 use Rattle.shm_program.specs.Faults.{fault_text, exit_status}
 use Rattle.shm_program.specs.Runs.{IsCause, IsSilent}
 use Rattle.shm_program.specs.declared.fault.RunFault.TheVariants.{HostMemory}
+use Rattle.shm_outcomes.specs.declared.engine.EngineError.{EngineError}
 use Rattle.shm_outcomes.specs.declared.engine.EngineError.TheVariants as engines
 use Rattle.shm_outcomes.specs.declared.search.SearchError.{SearchError}
 use Rattle.shm_outcomes.specs.declared.search.SearchError.TheVariants.{Engine}
@@ -26,7 +27,7 @@ kind_name BadLine = codes "bad line"
 kind_name UnknownProcess = codes "unknown process"
 
 abbrev pub stop_text : Stop → List ℕ
-stop_text Usage = codes "usage: shmcheck outcomes|judge LOG [--rules profile|linux] [--at-most N] [--masked]"
+stop_text Usage = codes "usage: shmcheck outcomes|judge LOG|sample SEED [--rules profile|linux] [--at-most N] [--masked] [--runs N]"
 stop_text (Fault fault) = fault_text fault
 stop_text PagerFailed = codes "a pager failed"
 stop_text (Bound most) = codes "undecided: more than " ++ (decimal most ++ codes " runs, no two of them alike")
@@ -49,10 +50,14 @@ abbrev pub io_stop : ErrorKind → Stop
 io_stop OutOfMemory = Fault HostMemory
 io_stop _ = Usage
 
+-- why a machine gives no reply, as a stop
+abbrev pub engine_stop : EngineError → Stop
+engine_stop engines.HostMemory = Fault HostMemory
+engine_stop engines.PagerFailed = PagerFailed
+
 -- why a search has no answer, as a stop
 abbrev pub stop_of : SearchError → ℕ → Stop
-stop_of (Engine engines.HostMemory) most = Fault HostMemory
-stop_of (Engine engines.PagerFailed) most = PagerFailed
+stop_of (Engine e) most = engine_stop e
 stop_of searches.Bound most = Bound most
 
 -- at the bound the script has more runs, of which no two are alike

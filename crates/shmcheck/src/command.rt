@@ -17,11 +17,20 @@ pub(crate) struct Options {
     pub masked: bool,
 }
 
-/// What the program is asked for: every outcome, or a verdict on the log in a file.
+/// Which runs are drawn: by which seed, how many, and which rules the machine has.
+#[derive(Clone, Copy)]
+pub(crate) struct Draws {
+    pub seed: u64,
+    pub runs: u64,
+    pub rules: RuleSet,
+}
+
+/// What the program is asked for: every outcome, a verdict on the log in a file, or runs that are drawn.
 #[derive(Drop)]
 pub(crate) enum Asked {
     Outcomes(Options),
     Judge(String, Options),
+    Sample(Draws),
 }
 
 /// What the command line asks for.
@@ -39,6 +48,7 @@ fn read_words(alloc: Global, words: &[String]) -> Result<Asked, Stop> {
     match words[1].as_str() {
         "outcomes" => Ok(Asked::Outcomes(read_options(&words[2..])?)),
         "judge" => read_judge(alloc, &words[2..]),
+        "sample" => Ok(Asked::Sample(read_draws(&words[2..])?)),
         _ => Err(Stop::Usage),
     }
 }
@@ -53,6 +63,41 @@ fn read_judge(alloc: Global, words: &[String]) -> Result<Asked, Stop> {
     }
     let log = String::from_str(alloc, log.as_str())?;
     Ok(Asked::Judge(log, options))
+}
+
+// A seed, then options in any order; of one that comes twice the last counts.
+fn read_draws(words: &[String]) -> Result<Draws, Stop> {
+    let Some(seed) = words.first() else {
+        return Err(Stop::Usage);
+    };
+    let mut draws = Draws {
+        seed: read_number(seed.as_str())?,
+        runs: 1,
+        rules: RuleSet::Profile,
+    };
+    let mut place = 1;
+    while place < words.len() {
+        let Some(value) = words.get(place + 1) else {
+            return Err(Stop::Usage);
+        };
+        draws = with_draw(draws, words[place].as_str(), value.as_str())?;
+        place += 2;
+    }
+    Ok(draws)
+}
+
+fn with_draw(draws: Draws, name: &str, value: &str) -> Result<Draws, Stop> {
+    match name {
+        "--runs" => {
+            let runs = read_number(value)?;
+            Ok(Draws { runs, ..draws })
+        }
+        "--rules" => {
+            let rules = read_rules(value)?;
+            Ok(Draws { rules, ..draws })
+        }
+        _ => Err(Stop::Usage),
+    }
 }
 
 // Options in any order; of one that comes twice the last counts.

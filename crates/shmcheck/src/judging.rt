@@ -10,8 +10,7 @@ use crate::listing::refused;
 use crate::ruling::put_rules;
 use crate::stop::Stop;
 use shm_outcomes::{
-    EngineError, LogRefused, SearchError, Simulated, Verdict, judge_log, log_of, read_log,
-    verdict_text,
+    LogRefused, SearchError, Simulated, Verdict, judge_log, log_of, read_log, verdict_text,
 };
 use shm_pager::ClonePager;
 use shm_program::{RunFault, whole_script, write_output};
@@ -101,8 +100,7 @@ fn doubted(error: SearchError, most: u64) -> Stop
     ensures { result ≡ doubt_of error most }
 {
     match error {
-        SearchError::Engine(EngineError::HostMemory) => Stop::Fault(RunFault::HostMemory),
-        SearchError::Engine(EngineError::PagerFailed) => Stop::PagerFailed,
+        SearchError::Engine(error) => Stop::from(error),
         SearchError::Bound => Stop::Doubt(most),
     }
 }

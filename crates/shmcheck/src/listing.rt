@@ -14,9 +14,7 @@ use crate::command::Options;
 use crate::ruling::put_rules;
 use crate::stop::Stop;
 use shm_life::StartError;
-use shm_outcomes::{
-    EngineError, Finding, SearchError, Simulated, masked_outcomes, outcomes, outcomes_text,
-};
+use shm_outcomes::{Finding, SearchError, Simulated, masked_outcomes, outcomes, outcomes_text};
 use shm_pager::ClonePager;
 use shm_program::{RunFault, whole_script, write_output};
 use shm_text::Script;
@@ -107,8 +105,7 @@ pub(crate) fn stopped(error: SearchError, most: u64) -> Stop
     ensures { result ≡ stop_of error most }
 {
     match error {
-        SearchError::Engine(EngineError::HostMemory) => Stop::Fault(RunFault::HostMemory),
-        SearchError::Engine(EngineError::PagerFailed) => Stop::PagerFailed,
+        SearchError::Engine(error) => Stop::from(error),
         SearchError::Bound => Stop::Bound(most),
     }
 }

@@ -1,16 +1,18 @@
 //! The checker: a script of processes and calls goes in on standard input. Every outcome that it can have comes out, or a
-//! verdict on a log of what a system answered.
+//! verdict on a log of what a system answered, or runs that are drawn.
 #![tactic(auto)]
 
 mod command;
 mod judging;
 mod listing;
 mod ruling;
+mod sampling;
 mod stop;
 
-use command::{Asked, Options, read_command};
+use command::{Asked, Draws, Options, read_command};
 use judging::judge_script;
 use listing::list_outcomes;
+use sampling::sample_runs;
 use shm_program::{SwapWord, areas_of};
 use std::alloc::Global;
 use std::process::ExitCode;
@@ -58,11 +60,20 @@ fn list<R: Input + Print + AllocGlobal>(
     Ok(0)
 }
 
+// Writes runs that are drawn.
+fn sample<R: Input + Print + AllocGlobal>(rt: &R, alloc: Global, draws: Draws) -> Result<u8, Stop> {
+    let pagers = areas_of(alloc, &[AREA])?;
+    let (mut reader, mut writer) = (rt.reader(), io::writer(rt));
+    sample_runs(alloc, &mut reader, &mut writer, pagers, draws)?;
+    Ok(0)
+}
+
 fn run<R: Env + Files + Input + Print + AllocGlobal>(rt: &R) -> Result<u8, Stop> {
     let alloc = rt.alloc();
     match read_command(rt, alloc)? {
         Asked::Outcomes(options) => list(rt, alloc, options),
         Asked::Judge(path, options) => judge(rt, alloc, path.as_str(), options),
+        Asked::Sample(draws) => sample(rt, alloc, draws),
     }
 }
 

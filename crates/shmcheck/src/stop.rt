@@ -3,10 +3,10 @@ ghost use Rattle.std.specs.Prelude.{◌≡◌, Some};
 ghost use Rattle.std.specs.IoError.{error_kind};
 ghost use Rattle.shm_program.specs.declared.fault.RunFault.TheVariants as faults;
 ghost use Rattle.shmcheck.specs.declared.stop.Stop.TheVariants as stops;
-ghost use Rattle.shmcheck.specs.Stop.{kind_name, stop_text, stop_status, io_stop};
+ghost use Rattle.shmcheck.specs.Stop.{engine_stop, kind_name, stop_text, stop_status, io_stop};
 
 use shm_base::HostMemory;
-use shm_outcomes::{LogFault, LogFaultKind};
+use shm_outcomes::{EngineError, LogFault, LogFaultKind};
 use shm_program::RunFault;
 use std::alloc::{AllocError, AllocFailed};
 use std::{fmt, io};
@@ -57,7 +57,7 @@ impl fmt::Display for Stop {
     fn fmt<W: fmt::Write>(&self, f: &mut fmt::Formatter<W>) -> fmt::Result {
         match self {
             Stop::Usage => f.write_str(
-                "usage: shmcheck outcomes|judge LOG [--rules profile|linux] [--at-most N] [--masked]",
+                "usage: shmcheck outcomes|judge LOG|sample SEED [--rules profile|linux] [--at-most N] [--masked] [--runs N]",
             ),
             Stop::Fault(fault) => write!(f, "{fault}"),
             Stop::PagerFailed => f.write_str("a pager failed"),
@@ -95,6 +95,17 @@ impl<T: Drop> From<AllocFailed<T>> for Stop {
 
     fn from(_e: AllocFailed<T>) -> Stop {
         Stop::Fault(RunFault::HostMemory)
+    }
+}
+
+impl From<EngineError> for Stop {
+    ghost from_gives = { λ e r. r ≡ engine_stop e };
+
+    fn from(error: EngineError) -> Stop {
+        match error {
+            EngineError::HostMemory => Stop::Fault(RunFault::HostMemory),
+            EngineError::PagerFailed => Stop::PagerFailed,
+        }
     }
 }
 
