@@ -113,7 +113,7 @@ typedef struct nog_limits {
    The functions below say what the profile answers; docs/MACHINE.md has each rule. */
 enum nog_rule {
     NOG_REMOVED_IS_INVALID = 1,    /* NOG_EINVAL in place of NOG_EIDRM */
-    NOG_EXECUTE_IS_ASKED = 2,      /* nog_get of an existing segment: execute bits of the mode ask too, NOG_EACCES */
+    NOG_EXECUTE_IS_ASKED = 2,      /* nog_get of an existing segment: an execute bit of the mode needs execute permission */
     NOG_FORK_MARKS = 4,            /* nog_fork: the child's segments get an attach time, and the parent as last pid */
     NOG_REST_IS_ATTACHED = 8,      /* the rest of a cut piece, and a part with another protection, are attached again */
     NOG_END_IS_ENOMEM = 16,        /* nog_attach: NOG_ENOMEM for a free range that ends above 0x7ffffffff000 */
@@ -121,7 +121,7 @@ enum nog_rule {
     NOG_NO_LAST_USER = 64,         /* nog_set: NOG_EINVAL for user or group 2^32 - 1 */
     NOG_PIECES_ARE_ENOMEM = 128,   /* nog_attach: NOG_ENOMEM in place of NOG_EMFILE, even if a remap frees a piece */
     NOG_LOCKS_BY_USER = 256,       /* nog_lock: MEMLOCK is a limit of each user but 0; NOG_EPERM if it is 0 */
-    NOG_EXEC_IS_ASKED = 512,       /* nog_attach: NOG_EXEC asks for an execute bit, NOG_EACCES */
+    NOG_EXEC_IS_ASKED = 512,       /* nog_attach: NOG_EXEC needs execute permission, or else NOG_EACCES */
     NOG_HUGE_IS_REFUSED = 1024,    /* nog_get: NOG_EPERM for NOG_HUGETLB; user 0 and group 0: docs/MACHINE.md */
     NOG_LINUX = 2047               /* all of them */
 };
@@ -241,8 +241,8 @@ enum nog_key { NOG_PRIVATE = 0 };
 
 /* Opens a machine with 1 to 8 swap areas, numbered from 0 in their order, with a list of their reads and writes that
    fail, and with at most as many processes as the limits allow, children included. It reserves room for frames, pieces
-   and slots of NOG_SPARSE, and touches none of it. A handle that is open may be opened again: if that succeeds, the
-   machine before is closed, and otherwise it stays. The first of these that applies is answered:
+   and slots of NOG_SPARSE, and touches none of it. A handle that is open may be opened again: on success its
+   previous machine is closed, and otherwise it is kept. The first of these that applies is answered:
    NOG_BAD_SHMMAX to NOG_BAD_RULES: the first limit that is out of its range.
    NOG_OUT_OF_RANGE: a kind does not exist, a failure names an area or a side that does not exist, or its call is 0.
    NOG_BAD_AREAS, NOG_BAD_AREA_SIZE, NOG_BAD_PROCESSES, NOG_BAD_PID: the first of these.
@@ -335,8 +335,8 @@ uint32_t nog_add(nog_machine *machine, uint32_t pid, uint64_t addr, uint64_t add
 uint32_t nog_exchange(nog_machine *machine, uint32_t pid, uint64_t addr, const uint8_t *bytes, size_t len,
                       uint8_t *before, size_t before_len);
 
-/* As nog_exchange, but only if the bytes that are there are the expected ones. `before` shows those that were there in
-   both cases: they were exchanged exactly when `before` and `expected` are equal. All three lengths must be equal.
+/* As nog_exchange, but it replaces the bytes only if they are the expected ones. In both cases `before` gets the bytes
+   that were there: they were replaced exactly when `before` and `expected` are equal. All three lengths must be equal.
    NOG_OUT_OF_RANGE, NOG_SIGSEGV, NOG_SIGBUS: as nog_exchange. Bytes that may not be written are NOG_SIGSEGV in both
    cases. */
 uint32_t nog_compare_exchange(nog_machine *machine, uint32_t pid, uint64_t addr, const uint8_t *expected,
@@ -411,8 +411,8 @@ uint32_t nog_unmap(nog_machine *machine, uint32_t pid, uint64_t addr, uint64_t l
 uint32_t nog_protect(nog_machine *machine, uint32_t pid, uint64_t addr, uint64_t len, uint32_t is_writable);
 
 /* Puts a snapshot into `copy`: a machine with the same state and memory, whose swap areas have the same pages and the
-   same reads and writes still to fail. Each goes on without the other. A machine that was in `copy` is closed. `copy`
-   must be another handle than `machine`.
+   same reads and writes still to fail. The two are independent from then on. A machine that was in `copy` is closed.
+   `copy` must be another handle than `machine`.
    NOG_NO_MEMORY: the heap gave no memory, and neither handle changed. */
 uint32_t nog_snapshot(nog_machine *machine, nog_machine *copy);
 
@@ -429,7 +429,7 @@ uint32_t nog_read(nog_machine *machine, uint32_t pid, uint64_t addr, uint8_t *by
    were stored and stay stored, whatever the answer, also at NOG_SPENT. */
 uint32_t nog_write(nog_machine *machine, uint32_t pid, uint64_t addr, const uint8_t *bytes, size_t len, uint64_t *done);
 
-/* Copies `len` bytes of a process to a process, which may be the same. It does a nog_read of all of them, and then a
+/* Copies `len` bytes of one process to another, or to the same one. It does a nog_read of all of them, and then a
    nog_write of those that were read, so the ranges may overlap. The number of bytes written is put into `done`, except
    at NOG_CLOSED and NOG_NO_MEMORY. The answer is that of the write if it was refused, and otherwise that of the read.
    NOG_NO_MEMORY: the heap gave no memory for the bytes between the two, and nothing changed. */
@@ -458,7 +458,7 @@ uint32_t nog_segment_at(nog_machine *machine, uint32_t index, nog_segment *segme
    NOG_EACCES: no permission to read it. */
 uint32_t nog_stat_at(nog_machine *machine, uint32_t pid, uint32_t index, nog_segment *segment);
 
-/* Sums over all segments, and the highest index. It looks at each page that was ever touched. */
+/* Sums over all segments, and the highest index. Its time grows with the pages that were ever touched. */
 uint32_t nog_info(nog_machine *machine, nog_usage *usage);
 
 /* A piece of a live process, by its place among the process's pieces, from 0 on by rising address. The first of these
@@ -478,8 +478,8 @@ uint32_t nog_process_at(nog_machine *machine, uint32_t index, nog_process *proce
    NOG_OUT_OF_RANGE: there is no such byte. */
 uint32_t nog_failed_at(nog_machine *machine, uint32_t pid, uint64_t addr, uint64_t len, uint32_t is_write, uint64_t *at);
 
-/* Where an access of `len` bytes from `addr` on was NOG_SIGBUS. Asked right after it, this is the address of its first
-   byte whose page did not come in: the first one whose page is in no frame, if each byte before it is attached.
+/* Where an access of `len` bytes from `addr` on was NOG_SIGBUS. Asked right after the access, this is the address of
+   its first byte whose page is in no frame, if each byte before it is attached: that page did not come in.
    NOG_OUT_OF_RANGE: there is no such byte. */
 uint32_t nog_absent_at(nog_machine *machine, uint32_t pid, uint64_t addr, uint64_t len, uint64_t *at);
 

@@ -35,13 +35,13 @@ class Rules(enum.IntFlag):
     REMOVED_IS_INVALID = 1   # EINVAL instead of EIDRM
     EXECUTE_IS_ASKED = 2     # `get` of an existing segment: an execute bit of the mode needs execute permission, or EACCES
     FORK_MARKS = 4           # a fork sets the attach time and the last pid of what the child inherits
-    REST_IS_ATTACHED = 8     # what is left of a piece that is cut, and a part with another protection, is attached anew
+    REST_IS_ATTACHED = 8     # the rest of a piece that is cut, and a part with another protection, are attached again
     END_IS_ENOMEM = 16       # ENOMEM for a range that ends above 0x7ffffffff000
     LOW_IS_EPERM = 32        # EPERM below 0x10000 for all but user 0
     NO_LAST_USER = 64        # `set`: EINVAL for user or group 2^32 - 1
-    PIECES_ARE_ENOMEM = 128  # ENOMEM in place of EMFILE, and wherever as many pieces exist as are allowed
-    LOCKS_BY_USER = 256      # `memlock` is a limit of each user but 0, EPERM where it is 0
-    EXEC_IS_ASKED = 512      # `attach`: Flag.EXEC asks for an execute bit, EACCES
+    PIECES_ARE_ENOMEM = 128  # ENOMEM in place of EMFILE, and whenever a process has as many pieces as are allowed
+    LOCKS_BY_USER = 256      # `memlock` is a limit of each user but 0; EPERM if it is 0
+    EXEC_IS_ASKED = 512      # `attach`: Flag.EXEC needs execute permission, or EACCES
     HUGE_IS_REFUSED = 1024   # `get`: Flag.HUGETLB is EPERM, or ENOMEM for user 0 and group 0
     LINUX = 2047             # all of them
 
@@ -55,7 +55,7 @@ class Limits:
     shmmax: int = 65536      # the most bytes of a segment, 1 to 2^24, or to 2^40
     shmmni: int = 16         # the most segments, 1 to 4096, or to 32768
     shmall: int = 64         # the most pages of all segments together, 1 to 65536, or to 2^28
-    frames: int = 16         # page frames, 2 to 4096, or to 2^24: so many pages are in memory at once
+    frames: int = 16         # page frames, 2 to 4096, or to 2^24: the most pages in memory at once
     memlock: int = 1         # the most pages of locked segments, 0 to frames - 2
     most_pieces: int = 0     # the most pieces of a process, 1 to 65530
     most_processes: int = 0  # the most processes, 1 to 32768
@@ -65,7 +65,7 @@ class Limits:
 
 @dataclass(frozen=True)
 class Failure:
-    """The read or write of an area, number `call` from 1, that fails. `side` 1 is a mirror's right side."""
+    """A read or write of an area that fails: the one numbered `call`, from 1. `side` 1 is a mirror's right side."""
     call: int
     is_write: bool = False
     side: int = 0
@@ -161,8 +161,8 @@ class Usage:
     used_ids: int  # segments, including those marked for removal
     pages: int     # pages of all segments; a page that was never touched has no frame and no slot
     resident: int  # pages in frames
-    swapped: int   # pages in slots alone
-    highest: int   # the highest index that a segment holds, 0 where there is none
+    swapped: int   # pages only in slots
+    highest: int   # the highest index that a segment holds, 0 if there is none
 
 
 @dataclass(frozen=True)
@@ -177,7 +177,7 @@ class Piece:
 
 
 class State(enum.IntEnum):
-    """What a process is, by the header's numbers."""
+    """The state of a process, with the header's numbers."""
     UNBORN = 0  # a child that a fork may begin
     LIVE = 1
     ENDED = 2
@@ -341,7 +341,7 @@ class Machine:
 
     def compare_exchange(self, pid: int, addr: int, expected: Buffer, data: Buffer) -> bytes:
         """Like `exchange`, but replaces the bytes only if they are the expected ones. Returns the bytes that were there before: they
-        were replaced exactly if they are equal to the expected ones."""
+        were replaced exactly when they are equal to the expected ones."""
         before = (c_uint8 * max(1, len(bytes(data))))()
         room, length = _room(data)
         wanted, size = _room(expected)
@@ -517,7 +517,7 @@ class Machine:
         return at.value if self._has("nog_absent_at", *operands, byref(at)) else None
 
     def _has(self, name: str, *operands: Any) -> bool:
-        """Whether the reader found an entry."""
+        """Whether the library found an entry."""
         try:
             self._call(name, *operands)
         except OutOfRange:

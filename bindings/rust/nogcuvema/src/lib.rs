@@ -52,7 +52,7 @@ pub mod rules {
     pub const EXECUTE_IS_ASKED: u64 = 2;
     /// A fork sets the attach time and the last pid of each segment that the child inherits.
     pub const FORK_MARKS: u64 = 4;
-    /// The rest of a piece that is cut, and a part with another protection, is attached anew.
+    /// The rest of a piece that is cut, and a part with another protection, are attached again.
     pub const REST_IS_ATTACHED: u64 = 8;
     /// [`attach`](crate::Machine::attach): ENOMEM for a range that ends above `0x7ffffffff000`.
     pub const END_IS_ENOMEM: u64 = 16;
@@ -140,7 +140,7 @@ impl Errno {
     pub fn text(self) -> String {
         let mut bytes = [0_u8; 128];
         let mut len = 0;
-        // SAFETY: the buffer has the length that is handed in, and `len` is a place for a number.
+        // SAFETY: the buffer has the length that is passed, and `len` is a place for a number.
         match unsafe { raw::nog_text(self.0, bytes.as_mut_ptr(), bytes.len(), &mut len) } {
             0 => String::from_utf8_lossy(&bytes[..len.min(bytes.len() - 1)]).into_owned(),
             _ => format!("code {}", self.0),
@@ -182,7 +182,7 @@ pub struct Limits {
     pub shmmni: u64,
     /// The most pages of all segments together, 1 to 65536, or to 2^28.
     pub shmall: u64,
-    /// Page frames, 2 to 4096, or to 2^24.
+    /// Page frames, 2 to 4096, or to 2^24: the most pages in memory at once.
     pub frames: u64,
     /// The most pages of locked segments, 0 to `frames` - 2.
     pub memlock: u64,
@@ -339,7 +339,7 @@ pub struct Stopped {
 
 impl fmt::Display for Stopped {
     fn fmt(&self, out: &mut fmt::Formatter<'_>) -> fmt::Result {
-        write!(out, "{} behind {} bytes", self.errno, self.done)
+        write!(out, "{} after {} bytes", self.errno, self.done)
     }
 }
 
@@ -371,7 +371,7 @@ fn stopped(code: u32, done_bytes: u64) -> Result<(), Stopped> {
 }
 
 // SAFETY of each call below: the handle is open and borrowed for writing, every pointer is to a place or a slice that lives
-// through the call, with the slice's length beside it, and no two overlap.
+// through the call, with the slice's length next to it, and no two overlap.
 impl Machine {
     /// Opens a machine with 1 to 8 swap areas. Its processes are declared here, children included.
     ///
