@@ -16,21 +16,21 @@ pub record IsSame (x y : Segment) : Type 0 where
   pub cuid : y.perm.cuid ≡ x.perm.cuid
   pub cgid : y.perm.cgid ≡ x.perm.cgid
 
--- what an identifier names at one time it names later, until it is destroyed, and then it stays removed
+-- what an identifier names at one time it names later, until that is destroyed; from then on it is removed
 pub record KeepsNames (s later : Machine) : Type 0 where
   pub stands :
       (id : ℕ) (x : Segment) → Stands s id x
       → ((y : Segment) × Stands later id y × IsSame x y) ⊎ IsGone later id
   pub gone : (id : ℕ) → IsGone s id → IsGone later id
 
--- what an identifier names after a move it named before, or it was never issued
+-- an identifier that names a segment after an event named it before, or was never issued before
 pub record NamesAnew (s : Machine) (e : Event) (t : Machine) : Type 0 where
   pub new :
       (id : ℕ) (y : Segment) → Stands t id y
       → ((x : Segment) × Stands s id x × IsSame x y) ⊎ (look s.table (pos id) ≡ Invalid)
 
--- the event made the segment: a shmget for its size, of its creating process, that was answered with its
--- identifier, which was never issued; and the process had the user and group of its creator
+-- the event created the segment: a shmget for its size, by its creating process, whose answer was its
+-- identifier, which was never issued before; and the process had the user and group of its creator
 pub record IsMadeBy (s : Machine) (e : Event) (id : ℕ) (y : Segment) : Type 0 where
   pub key : ℕ
   pub mode : ℕ
@@ -44,18 +44,18 @@ pub record IsMadeBy (s : Machine) (e : Event) (id : ℕ) (y : Segment) : Type 0 
   pub user : y.perm.cuid ≡ caller.cred.uid
   pub group : y.perm.cgid ≡ caller.cred.gid
 
--- the segment stood
+-- the segment existed
 abbrev pub StandsAs : Machine → ℕ → Segment → Type 0
 StandsAs s id y = (x : Segment) × Stands s id x × IsSame x y
 
--- each segment that stands was made by one of these events, and has stood since
+-- each segment that exists was created by one of these events, and has existed since
 unfoldable pub AreMade : Opening → List Event → Machine → Type 0
 AreMade o before s =
     (id : ℕ) (y : Segment) → Stands s id y
     → Since o (λ u e. IsMadeBy u e id y) (λ u e. StandsAs u id y) before
 
--- THE LAW. From each moment of the history on to its end names are kept, and a new segment gets an identifier
--- that was never issued; and at each moment what stands was made so
+-- THE LAW. From each moment of the history to its end identifiers keep their segments, and a new segment gets
+-- an identifier that was never issued before; and at each moment each segment was created so
 pub record NamesOneSegment (o : Opening) (events : List Event) (end : Machine) : Type 0 where
   pub kept : EachMoment KeepsNames o events end
   pub new : EachMove NamesAnew o events end

@@ -1,4 +1,4 @@
--- Isolation: what a process does and is told depends on no byte of a segment of which it has no piece.
+-- Isolation: a process's calls and replies never depend on a byte of a segment of which it has no piece.
 use Rattle.std.specs.Prelude.{◌≡◌, ◌⊎◌, ℕ, ◌+◌, Bool, true, false, if◌then◌else◌, List, [], ◌∷◌, length, replicate, Some, option_map}
 use Rattle.shm_base.specs.declared.call.Event.{Event}
 use Rattle.shm_base.specs.State.{Segment, Entry, Piece, Machine, Opening}
@@ -8,7 +8,7 @@ use Rattle.shm_history.specs.WorldState.{failures_in}
 use Rattle.shm_laws.specs.Standing.{HasPiece, IsMoment, EachTurn}
 use Rattle.shm_laws.specs.Permission.{Reach, reach}
 
--- a segment with as many zeros in place of its bytes, where they are hidden
+-- a segment with its bytes hidden: replaced by as many zeros
 abbrev pub veiled : Bool → Segment → Segment
 veiled hides x = record x { bytes = if hides then replicate (length x.bytes) 0 else x.bytes }
 
@@ -24,7 +24,7 @@ veiled_from hidden i (e ∷ es) = veiled_entry hidden i e ∷ veiled_from hidden
 abbrev pub veil : (ℕ → Bool) → Machine → Machine
 veil hidden s = record s { table = veiled_from hidden 0 s.table }
 
--- two machines that differ in the bytes of these segments alone, and have as many of them
+-- two machines that differ only in the bytes of these segments, and have as many of them
 abbrev pub DifferIn : (ℕ → Bool) → Machine → Machine → Type 0
 DifferIn hidden s other = veil hidden s ≡ veil hidden other
 
@@ -32,8 +32,8 @@ DifferIn hidden s other = veil hidden s ≡ veil hidden other
 abbrev pub HasNone : (ℕ → Bool) → Machine → ℕ → Type 0
 HasNone hidden s pid = (p : Piece) → HasPiece s pid p → hidden p.seg ≡ false
 
--- had the bytes of segments of which the process has no piece been others, its call would have had the same
--- reply, and they alone would have been others after it
+-- with other bytes in segments of which the process has no piece, its call would have had the same reply, and
+-- only these bytes would differ after it
 abbrev pub IsBlind : List Event → Machine → Event → Machine → Type 0
 IsBlind before s e t =
     (hidden : ℕ → Bool) (other : Machine) → HasNone hidden s e.pid → DifferIn hidden s other
@@ -43,7 +43,7 @@ IsBlind before s e t =
 abbrev pub HasNoOther : (ℕ → Bool) → Machine → ℕ → Type 0
 HasNoOther hidden s pid = (p : Piece) → HasPiece s pid p → hidden p.seg ≡ true
 
--- in either event the process reaches for bytes, of those segments alone
+-- in both events the process accesses bytes of these segments only
 pub record IsPrivate (hidden : ℕ → Bool) (s : Machine) (e f : Event) : Type 0 where
   pub process : f.pid ≡ e.pid
   pub own : HasNoOther hidden s e.pid
@@ -56,7 +56,7 @@ pub record IsAsked (hidden : ℕ → Bool) (s : Machine) (e f : Event) : Type 0 
   pub call : f.call ≡ e.call
   pub none : HasNone hidden s e.pid
 
--- two ways to go on: the first leads from s to t, and turn by turn this holds of the events of both
+-- two continuations: the first leads from s to t, and step by step this relation holds of the events of both
 abbrev pub SideBySide :
     (Machine → Event → Event → Type 0) → ℕ → Machine → List Event → List Event → Machine → Type 0
 SideBySide alike n s [] [] t = t ≡ s
@@ -65,9 +65,9 @@ SideBySide alike n s (e ∷ es) [] t = ⊥
 SideBySide alike n s (e ∷ es) (f ∷ fs) t =
     (u : Machine) × IsMove s n e u × alike s e f × SideBySide alike (n + 1) u es fs t
 
--- Two ways to go on from machines that differ in these segments' bytes alone, turn by turn with the same
--- calls, but for what processes do to those bytes that have none but their pieces: the same calls have the
--- same replies, and the ends differ in those bytes alone. (No pager fails: what failed did nothing.)
+-- Two continuations from machines that differ only in these segments' bytes. Step by step they have the same
+-- calls, except accesses to those bytes by processes whose pieces are all of these segments. Then equal calls
+-- have equal replies, and the ends differ only in those bytes. (No pager fails: a failed call did nothing.)
 abbrev pub IsBlindOn : ℕ → Machine → List Event → Machine → Type 0
 IsBlindOn n s events t =
     (hidden : ℕ → Bool) (other : Machine) (others : List Event) (after : Machine)
@@ -76,7 +76,7 @@ IsBlindOn n s events t =
     → SideBySide (λ u e f. IsAsked hidden u e f ⊎ IsPrivate hidden u e f) n s events others t
     → SideBySide (λ u e f. (f ≡ e) ⊎ IsPrivate hidden u e f) n s events others t × DifferIn hidden t after
 
--- THE LAW. So it is at each turn, and from each moment on
+-- THE LAW. This holds at each step, and from each moment on
 pub record IsIsolated (o : Opening) (events : List Event) (end : Machine) : Type 0 where
   pub turns : EachTurn IsBlind o events
   pub onwards :

@@ -1,4 +1,4 @@
--- All laws of a history at once.
+-- All laws of a history in one record.
 use Rattle.std.specs.Prelude.{List}
 use Rattle.shm_base.specs.declared.call.Event.{Event}
 use Rattle.shm_base.specs.State.{Machine, Opening}

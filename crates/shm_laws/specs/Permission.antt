@@ -1,4 +1,4 @@
--- Permission: nobody gets at a segment without it.
+-- Permission: nobody reaches a segment without it.
 use Rattle.std.specs.Prelude.{◌≡◌, ◌≤◌, ◌<◌, ◌⊎◌, ℕ, ◌+◌, ◌*◌, ◌%◌, ℤ, pos, Bool, true, false, not, List, [], ◌∷◌, ◌++◌, length, Option, Some, None, slice_get}
 use Rattle.shm_base.specs.declared.owner.Cred.{Cred}
 use Rattle.shm_base.specs.declared.owner.Perm.{Perm}
@@ -20,8 +20,8 @@ use Rattle.shm_base.specs.History.{is_refusal, IsHistory}
 use Rattle.shm_laws.specs.Standing.{Stands, HasPiece, EachPiece, EachMove, Always}
 use Rattle.shm_base.specs.declared.paging.TheConstants.{PAGE_SIZE}
 
--- p is a part of q: it has at each of its addresses the page that q has there, and is as writable, now and
--- ever
+-- p is a part of q: at each of its addresses it has the same page as q, and it is as writable as q, now and
+-- after a later mprotect
 pub record IsPart (p q : Piece) : Type 0 where
   pub seg : p.seg ≡ q.seg
   pub writable : p.writable ≡ q.writable
@@ -30,8 +30,8 @@ pub record IsPart (p q : Piece) : Type 0 where
   pub from : q.base ≤ p.base
   pub to : end_of p ≤ end_of q
 
--- the event is a shmat of the process that was answered with the piece, the whole segment at a page, and it
--- was granted reading, and writing where the piece is writable
+-- the event is a successful shmat of the process; the piece is the whole segment at a page boundary; the
+-- process had read permission, and write permission if the piece is writable
 pub record IsGranted (s : Machine) (e : Event) (pid : ℕ) (p : Piece) : Type 0 where
   pub own : e.pid ≡ pid
   pub addr : ℕ
@@ -50,15 +50,15 @@ pub record IsGranted (s : Machine) (e : Event) (pid : ℕ) (p : Piece) : Type 0 
   pub page : p.base % PAGE_SIZE ≡ 0
   pub whole : (p.first_page ≡ 0) × (p.pages ≡ pages_in segment)
 
--- the event is a fork that made the process a child, and its parent had the piece
+-- the event is a fork that created the process as a child, and its parent had the piece
 pub record IsInherited (s : Machine) (e : Event) (pid : ℕ) (p : Piece) : Type 0 where
   pub call : e.call ≡ Fork pid
   pub reply : e.reply ≡ Done
   pub parent : HasPiece s e.pid p
 
--- A process that has a piece after these events: the last of them granted it, or the process had it before
--- that, or a piece that it is a part of, or it was born of one that had it. What was had before goes back in
--- the same way
+-- A process that has a piece after these events: the last event granted it; or the process had it before, or
+-- a piece that it is a part of; or the process was born of one that had it. A piece from before has an origin
+-- of the same kind
 pub data GoesBack (o : Opening) : List Event → ℕ → Piece → Type 0 where
   Granted :
       (before : List Event) (s : Machine) (e : Event) (pid : ℕ) (p : Piece) → IsHistory o before s
@@ -70,7 +70,7 @@ pub data GoesBack (o : Opening) : List Event → ℕ → Piece → Type 0 where
       (before : List Event) (s : Machine) (e : Event) (pid : ℕ) (p : Piece) → IsHistory o before s
       → IsInherited s e pid p → GoesBack o before e.pid p → GoesBack o (before ++ e ∷ []) pid p
 
--- the bytes that an access is of, from an address on
+-- the bytes that an access touches, from an address on
 pub record Reach : Type 0 where
   pub from : ℕ
   pub len : ℕ
@@ -82,14 +82,14 @@ reach (Store addr bytes) = Some (record { from = addr; len = length bytes; write
 reach (Xadd addr add) = Some (record { from = addr; len = 8; writes = true })
 reach _ = None
 
--- where it was not refused each of them lies in a piece of the process, a writable one where it was written
+-- if it was not refused, each of them is in a piece of the process, for a write in a writable one
 abbrev pub StaysInside : Machine → Event → Type 0
 StaysInside s e =
     is_refusal e.reply ≡ false → (r : Reach) → reach e.call ≡ Some r → (k : ℕ) → k < r.len
     → (p : Piece) × HasPiece s e.pid p × (covers p (r.from + k) ≡ true)
     × (r.writes ≡ true → p.writable ≡ true)
 
--- which segment a call would change or remove
+-- the segment that a call would change or remove
 abbrev pub controlled : Call → Option ℤ
 controlled (Set id uid gid mode) = Some id
 controlled (Rmid id) = Some id
@@ -110,7 +110,7 @@ pub record OwnerAsks (s : Machine) (pid : ℕ) (id : ℤ) : Type 0 where
   pub stands : Stands s number segment
   pub owner : IsOwner caller.cred segment.perm
 
--- the segment exists, and its mode gives the process what it wants
+-- the segment exists, and its mode permits the process the access
 pub record MayAsk (s : Machine) (pid id : ℕ) (want : Want) : Type 0 where
   pub caller : Caller
   pub live : caller_of s pid ≡ Some caller
@@ -122,9 +122,9 @@ pub record MayAsk (s : Machine) (pid id : ℕ) (want : Want) : Type 0 where
 abbrev pub IsUserZero : Machine → ℕ → Type 0
 IsUserZero s pid = (caller : Caller) × (caller_of s pid ≡ Some caller) × (caller.cred.uid ≡ 0)
 
--- a move reaches no byte outside the pieces of its process; set, rmid, lock and unlock are granted to owners
--- alone, and swapoff to user 0; stat is answered only to a process that may read, and a shmget with a segment
--- that existed only to one that has what its mode asks for
+-- an event touches no byte outside the pieces of its process; only owners succeed at set, rmid, lock and
+-- unlock, and only user 0 at swapoff; only a process that may read succeeds at stat, and at a shmget of an
+-- existing segment only one with the permissions that its mode asks for
 pub record KeepsOut (s : Machine) (e : Event) (t : Machine) : Type 0 where
   pub inside : StaysInside s e
   pub owner : (id : ℤ) → controlled e.call ≡ Some id → e.reply ≡ Done → OwnerAsks s e.pid id
@@ -137,7 +137,7 @@ pub record KeepsOut (s : Machine) (e : Event) (t : Machine) : Type 0 where
       → Stands s id x → MayAsk s e.pid id (wish_of s.limits.rules mode)
   pub swapoff : (area : ℕ) → e.call ≡ Swapoff area → e.reply ≡ Done → IsUserZero s e.pid
 
--- the event is a fork that made the process, and its parent had these credentials
+-- the event is a fork that created the process, and its parent had these credentials
 pub record IsBornWith (s : Machine) (e : Event) (unborn : Runner) (cred : Cred) : Type 0 where
   pub life : unborn.life ≡ Unborn
   pub call : e.call ≡ Fork unborn.pid
@@ -146,7 +146,7 @@ pub record IsBornWith (s : Machine) (e : Event) (unborn : Runner) (cred : Cred) 
   pub live : caller_of s e.pid ≡ Some parent
   pub inherits : cred ≡ parent.cred
 
--- a process that is live after a move had its place before it, and had its credentials there, or is born with
+-- a process that is live after an event was there before it with the same credentials, or is born with
 -- them
 abbrev pub KeepsCredentials : Machine → Event → Machine → Type 0
 KeepsCredentials s e t =
@@ -154,8 +154,8 @@ KeepsCredentials s e t =
     → (old : Runner) × (slice_get s.runners k ≡ Some old) × (old.pid ≡ now.pid)
     × ((old.life ≡ Live cred) ⊎ IsBornWith s e old cred)
 
--- THE LAW. At each moment each piece goes back to a shmat that was granted; each move keeps out who has no
--- permission, and gives no process other credentials
+-- THE LAW. At each moment each piece descends from a shmat that had permission; each event keeps out those
+-- without permission, and gives no process other credentials
 pub record NoWayIn (o : Opening) (events : List Event) (end : Machine) : Type 0 where
   pub pieces : Always (λ before s. EachPiece (GoesBack o before) s) o events
   pub moves : EachMove KeepsOut o events end

@@ -1,4 +1,4 @@
--- Pieces: what a piece names stands, and each is counted.
+-- Pieces: a segment with a piece exists, and its pieces are counted.
 use Rattle.std.specs.Prelude.{◌≡◌, ◌≢◌, ◌≤◌, ◌<◌, ◌⊎◌, ℕ, ◌+◌, ◌==◌, ℤ, pos, Bool, true, false, if◌then◌else◌, List}
 use Rattle.shm_base.specs.declared.flags.AtFlags.{AtFlags}
 use Rattle.shm_base.specs.declared.call.ShmidDs.{ShmidDs}
@@ -16,11 +16,11 @@ use Rattle.shm_base.specs.Step.{caller_of, is_remap}
 use Rattle.shm_base.specs.History.{is_refusal}
 use Rattle.shm_laws.specs.Standing.{Stands, EachMove}
 
--- a segment that a process has a piece of stands
+-- a segment of which a process has a piece exists
 abbrev pub PiecesNameWhatStands : Machine → Type 0
 PiecesNameWhatStands s = (id : ℕ) → 1 ≤ attach_count s.runners id → (x : Segment) × Stands s id x
 
--- no process gets a first piece of a segment that does not stand, and what has pieces after the move stands
+-- only a segment that exists gets a first piece of a process, and after the event a segment with pieces exists
 pub record GivesPieces (s : Machine) (e : Event) (t : Machine) : Type 0 where
   pub first :
       (id : ℕ) → attach_count s.runners id ≡ 0
@@ -31,7 +31,7 @@ pub record GivesPieces (s : Machine) (e : Event) (t : Machine) : Type 0 where
 abbrev pub piece_count : Machine → ℕ → ℕ → ℕ
 piece_count s pid id = pieces_of id (pieces_of_caller (caller_of s pid))
 
--- whether the call may change who has which piece
+-- whether the call may change the pieces of a process
 abbrev pub hands_pieces : Call → Bool
 hands_pieces (Shmat id addr flags) = true
 hands_pieces (Shmdt addr) = true
@@ -40,9 +40,9 @@ hands_pieces Exec = true
 hands_pieces Exit = true
 hands_pieces _ = false
 
--- what stat shows is how many pieces there are; a shmat that takes no other's place adds one, and changes no
--- other count; a fork adds as many as the parent has; exec and exit take as many as the process has; a shmdt
--- takes pieces of one segment; and nothing else changes a count
+-- the attach count of stat is the number of pieces; a shmat that replaces no other piece adds one and changes
+-- no other count; a fork adds as many as the parent has; exec and exit subtract those of the process; a shmdt
+-- subtracts pieces of one segment; and nothing else changes a count
 pub record CountsPieces (s : Machine) (e : Event) (t : Machine) : Type 0 where
   pub shown :
       (id : ℤ) (d : ShmidDs) → e.call ≡ calls.Stat id → e.reply ≡ replies.Stat d
@@ -65,7 +65,7 @@ pub record CountsPieces (s : Machine) (e : Event) (t : Machine) : Type 0 where
       (hands_pieces e.call ≡ false) ⊎ (is_refusal e.reply ≡ true) → (k : ℕ)
       → attach_count t.runners k ≡ attach_count s.runners k
 
--- THE LAW. So does each move, and so it is at the end; and each move counts
+-- THE LAW. Each event keeps this, and it holds at the end; and each event counts so
 pub record PiecesAreOfSegments (o : Opening) (events : List Event) (end : Machine) : Type 0 where
   pub moves : EachMove GivesPieces o events end
   pub pieces : PiecesNameWhatStands end

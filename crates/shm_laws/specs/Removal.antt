@@ -1,4 +1,4 @@
--- Removal: a segment goes when it must and not before.
+-- Removal: a segment is destroyed exactly when it must be.
 use Rattle.std.specs.Prelude.{◌≡◌, ◌≤◌, ◌⊎◌, ℕ, pos, true, List}
 use Rattle.shm_base.specs.declared.call.Call.TheVariants.{Rmid}
 use Rattle.shm_base.specs.declared.call.Reply.TheVariants.{Done}
@@ -9,7 +9,7 @@ use Rattle.shm_laws.specs.Standing.{Stands, IsGone, EachMove, Always, Since}
 
 -- WHEN A SEGMENT IS DESTROYED
 
--- a marked segment that stands has a piece
+-- a marked segment that exists has a piece
 abbrev pub MarkedHavePieces : Machine → Type 0
 MarkedHavePieces s = (id : ℕ) (x : Segment) → Stands s id x → x.dest ≡ true → 1 ≤ attach_count s.runners id
 
@@ -19,7 +19,7 @@ pub record IsRemovedBare (s : Machine) (e : Event) (id : ℕ) : Type 0 where
   pub reply : e.reply ≡ Done
   pub bare : attach_count s.runners id ≡ 0
 
--- its last piece is taken while it is marked
+-- its last piece is detached while it is marked
 pub record LosesLastPiece (s t : Machine) (id : ℕ) (x : Segment) : Type 0 where
   pub marked : x.dest ≡ true
   pub before : 1 ≤ attach_count s.runners id
@@ -28,7 +28,7 @@ pub record LosesLastPiece (s t : Machine) (id : ℕ) (x : Segment) : Type 0 wher
 abbrev pub IsDue : Machine → Event → Machine → ℕ → Segment → Type 0
 IsDue s e t id x = IsRemovedBare s e id ⊎ LosesLastPiece s t id x
 
--- a move destroys the segments that are due, and no others
+-- an event destroys the segments that are due, and no others
 pub record DestroysWhatIsDue (s : Machine) (e : Event) (t : Machine) : Type 0 where
   pub just : (id : ℕ) (x : Segment) → Stands s id x → IsGone t id → IsDue s e t id x
   pub must : (id : ℕ) (x : Segment) → Stands s id x → IsDue s e t id x → IsGone t id
@@ -42,29 +42,29 @@ pub record IsMarked (s : Machine) (id : ℕ) : Type 0 where
   pub stands : Stands s id segment
   pub dest : segment.dest ≡ true
 
--- the event is an rmid of the segment, and was granted
+-- the event is a successful rmid of the segment
 pub record IsRemoval (e : Event) (id : ℕ) : Type 0 where
   pub call : e.call ≡ Rmid (pos id)
   pub reply : e.reply ≡ Done
 
--- a granted rmid marks its segment if a process has a piece of it, and destroys it if none has
+-- a successful rmid marks its segment if a process has a piece of it, and destroys it if none has
 abbrev pub Removes : Machine → Event → Machine → Type 0
 Removes s e t =
     (id : ℕ) → IsRemoval e id
     → ((1 ≤ attach_count s.runners id) × IsMarked t id) ⊎ ((attach_count s.runners id ≡ 0) × IsGone t id)
 
--- what is marked before a move is marked after it, or destroyed
+-- a segment marked before an event is marked after it, or destroyed
 abbrev pub KeepsMarks : Machine → Event → Machine → Type 0
 KeepsMarks s e t = (id : ℕ) → IsMarked s id → IsMarked t id ⊎ IsGone t id
 
--- each segment that is marked was removed by one of these events, and has been marked since
+-- each marked segment was removed by one of these events, and has been marked since
 abbrev pub AreRemoved : Opening → List Event → Machine → Type 0
 AreRemoved o before s =
     (id : ℕ) → IsMarked s id → Since o (λ u e. IsRemoval e id) (λ u e. IsMarked u id) before
 
--- THE LAW. Each move destroys what is due, and after each of them, as at the end, what is marked and stands
--- has a piece; a granted rmid marks or destroys, nothing else marks, and a mark stays until the segment is
--- destroyed
+-- THE LAW. Each event destroys what is due; after each event, and at the end, a marked segment that exists
+-- has a piece; a successful rmid marks or destroys, nothing else marks a segment, and a mark remains until
+-- the segment is destroyed
 pub record GoesWhenItMust (o : Opening) (events : List Event) (end : Machine) : Type 0 where
   pub moves : EachMove DestroysWhatIsDue o events end
   pub marked : MarkedHavePieces end

@@ -1,4 +1,4 @@
--- Replay: an opening and the calls determine the replies and the end, and a call that a pager failed did
+-- Replay: the opening and the calls determine the replies and the end; a call at which a pager failed did
 -- nothing.
 use Rattle.std.specs.Prelude.{◌≡◌, if◌then◌else◌, List, [], map}
 use Rattle.shm_base.specs.declared.call.Call.TheVariants.{Load}
@@ -8,17 +8,17 @@ use Rattle.shm_base.specs.State.{Machine, Opening}
 use Rattle.shm_base.specs.History.{is_failure, IsHistory}
 use Rattle.shm_history.specs.WorldState.{calls_of, failures_in}
 
--- in place of a call that a pager failed, its process asks for no byte and gets none
+-- instead of a call at which a pager failed, its process accesses no byte and gets none
 abbrev pub undone : Event → Event
 undone e = if is_failure e.call e.reply then record { pid = e.pid; call = Load 0 0; reply = Bytes [] } else e
 
--- the history in which each failed call did nothing but to take its place
+-- the history in which each failed call only took its place and did nothing
 abbrev pub without_failures : List Event → List Event
 without_failures events = map undone events
 
--- THE LAW. That history is legal too, leads to the same end, and has no failure; where none failed, it is the
--- history itself. And it is the only one without failures that has this opening and its calls: whatever such
--- history there is has the same replies and the same end
+-- THE LAW. That history is legal too, leads to the same end, and has no failure; if no call failed, it is the
+-- history itself. It is the only one without failures that has this opening and its calls: every such history
+-- has the same replies and the same end
 pub record IsReplayed (o : Opening) (events : List Event) (end : Machine) : Type 0 where
   pub legal : IsHistory o (without_failures events) end
   pub clear : failures_in (without_failures events) ≡ 0

@@ -12,7 +12,7 @@ pub record FillsPages (x : Segment) : Type 0 where
   pub enough : x.size ≤ length x.bytes
   pub least : length x.bytes < x.size + PAGE_SIZE
 
--- so it is with each segment that exists
+-- this holds of each segment that exists
 abbrev pub AllFillPages : Machine → Type 0
 AllFillPages s = (id : ℕ) (x : Segment) → Stands s id x → FillsPages x
 

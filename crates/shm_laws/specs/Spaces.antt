@@ -1,4 +1,4 @@
--- Address spaces: the pieces of a process lie apart, inside the addresses, and are few.
+-- Address spaces: the pieces of a process do not overlap, stay within the addresses, and are few.
 use Rattle.std.specs.Prelude.{◌≡◌, ◌≤◌, ℕ, ◌%◌, true, List, length, Some, slice_get, All}
 use Rattle.shm_base.specs.declared.call.Event.{Event}
 use Rattle.shm_base.specs.State.{Piece, Runner, Machine, Opening}
@@ -13,20 +13,20 @@ LieApart ps =
     (address j k : ℕ) (p q : Piece) → slice_get ps j ≡ Some p → slice_get ps k ≡ Some q
     → covers p address ≡ true → covers q address ≡ true → j ≡ k
 
--- it is of whole pages, one at least, from the lowest address up to the last
+-- it has whole pages, at least one, within the lowest and the last address
 pub record LiesInside (p : Piece) : Type 0 where
   pub page : p.base % PAGE_SIZE ≡ 0
   pub some : 1 ≤ p.pages
   pub from : lowest_address ≤ p.base
   pub to : end_of p ≤ end_address
 
--- pieces that one process may have, where so many are the most
+-- the pieces of one process, of which there may be at most this many
 pub record AreLaidOut (most : ℕ) (ps : List Piece) : Type 0 where
   pub apart : LieApart ps
   pub inside : All LiesInside ps
   pub few : length ps ≤ most
 
--- THE LAW. At each moment the pieces of each process are laid out so
+-- THE LAW. At each moment the pieces of each process are laid out this way
 pub record SpacesAreLaidOut (o : Opening) (events : List Event) (end : Machine) : Type 0 where
   pub spaces :
       Always (λ before s. All (λ (r : Runner). AreLaidOut o.limits.most_pieces r.pieces) s.runners) o events

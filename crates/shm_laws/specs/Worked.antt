@@ -1,4 +1,4 @@
--- Worked histories, in which the laws say something. They are computed.
+-- Worked histories in which the laws apply. They are checked by computation.
 use Rattle.std.specs.Prelude.{◌≡◌, ℕ, ◌+◌, ◌*◌, ◌^◌, ◌==◌, pos, Bool, true, false, List, [], ◌∷◌, length, take, Option, None, Some, option_map, slice_get}
 use Rattle.shm_base.specs.Space.{new_piece}
 use Rattle.shm_base.specs.declared.errno.Errno.TheVariants.{Eperm, Enoent, Eacces, Einval, Eidrm, Sigbus, Sigsegv}
@@ -19,7 +19,7 @@ use Rattle.shm_laws.specs.Pieces.{piece_count}
 use Rattle.shm_laws.specs.Writing.{IsByte}
 use Rattle.shm_laws.specs.Isolation.{DifferIn}
 
--- they are legal, and lead somewhere
+-- they are legal, and lead to a machine
 abbrev pub IsLegal : Opening → List Event → Type 0
 IsLegal o events = (end : Machine) × IsHistory o events end
 
@@ -51,8 +51,8 @@ a_store_fails =
 abbrev pub ReplayWorked : Type 0
 ReplayWorked = IsLegal opening a_store_fails × Answers (start_of opening) (without_failures a_store_fails)
 
--- REMOVAL AND IDENTITY: a marked segment stands while process 2 has a piece of it, and goes with that piece;
--- one that has none goes at once; and their indexes are used again under identifiers that are new
+-- REMOVAL AND IDENTITY: a marked segment exists while process 2 has a piece of it, and is destroyed with that
+-- piece; one without pieces is destroyed at once; and their indexes are used again under new identifiers
 
 abbrev pub two_go : List Event
 two_go =
@@ -68,7 +68,7 @@ two_go =
     ∷ does 1 (shmget 0 4096 (mode 6 0 0) 0) (id 32768)
     ∷ []
 
--- where so many of its events lead
+-- the machine after this many of its events
 abbrev pub ends_from : ℕ → Machine → List Event → Machine
 ends_from n s [] = s
 ends_from n s (e ∷ es) = ends_from (n + 1) (step s n e.pid e.call).state es
@@ -79,8 +79,8 @@ after o events n = ends_from 1 (start_of o) (take n events)
 abbrev pub after_two_go : ℕ → Machine
 after_two_go n = after opening two_go n
 
--- it is legal; segment 0 is marked and has a piece before the exec, and is gone after it; segment 1 goes with
--- its rmid; and what segment 0 was named by names none when its index is used again
+-- it is legal; segment 0 is marked and has a piece before the exec, and is destroyed after it; segment 1 is
+-- destroyed by its rmid; and the old identifier of segment 0 names none when its index is used again
 abbrev pub RemovalWorked : Type 0
 RemovalWorked =
     IsLegal opening two_go
@@ -91,8 +91,8 @@ RemovalWorked =
     × IsGone (after_two_go 5) 1 × IsGone (after_two_go 8) 0 × IsGone (after_two_go 10) 0
     × (is_found (look (after_two_go 10).table (pos 32768)) ≡ true)
 
--- PIECES: process 2 has one of segment 0, which stands, from its shmat to its exec, and none of segment 1,
--- which is gone
+-- PIECES: process 2 has one of segment 0, which exists, from its shmat to its exec, and none of segment 1,
+-- which is destroyed
 abbrev pub PiecesWorked : Type 0
 PiecesWorked =
     (is_found (look (after_two_go 7).table (pos 0)) ≡ true)
@@ -102,8 +102,8 @@ PiecesWorked =
     × (piece_count (after_two_go 7) 2 0 ≡ 1)
     × (attach_count (after_two_go 8).runners 0 ≡ 0)
 
--- PERMISSION: another user may read, its process attaches for reading and has a child; the segment's owner
--- then takes the permission back, which counts at the next shmat alone
+-- PERMISSION: another user may read; its process attaches for reading and has a child; the segment's owner
+-- then takes the permission back, which matters only for the next shmat
 
 abbrev pub three : Opening
 three = record opening { processes = process 1 100 100 ∷ process 2 200 200 ∷ child 3 ∷ [] }
@@ -127,8 +127,8 @@ pieces_now o events n k = option_map (λ (r : Runner). r.pieces) (slice_get (aft
 abbrev pub read_only : Piece
 read_only = new_piece 0 0x40000000 1 false
 
--- it is legal; nobody has a piece before the shmat that was granted; the child has the piece of its parent,
--- as read-only as that, and to the end
+-- it is legal; nobody has a piece before the successful shmat; the child has the piece of its parent, as
+-- read-only as that one, up to the end
 abbrev pub PermissionWorked : Type 0
 PermissionWorked =
     IsLegal three others_read
@@ -155,8 +155,8 @@ two_write =
     ∷ []
 
 -- it is legal; the third byte of the first store is byte 0 of segment 1, and the byte of the second is the
--- first store's second; its writer's byte is what stands there, what the xadd put before it is what the load
--- shows, and a byte that nobody wrote is 0
+-- first store's second; the byte there is its last writer's, the load shows what the xadd wrote before it,
+-- and a byte that nobody wrote is 0
 abbrev pub WritingWorked : Type 0
 WritingWorked =
     IsLegal opening two_write
@@ -183,8 +183,8 @@ stores_own byte =
     ∷ does 1 (Shmdt 0x40000000) Done
     ∷ []
 
--- either is legal; the ends differ in the byte that was stored, and in bytes of segment 1 alone; and process
--- 1 was told the same
+-- both are legal; the ends differ in the stored byte, and only in bytes of segment 1; and process 1 had the
+-- same replies
 abbrev pub IsolationWorked : Type 0
 IsolationWorked =
     IsLegal opening (stores_own 5) × IsLegal opening (stores_own 6)
@@ -193,8 +193,8 @@ IsolationWorked =
     × DifferIn (λ id. id == 1) (after opening (stores_own 5) 8) (after opening (stores_own 6) 8)
     × (own_part 1 (stores_own 5) ≡ own_part 1 (stores_own 6))
 
--- KEYS AND SIZE: process 2 finds a segment by its key and attaches it; when it is marked the key leads to
--- none, and a shmget that may create makes another
+-- KEYS AND SIZE: process 2 finds a segment by its key and attaches it; when it is marked the key names no
+-- segment, and a shmget that may create makes another
 
 abbrev pub one_key : List Event
 one_key =
@@ -222,7 +222,7 @@ KeysWorked =
     × (key_in (look (after_one_key 4).table (pos 0)) ≡ Some 0)
     × (key_in (look (after_one_key 6).table (pos 1)) ≡ Some 5)
 
--- 4097 bytes need two pages, from the shmget on, and while the segment is marked
+-- 4097 bytes need two pages, from the shmget on, also while the segment is marked
 abbrev pub SizeWorked : Type 0
 SizeWorked =
     (length (bytes_at (after_one_key 1).table 0) ≡ 8192)
@@ -243,7 +243,7 @@ one_remaps =
 abbrev pub page_of : ℕ → ℕ → Piece
 page_of segment base = new_piece segment base 1 true
 
--- it is legal, and the process has the first page of segment 0, and after it the one of segment 1
+-- it is legal, and the process has the first page of segment 0, followed by the page of segment 1
 abbrev pub SpacesWorked : Type 0
 SpacesWorked =
     IsLegal opening one_remaps

@@ -1,4 +1,4 @@
--- The last writer: a byte is what the last event that wrote it put there, or 0 since its segment was made.
+-- The last writer: a byte has the value that the last event wrote, or 0 if none wrote since its creation.
 use Rattle.std.specs.Prelude.{◌≡◌, ◌<◌, ◌⊎◌, ℕ, ◌+◌, ◌%◌, ◌^◌, pos, Bool, List, length, Option, Some, None, slice_get}
 use Rattle.std.specs.Int.{w64, to_le_bytes, from_le_bytes}
 use Rattle.shm_base.specs.declared.call.Call.{Call}
@@ -20,7 +20,7 @@ pub record Put : Type 0 where
   pub from : ℕ
   pub bytes : List ℕ
 
--- what a store or an xadd puts where, if it was answered. Nothing else puts anything
+-- the bytes that a successful store or xadd writes, and where. No other event writes
 abbrev pub put : Call → Reply → Option Put
 put (Store addr bytes) Done = Some (record { from = addr; bytes = bytes })
 put (Xadd addr add) (Number old) =
@@ -33,7 +33,7 @@ IsByte s pid addr id at =
     (w : Bool)
     × (place (pieces_of_caller (caller_of s pid)) addr ≡ Some (record { seg = id; at = at; writable = w }))
 
--- the event puts b there, and nothing there behind it
+-- the event writes b there, and nothing later to the same place
 pub record Writes (s : Machine) (e : Event) (id at b : ℕ) : Type 0 where
   pub what : Put
   pub puts : put e.call e.reply ≡ Some what
@@ -42,31 +42,31 @@ pub record Writes (s : Machine) (e : Event) (id at b : ℕ) : Type 0 where
   pub here : IsByte s e.pid (what.from + k) id at
   pub last : (j : ℕ) → k < j → j < length what.bytes → IsByte s e.pid (what.from + j) id at → ⊥
 
--- the event puts nothing there
+-- the event writes nothing there
 abbrev pub Spares : Machine → Event → ℕ → ℕ → Type 0
 Spares s e id at =
     (what : Put) → put e.call e.reply ≡ Some what → (k : ℕ) → k < length what.bytes
     → IsByte s e.pid (what.from + k) id at → ⊥
 
--- the event made the segment: its identifier was never issued, and is the answer
+-- the event created the segment: its identifier was never issued before, and is the answer
 abbrev pub Makes : Machine → Event → ℕ → Type 0
 Makes s e id = (look s.table (pos id) ≡ Invalid) × (e.reply ≡ Id (pos id))
 
 -- WHO WROTE IT LAST
 
 -- after these events byte `at` of the segment is b: an event wrote b there, and no later one wrote there; or
--- b is 0, and no event wrote there since the one that made the segment
+-- b is 0, and no event wrote there since the one that created the segment
 abbrev pub IsLast : Opening → List Event → ℕ → ℕ → ℕ → Type 0
 IsLast o before id at b =
     Since o (λ s e. Writes s e id at b) (λ s e. Spares s e id at) before
     ⊎ ((b ≡ 0) × Since o (λ s e. Makes s e id) (λ s e. Spares s e id at) before)
 
--- so it is with each byte of each segment that stands
+-- this holds of each byte of each segment that exists
 abbrev pub Remembers : Opening → List Event → Machine → Type 0
 Remembers o before s =
     (id at b : ℕ) (x : Segment) → Stands s id x → slice_get x.bytes at ≡ Some b → IsLast o before id at b
 
--- as many bytes, and each of them the last that was written where its address is
+-- as many bytes, and each is the last one written at its address
 pub record AreLast
     (o : Opening) (before : List Event) (s : Machine) (pid addr len : ℕ) (bytes : List ℕ) : Type 0 where
   pub long : length bytes ≡ len
