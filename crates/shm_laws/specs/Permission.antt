@@ -20,8 +20,8 @@ use Rattle.shm_base.specs.History.{is_refusal, IsHistory}
 use Rattle.shm_laws.specs.Standing.{Stands, HasPiece, EachPiece, EachMove, Always}
 use Rattle.shm_base.specs.declared.paging.TheConstants.{PAGE_SIZE}
 
--- p is a part of q: at each of its addresses it has the same page as q, and it is as writable as q, now and
--- after a later mprotect
+-- p is a part of q: at each of its addresses it has the same page as q, and it is as writable as q, and may
+-- become so equally
 pub record IsPart (p q : Piece) : Type 0 where
   pub seg : p.seg ≡ q.seg
   pub writable : p.writable ≡ q.writable

@@ -20,7 +20,7 @@ use Rattle.shm_laws.specs.Standing.{Stands, EachMove}
 abbrev pub PiecesNameWhatStands : Machine → Type 0
 PiecesNameWhatStands s = (id : ℕ) → 1 ≤ attach_count s.runners id → (x : Segment) × Stands s id x
 
--- only a segment that exists gets a first piece of a process, and after the event a segment with pieces exists
+-- only a segment that exists gets a process's first piece, and after the event a segment with pieces exists
 pub record GivesPieces (s : Machine) (e : Event) (t : Machine) : Type 0 where
   pub first :
       (id : ℕ) → attach_count s.runners id ≡ 0
