@@ -1,11 +1,12 @@
-//! The order of a log's lines, tried before any search.
-ghost use Rattle.std.specs.Prelude.{◌≡◌, IfErr, IfNone, IfOk, IfSome};
-ghost use Rattle.shm_outcomes.specs.Judge.{DiffersInOrder, IsDoubt, IsExplained, IsRight};
+//! The order of a log's lines, and orders near it, tried before any search.
+ghost use Rattle.std.specs.Prelude.{◌≡◌, ◌↔◌, IfErr, IfNone, IfOk, IfSome, IsTrue};
+ghost use Rattle.shm_outcomes.specs.Judge.{DiffersInOrder, IsDoubt, IsExplained, IsRight, IsWholeIn};
 ghost use Rattle.shm_outcomes.specs.Schedules.{fresh, goes};
 
 use crate::engine::{Engine, EngineError};
 use crate::judging::{is_whole, judge};
 use crate::log::{Entry, Log};
+use crate::near::near_order;
 use crate::search::{Node, SearchError, push_followers};
 use crate::verdict::Verdict;
 use shm_base::Event;
@@ -34,9 +35,44 @@ pub(crate) fn in_order<M: Engine>(
             None => return Ok(None),
         };
     }
+    if !is_whole_in(alloc, script, log, &run)? {
+        return Ok(None);
+    }
+    Ok(Some(run.into_events()))
+}
+
+// Whether a run is whole: no process can go on after it, and it has all the replies of the log.
+fn is_whole_in<M: Engine>(
+    alloc: Global,
+    script: &Script,
+    log: &Log,
+    run: &Node<M>,
+) -> Result<bool, EngineError>
+    ensures { IfOk result (λ r. IsTrue r ↔ IsWholeIn script.now log.now run.now) }
+{
     let mut offered = Vec::new(alloc);
-    push_followers(alloc, script, &run, &mut offered)?;
-    if !is_whole(alloc, script, log, &run, &offered)? {
+    push_followers(alloc, script, run, &mut offered)?;
+    let whole = is_whole(alloc, script, log, run, &offered)?;
+    Ok(whole)
+}
+
+// The calls and replies of a schedule near the order of the lines, if one is found whose replies are those of the log. The
+// machine has answered no call yet.
+fn near_events<M: Engine>(
+    alloc: Global,
+    script: &Script,
+    log: &Log,
+    entries: &[Entry],
+    machine: M,
+) -> Result<Option<Vec<Event>>, EngineError>
+    requires new { M.calls machine ≡ 0 }
+    ensures { IfOk result (λ r. IfSome r (λ events.
+        IsExplained script.now log.now (fresh (M.flat machine)) events.items)) }
+{
+    let Some(run) = near_order(alloc, script, entries, machine)? else {
+        return Ok(None);
+    };
+    if !is_whole_in(alloc, script, log, &run)? {
         return Ok(None);
     }
     Ok(Some(run.into_events()))
@@ -59,6 +95,10 @@ pub fn judge_log<M: Engine>(
 {
     let copy = machine.snapshot()?;
     if let Some(events) = in_order(alloc, script, log, entries, copy)? {
+        return Ok(Verdict::Legal(events));
+    }
+    let copy = machine.snapshot()?;
+    if let Some(events) = near_events(alloc, script, log, entries, copy)? {
         return Ok(Verdict::Legal(events));
     }
     judge(alloc, script, log, machine, most)
