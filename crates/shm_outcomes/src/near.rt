@@ -6,7 +6,7 @@ ghost use Rattle.shm_outcomes.specs.Search.{IsReached};
 
 use crate::engine::{Engine, EngineError};
 use crate::log::Entry;
-use crate::plan::{Move, Plan};
+use crate::plan::{Move, Plan, Way};
 use crate::search::Node;
 use shm_text::Script;
 use std::alloc::{AllocError, Global};
@@ -15,7 +15,7 @@ use std::alloc::{AllocError, Global};
 const KEPT: usize = 64;
 
 // How many moves there may be for each line.
-const MOVES: usize = 16;
+const MOVES: usize = 4;
 
 // Whether the last reply of a run is that of a line.
 fn is_answered<M: Engine>(alloc: Global, entry: &Entry, run: &Node<M>) -> Result<bool, AllocError> {
@@ -108,17 +108,19 @@ fn walk_on<M: Engine>(
     }
 }
 
-// A run of a schedule near the order of the lines. It goes on as long as a line fits.
+// A run of a schedule near the order of the lines. It goes on as long as the plan has a move. The machine has answered no call
+// yet.
 pub(crate) fn near_order<M: Engine>(
     alloc: Global,
     script: &Script,
     entries: &[Entry],
     machine: M,
+    way: Way,
 ) -> Result<Option<Node<M>>, EngineError>
     requires new { M.calls machine ≡ 0 }
     ensures { IfOk result (λ r. IfSome r (IsReached script.now (fresh (M.flat machine)))) }
 {
-    let mut plan = Plan::of(alloc, script, entries)?;
+    let mut plan = Plan::of(alloc, script, entries, way)?;
     let mut path = Vec::new(alloc);
     path.push(Node::first(alloc, machine))?;
     for _ in 0..entries.len().saturating_mul(MOVES) {

@@ -7,11 +7,15 @@ use crate::engine::{Engine, EngineError};
 use crate::judging::{is_whole, judge};
 use crate::log::{Entry, Log};
 use crate::near::near_order;
+use crate::plan::Way;
 use crate::search::{Node, SearchError, push_followers};
 use crate::verdict::Verdict;
 use shm_base::Event;
 use shm_text::Script;
 use std::alloc::Global;
+
+// Up to how many lines apart two lines may be whose order is changed.
+const APART: usize = 3;
 
 /// The calls and replies of the schedule that a log's lines name in their order, if its replies are those of the log. The
 /// machine has answered no call yet.
@@ -56,20 +60,21 @@ fn is_whole_in<M: Engine>(
     Ok(whole)
 }
 
-// The calls and replies of a schedule near the order of the lines, if one is found whose replies are those of the log. The
-// machine has answered no call yet.
-fn near_events<M: Engine>(
+// The calls and replies of a schedule near the order of the lines, if one is found in this way whose replies are those of the
+// log. The machine has answered no call yet.
+fn found_by<M: Engine>(
     alloc: Global,
     script: &Script,
     log: &Log,
     entries: &[Entry],
     machine: M,
+    way: Way,
 ) -> Result<Option<Vec<Event>>, EngineError>
     requires new { M.calls machine ≡ 0 }
     ensures { IfOk result (λ r. IfSome r (λ events.
         IsExplained script.now log.now (fresh (M.flat machine)) events.items)) }
 {
-    let Some(run) = near_order(alloc, script, entries, machine)? else {
+    let Some(run) = near_order(alloc, script, entries, machine, way)? else {
         return Ok(None);
     };
     if !is_whole_in(alloc, script, log, &run)? {
@@ -78,9 +83,35 @@ fn near_events<M: Engine>(
     Ok(Some(run.into_events()))
 }
 
+// The same in each way: first by putting lines early, then by changing the order of lines that are near each other.
+fn near_events<M: Engine>(
+    alloc: Global,
+    script: &Script,
+    log: &Log,
+    entries: &[Entry],
+    machine: &M,
+) -> Result<Option<Vec<Event>>, EngineError>
+    requires new { M.calls machine.now ≡ 0 }
+    ensures { IfOk result (λ r. IfSome r (λ events.
+        IsExplained script.now log.now (fresh (M.flat machine.now)) events.items)) }
+{
+    for apart in 0..APART + 1 {
+        let way = if apart == 0 {
+            Way::Early
+        } else {
+            Way::Near(apart)
+        };
+        let copy = machine.snapshot()?;
+        if let Some(events) = found_by(alloc, script, log, entries, copy, way)? {
+            return Ok(Some(events));
+        }
+    }
+    Ok(None)
+}
+
 /// Whether some schedule of a script has the replies of a log, whose lines are these entries. The machine has answered no call
-/// yet. The order of the lines is tried first. Else at most `most` beginnings of schedules are looked at, of which no two are
-/// alike.
+/// yet. The order of the lines is tried first, then orders near it. Else at most `most` beginnings of schedules are looked at, of
+/// which no two are alike.
 pub fn judge_log<M: Engine>(
     alloc: Global,
     script: &Script,
@@ -97,9 +128,8 @@ pub fn judge_log<M: Engine>(
     if let Some(events) = in_order(alloc, script, log, entries, copy)? {
         return Ok(Verdict::Legal(events));
     }
-    let copy = machine.snapshot()?;
-    if let Some(events) = near_events(alloc, script, log, entries, copy)? {
+    if let Some(events) = near_events(alloc, script, log, entries, &machine)? {
         return Ok(Verdict::Legal(events));
     }
-    judge(alloc, script, log, machine, most)
+    judge(alloc, script, log, entries, machine, most)
 }

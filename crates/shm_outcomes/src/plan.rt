@@ -1,13 +1,30 @@
-//! Which line of a log to try next, where the order of the lines fails. The lines are tried in their order. A line that does not
-//! fit is left until later, but not for many lines. If it still does not fit, it is put before lines that were answered.
+//! Which line of a log to try next, where the order of the lines fails. The lines are tried in their order, and a line that does
+//! not fit is left until later.
 //!
 //! A plan is a guess. Whatever it tries, the replies decide, so no contract says which line it is.
 use crate::log::Entry;
+use shm_base::Event;
 use shm_text::Script;
 use std::alloc::{AllocError, Global};
 
-// How many lines may come before the first one that is left.
+// How a plan goes on where no line fits.
+#[derive(Clone, Copy)]
+pub(crate) enum Way {
+    // The first line that is left is put before lines that were answered, at the last place where it fits.
+    Early,
+    // Other lines are tried in place of the last one, so that no lines change places that are more than so many lines apart.
+    Near(usize),
+}
+
+// How far below the first line that is left a line may be tried, until that first line is put early.
 const LATEST: usize = 16;
+
+fn latest(way: Way) -> usize {
+    match way {
+        Way::Early => LATEST,
+        Way::Near(latest) => latest,
+    }
+}
 
 // The next line of a process, or the count of lines if it has none.
 #[derive(Clone, Copy)]
@@ -67,8 +84,37 @@ fn set_head(heads: &mut [Head], pid: u32, line: usize) {
     }
 }
 
+fn own_count(events: &[Event], pid: u32) -> usize {
+    let mut count = 0usize;
+    for event in events {
+        if event.pid == pid {
+            count = count.saturating_add(1);
+        }
+    }
+    count
+}
+
+// The line of the last of these calls, or the count of lines.
+pub(crate) fn last_line(entries: &[Entry], events: &[Event]) -> usize {
+    if events.is_empty() {
+        return entries.len();
+    }
+    let last = &events[events.len() - 1];
+    let mut left = own_count(events, last.pid);
+    for (line, entry) in entries.iter().enumerate() {
+        if entry.pid == last.pid {
+            if left <= 1 {
+                return line;
+            }
+            left -= 1;
+        }
+    }
+    entries.len()
+}
+
 #[derive(Drop)]
 pub(crate) struct Plan {
+    way: Way,
     heads: Vec<Head>,
     // the lines that were answered, in order
     taken: Vec<usize>,
@@ -83,6 +129,7 @@ impl Plan {
         alloc: Global,
         script: &Script,
         entries: &[Entry],
+        way: Way,
     ) -> Result<Plan, AllocError> {
         let mut heads = Vec::new(alloc);
         for process in &script.processes {
@@ -93,6 +140,7 @@ impl Plan {
             })?;
         }
         Ok(Plan {
+            way,
             heads,
             taken: Vec::new(alloc),
             from: 0,
@@ -117,7 +165,7 @@ impl Plan {
             return Move::End;
         }
         let line = first_head(&self.heads, self.from, count);
-        if line >= count || line.saturating_sub(first) > LATEST {
+        if line >= count || line.saturating_sub(first) > latest(self.way) {
             return Move::Back;
         }
         Move::Try(line)
@@ -144,17 +192,29 @@ impl Plan {
         self.from = line.saturating_add(1);
     }
 
-    // The last line that was answered is left again. The first line that was left before is tried in its place.
+    // The last line that was answered is left again.
     pub(crate) fn back(&mut self, entries: &[Entry]) {
-        if self.early.is_none() {
-            self.early = Some(first_head(&self.heads, 0, entries.len()));
+        let first = first_head(&self.heads, 0, entries.len());
+        let Some(line) = self.taken.pop() else {
+            return;
+        };
+        if line < entries.len() {
+            let entry = &entries[line];
+            set_head(&mut self.heads, entry.pid, line);
         }
-        self.from = 0;
-        if let Some(line) = self.taken.pop() {
-            if line < entries.len() {
-                let entry = &entries[line];
-                set_head(&mut self.heads, entry.pid, line);
+        self.goes_back(first, line);
+    }
+
+    // What is tried in place of this line, where no line fitted before `first`.
+    fn goes_back(&mut self, first: usize, line: usize) {
+        match self.way {
+            Way::Early => {
+                self.from = 0;
+                if self.early.is_none() {
+                    self.early = Some(first);
+                }
             }
+            Way::Near(_) => self.from = line.saturating_add(1),
         }
     }
 }

@@ -3,7 +3,7 @@ use Rattle.shm_outcomes.specs.Judge.{IsExplained}
 use Rattle.shm_outcomes.specs.Schedules.{fresh}
 use Rattle.shm_outcomes.specs.Search.{IsReached}
 use Rattle.shm_outcomes.proofs.Ordering.{explained}
-use Rattle.shm_outcomes.proofs.ordered.near_events.Goals as goal
+use Rattle.shm_outcomes.proofs.ordered.found_by.Goals as goal
 
 pub returns : goal.returns
 returns g c =
