@@ -110,7 +110,7 @@ pub(crate) fn judge<M: Engine>(
             return Ok(Verdict::Legal(run.into_events()));
         }
         keep_longest(alloc, script, &run, &mut stuck)?;
-        put_nearest(entries, &mut offered);
+        put_in_order(entries, &mut offered);
         if let Err(error) = take_in(alloc, script, log, most, &mut offered, &mut runs, &mut seen) {
             return Err(error);
         }
@@ -152,13 +152,13 @@ fn keep_longest<M: Engine>(
     Ok(())
 }
 
-// The place of the run whose last call is the first in the log.
-fn nearest<M: Engine>(entries: &[Entry], offered: &[Node<M>]) -> usize {
-    let mut found = 0;
+// The place of the run whose last call is the first in the log, of those from a place on.
+fn nearest<M: Engine>(entries: &[Entry], offered: &[Node<M>], from: usize) -> usize {
+    let mut found = from;
     let mut line = entries.len();
     for (place, run) in offered.iter().enumerate() {
         let own = last_line(entries, run.events());
-        if own < line {
+        if place >= from && own < line {
             found = place;
             line = own;
         }
@@ -166,13 +166,22 @@ fn nearest<M: Engine>(entries: &[Entry], offered: &[Node<M>]) -> usize {
     found
 }
 
-// Puts that run first, so that it is taken in last and visited next.
-fn put_nearest<M: Engine>(entries: &[Entry], offered: &mut Vec<Node<M>>)
+// Puts that run at the place.
+fn put_nearest<M: Engine>(entries: &[Entry], offered: &mut Vec<Node<M>>, place: usize)
     ensures { IsPermutation offered.old.items offered.new.items }
 {
-    let place = nearest(entries, offered);
-    if place < offered.len() {
-        offered.swap(0, place);
+    let found = nearest(entries, offered, place);
+    if place < offered.len() && found < offered.len() {
+        offered.swap(place, found);
+    }
+}
+
+// Puts the runs in the order of the lines of their last calls. The first one is taken in last and visited next.
+fn put_in_order<M: Engine>(entries: &[Entry], offered: &mut Vec<Node<M>>)
+    ensures { IsPermutation offered.old.items offered.new.items }
+{
+    for place in 0..offered.len() {
+        put_nearest(entries, offered, place);
     }
 }
 

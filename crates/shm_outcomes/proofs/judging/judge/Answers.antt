@@ -46,7 +46,7 @@ returns-in-Err-take_in-clause-err g c =
     λ h. (let t = c.in_ok-is_whole.ensures.1 (c.deref.ensures.value ∙ offered ∙ h.0, h.1) in absurd (cc)) in
     let on = goes-on c.args.script.now c.args.log.now machine c.runs.seen.items c.runs.runs.items c.pop.new.self.items c.in-Some.run' c.runs.stuck c.keep_longest.new.stuck c.runs.invariant.seen was part c.in_ok-keep_longest.ensures in
     c.in-Err-take_in.ensures.err machine (length c.keep_longest.new.stuck.events)
-    (permuted c.args.script.now c.args.log.now machine c.runs.seen.items c.pop.new.self.items c.push_followers.new.runs.items c.put_nearest.new.offered.items (length c.keep_longest.new.stuck.events) c.put_nearest.ensures (rw offered on))
+    (permuted c.args.script.now c.args.log.now machine c.runs.seen.items c.pop.new.self.items c.push_followers.new.runs.items c.put_in_order.new.offered.items (length c.keep_longest.new.stuck.events) c.put_in_order.ensures (rw offered on))
 
 pub runs-preserved : goal.runs-preserved
 runs-preserved g c =
@@ -64,7 +64,7 @@ runs-preserved g c =
       counted = omega (arith, c.runs.invariant.counted, long, more);
       seen =
           c.in_default-take_in.ensures.kept machine (length c.keep_longest.new.stuck.events)
-          (permuted c.args.script.now c.args.log.now machine c.runs.seen.items c.pop.new.self.items c.push_followers.new.runs.items c.put_nearest.new.offered.items (length c.keep_longest.new.stuck.events) c.put_nearest.ensures (rw offered on));
+          (permuted c.args.script.now c.args.log.now machine c.runs.seen.items c.pop.new.self.items c.push_followers.new.runs.items c.put_in_order.new.offered.items (length c.keep_longest.new.stuck.events) c.put_in_order.ensures (rw offered on));
       stuck = stuck-on c.args.script.now c.args.log.now (fresh machine) c.pop.new.self.items c.runs.runs.items c.in-Some.run' c.runs.stuck c.keep_longest.new.stuck c.runs.invariant.seen.begin was c.in_ok-keep_longest.ensures c.runs.invariant.stuck;
     }
 
