@@ -1,11 +1,12 @@
 -- The steps of the judge.
-use Rattle.std.specs.Prelude.{◌≡◌, ◌≤◌, ℕ, ◌+◌, ◌==◌, ◌⊎◌, Bool, true, false, List, [], ◌∷◌, ◌++◌, All, Contains, map, length, slice_index_or}
+use Rattle.std.specs.Prelude.{◌≡◌, ◌≤◌, ℕ, ◌+◌, ◌==◌, ◌⊎◌, IsPermutation, Bool, true, false, List, [], ◌∷◌, ◌++◌, All, Contains, map, length, slice_index_or}
 use Rattle.std.specs.List.{AllPairs}
 use Rattle.std.proofs.Common.{ap, refl, sym, subst, ◌∙◌, arith, inl, inr, length-append}
 use Rattle.std.proofs.lemmas.Grind.{common_steps}
 use Rattle.std.proofs.lemmas.List.{length-map, map-append}
 use Rattle.std.proofs.lemmas.List.Elements.{All-contains, All-push, Contains-append_left, Contains-get_or, Contains-push, Contains-push_cases, filter-append}
 use Rattle.std.proofs.lemmas.List.Quantifiers.{all_pairs_push}
+use Rattle.std.proofs.lemmas.List.Sorted.{All-permutation, Contains-permutation}
 use Rattle.std.proofs.lemmas.Option.{same_Some}
 use Rattle.shm_base.specs.History.{is_refusal, own_part}
 use Rattle.shm_base.specs.State.{Machine}
@@ -300,6 +301,29 @@ module _ (script : ScriptView) (log : List (List Answer)) (machine : Machine) wh
             short = (let a = s.short in omega (arith, a, longer));
             onwards = λ pid n goes begins. onwards n (s.onwards pid n goes begins);
           })
+
+  -- the runs that are offered are taken in in any order
+  pub permuted :
+      (seen : List Finding) (runs offered others : List Run) (longest : ℕ)
+      → IsPermutation offered others → AreSeen script log first seen runs offered longest → AreSeen script log first seen runs others longest
+  permuted seen runs offered others longest same all =
+      record {
+        begun = all.begun;
+        found = all.found;
+        apart = all.apart;
+        begin = all.begin;
+        reached = All-permutation (IsReached script first) offered others same all.reached;
+        settled =
+            λ run is here.
+            elim (all.settled run is here) [
+              | inl left ↦ inl left
+              | inr s ↦ inr (record { part = s.part; short = s.short; onwards = λ pid n goes begins. moved n (s.onwards pid n goes begins) })
+            ];
+      }
+    where
+      moved : (n : Run) → IsMet seen (finding_of script n.events) ⊎ Contains offered n → IsMet seen (finding_of script n.events) ⊎ Contains others n
+      moved n (inl met) = inl met
+      moved n (inr there) = inr (Contains-permutation offered others n same there)
 
   -- AFTER THE LAST VISIT
 

@@ -18,6 +18,10 @@ abbrev pub IsExplained : ScriptView → List (List Answer) → Run → List Even
 IsExplained script log first events =
     (end : Run) × IsSchedule script first (schedule_of events) end × (end.events ≡ events) × AllFill script log events
 
+-- no process can go on after the run, and it has all the replies of the log
+abbrev pub IsWholeIn : ScriptView → List (List Answer) → Run → Type 0
+IsWholeIn script log run = (followers script script.processes run ≡ []) × AllFill script log run.events
+
 -- no schedule has the log's replies
 abbrev pub IsUnexplained : ScriptView → List (List Answer) → Run → Type 0
 IsUnexplained script log first = (schedule : List ℕ) (end : Run) → IsSchedule script first schedule end → AllFill script log end.events → ⊥

@@ -1,6 +1,6 @@
 //! The judge: a search for a schedule that has the replies of a log. It goes on from a run only if its replies begin the log,
 //! and if none like it was met.
-ghost use Rattle.std.specs.Prelude.{◌≡◌, ◌≢◌, ◌++◌, ◌∷◌, [], ◌↔◌, ◌⊎◌, ◌+◌, ◌<◌, ◌≤◌, ℕ, IfErr, IfOk, IsTrue, OnOk, length};
+ghost use Rattle.std.specs.Prelude.{◌≡◌, ◌≢◌, ◌++◌, ◌∷◌, [], ◌↔◌, ◌⊎◌, ◌+◌, ◌<◌, ◌≤◌, ℕ, IfErr, IfOk, IsPermutation, IsTrue, OnOk, length};
 ghost use Rattle.shm_outcomes.specs.Alike.{AreAlike};
 ghost use Rattle.shm_outcomes.specs.Judge.{AreSeen, IsDoubt, IsLonger, IsMet, IsRight, IsTaken, IsTooMany, newest, stuck_at};
 ghost use Rattle.shm_outcomes.specs.Logs.{AllFill};
@@ -10,8 +10,9 @@ ghost use Rattle.shm_outcomes.specs.Search.{finding_of};
 
 use crate::engine::{Engine, EngineError};
 use crate::keys::{are_same_events, changes};
-use crate::log::Log;
+use crate::log::{Entry, Log};
 use crate::outcome::Outcome;
+use crate::plan::last_line;
 use crate::search::{Finding, Node, SearchError, push_followers};
 use crate::verdict::{Stuck, Verdict};
 use shm_base::Event;
@@ -80,12 +81,13 @@ fn newest<'a, M: Engine>(run: &Node<M>, next: &'a Node<M>) -> &'a [Event]
     &events[from..]
 }
 
-// Whether some schedule of a script has the replies of a log. The machine has answered no call yet. At most `most` beginnings
+// Whether some schedule of a script has the replies of a log, whose lines are these entries. The machine has answered no call yet. At most `most` beginnings
 // of schedules are looked at, of which no two are alike.
 pub(crate) fn judge<M: Engine>(
     alloc: Global,
     script: &Script,
     log: &Log,
+    entries: &[Entry],
     machine: M,
     most: u64,
 ) -> Result<Verdict, SearchError>
@@ -108,6 +110,7 @@ pub(crate) fn judge<M: Engine>(
             return Ok(Verdict::Legal(run.into_events()));
         }
         keep_longest(alloc, script, &run, &mut stuck)?;
+        put_in_order(entries, &mut offered);
         if let Err(error) = take_in(alloc, script, log, most, &mut offered, &mut runs, &mut seen) {
             return Err(error);
         }
@@ -147,6 +150,39 @@ fn keep_longest<M: Engine>(
         *stuck = stuck_at(alloc, script, run)?;
     }
     Ok(())
+}
+
+// The place of the run whose last call is the first in the log, of those from a place on.
+fn nearest<M: Engine>(entries: &[Entry], offered: &[Node<M>], from: usize) -> usize {
+    let mut found = from;
+    let mut line = entries.len();
+    for (place, run) in offered.iter().enumerate() {
+        let own = last_line(entries, run.events());
+        if place >= from && own < line {
+            found = place;
+            line = own;
+        }
+    }
+    found
+}
+
+// Puts that run at the place.
+fn put_nearest<M: Engine>(entries: &[Entry], offered: &mut Vec<Node<M>>, place: usize)
+    ensures { IsPermutation offered.old.items offered.new.items }
+{
+    let found = nearest(entries, offered, place);
+    if place < offered.len() && found < offered.len() {
+        offered.swap(place, found);
+    }
+}
+
+// Puts the runs in the order of the lines of their last calls. The first one is taken in last and visited next.
+fn put_in_order<M: Engine>(entries: &[Entry], offered: &mut Vec<Node<M>>)
+    ensures { IsPermutation offered.old.items offered.new.items }
+{
+    for place in 0..offered.len() {
+        put_nearest(entries, offered, place);
+    }
 }
 
 // Takes in each of these runs.

@@ -67,7 +67,7 @@ fn are_same_bytes(bytes: &[u8], others: &[u8]) -> bool
 }
 
 impl Answer {
-    fn fits(&self, alloc: Global, reply: &Reply) -> Result<bool, AllocError>
+    pub(crate) fn fits(&self, alloc: Global, reply: &Reply) -> Result<bool, AllocError>
         ensures { IfOk result (λ r. IsTrue r ↔ Fits self.now reply.now) }
     {
         if is_any(&self.reply) {

@@ -4,7 +4,7 @@ use Rattle.shm_outcomes.specs.Judge.{IsExplained, IsTaken, IsTooMany}
 use Rattle.shm_outcomes.specs.Logs.{AllFill}
 use Rattle.shm_outcomes.specs.Schedules.{Run, fresh}
 use Rattle.shm_outcomes.specs.Search.{followers}
-use Rattle.shm_outcomes.proofs.Verdicts.{first-begins, first-doubt, first-seen, goes-on, illegal, legal, stuck-on, taken-count}
+use Rattle.shm_outcomes.proofs.Verdicts.{first-begins, first-doubt, first-seen, goes-on, illegal, legal, permuted, stuck-on, taken-count}
 use Rattle.shm_outcomes.proofs.judging.judge.Goals as goal
 
 pub returns-in-Err-clause-err : goal.returns-in-Err-clause-err
@@ -45,7 +45,8 @@ returns-in-Err-take_in-clause-err g c =
     let part : (followers c.args.script.now c.args.script.now.processes c.in-Some.run' ≡ []) × AllFill c.args.script.now c.args.log.now c.in-Some.run'.events → ⊥ =
     λ h. (let t = c.in_ok-is_whole.ensures.1 (c.deref.ensures.value ∙ offered ∙ h.0, h.1) in absurd (cc)) in
     let on = goes-on c.args.script.now c.args.log.now machine c.runs.seen.items c.runs.runs.items c.pop.new.self.items c.in-Some.run' c.runs.stuck c.keep_longest.new.stuck c.runs.invariant.seen was part c.in_ok-keep_longest.ensures in
-    c.in-Err-take_in.ensures.err machine (length c.keep_longest.new.stuck.events) (rw offered on)
+    c.in-Err-take_in.ensures.err machine (length c.keep_longest.new.stuck.events)
+    (permuted c.args.script.now c.args.log.now machine c.runs.seen.items c.pop.new.self.items c.push_followers.new.runs.items c.put_in_order.new.offered.items (length c.keep_longest.new.stuck.events) c.put_in_order.ensures (rw offered on))
 
 pub runs-preserved : goal.runs-preserved
 runs-preserved g c =
@@ -61,7 +62,9 @@ runs-preserved g c =
     record {
       few = c.in_default-take_in.ensures.few;
       counted = omega (arith, c.runs.invariant.counted, long, more);
-      seen = c.in_default-take_in.ensures.kept machine (length c.keep_longest.new.stuck.events) (rw offered on);
+      seen =
+          c.in_default-take_in.ensures.kept machine (length c.keep_longest.new.stuck.events)
+          (permuted c.args.script.now c.args.log.now machine c.runs.seen.items c.pop.new.self.items c.push_followers.new.runs.items c.put_in_order.new.offered.items (length c.keep_longest.new.stuck.events) c.put_in_order.ensures (rw offered on));
       stuck = stuck-on c.args.script.now c.args.log.now (fresh machine) c.pop.new.self.items c.runs.runs.items c.in-Some.run' c.runs.stuck c.keep_longest.new.stuck c.runs.invariant.seen.begin was c.in_ok-keep_longest.ensures c.runs.invariant.stuck;
     }
 

@@ -1,8 +1,7 @@
-use Rattle.std.proofs.Common.{rules, ◌≡◌, ◌∙◌, [], List, arith, None, Some, map, subst, sym, take}
+use Rattle.std.proofs.Common.{rules, ◌≡◌, List, arith, None, Some, map, subst, sym, take}
 use Rattle.shm_outcomes.specs.Judge.{IsExplained, pid_in}
 use Rattle.shm_outcomes.specs.Logs.{Entry}
 use Rattle.shm_outcomes.specs.Schedules.{Leads, fresh, goes}
-use Rattle.shm_outcomes.specs.Search.{followers}
 use Rattle.shm_outcomes.proofs.Ordering.{differs, explained, halts, one-more-led, take-past}
 use Rattle.shm_outcomes.proofs.Searching.{follower-reached}
 use Rattle.shm_outcomes.proofs.ordered.in_order.Goals as goal
@@ -24,16 +23,13 @@ loop-entry-preserved g c =
 pub returns-then-not-branch-clause-none : goal.returns-then-not-branch-clause-none
 returns-then-not-branch-clause-none g c =
     let all : take c.loop-entry.entry-index c.args.entries.now ≡ c.args.entries.now = (let past = c.loop-entry-test.false in take-past c.args.entries.now c.loop-entry.entry-index (omega (arith, past))) in
-    let offered : c.push_followers.new.runs.items ≡ followers c.args.script.now c.args.script.now.processes c.loop-entry.run = search rules in
     let not = c.if-not-branch.true in
     differs c.args.script.now c.args.log.now (fresh (g.M.Engine.flat c.args.machine)) c.loop-entry.run c.args.entries.now
     (subst (λ (es : List Entry). Leads c.args.script.now (map pid_in es) (fresh (g.M.Engine.flat c.args.machine)) c.loop-entry.run) all c.loop-entry.invariant.leads)
-    (λ h. (let t = c.in_ok-is_whole.ensures.1 (c.deref.ensures.value ∙ offered ∙ h.0, h.1) in absurd (cc)))
+    (λ h. (let t = c.in_ok-is_whole_in.ensures.1 h in absurd (cc)))
 
 pub returns-clause-some : goal.returns-clause-some
 returns-clause-some g c =
-    let offered : c.push_followers.new.runs.items ≡ followers c.args.script.now c.args.script.now.processes c.loop-entry.run = search rules in
-    let whole = c.in_ok-is_whole.ensures.0 (search rules) in
-    let none : followers c.args.script.now c.args.script.now.processes c.loop-entry.run ≡ [] = sym offered ∙ sym c.deref.ensures.value ∙ whole.0 in
+    let whole = c.in_ok-is_whole_in.ensures.0 (search rules) in
     subst (IsExplained c.args.script.now c.args.log.now (fresh (g.M.Engine.flat c.args.machine))) (sym c.into_events.ensures)
-    (explained c.args.script.now c.args.log.now (fresh (g.M.Engine.flat c.args.machine)) c.loop-entry.run c.loop-entry.invariant.reached none whole.1)
+    (explained c.args.script.now c.args.log.now (fresh (g.M.Engine.flat c.args.machine)) c.loop-entry.run c.loop-entry.invariant.reached whole.0 whole.1)

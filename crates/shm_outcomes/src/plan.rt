@@ -1,0 +1,220 @@
+//! Which line of a log to try next, where the order of the lines fails. The lines are tried in their order, and a line that does
+//! not fit is left until later.
+//!
+//! A plan is a guess. Whatever it tries, the replies decide, so no contract says which line it is.
+use crate::log::Entry;
+use shm_base::Event;
+use shm_text::Script;
+use std::alloc::{AllocError, Global};
+
+// How a plan goes on where no line fits.
+#[derive(Clone, Copy)]
+pub(crate) enum Way {
+    // The first line that is left is put before lines that were answered, at the last place where it fits.
+    Early,
+    // Other lines are tried in place of the last one, so that no lines change places that are more than so many lines apart.
+    Near(usize),
+}
+
+// How far below the first line that is left a line may be tried, until that first line is put early.
+const LATEST: usize = 16;
+
+fn latest(way: Way) -> usize {
+    match way {
+        Way::Early => LATEST,
+        Way::Near(latest) => latest,
+    }
+}
+
+// The next line of a process, or the count of lines if it has none.
+#[derive(Clone, Copy)]
+struct Head {
+    pid: u32,
+    line: usize,
+}
+
+// What to do with the runs so far.
+pub(crate) enum Move {
+    // Goes on by this line.
+    Try(usize),
+    // Goes back to the run before the last one.
+    Back,
+    // There is nothing to try.
+    End,
+}
+
+// The first line of a process from a line on, or the count of lines.
+fn own_line(entries: &[Entry], pid: u32, from: usize) -> usize {
+    let mut line = from;
+    while line < entries.len() {
+        let entry = &entries[line];
+        if entry.pid == pid {
+            return line;
+        }
+        line += 1;
+    }
+    line
+}
+
+// The first of the next lines that is not before this one, or `count`.
+fn first_head(heads: &[Head], from: usize, count: usize) -> usize {
+    let mut found = count;
+    for head in heads {
+        if from <= head.line && head.line < found {
+            found = head.line;
+        }
+    }
+    found
+}
+
+fn is_head(heads: &[Head], line: usize) -> bool {
+    for head in heads {
+        if head.line == line {
+            return true;
+        }
+    }
+    false
+}
+
+fn set_head(heads: &mut [Head], pid: u32, line: usize) {
+    for head in heads.iter_mut() {
+        if head.pid == pid {
+            head.line = line;
+        }
+    }
+}
+
+fn own_count(events: &[Event], pid: u32) -> usize {
+    let mut count = 0usize;
+    for event in events {
+        if event.pid == pid {
+            count = count.saturating_add(1);
+        }
+    }
+    count
+}
+
+// The line of the last of these calls, or the count of lines.
+pub(crate) fn last_line(entries: &[Entry], events: &[Event]) -> usize {
+    if events.is_empty() {
+        return entries.len();
+    }
+    let last = &events[events.len() - 1];
+    let mut left = own_count(events, last.pid);
+    for (line, entry) in entries.iter().enumerate() {
+        if entry.pid == last.pid {
+            if left <= 1 {
+                return line;
+            }
+            left -= 1;
+        }
+    }
+    entries.len()
+}
+
+#[derive(Drop)]
+pub(crate) struct Plan {
+    way: Way,
+    heads: Vec<Head>,
+    // the lines that were answered, in order
+    taken: Vec<usize>,
+    // lines before this one were tried
+    from: usize,
+    // the line that is put before others
+    early: Option<usize>,
+}
+
+impl Plan {
+    pub(crate) fn of(
+        alloc: Global,
+        script: &Script,
+        entries: &[Entry],
+        way: Way,
+    ) -> Result<Plan, AllocError> {
+        let mut heads = Vec::new(alloc);
+        for process in &script.processes {
+            let line = own_line(entries, process.pid, 0);
+            heads.push(Head {
+                pid: process.pid,
+                line,
+            })?;
+        }
+        Ok(Plan {
+            way,
+            heads,
+            taken: Vec::new(alloc),
+            from: 0,
+            early: None,
+        })
+    }
+
+    // What to do next, in a log of so many lines.
+    pub(crate) fn next(&self, count: usize) -> Move {
+        if let Some(line) = self.early {
+            if self.from > line {
+                return Move::Back;
+            }
+            return if is_head(&self.heads, line) {
+                Move::Try(line)
+            } else {
+                Move::End
+            };
+        }
+        let first = first_head(&self.heads, 0, count);
+        if first >= count {
+            return Move::End;
+        }
+        let line = first_head(&self.heads, self.from, count);
+        if line >= count || line.saturating_sub(first) > latest(self.way) {
+            return Move::Back;
+        }
+        Move::Try(line)
+    }
+
+    // The line was answered.
+    pub(crate) fn took(&mut self, entries: &[Entry], line: usize) -> Result<(), AllocError> {
+        self.taken.push(line)?;
+        self.from = 0;
+        self.early = None;
+        if line < entries.len() {
+            let entry = &entries[line];
+            set_head(
+                &mut self.heads,
+                entry.pid,
+                own_line(entries, entry.pid, line + 1),
+            );
+        }
+        Ok(())
+    }
+
+    // The line does not fit here.
+    pub(crate) fn failed(&mut self, line: usize) {
+        self.from = line.saturating_add(1);
+    }
+
+    // The last line that was answered is left again.
+    pub(crate) fn back(&mut self, entries: &[Entry]) {
+        let first = first_head(&self.heads, 0, entries.len());
+        let Some(line) = self.taken.pop() else {
+            return;
+        };
+        if line < entries.len() {
+            let entry = &entries[line];
+            set_head(&mut self.heads, entry.pid, line);
+        }
+        self.goes_back(first, line);
+    }
+
+    // What is tried in place of this line, where no line fitted before `first`.
+    fn goes_back(&mut self, first: usize, line: usize) {
+        match self.way {
+            Way::Early => {
+                self.from = 0;
+                if self.early.is_none() {
+                    self.early = Some(first);
+                }
+            }
+            Way::Near(_) => self.from = line.saturating_add(1),
+        }
+    }
+}
