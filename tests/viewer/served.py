@@ -82,7 +82,7 @@ def check_lesson(count, session):
     seen = session.value("[byId('lesson').hidden, byId('where').textContent, byId('lesson').querySelector('h2').textContent, "
                          "byId('lesson').querySelectorAll('li').length, [...byId('lesson').querySelectorAll('details')].map((it) => [it.open, "
                          "it.textContent.slice(0, 53)]), byId('lesson').innerText.includes('Question: MEMLOCK, the last number')]")
-    answer = "AnswerIf all frames could be locked, no frame could b"
+    answer = "AnswerIf all frames could be locked, no frame would b"
     count.take(seen == [False, "step 0 of 16", LESSONS[7], 5, [[False, answer]], True], f"served, a lesson: {seen}")
     choose(session, LESSONS[8], "lesson")
     said = session.value("byId('lesson').innerText")
