@@ -94,6 +94,11 @@ def check_names(count, session):
     session.value("document.activeElement.blur()")
 
 
+def settle(session):
+    """Waits until the page has handled its events and drawn twice."""
+    session.value("new Promise((done) => requestAnimationFrame(() => requestAnimationFrame(() => done(0))))")
+
+
 def swipe(session, begin, end, selector=None):
     where = {"x": begin[0], "y": begin[1]}
     if selector:
@@ -103,12 +108,14 @@ def swipe(session, begin, end, selector=None):
     session.ask("Input.dispatchTouchEvent", type="touchStart", touchPoints=[where])
     session.ask("Input.dispatchTouchEvent", type="touchMove", touchPoints=[{"x": end[0], "y": end[1]}])
     session.ask("Input.dispatchTouchEvent", type="touchEnd", touchPoints=[])
+    settle(session)
 
 
 def check_swipes(count, session):
     """On a phone a swipe to the left is a step on and one to the right a step back; a short or steep one, and one of a table, is none."""
     session.ask("Emulation.setTouchEmulationEnabled", enabled=True)
     session.value("location.hash = '#step-3'; 0")
+    settle(session)
     seen = []
     for words in (((300, 500), (100, 510)), ((300, 500), (100, 490)), ((100, 500), (300, 500)), ((300, 500), (265, 500)), ((300, 300), (220, 420)),
                   ((300, 500), (200, 500), ".scrolls")):
