@@ -139,7 +139,7 @@ class Library:
                 function.argtypes = parameters if name in OTHERS else [POINTER(MachineStruct), *parameters]
                 function.restype = c_uint32
         except (OSError, AttributeError) as error:
-            raise LibraryMissing(f"no shared object of nogcuvema at {path}: {error}; ./lib builds it, and the variable "
+            raise LibraryMissing(f"no shared object of nogcuvema at {path}: {error}; ./lib builds it, or ./lib --unproved without proofs, and the variable "
                                  "NOGCUVEMA_LIBRARY names its file or folder") from None
         self.compare_layout(path)
 
