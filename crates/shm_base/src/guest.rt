@@ -6,8 +6,7 @@ use thiserror::Error;
 /// - `BadPid`: the pid is 0, or above 2147483647.
 /// - `PidTaken`: a live process, or a child that is not born yet, has the pid.
 /// - `TooManyProcesses`: no ended process has the pid, and there are as many processes as the limits allow.
-///   Ended
-/// processes count until they are dismissed.
+///   Ended processes count until they are dismissed.
 #[derive(Clone, Copy, Debug, PartialEq, Eq, Error)]
 pub enum AdmitRefusal {
     #[error("a pid out of range")]
