@@ -7,8 +7,8 @@ use Rattle.shm_attach.specs.Mapping.{refusal_in}
 use Rattle.shm_life.specs.MachineView.{KeepsOn, LocksNothing}
 use Rattle.shm_life.specs.SystemState.{SystemState, time_of, most_calls}
 
--- the machine is changed by the unmap, or everything is unchanged if that is refused. It is not a call. Pages of destroyed
--- segments are dropped; no other page moves, and no bit changes
+-- the machine is changed by the unmap, or everything is unchanged if that is refused. It is not a call. Pages of locked segments
+-- stay resident, and no segment becomes locked
 pub record Unmapped
     (before : SystemState) (pid addr len : ℕ) (result : Result (Unit {0}) Errno) (after : SystemState)
     : Type 0 where
