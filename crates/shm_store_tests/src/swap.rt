@@ -90,7 +90,7 @@ enum Wish {
     /// The page is written to the first slot of an area, or read there. A pager may fail.
     Write(u32, bool),
     Read(u32, bool),
-    /// How many failures are counted, and whether no area may be spent.
+    /// How many failures are counted, and whether no area was ever spent.
     Failures(u64, bool),
 }
 
