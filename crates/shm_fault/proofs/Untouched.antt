@@ -19,7 +19,7 @@ edit-reached ps n page p within there =
     set-padded (padded ps (page + 1) no_page) n page p no_page (within-padded ps (page + 1) page no_page (omega arith))
     ∙ ap (λ qs. set qs page p) (padded-padded ps (page + 1) n no_page (omega (arith, there)) within)
 
--- as many pages as before
+-- the number of pages is unchanged
 pub fits-reached : (ps : List PageRec) (n page : ℕ) (p : PageRec) → length ps ≤ n → page < n → length (set (padded ps (page + 1) no_page) page p) ≤ n
 fits-reached ps n page p within there = rw (length-set (padded ps (page + 1) no_page) page p) (fits-padded ps (page + 1) n no_page (omega (arith, there)) within)
 
