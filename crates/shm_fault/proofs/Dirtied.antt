@@ -15,7 +15,7 @@ none-set frames f x was g e = elim (set-cases frames f x no_frame g) [
   | inr kept ↦ rw kept at e
 ]
 
--- the slot of a page does not name a frame
+-- giving a page a slot changes no frame
 slotted-frames : (f : ℕ) (s : Places) → (slotted f s).frames ≡ s.frames
 slotted-frames f s = by-owner (frame_at s.frames f).owner
   where

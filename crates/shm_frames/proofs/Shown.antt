@@ -67,7 +67,7 @@ entry-there table i owned =
       | inr past ↦ let none : is_some (state_at table i).owner ≡ false = ap (λ (e : FrameState). is_some e.owner) (get_or_past table i free_entry past) in absurd (true≢false (sym owned ∙ none))
     ]
 
--- entries that do not pass are not counted
+-- padding with entries that do not pass changes no count
 pub count-padded : (q : FrameState → Bool) (table : List FrameState) (n : ℕ) → q free_entry ≡ false → count_by q (padded table n free_entry) ≡ count_by q table
 count-padded q table n e = rw (sum_by-append (λ x. cond (q x) 1 0) table (replicate (n - length table) free_entry), sum_by-replicate (λ x. cond (q x) 1 0) (n - length table) free_entry, e) (omega arith)
 

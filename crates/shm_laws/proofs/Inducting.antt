@@ -48,7 +48,7 @@ module _ (o : Opening) (holds : List Event → Machine → Type 0) (step : GoesO
 pub held_always : (holds : Machine → Type 0) (law : Machine → Event → Machine → Type 0) → Keeps holds law → (o : Opening) → holds (start_of o) → (events before : List Event) (s : Machine) → IsMoment o events before s → holds s
 held_always holds law step o first events before s m = at_all_times o (λ _ u. holds u) (λ before s e t h now m. (step s (length before + 1) e t now m).0) first events before s m
 
--- a stronger beginning is also a weaker one, and so is what kept it up
+-- weaker conditions follow from stronger ones
 pub since-map : (o : Opening) (a b : Machine → Event → Type 0) (f g : Machine → Event → Type 0) → ((s : Machine) (e : Event) → a s e → b s e) → ((s : Machine) (e : Event) → f s e → g s e)
     → (before : List Event) → Since o a f before → Since o b g before
 since-map o a b f g begins keeps _ (Began before s e h x) = Began before s e h (begins s e x)

@@ -26,7 +26,7 @@ use Rattle.shm_machine.specs.Answered.{fits}
 record Fine (call : Call) (o : Outcome) : Type 0 where
   fit : is_refusal o.reply ≡ false → fits call o.reply ≡ true
 
--- both fit, or one is a refusal, for which nothing is claimed
+-- if both outcomes fit, so does the chosen one
 pick : (call : Call) (b : Bool) (o p : Outcome) → Fine call o → Fine call p → Fine call (if b then o else p)
 pick call true o p h k = h
 pick call false o p h k = k
