@@ -20,7 +20,7 @@ kind-move s n e t bare =
 abbrev pub IsShort : List Entry → Type 0
 IsShort t = (i : ℕ) → 32768 ≤ i → slice_get t i ≡ None
 
--- what is marked has a piece, who is not born has none, and from index 32768 on none was ever used
+-- a marked segment has a piece, a process that is not born has none, and no index from 32768 on was ever used
 pub record IsMachineSound (s : Machine) : Type 0 where
   pub orphans : (i : ℕ) → i < 32768 → orphan s.runners s.table i ≡ false
   pub short : IsShort s.table

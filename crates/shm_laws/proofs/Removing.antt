@@ -1,4 +1,4 @@
--- Each move destroys what is due, and what is marked has a piece.
+-- Each move destroys exactly what is due, and a marked segment has a piece.
 use Rattle.shm_laws.proofs.Names.{◌≡◌, ◌≤◌, ◌⊎◌, ℕ, suc, zero, ◌+◌, ◌/◌, ◌%◌, ◌==◌, ◌&&◌, ◌||◌, ◌≢◌, pos, Bool, true, false, List, [], ◌∷◌, map, Some, None, slice_get, refl, sym, ap, ◌∙◌, inl, inr, arith, eq-eqb, ne_eqb, cases_eq, common_steps, or_right, none-some, Process, Event, Segment, Runner, Machine, Opening, start_of, runner_at_start, identifier, attach_count, caller_of, IsMove, Stands, IsGone, IsSame, MarkedHavePieces, IsDue, DestroysWhatIsDue, IsMarked, IsRemoval, HasKey}
 use Rattle.shm_laws.proofs.Looks.{stands-at, at-stands, at-gone, not-both}
 use Rattle.shm_laws.proofs.Stepping.{Bare, overlay, made_by, Moved, removed}

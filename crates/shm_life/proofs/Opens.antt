@@ -50,7 +50,7 @@ pub sizes-new : {X : Type 0} (content : X → List (List ℕ)) (failed : X → �
 sizes-new content failed [] = refl
 sizes-new content failed (p ∷ ps) = ap (λ (l : List (Option ℕ)). Some (length (content p)) ∷ l) (sizes-new content failed ps)
 
--- nobody owns a slot of theirs
+-- none of their slots is owned
 abbrev nobody : Option PageRef
 nobody = None
 

@@ -38,7 +38,7 @@ fits Exit Done = true
 fits (Swapoff area) Done = true
 fits _ _ = false
 
--- the reply behind a result, if there is one
+-- the reply from which a result was taken, if there is one
 abbrev pub as_reply : {A : Type 0} → (A → Reply) → Result A Refusal → Result Reply Refusal
 as_reply reply_of (Ok a) = Ok (reply_of a)
 as_reply reply_of (Err refusal) = Err refusal

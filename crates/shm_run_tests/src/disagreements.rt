@@ -153,7 +153,7 @@ const KEPT: [Kept; 14] = [
         all: &[(2, Made::Store)],
         found: Some(2),
     },
-    // the worker goes on after its exit
+    // the worker continues after its exit
     Kept {
         child: &[],
         process: &[Made::Store, Made::Exit, Made::Exit],

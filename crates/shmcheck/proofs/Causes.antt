@@ -41,7 +41,7 @@ pub sampled :
 sampled script areas machine seed runs rest text at are =
     (rest, subst (λ (m : Machine). AreSamples script (fresh m) runs (answers_from seed) rest text) at are)
 
--- what is listed without identifiers and addresses
+-- what is listed if identifiers and addresses are masked
 pub masked-text :
     (masked : Bool) (script : ScriptView) (first : Run) (others : List Finding) (text : List ℕ)
     → masked ≡ true → AreMaskedOutcomes script first others → text ≡ outcomes_text true script others → IsTextOf masked script first text
