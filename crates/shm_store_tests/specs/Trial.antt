@@ -47,6 +47,6 @@ pub record AreAlike (s : StoreView) (plain : List Held) (rows : List Row) : Type
   pub frames : length s.frames ≡ 4
   pub apart : AreHeldApart (held s)
 
--- the span with the frame of its page 142 or it does not; or no piece does
+-- the span with the frame of its page
 abbrev pub frame_named : StoreView → Span → Span
 frame_named s p = record p { frame = frame_of s p.seg (page_of p) }
