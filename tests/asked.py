@@ -1,11 +1,11 @@
-"""How often each swap area's pager has to be asked, by the rules of docs/MACHINE.md, for a script and the history of its run.
+"""How often each swap area's pager must be called, by the rules of docs/MACHINE.md, for a script and the history of its run.
 
-The history says which calls were granted, which segments came and where they were attached. All of paging is worked out here: which
-pages are in frames and slots, which of them are asked for, and which accesses and swapoffs fail for that.
+The history says which calls succeeded, which segments were made, and where they were attached. This file works out all of paging:
+which pages are in frames and slots, which of them are read or written, and which accesses and swapoffs fail because of that.
 
-A page is asked for once where it comes in from its slot, and given once where it goes to its slot, also where that fails. A slot that
-is given back is discarded once: that of a page of a destroyed segment, that of a page that a swapoff moves, and the new slot of a
-page whose move fails. A page whose write fails keeps the slot that it took, but in a move. Nothing else asks a pager."""
+A page is read once when it comes in from its slot, and written once when it goes to its slot, also if that fails. A slot that
+is returned is discarded once: that of a page of a destroyed segment, that of a page that a swapoff moves, and the new slot of a
+page whose move fails. A page whose write fails keeps the slot that it took, except in a move. Nothing else calls a pager."""
 import re
 
 PAGE = 4096
@@ -76,7 +76,7 @@ class Paging:
         return is_written
 
     def victim(self, pinned):
-        """The hand goes round; where all bits were set, the first one that may go comes again, and its bit is clear by then."""
+        """The hand goes round. If all bits were set, it reaches the first eligible frame again, whose bit is clear by then."""
         while True:
             at, self.hand = self.hand, (self.hand + 1) % len(self.frames)
             frame = self.frames[at]
@@ -87,7 +87,7 @@ class Paging:
             frame.is_referenced = False
 
     def visit(self, page, pinned=None):
-        """The page's frame; none where a pager failed."""
+        """The page's frame; none if a pager failed."""
         at = self.frame_of(page)
         if at is not None:
             self.frames[at].is_referenced = True
@@ -107,7 +107,7 @@ class Paging:
         return at
 
     def access(self, pages, is_write):
-        """Whether all pages came in: at most two, the first of which stays while the second comes in."""
+        """Whether all pages came in. There are at most two, and the first stays while the second comes in."""
         first = None
         for page in pages:
             at = self.visit(page, first)
@@ -168,7 +168,7 @@ class Run:
         self.sizes, self.marked, self.spaces = {}, set(), {}
 
     def end_unattached(self):
-        """A marked segment goes with its last piece."""
+        """A marked segment is destroyed with its last piece."""
         if not self.marked:
             return
         attached = {page[0] for space in self.spaces.values() for page, _, _ in space.values()}

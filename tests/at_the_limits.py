@@ -1,8 +1,8 @@
 #!/usr/bin/env python3
-"""Writes scripts that reach each documented limit, and what a run of them prints: at_the_limits.py FOLDER.
+"""Writes scripts that reach each documented limit, and the output of their runs: at_the_limits.py FOLDER.
 
-Each is NAME.shm with NAME.swap and NAME.out, as the stored scripts beside this file. They are too long to be stored. What
-is printed is worked out here from the rules of docs/MACHINE.md, each step with its reason: no program is asked.
+Each is NAME.shm with NAME.swap and NAME.out, as the stored scripts next to this file. They are too long to be stored. The
+output is worked out here from the rules of docs/MACHINE.md, each step with its reason, and without any program.
 """
 import sys
 
@@ -45,7 +45,7 @@ def row(key, shmid, size, attached, status="-", owner=100):
 
 
 def pair_bytes(pair, segment):
-    """Two bytes that tell which pages they were stored at: the last of one page and the first of the next."""
+    """Two bytes that identify the pages to which they are stored: the last of one page and the first of the next."""
     return f"{pair % 251 + 1:02x}{segment + 1:02x}"
 
 
@@ -89,10 +89,10 @@ def every_page(folder, name, swap, slots):
 
 
 def eight_areas(folder):
-    """A page goes from the first area of 65536 slots to the eighth, as the others are taken away.
+    """A page moves from the first area of 65536 slots to the eighth, as the others are taken away.
 
-    It is evicted by two pages that are loaded: they hold no store, so they leave no slot behind. swapoff moves it, and
-    counts neither as read in nor as written out.
+    Two pages that are loaded evict it. Nothing was stored to them, so they need no slot. swapoff moves it, and counts
+    this neither as read in nor as written out.
     """
     script = Script("16777216 16 65536 2 0", "process 1 0 0")
     script.call("1 s = shmget private 12288 600", "shmget 0x00000000 12288 600", 0)
@@ -129,7 +129,7 @@ def most_segments(folder):
 def most_pieces(folder):
     """64 processes with 256 pieces each: the 63 children have those of the first one, by fork.
 
-    The pieces stand one behind the other, each a page of the same segment. One attach more is refused in each process.
+    The pieces are consecutive, each a page of the same segment. One more attach is refused in each process.
     """
     children = range(2, 65)
     script = Script("4096 16 64 2 0", "process 1 100 100", *(f"child {pid}" for pid in children))

@@ -1,4 +1,4 @@
-"""A browser that draws a page with no window: Debian's chromium, or what else goes by one of its names."""
+"""A browser that draws a page without a window: Debian's chromium, or another program with one of its names."""
 
 import base64
 import json
@@ -12,7 +12,7 @@ SECONDS = 120
 
 
 def path():
-    """Returns the browser's path, or none where none is here."""
+    """Returns the browser's path, or None if there is no browser."""
     return next(filter(None, map(shutil.which, NAMES)), None)
 
 
@@ -82,7 +82,7 @@ class Session:
             self.ask("Input.dispatchKeyEvent", type=kind, key=key)
 
     def picture(self):
-        """Returns what is on the screen, as PNG."""
+        """Returns a picture of the screen, as PNG."""
         return base64.b64decode(self.ask("Page.captureScreenshot", format="png")["data"])
 
     def paper(self):

@@ -14,7 +14,7 @@ REFUSALS = ("EPERM ENOENT ESRCH EIO EAGAIN ENOMEM EACCES EEXIST EINVAL EMFILE EN
 CHARTS = ((("pages in frames", "frames"), ("dirty", "dirty"), ("slots in use", "slots")),
           (("read from swap", "in"), ("written to swap", "out"), ("failures", "failures")))
 KEYS = ("ArrowLeft", "ArrowRight", "Home", "End")
-# the lines of the chart lie beside each other where their counts are alike: by no more than this
+# if counts are equal, the lines of the chart are drawn next to each other: at most this far apart
 NUDGE = 5
 
 
@@ -80,7 +80,7 @@ def boxes_of(pieces):
 
 
 def access_of(block):
-    """Returns the process of an access and the addresses of its bytes, page by page, none where there is no access."""
+    """Returns the process of an access and the addresses of its pages; empty ones if the step is not an access."""
     words = block[1]
     if words[0] != "call" or words[3] not in ("load", "store", "xadd"):
         return "", []
@@ -122,7 +122,7 @@ def processes(block, before, blocks):
 
 
 def reached_frames(block):
-    """Returns the frames of the pages that an access reached; it reaches none where it is answered SIGSEGV."""
+    """Returns the frames of the pages that an access reached; it reaches none if its reply is SIGSEGV."""
     caller, named = access_of(block)
     has = {line[1]: boxes_of(pieces) for line, pieces in pieces_of(block)}.get(caller, {})
     places = [where_is(block, has[address][0]) for address in named if address in has]
@@ -235,8 +235,8 @@ def step_lines(script):
 
 
 def shown_at(blocks, at, told, skipped=0, script=()):
-    """Returns what is to be seen at a place of the record, but for the charts and the colours of segments. The first blocks,
-    if some are skipped, are no steps of the page."""
+    """Returns what the page must show at a place of the record, except for the charts and the colours of segments. Blocks that
+    are skipped at the beginning are not steps of the page."""
     block, before = blocks[at], blocks[at - 1] if at else None
     number, last = number_of(block), number_of(blocks[-1])
     drawn = areas(block, blocks)
@@ -393,7 +393,7 @@ def page_at(block, page):
 
 
 def sought(what, block, before):
-    """Returns whether a step has what is looked for: a page that came into a frame, a refusal, or a change of a process or a page."""
+    """Returns whether a step has what the reader looks for: a page that came in, a refusal, or a change of a process or a page."""
     kind, *name = what.split(" ")
     if kind == "fault":
         had, has = ({tuple(line[2:4]) for line in lines_of(it, "frame")} for it in (before, block))
@@ -408,7 +408,7 @@ def sought(what, block, before):
 
 
 def steps_sought(what, blocks, changed):
-    """Returns the numbers of the steps that have what is looked for; a page changes, too, where its bytes do."""
+    """Returns the numbers of the steps that have what the reader looks for; a page also changes if its bytes do."""
     return [number_of(block) for before, block, pages in zip(blocks, blocks[1:], changed[1:])
             if sought(what, block, before) or what in [f"page {page}" for page in pages]]
 

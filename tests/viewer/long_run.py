@@ -1,4 +1,4 @@
-"""A long run of a large machine: 2,000 steps over 2,048 frames and as many pages open within a second."""
+"""A long run of a large machine: 2,000 steps over 2,048 frames and 2,048 pages open within a second."""
 
 import os
 import tempfile

@@ -25,7 +25,7 @@ def read(name):
 
 
 def places_of(block):
-    """Returns for each byte that an access names its page and its place there, none where nothing is attached."""
+    """Returns for each byte of an access its page and its place there; None if nothing is attached."""
     words = block[1]
     caller, named = access_of(block)
     if not named:
@@ -71,7 +71,7 @@ class Memory:
             page[at] = byte
 
     def changed(self):
-        """Returns for each step the pages of which it changed a byte."""
+        """Returns for each step the pages with a byte that it changed."""
         zeros = bytes(PAGE)
         return [{page for page in after if after[page] != before.get(page, zeros)} for _, before, after, _ in self.steps]
 
@@ -109,7 +109,7 @@ def table_of(memory, at, page, is_whole=False):
 
 
 def held(block, before, page):
-    """Returns what is told of a page: where it is, and at which addresses."""
+    """Returns what the viewer says about a page: where it is, and at which addresses."""
     seg = page.split("·")[0]
     had, has = ([it for it in segments_of(each) if it[1] == seg] for each in (before or [["step"]], block))
     if not has:

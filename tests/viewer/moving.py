@@ -1,4 +1,4 @@
-"""How a page moves by itself and by what its reader looks for: play, the next step that has something, swipes, and a handout."""
+"""How a page moves: play, search for the next step of a kind, swipes, and the handout."""
 
 import os
 import re
@@ -15,7 +15,7 @@ WORDS = {"fault": "a page comes into a frame", "refusal": "a call is refused"}
 
 
 def walk(session, press, last):
-    """The steps that a key leads to, until it leads nowhere; and what is then said."""
+    """The steps to which a key leads, until it leads nowhere; and the message then."""
     seen = []
     while len(seen) <= last + 1:
         was = session.value(WHERE)
@@ -56,7 +56,7 @@ def check_seeking(count, session, made):
 
 
 def check_playing(count, session, made, wait_for):
-    """Play goes on, by its key and its button, and ends at the last step and at any other move."""
+    """Play continues, by its key and its button, and ends at the last step and at any other move."""
     text = "document.getElementById('play').textContent"
     last = number_of(made.blocks[-1])
     session.press("Home")

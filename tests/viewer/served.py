@@ -28,7 +28,7 @@ EXPLAINED = """line 9, column 3: bad line
 LESSONS = ["1. Three pages in two frames", "2. A read of swap that fails", "3. A swap area is taken away",
            "4. An attach in the middle of another", "5. A removed segment lives on", "6. A child and its parent", "7. Who may do what", "8. Pages that must stay",
            "9. Two processes at once"]
-# what is asked of the page after each edit: the text to find, what it becomes, and what is then seen
+# the edits of the page: the text to find, its replacement, and what the page must show then
 EDITS = (
     ("1 load a 1", "1 load a 2", "step 6 of 9", "process 1: load 0x40000000 2 = 0100 call 6 of the history", 2),
     ("limits 65536 16 64 2 0", "limits 65536 16 64 3 0", "step 6 of 9", "process 1: load 0x40000000 2 = 0100 call 6 of the history", 3),
@@ -162,7 +162,7 @@ def check_saving(count, session):
 
 
 def check_in_browser(count, session):
-    """A script that is edited beside its picture."""
+    """A script that is edited next to its picture."""
     with served() as found:
         if not found:
             count.take(False, "served: no address was printed")

@@ -50,7 +50,7 @@ def read(path):
 
 
 def swaps_beside(path):
-    """Returns the swap words that are stored beside a script."""
+    """Returns the swap words that are stored with a script."""
     beside = os.path.splitext(path)[0] + ".swap"
     return read(beside).split() if os.path.isfile(beside) else ["ram:64"]
 
@@ -94,7 +94,7 @@ class Runner:
         self.turn = threading.Lock()
 
     def run(self, script, swaps):
-        """Returns an answer as JSON, or none where other runs did not end in time."""
+        """Returns an answer as JSON; None if other runs did not end in time."""
         if not self.turn.acquire(timeout=WAIT_SECONDS):
             return None
         try:

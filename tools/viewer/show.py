@@ -43,8 +43,8 @@ def range_of(steps):
 
 
 def told_of(text, script="", asked=""):
-    """Returns what a page shows beside the record of a run. The bytes of a page are zeros, and then what the accesses left; those of
-    a segment that was there before the record begins are unknown until an access names them."""
+    """Returns what a page shows in addition to the record of a run. The bytes of a page are zeros, and later those that accesses
+    stored. In a segment that is older than the record they are unknown until an access names them."""
     first, last = range_of(asked)
     steps, lines = read_record(text), lines_of(script) if script else []
     shown = [step for step in steps if step.number >= first - 1]
@@ -105,7 +105,7 @@ def page(text, script="", asked=""):
 
 
 def terminal(text, _script="", asked=""):
-    """Each block with what changed behind its second line, which says what was done."""
+    """Each block, with the changes after its second line, which says what the step did."""
     blocks = []
     first, _last = range_of(asked)
     chosen = [block for block in text.split("\n\n") if block and int(block.split()[1]) >= first]
