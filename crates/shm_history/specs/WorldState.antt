@@ -34,7 +34,7 @@ event pid call reply = record { pid = pid; call = call; reply = reply }
 abbrev pub failures_in : List Event → ℕ
 failures_in events = count_by (λ (e : Event). is_failure e.call e.reply) events
 
--- if no area was ever spent, there are at most as many as failures were counted
+-- if no area was ever spent, the replies report no more failures than were counted
 unfoldable pub AreCounted : List Event → SwapView → Type 0
 AreCounted events swap = swap.never_spent ≡ true → failures_in events ≤ total swap
 

@@ -33,7 +33,7 @@ module _ {T : Type 0} where
   abbrev pub free_index : List (Entry T) → Option ℕ
   free_index table = flat.free_index (map blank_entry table)
 
-  -- the index of an entry is free: it is free in a table of that entry alone
+  -- the index of an entry is free: it is free in a table of only this entry
   abbrev pub IsFree : Entry T → Type 0
   IsFree e = flat.free_index (blank_entry e ∷ []) ≡ Some 0
 
