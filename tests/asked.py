@@ -18,7 +18,7 @@ def number(word):
 
 
 class Area:
-    """A swap area: who owns each slot, what it was asked, and the places of its failing read and write, 0 for none."""
+    """A swap area: the owner of each slot, its counts of calls, and the places of its failing read and write, 0 for none."""
 
     def __init__(self, word):
         kind, slots, *place = word.split(":")
@@ -124,7 +124,7 @@ class Paging:
             self.write_out(frame)
 
     def swapoff(self, number):
-        """Whether the area went."""
+        """Whether the area was taken away."""
         area = self.areas[number]
         for slot, page in enumerate(area.owners):
             if page is None:
@@ -182,13 +182,13 @@ class Run:
             space[base // PAGE + n] = (segment, n), is_writable, base
 
     def detach(self, space, origin):
-        """The lowest piece with this origin names the segment, and all its pieces with this origin go."""
+        """The lowest piece with this origin names the segment, and all its pieces with this origin are detached."""
         segment = next(space[n][0][0] for n in sorted(space) if space[n][2] == origin)
         for n in [n for n in space if space[n][2] == origin and space[n][0][0] == segment]:
             del space[n]
 
     def access(self, space, call, address, operand):
-        """The reply that a failing access or one outside of the pieces has; none where it is another."""
+        """The reply of an access that fails or is outside of the pieces; None for any other."""
         size = {"load": lambda: int(operand), "store": lambda: len(operand) // 2, "xadd": lambda: 8}[call]()
         found = [space.get(n) for n in range(address // PAGE, (address + size - 1) // PAGE + 1)]
         if not all(found) or (call != "load" and not all(is_writable for _, is_writable, _ in found)):
@@ -196,7 +196,7 @@ class Run:
         return "" if self.paging.access([page for page, _, _ in found], call != "load") else "SIGBUS"
 
     def event(self, line):
-        """Takes an event of the history. Returns what is wrong with its reply, nothing where it may be so."""
+        """Takes an event of the history. Returns what is wrong with its reply, nothing if it is allowed."""
         pid, call, words, reply = EVENT.fullmatch(line).groups()
         space, words = self.spaces.setdefault(int(pid), {}), words.split()
         if reply == "ESRCH":
@@ -245,7 +245,7 @@ class Run:
 
 
 def replay(script, printed, swaps):
-    """Runs a script and the history that was printed of it. Returns each area's counts after each line, the usage, and what is wrong
+    """Follows a script and the printed history of its run. Returns each area's counts after each line, the usage, and what is wrong
     with a reply."""
     lines = [words for words in map(str.split, script.splitlines()) if words and not words[0].startswith("#")]
     run, counts, wrong = Run(number(lines[0][4]), swaps), [], []

@@ -55,8 +55,8 @@ def every_page(folder, name, swap, slots):
     Each store crosses from an even page to the next one, so every page is stored to once, in order. The first 4096 pages
     take the frames in order. All referenced bits are set then, so the hand clears them in one round and takes frame 0;
     from then on the frames go in order, round after round: page n is in frame n mod 4096. Each victim is dirty and has
-    no slot, so it takes the least free one: page n takes slot n. Behind the stores the last 4096 pages are in the frames,
-    and a flush writes them by rising frame number, to the slots that are left.
+    no slot, so it takes the least free one: page n takes slot n. After the stores the last 4096 pages are in the frames,
+    and a flush writes them in order of their frames, to the slots that are left.
     """
     segments = ALL_PAGES // SEGMENT_PAGES
     script = Script(f"16777216 4096 {ALL_PAGES} {MOST_FRAMES} 1", "process 1 100 100")
@@ -163,7 +163,7 @@ def many_attaches(folder):
 
 
 def largest_twice(folder):
-    """A segment of 4096 pages is attached twice by each of two processes. What one stores at the last page the other reads.
+    """Two processes attach a segment of 4096 pages, twice each. What one stores at the last page the other reads.
 
     The two pages that are touched take the two frames.
     """
@@ -185,7 +185,7 @@ def most_locked(folder):
     """MEMLOCK to its last page: 4094 pages of a locked segment stay in 4096 frames, and all others share two.
 
     Each store crosses to the next page, so the locked pages take the first 4094 frames in order. Of the four other pages
-    the first two take the last two frames; then each pair takes the place of the one before, which is dirty and has no
+    the first two take the last two frames; then each pair replaces the one before, which is dirty and has no
     slot, and the first pair comes back from its two slots over the second one, which is written.
     """
     script = Script("16777216 16 65536 4096 4094", "process 1 100 100")

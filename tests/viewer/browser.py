@@ -17,7 +17,7 @@ def path():
 
 
 class Session:
-    """A browser that is spoken to over pipes: pages at a size, as a desktop or a phone has, and on paper."""
+    """A browser that is controlled over pipes: pages at the size of a desktop or a phone, and on paper."""
 
     def __enter__(self):
         self.folder = tempfile.mkdtemp(prefix="viewer.")
@@ -73,7 +73,7 @@ class Session:
             pass
 
     def value(self, expression):
-        """What an expression is in the page."""
+        """The value of an expression in the page."""
         answer = self.ask("Runtime.evaluate", expression=expression, returnByValue=True, awaitPromise=True)
         return answer["result"].get("value", answer.get("exceptionDetails"))
 

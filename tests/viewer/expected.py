@@ -1,6 +1,6 @@
-"""What is to be seen of each step of a page, by the record's own lines and the sentences written by hand.
+"""What each step of a page must show, by the record's own lines and the sentences written by hand.
 
-Nothing here uses what the page is made with: a record is read anew, as docs/SCRIPT.md lays it out.
+Nothing here uses the code that makes the page: a record is read anew, in the layout of docs/SCRIPT.md.
 """
 
 import os
@@ -19,7 +19,7 @@ NUDGE = 5
 
 
 def read_sentences():
-    """Returns for each script what sentences.txt has of it: a list of sentences by the number of the step."""
+    """Returns the sentences that sentences.txt has for each script: a list for each number of a step."""
     told = {}
     with open(os.path.join(HERE, "sentences.txt"), encoding="ascii") as file:
         for line in file.read().splitlines():
@@ -90,7 +90,7 @@ def access_of(block):
 
 
 def page_box(block, before, address, has, had, is_reached):
-    """Returns what the box of an address is to show."""
+    """Returns what the box of an address must show."""
     def looks(it, box):
         return [*box[0], box[1], where_is(it, box[0])] if box else []
     name = f"0x{address:08x}"
@@ -130,7 +130,7 @@ def reached_frames(block):
 
 
 def turn_in(sentence):
-    """Returns the frames that the hand passed by a sentence, in order, and the one where it stopped; none of another sentence."""
+    """Returns the frames that the hand passed by a sentence, in order, and the one where it stopped; none for any other sentence."""
     found = re.fullmatch(r"the hand (?:passed frames? (.+?)(?: in a whole round)? and )?stopped at frame (\d+)", sentence)
     if not found:
         return None
@@ -358,7 +358,7 @@ def place_after(name, at, blocks, script=()):
 
 
 def notice_of(address, blocks):
-    """What is said of an address that names a step which the page has not."""
+    """The message for an address that names a step which the page does not have."""
     named = re.fullmatch(r"#step-(\d+)", address)
     numbers = [number_of(block) for block in blocks]
     if not named or int(named[1]) in numbers:
@@ -414,6 +414,6 @@ def steps_sought(what, blocks, changed):
 
 
 def all_sought(blocks):
-    """Returns what may be looked for in a run: two kinds, each process, and each page that a frame or a slot ever has."""
+    """Returns what the reader can look for in a run: two kinds, each process, and each page that a frame or a slot ever has."""
     pages = {(int(line[at]), int(line[at + 1])) for block in blocks for word, at in (("frame", 2), ("slot", 3)) for line in lines_of(block, word)}
     return ["fault", "refusal", *(f"process {line[1]}" for line, _ in pieces_of(blocks[0])), *(f"page {seg}·{page}" for seg, page in sorted(pages))]

@@ -1,7 +1,7 @@
-"""The bytes of a page, as they are opened on the viewer's page, against those that the record's own lines say.
+"""The bytes of a page, as the viewer's page shows them when they are opened, against those of the record's own lines.
 
-A segment begins with zeros, and only an answered store or xadd changes a byte. Each answered load and xadd says bytes too: they are
-compared with those that were built.
+A segment begins with zeros, and only a successful store or xadd changes a byte. Each successful load and xadd has bytes too: they
+are compared with those that follow from the earlier lines.
 """
 
 import glob
@@ -128,7 +128,7 @@ def opened(session, page):
 
 
 def pages_in(blocks, memory):
-    """Returns the pages that may be opened from the list."""
+    """Returns the pages that can be opened from the list."""
     kept = {"·".join(line[at:at + 2]) for block in blocks for word, at in (("frame", 2), ("slot", 3)) for line in lines_of(block, word)}
     return sorted(kept | {*memory.used}, key=lambda page: [*map(int, page.split("·"))])
 
@@ -235,7 +235,7 @@ def open_in(folder, session, made):
 
 
 def check_late(count, session, made, late, folder):
-    """Steps that are chosen have the bytes that earlier steps left; after more than 2,000 steps those that no step named are unknown."""
+    """Chosen steps have the bytes that earlier steps left; after more than 2,000 steps those that no step named are unknown."""
     open_in(folder, session, made)
     check_tables(count, session, made)
     open_in(folder, session, late)

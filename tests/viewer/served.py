@@ -1,4 +1,4 @@
-"""The page of `shmview --serve`: what its reader sees in a browser as a script is edited, and what its server answers to whom.
+"""The page of `shmview --serve`: what its reader sees in a browser while a script is edited, and the server's answers.
 
 All values are written by hand, from the script below and docs/MACHINE.md.
 """
@@ -210,7 +210,7 @@ SCRIPT = {"script": "limits 4096 1 1 2 0\nprocess 1 1 1\n1 stat 0\n", "swap": ["
 
 
 def check_hostile(count):
-    """Whom the server answers, and what it refuses."""
+    """The requests that the server answers, and those that it refuses."""
     with served() as (_address, port, token):
         run, good = f"/{token}/run", json.dumps(SCRIPT).encode()
         own = f"http://127.0.0.1:{port}"

@@ -210,7 +210,7 @@ def say_areas(before, after):
 
 
 def access_of(step):
-    """Returns the process of a load, a store or an xadd, its address and how many bytes it names, and none for another step."""
+    """Returns the process of a load, a store or an xadd, its address and how many bytes it names; None for any other step."""
     words = step.words
     if words[:1] != ["call"] or words[3] not in ("load", "store", "xadd") or step.reply == "ESRCH":
         return None
@@ -280,7 +280,7 @@ def reached(step):
 
 def turn(frames, hand, locked, pinned):
     """Returns how many frames the hand passes before it stops, and clears the referenced bits that it passes. A frame of a locked
-    segment and the pinned one are passed over."""
+    segment and the pinned one are skipped."""
     for passed in range(2 * len(frames)):
         at = str((hand + passed) % len(frames))
         page, is_referenced, *_ = frames[at]
@@ -377,7 +377,7 @@ def replaced(before, pid, base, count):
 
 
 def say_times(before, after):
-    """The times and last pids that a call set, by the rules of docs/MACHINE.md: the time is its place in the history."""
+    """The times and last pids that a call set, by the rules of docs/MACHINE.md: a time is the call's place in the history."""
     words = after.words
     if words[:1] != ["call"] or re.fullmatch("E[A-Z]+", after.reply):
         return
@@ -393,7 +393,7 @@ def say_times(before, after):
 
 
 def say_start(step):
-    """What the machine is like as it opens."""
+    """The state of the machine when it opens."""
     if step.frame_count:
         areas = ", ".join(f"swap area {at} has {counted(slots, 'slot')}" for at, slots in enumerate(step.areas))
         live = [pid for pid, (state, _) in step.processes.items() if state == "live"]
@@ -409,7 +409,7 @@ def sentences(before, after):
 
 
 def all_sentences(steps, first=0):
-    """Returns for each step from the first its number and its sentences; a step before it is what it is compared with."""
+    """Returns for each step from the first its number and its sentences. An earlier step only serves for the comparison."""
     told = [(step.number, sentences(before, step)) for before, step in zip(steps, steps[1:])]
     if steps and steps[0].number >= first:
         opening = [*say_start(steps[0])] if steps[0].action == "start" else []

@@ -1,5 +1,5 @@
 #!/usr/bin/env python3
-"""Puts what each step changed beside the record of a run.
+"""Adds to the record of a run what each step changed.
 
     tools/viewer/show.py page [SCRIPT [STEPS]] < RECORD    one HTML page, which needs nothing else
     tools/viewer/show.py text [SCRIPT [STEPS]] < RECORD    the record for a terminal
@@ -37,7 +37,7 @@ def title_of(lines):
 
 
 def range_of(steps):
-    """Returns the first and the last number of the steps that were asked for; all where none were."""
+    """Returns the first and the last number of the chosen steps; of all steps if none were chosen."""
     first, last = steps.split("-") if steps else ("0", "")
     return int(first), int(last) if last else None
 
@@ -61,14 +61,14 @@ def told_of(text, script="", asked=""):
 
 
 def shown_part(text, asked):
-    """Returns the record from the step before the first one that was asked for."""
+    """Returns the record from the step before the first chosen one."""
     first, _last = range_of(asked)
     return "".join(block + "\n\n" for block in text.split("\n\n") if block and int(block.split()[1]) >= first - 1)
 
 
 def shortened(text):
-    """Returns a record with what differs from step to step: `=N` are the next N lines of the step before, `-N` are passed over, and
-    no line of a record begins so. Each other line is new."""
+    """Returns a record with the differences from step to step: `=N` stands for the next N lines of the step before, and `-N` skips
+    N of them. No line of a record begins this way. Each other line is new."""
     blocks, old = [], []
     for block in filter(None, text.split("\n\n")):
         lines, made, at = block.split("\n"), [], 0
@@ -116,7 +116,7 @@ def terminal(text, _script="", asked=""):
 
 
 def say_outside(text, script, asked):
-    """Says on standard error that a run has none of the steps that were asked for."""
+    """Says on standard error that a run has none of the chosen steps."""
     first, last = range_of(asked)
     if not any(step.number >= first for step in read_record(text)):
         most = sum(step is not None for _line, step in lines_of(script))
