@@ -97,11 +97,16 @@ impl Limits {
     ghost use Rattle.std.specs.Prelude.{Ok, Err};
     ghost use Rattle.shm_base.specs.Bounds.{limits_of, machine_limits_of, limits_within, bounds_of, lockable, ruled, AreBounds};
 
-    /// The limits of a machine of the profile. Ranges: SHMMAX 1 to 2^24 bytes, SHMMNI 1 to 4096 segments,
-    /// SHMALL 1 to 65536 pages, 2 to 4096 frames, MEMLOCK 0 to the frames less 2. A process has at most 256
-    /// pieces, a machine 64 processes, a swap area 65536 slots. No rule of Linux holds.
+    /// The limits of a machine of the profile, with these ranges:
     ///
-    /// Returns the number of the first limit that is out of its range, in the order of the arguments.
+    /// - SHMMAX: 1 to 2^24 bytes
+    /// - SHMMNI: 1 to 4096 segments
+    /// - SHMALL: 1 to 65536 pages
+    /// - frames: 2 to 4096
+    /// - MEMLOCK: 0 to the frames less 2, in pages
+    ///
+    /// A process has at most 256 pieces, a machine 64 processes, a swap area 65536 slots. No rule of Linux
+    /// holds. Returns the number of the first limit that is out of its range, in the order of the arguments.
     pub fn new(
         shmmax: u64,
         shmmni: u64,
@@ -122,10 +127,17 @@ impl Limits {
         Limits::within(&Sizes::LARGEST_OF_PROFILE, &sizes)
     }
 
-    /// The limits of a machine, which may be larger than those of the profile. Ranges: SHMMAX 1 to 2^40
-    /// bytes, SHMMNI 1 to 32768 segments, SHMALL 1 to 2^28 pages, 2 to 2^24 frames, MEMLOCK 0 to the frames
-    /// less 2, 1 to 65530 pieces of a process, 1 to 32768 processes, 1 to 2^28 slots of a swap area, and any
-    /// set of known rules.
+    /// The limits of a machine, which may be larger than those of the profile, with these ranges:
+    ///
+    /// - SHMMAX: 1 to 2^40 bytes
+    /// - SHMMNI: 1 to 32768 segments
+    /// - SHMALL: 1 to 2^28 pages
+    /// - frames: 2 to 2^24
+    /// - MEMLOCK: 0 to the frames less 2, in pages
+    /// - pieces of a process: 1 to 65530
+    /// - processes: 1 to 32768
+    /// - slots of a swap area: 1 to 2^28
+    /// - rules: any set of those that have a name
     ///
     /// Returns the number of the first limit that is out of its range, in the order of the fields.
     pub fn of(sizes: &Sizes) -> Result<Limits, BadLimits>
