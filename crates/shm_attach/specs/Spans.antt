@@ -34,7 +34,8 @@ wanted write pid addr len rs = wanted_in write (pieces_by pid rs) addr len
 abbrev pub PassPages : (ℕ → ℕ → Bool) → List Piece → Type 0
 PassPages test ps = All (λ (p : Piece). (j : ℕ) → j < p.pages → test p.seg (p.first_page + j) ≡ true) ps
 
--- the spans of an access by a process with these pieces: each is within one page, and together they have the bytes of the access
+-- the spans of an access by a process with these pieces: each is within one page, which the pieces have, and together they have
+-- the bytes of the access
 pub record AreSpans (write : Bool) (ps : List Piece) (addr len : ℕ) (s : List Span) : Type 0 where
   pub places : wanted_in write ps addr len ≡ Some (span_places false s)
   pub within : All InPage s

@@ -47,7 +47,7 @@ KeepsLocked s t = (r : PageRef) → locked_by s.segs r.seg ≡ true
 abbrev pub unlocked : List SegRec → PageRef → Bool
 unlocked gs r = not (locked_by gs r.seg)
 
--- pages that are not resident keep their slots
+-- pages that are not resident stay where they are
 abbrev pub StaysAway : StoreView → StoreView → Type 0
 StaysAway s t = (q : PageRef) → (rec_by s.segs q).frame ≡ None → rec_by t.segs q ≡ rec_by s.segs q
 
@@ -90,7 +90,7 @@ OnlyMoves r to s t = (q : PageRef) → frame_by t q ≡ (if is_page r q.seg q.pa
 abbrev pub IsSlotOf : Option PageRef → List SegRec → Slot → Type 0
 IsSlotOf owner gs k = (r : PageRef) → owner ≡ Some r → (rec_by gs r).slot ≡ Some k
 
--- only these may change: the pages' slots, the dirty bits, the swap, and the count of pages written
+-- only these may change: segments (their pages' slots), frames (their dirty bits), the swap, and the count of pages written
 abbrev pub OnlyWrites : StoreView → StoreView → Type 0
 OnlyWrites s t = t ≡ record s { segs = t.segs; frames = t.frames; swap = t.swap; outs = t.outs }
 
