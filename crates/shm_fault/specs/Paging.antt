@@ -77,7 +77,7 @@ pub record WritesBack {A E : Type 0} (frame : ℕ) (s t : StoreView) (result : R
   pub placed : places t ≡ with_bit frame (not (is_ok result)) (places s)
   pub sound : IsStoreSound t
 
--- a dirty frame was written to a slot for its page
+-- a dirty frame was written to a slot for its page; if that failed it is still dirty
 pub record PagesOut {A E : Type 0} (frame : ℕ) (s t : StoreView) (result : Result A E) : Type 0 where
   pub frames : t.frames ≡ marked s.frames frame (not (is_ok result))
   pub rest : OnlyWrites s t
@@ -90,7 +90,7 @@ pub record PagesOut {A E : Type 0} (frame : ℕ) (s t : StoreView) (result : Res
   pub placed : places t ≡ after_page_out frame (is_ok result) (places s)
   pub sound : IsStoreSound t
 
--- a frame was written if it was dirty
+-- a frame was written if it was dirty, or that write failed
 pub record Cleans {E : Type 0} (frame : ℕ) (s t : StoreView) (result : Result Bool E) : Type 0 where
   pub ok : OnOk result (t.frames ≡ marked s.frames frame false)
   pub err : OnErr result (t.frames ≡ s.frames)
@@ -105,7 +105,7 @@ pub record Cleans {E : Type 0} (frame : ℕ) (s t : StoreView) (result : Result 
   pub goes : Goes s t
   pub cause : OnErr result (had_cause s.swap t.swap ≡ true)
 
--- the victim's page left its frame
+-- the victim's page left its frame, or its write failed
 pub record Evicts
     {E : Type 0} (pinned : Option ℕ) (s t : StoreView) (result : Result Evicted E) : Type 0 where
   pub visits : (r : PageRef) → Visits r pinned s t
@@ -120,7 +120,7 @@ pub record Evicts
   pub stopped : OnErr result (StopsAtWrite pinned (places s) (places t))
   pub cause : OnErr result (had_cause s.swap t.swap ≡ true)
 
--- some frame is free now
+-- a frame is free now, or the write of the victim's page failed
 pub record MakesRoom
     {E : Type 0} (pinned : Option ℕ) (s t : StoreView) (u v : Touched) (result : Result ℕ E) : Type 0 where
   pub free : IfOk result (IsFreeFrame t.frames)
@@ -136,7 +136,7 @@ pub record MakesRoom
   pub stopped : OnErr result (StopsAtWrite pinned (places s) (places t))
   pub cause : OnErr result (had_cause s.swap t.swap ≡ true)
 
--- a page came into a free frame
+-- a page came into a free frame, or its read failed
 pub record ComesIn
     {A E : Type 0} (frame : ℕ) (page : PageRef) (s t : StoreView) (u v : Touched)
     (result : Result A E) : Type 0 where
