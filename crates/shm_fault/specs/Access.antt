@@ -57,8 +57,8 @@ pub record Turns (ps : List Span) (s t : StoreView) : Type 0 where
   pub still : All (IsResident s) ps → t.hand ≡ s.hand
   pub one : (p : Span) → ps ≡ p ∷ [] → t.hand ≡ hand_after s (frame_by s (ref_of p)) None
 
--- The effects of paging for spans, whether it succeeds or not. At most as many pages are read, and at most as many written, as the
--- spans have pages; on success each page that was only in a slot was read. The caller's counts and the store's both have each.
+-- The effects of paging for spans, whether it succeeds or not. At most as many pages are read, and at most as many written, as
+-- the spans have pages. On success each page that was only in a slot was read. The caller's counts and the store's have each.
 pub record Paged (ps : List Span) (s t : StoreView) (u : Touched) (ok : Bool) : Type 0 where
   pub moves : MovesLead u.moved.items s t
   pub few : length u.moved.items ≤ 4
