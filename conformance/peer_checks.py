@@ -19,7 +19,7 @@ HEAD = "limits 65536 16 64 16 4\nprocess 1 {0} {1}\nchild 2\n".format(os.geteuid
 # more than a pipe holds: the peer waits until somebody reads it
 MANY = "1 stat 0\n" * 1000
 LONG = HEAD + "1 s = shmget private 4096 600\n1 shmat s null -\n1 fork 2\n" + "2 stat 0\n1 stat 0\n" * 1000
-# as much, of a process that is never born: no worker is asked, so nobody notices that the guardian is gone
+# as much, for a process that is never born: no worker is used, so nothing notices that the guardian is gone
 IDLE = HEAD + "1 s = shmget private 4096 600\n1 shmat s null -\n" + "2 stat 0\n" * 3000
 # slows down each of the guardian's calls
 SLOW = """#define _GNU_SOURCE

@@ -6,7 +6,7 @@ import xml.etree.ElementTree as xml
 from dataclasses import dataclass, field
 
 PASSED = ("agree", "profile", "as told")
-# what is not a character of XML
+# characters that XML does not allow
 NO_TEXT = re.compile("[^\t\n\x20-\ud7ff\ue000-\ufffd]")
 
 

@@ -237,7 +237,7 @@ def written_by(event, side):
 
 
 def cut(pieces, begin, end):
-    """The pieces without a range: what is left, and for each piece that lost pages its segment and whether a part stays."""
+    """The pieces without a range; and for each piece that lost pages its segment, and whether a part of it stays."""
     lost, kept = [], []
     for piece in pieces:
         if piece.end <= begin or end <= piece.base:

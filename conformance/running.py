@@ -104,7 +104,7 @@ class Peer:
         self.notes = set()
 
     def run(self, text, count):
-        """The events of a script of so many commands."""
+        """The events of a script with this many commands."""
         with only_one(), tempfile.TemporaryFile() as script, tempfile.TemporaryFile() as said:
             script.write(text.encode())
             script.seek(0)
@@ -156,7 +156,7 @@ def text_of(file):
 
 
 def lines_within(stream, limit):
-    """Each line; it must come within so many seconds after the one before."""
+    """Each line; it must come within this many seconds after the one before."""
     rest = b""
     with selectors.DefaultSelector() as selector:
         selector.register(stream, selectors.EVENT_READ)

@@ -1,7 +1,7 @@
 """Reads the output of strace -f: calls with the lines of their entry and return, and the ends of processes.
 
-strace handles one stop after another, so the order of its lines is the order in time. A call on one complete line overlaps with no
-other call. An unfinished one overlaps with those up to the line where it is resumed.
+strace handles one stop after another, so the order of its lines is the order in time. A call on one complete line does not
+overlap with any other call. An unfinished one overlaps with those up to the line where it is resumed.
 """
 
 from __future__ import annotations
@@ -129,7 +129,7 @@ class Reader:
         return next(iter(self.live.values()))
 
     def name_unnamed(self, number):
-        """The first number that no call made is that of the process whose lines have no number."""
+        """Gives the process whose lines have no number the first number that no call made."""
         thread = self.unnamed
         thread.number = number
         self.trace.lives[number] = self.trace.lives.pop(0)

@@ -1,11 +1,11 @@
-"""How often each swap area's pager has to be asked, by the rules of docs/MACHINE.md, for a script and the history of its run.
+"""How often each swap area's pager must be called, by the rules of docs/MACHINE.md, for a script and the history of its run.
 
-The history says which calls were granted, which segments came and where they were attached. All of paging is worked out here: which
-pages are in frames and slots, which of them are asked for, and which accesses and swapoffs fail for that.
+The history says which calls succeeded, which segments were made, and where they were attached. This file works out all of paging:
+which pages are in frames and slots, which of them are read or written, and which accesses and swapoffs fail because of that.
 
-A page is asked for once where it comes in from its slot, and given once where it goes to its slot, also where that fails. A slot that
-is given back is discarded once: that of a page of a destroyed segment, that of a page that a swapoff moves, and the new slot of a
-page whose move fails. A page whose write fails keeps the slot that it took, but in a move. Nothing else asks a pager."""
+A page is read once when it comes in from its slot, and written once when it goes to its slot, also if that fails. A slot that
+is returned is discarded once: that of a page of a destroyed segment, that of a page that a swapoff moves, and the new slot of a
+page whose move fails. A page whose write fails keeps the slot that it took, except in a move. Nothing else calls a pager."""
 import re
 
 PAGE = 4096
@@ -18,7 +18,7 @@ def number(word):
 
 
 class Area:
-    """A swap area: who owns each slot, what it was asked, and the places of its failing read and write, 0 for none."""
+    """A swap area: the owner of each slot, its counts of calls, and the places of its failing read and write, 0 for none."""
 
     def __init__(self, word):
         kind, slots, *place = word.split(":")
@@ -76,7 +76,7 @@ class Paging:
         return is_written
 
     def victim(self, pinned):
-        """The hand goes round; where all bits were set, the first one that may go comes again, and its bit is clear by then."""
+        """The hand goes round. If all bits were set, it reaches the first eligible frame again, whose bit is clear by then."""
         while True:
             at, self.hand = self.hand, (self.hand + 1) % len(self.frames)
             frame = self.frames[at]
@@ -87,7 +87,7 @@ class Paging:
             frame.is_referenced = False
 
     def visit(self, page, pinned=None):
-        """The page's frame; none where a pager failed."""
+        """The page's frame; none if a pager failed."""
         at = self.frame_of(page)
         if at is not None:
             self.frames[at].is_referenced = True
@@ -107,7 +107,7 @@ class Paging:
         return at
 
     def access(self, pages, is_write):
-        """Whether all pages came in: at most two, the first of which stays while the second comes in."""
+        """Whether all pages came in. There are at most two, and the first stays while the second comes in."""
         first = None
         for page in pages:
             at = self.visit(page, first)
@@ -124,7 +124,7 @@ class Paging:
             self.write_out(frame)
 
     def swapoff(self, number):
-        """Whether the area went."""
+        """Whether the area was taken away."""
         area = self.areas[number]
         for slot, page in enumerate(area.owners):
             if page is None:
@@ -168,7 +168,7 @@ class Run:
         self.sizes, self.marked, self.spaces = {}, set(), {}
 
     def end_unattached(self):
-        """A marked segment goes with its last piece."""
+        """A marked segment is destroyed with its last piece."""
         if not self.marked:
             return
         attached = {page[0] for space in self.spaces.values() for page, _, _ in space.values()}
@@ -182,13 +182,13 @@ class Run:
             space[base // PAGE + n] = (segment, n), is_writable, base
 
     def detach(self, space, origin):
-        """The lowest piece with this origin names the segment, and all its pieces with this origin go."""
+        """The lowest piece with this origin names the segment, and all its pieces with this origin are detached."""
         segment = next(space[n][0][0] for n in sorted(space) if space[n][2] == origin)
         for n in [n for n in space if space[n][2] == origin and space[n][0][0] == segment]:
             del space[n]
 
     def access(self, space, call, address, operand):
-        """The reply that a failing access or one outside of the pieces has; none where it is another."""
+        """The reply of an access that fails or is outside of the pieces; None for any other."""
         size = {"load": lambda: int(operand), "store": lambda: len(operand) // 2, "xadd": lambda: 8}[call]()
         found = [space.get(n) for n in range(address // PAGE, (address + size - 1) // PAGE + 1)]
         if not all(found) or (call != "load" and not all(is_writable for _, is_writable, _ in found)):
@@ -196,7 +196,7 @@ class Run:
         return "" if self.paging.access([page for page, _, _ in found], call != "load") else "SIGBUS"
 
     def event(self, line):
-        """Takes an event of the history. Returns what is wrong with its reply, nothing where it may be so."""
+        """Takes an event of the history. Returns what is wrong with its reply, nothing if it is allowed."""
         pid, call, words, reply = EVENT.fullmatch(line).groups()
         space, words = self.spaces.setdefault(int(pid), {}), words.split()
         if reply == "ESRCH":
@@ -245,7 +245,7 @@ class Run:
 
 
 def replay(script, printed, swaps):
-    """Runs a script and the history that was printed of it. Returns each area's counts after each line, the usage, and what is wrong
+    """Follows a script and the printed history of its run. Returns each area's counts after each line, the usage, and what is wrong
     with a reply."""
     lines = [words for words in map(str.split, script.splitlines()) if words and not words[0].startswith("#")]
     run, counts, wrong = Run(number(lines[0][4]), swaps), [], []

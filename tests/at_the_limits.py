@@ -1,8 +1,8 @@
 #!/usr/bin/env python3
-"""Writes scripts that reach each documented limit, and what a run of them prints: at_the_limits.py FOLDER.
+"""Writes scripts that reach each documented limit, and the output of their runs: at_the_limits.py FOLDER.
 
-Each is NAME.shm with NAME.swap and NAME.out, as the stored scripts beside this file. They are too long to be stored. What
-is printed is worked out here from the rules of docs/MACHINE.md, each step with its reason: no program is asked.
+Each is NAME.shm with NAME.swap and NAME.out, as the stored scripts next to this file. They are too long to be stored. The
+output is worked out here from the rules of docs/MACHINE.md, each step with its reason, and without any program.
 """
 import sys
 
@@ -45,7 +45,7 @@ def row(key, shmid, size, attached, status="-", owner=100):
 
 
 def pair_bytes(pair, segment):
-    """Two bytes that tell which pages they were stored at: the last of one page and the first of the next."""
+    """Two bytes that identify the pages to which they are stored: the last of one page and the first of the next."""
     return f"{pair % 251 + 1:02x}{segment + 1:02x}"
 
 
@@ -55,8 +55,8 @@ def every_page(folder, name, swap, slots):
     Each store crosses from an even page to the next one, so every page is stored to once, in order. The first 4096 pages
     take the frames in order. All referenced bits are set then, so the hand clears them in one round and takes frame 0;
     from then on the frames go in order, round after round: page n is in frame n mod 4096. Each victim is dirty and has
-    no slot, so it takes the least free one: page n takes slot n. Behind the stores the last 4096 pages are in the frames,
-    and a flush writes them by rising frame number, to the slots that are left.
+    no slot, so it takes the least free one: page n takes slot n. After the stores the last 4096 pages are in the frames,
+    and a flush writes them in order of their frames, to the slots that are left.
     """
     segments = ALL_PAGES // SEGMENT_PAGES
     script = Script(f"16777216 4096 {ALL_PAGES} {MOST_FRAMES} 1", "process 1 100 100")
@@ -89,10 +89,10 @@ def every_page(folder, name, swap, slots):
 
 
 def eight_areas(folder):
-    """A page goes from the first area of 65536 slots to the eighth, as the others are taken away.
+    """A page moves from the first area of 65536 slots to the eighth, as the others are taken away.
 
-    It is evicted by two pages that are loaded: they hold no store, so they leave no slot behind. swapoff moves it, and
-    counts neither as read in nor as written out.
+    Two pages that are loaded evict it. Nothing was stored to them, so they need no slot. swapoff moves it, and counts
+    this neither as read in nor as written out.
     """
     script = Script("16777216 16 65536 2 0", "process 1 0 0")
     script.call("1 s = shmget private 12288 600", "shmget 0x00000000 12288 600", 0)
@@ -129,7 +129,7 @@ def most_segments(folder):
 def most_pieces(folder):
     """64 processes with 256 pieces each: the 63 children have those of the first one, by fork.
 
-    The pieces stand one behind the other, each a page of the same segment. One attach more is refused in each process.
+    The pieces are consecutive, each a page of the same segment. One more attach is refused in each process.
     """
     children = range(2, 65)
     script = Script("4096 16 64 2 0", "process 1 100 100", *(f"child {pid}" for pid in children))
@@ -163,7 +163,7 @@ def many_attaches(folder):
 
 
 def largest_twice(folder):
-    """A segment of 4096 pages is attached twice by each of two processes. What one stores at the last page the other reads.
+    """Two processes attach a segment of 4096 pages, twice each. What one stores at the last page the other reads.
 
     The two pages that are touched take the two frames.
     """
@@ -185,7 +185,7 @@ def most_locked(folder):
     """MEMLOCK to its last page: 4094 pages of a locked segment stay in 4096 frames, and all others share two.
 
     Each store crosses to the next page, so the locked pages take the first 4094 frames in order. Of the four other pages
-    the first two take the last two frames; then each pair takes the place of the one before, which is dirty and has no
+    the first two take the last two frames; then each pair replaces the one before, which is dirty and has no
     slot, and the first pair comes back from its two slots over the second one, which is written.
     """
     script = Script("16777216 16 65536 4096 4094", "process 1 100 100")

@@ -53,7 +53,7 @@ check_swaps() {
     [ $# -le 8 ] || refuse_words "$usage" "there are $# swap areas, and 8 at most"
 }
 
-# Says what is wrong with the script on standard input, by the Python package.
+# Prints the fault of the script on standard input, by the Python package.
 explain_script() {
     if ! command -v python3 > /dev/null; then
         echo "$name: there is no command python3 on the path, which --explain needs" >&2

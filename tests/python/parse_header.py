@@ -1,8 +1,8 @@
 """Reads the header with a parser of C in Python, cffi or else pycparser: parse_header.py HEADER LIBRARY
 
-The header is taken as it is, but for comments and the preprocessor's lines, as bindgen, cgo and cffi take it. By cffi the sizes
-of the structs are compared with what the shared object says of itself, and two functions are called. Prints what was read:
-parser, functions and structs. Ends with status 77 where there is no parser.
+The header is read without changes, except for comments and the preprocessor's lines, as bindgen, cgo and cffi read it. With
+cffi the sizes of the structs are compared with those that the shared object reports, and two functions are called. Prints the
+parser, the functions and the structs. Ends with status 77 if there is no parser.
 """
 import re
 import sys

@@ -1,4 +1,4 @@
-"""A browser that draws a page with no window: Debian's chromium, or what else goes by one of its names."""
+"""A browser that draws a page without a window: Debian's chromium, or another program with one of its names."""
 
 import base64
 import json
@@ -12,12 +12,12 @@ SECONDS = 120
 
 
 def path():
-    """Returns the browser's path, or none where none is here."""
+    """Returns the browser's path, or None if there is no browser."""
     return next(filter(None, map(shutil.which, NAMES)), None)
 
 
 class Session:
-    """A browser that is spoken to over pipes: pages at a size, as a desktop or a phone has, and on paper."""
+    """A browser that is controlled over pipes: pages at the size of a desktop or a phone, and on paper."""
 
     def __enter__(self):
         self.folder = tempfile.mkdtemp(prefix="viewer.")
@@ -73,7 +73,7 @@ class Session:
             pass
 
     def value(self, expression):
-        """What an expression is in the page."""
+        """The value of an expression in the page."""
         answer = self.ask("Runtime.evaluate", expression=expression, returnByValue=True, awaitPromise=True)
         return answer["result"].get("value", answer.get("exceptionDetails"))
 
@@ -82,7 +82,7 @@ class Session:
             self.ask("Input.dispatchKeyEvent", type=kind, key=key)
 
     def picture(self):
-        """Returns what is on the screen, as PNG."""
+        """Returns a picture of the screen, as PNG."""
         return base64.b64decode(self.ask("Page.captureScreenshot", format="png")["data"])
 
     def paper(self):

@@ -1,6 +1,6 @@
-"""What is to be seen of each step of a page, by the record's own lines and the sentences written by hand.
+"""What each step of a page must show, by the record's own lines and the sentences written by hand.
 
-Nothing here uses what the page is made with: a record is read anew, as docs/SCRIPT.md lays it out.
+Nothing here uses the code that makes the page: a record is read anew, in the layout of docs/SCRIPT.md.
 """
 
 import os
@@ -14,12 +14,12 @@ REFUSALS = ("EPERM ENOENT ESRCH EIO EAGAIN ENOMEM EACCES EEXIST EINVAL EMFILE EN
 CHARTS = ((("pages in frames", "frames"), ("dirty", "dirty"), ("slots in use", "slots")),
           (("read from swap", "in"), ("written to swap", "out"), ("failures", "failures")))
 KEYS = ("ArrowLeft", "ArrowRight", "Home", "End")
-# the lines of the chart lie beside each other where their counts are alike: by no more than this
+# if counts are equal, the lines of the chart are drawn next to each other: at most this far apart
 NUDGE = 5
 
 
 def read_sentences():
-    """Returns for each script what sentences.txt has of it: a list of sentences by the number of the step."""
+    """Returns the sentences that sentences.txt has for each script: a list for each number of a step."""
     told = {}
     with open(os.path.join(HERE, "sentences.txt"), encoding="ascii") as file:
         for line in file.read().splitlines():
@@ -80,7 +80,7 @@ def boxes_of(pieces):
 
 
 def access_of(block):
-    """Returns the process of an access and the addresses of its bytes, page by page, none where there is no access."""
+    """Returns the process of an access and the addresses of its pages; empty ones if the step is not an access."""
     words = block[1]
     if words[0] != "call" or words[3] not in ("load", "store", "xadd"):
         return "", []
@@ -90,7 +90,7 @@ def access_of(block):
 
 
 def page_box(block, before, address, has, had, is_reached):
-    """Returns what the box of an address is to show."""
+    """Returns what the box of an address must show."""
     def looks(it, box):
         return [*box[0], box[1], where_is(it, box[0])] if box else []
     name = f"0x{address:08x}"
@@ -122,7 +122,7 @@ def processes(block, before, blocks):
 
 
 def reached_frames(block):
-    """Returns the frames of the pages that an access reached; it reaches none where it is answered SIGSEGV."""
+    """Returns the frames of the pages that an access reached; it reaches none if its reply is SIGSEGV."""
     caller, named = access_of(block)
     has = {line[1]: boxes_of(pieces) for line, pieces in pieces_of(block)}.get(caller, {})
     places = [where_is(block, has[address][0]) for address in named if address in has]
@@ -130,7 +130,7 @@ def reached_frames(block):
 
 
 def turn_in(sentence):
-    """Returns the frames that the hand passed by a sentence, in order, and the one where it stopped; none of another sentence."""
+    """Returns the frames that the hand passed by a sentence, in order, and the one where it stopped; none for any other sentence."""
     found = re.fullmatch(r"the hand (?:passed frames? (.+?)(?: in a whole round)? and )?stopped at frame (\d+)", sentence)
     if not found:
         return None
@@ -235,8 +235,8 @@ def step_lines(script):
 
 
 def shown_at(blocks, at, told, skipped=0, script=()):
-    """Returns what is to be seen at a place of the record, but for the charts and the colours of segments. The first blocks,
-    if some are skipped, are no steps of the page."""
+    """Returns what the page must show at a place of the record, except for the charts and the colours of segments. Blocks that
+    are skipped at the beginning are not steps of the page."""
     block, before = blocks[at], blocks[at - 1] if at else None
     number, last = number_of(block), number_of(blocks[-1])
     drawn = areas(block, blocks)
@@ -358,7 +358,7 @@ def place_after(name, at, blocks, script=()):
 
 
 def notice_of(address, blocks):
-    """What is said of an address that names a step which the page has not."""
+    """The message for an address that names a step which the page does not have."""
     named = re.fullmatch(r"#step-(\d+)", address)
     numbers = [number_of(block) for block in blocks]
     if not named or int(named[1]) in numbers:
@@ -393,7 +393,7 @@ def page_at(block, page):
 
 
 def sought(what, block, before):
-    """Returns whether a step has what is looked for: a page that came into a frame, a refusal, or a change of a process or a page."""
+    """Returns whether a step has what the reader looks for: a page that came in, a refusal, or a change of a process or a page."""
     kind, *name = what.split(" ")
     if kind == "fault":
         had, has = ({tuple(line[2:4]) for line in lines_of(it, "frame")} for it in (before, block))
@@ -408,12 +408,12 @@ def sought(what, block, before):
 
 
 def steps_sought(what, blocks, changed):
-    """Returns the numbers of the steps that have what is looked for; a page changes, too, where its bytes do."""
+    """Returns the numbers of the steps that have what the reader looks for; a page also changes if its bytes do."""
     return [number_of(block) for before, block, pages in zip(blocks, blocks[1:], changed[1:])
             if sought(what, block, before) or what in [f"page {page}" for page in pages]]
 
 
 def all_sought(blocks):
-    """Returns what may be looked for in a run: two kinds, each process, and each page that a frame or a slot ever has."""
+    """Returns what the reader can look for in a run: two kinds, each process, and each page that a frame or a slot ever has."""
     pages = {(int(line[at]), int(line[at + 1])) for block in blocks for word, at in (("frame", 2), ("slot", 3)) for line in lines_of(block, word)}
     return ["fault", "refusal", *(f"process {line[1]}" for line, _ in pieces_of(blocks[0])), *(f"page {seg}·{page}" for seg, page in sorted(pages))]

@@ -14,7 +14,7 @@ def state_of(block):
 
 def wrong_way(before, after, found):
     """What is wrong with the turns of a step. They follow each other from the hand before to the hand after. The hand clears the
-    bits of the frames that it passes, but for those of locked segments and the pinned one. It stops at the first other frame whose
+    bits of the frames that it passes, except those of locked segments and the pinned one. It stops at the first other frame whose
     bit is clear, and no other bit becomes clear."""
     count, at, frames = state_of(before)
     _, hand, now = state_of(after)

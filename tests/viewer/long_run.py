@@ -1,4 +1,4 @@
-"""A long run of a large machine: 2,000 steps over 2,048 frames and as many pages open within a second."""
+"""A long run of a large machine: 2,000 steps over 2,048 frames and 2,048 pages open within a second."""
 
 import os
 import tempfile
@@ -8,7 +8,7 @@ MOST_MILLISECONDS, MOST_BYTES = 1000, 2 << 20
 
 
 def block(number):
-    """A step of a record, laid out as docs/SCRIPT.md says: each store takes a frame, and a page later is referenced no more."""
+    """A step of a record, in the layout of docs/SCRIPT.md: each store takes a frame, and is no longer referenced a page later."""
     address = 0x40000000 + 4096 * (number - 1)
     call = f"call {number} 1 store 0x{address:08x} 01 = ok" if number else "start"
     lines = [f"step {number}", call, "key        shmid      owner      perms      bytes      nattch     status",
@@ -35,7 +35,7 @@ def check_long_run(count, session, page_of):
         with open(path, "w", encoding="utf-8") as file:
             file.write(made)
         took = []
-        # other programs may take the processor: the best of five counts
+        # other programs may use the processor, so the best of five counts
         while len(took) < 5 and min(took, default=MOST_MILLISECONDS) >= MOST_MILLISECONDS:
             session.open(f"file://{path}", 1280, 900)
             took.append(session.value("performance.timing.loadEventEnd - performance.timing.navigationStart"))

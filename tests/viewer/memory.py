@@ -1,7 +1,7 @@
-"""The bytes of a page, as they are opened on the viewer's page, against those that the record's own lines say.
+"""The bytes of a page, as the viewer's page shows them when they are opened, against those of the record's own lines.
 
-A segment begins with zeros, and only an answered store or xadd changes a byte. Each answered load and xadd says bytes too: they are
-compared with those that were built.
+A segment begins with zeros, and only a successful store or xadd changes a byte. Each successful load and xadd has bytes too: they
+are compared with those that follow from the earlier lines.
 """
 
 import glob
@@ -25,7 +25,7 @@ def read(name):
 
 
 def places_of(block):
-    """Returns for each byte that an access names its page and its place there, none where nothing is attached."""
+    """Returns for each byte of an access its page and its place there; None if nothing is attached."""
     words = block[1]
     caller, named = access_of(block)
     if not named:
@@ -71,7 +71,7 @@ class Memory:
             page[at] = byte
 
     def changed(self):
-        """Returns for each step the pages of which it changed a byte."""
+        """Returns for each step the pages with a byte that it changed."""
         zeros = bytes(PAGE)
         return [{page for page in after if after[page] != before.get(page, zeros)} for _, before, after, _ in self.steps]
 
@@ -109,7 +109,7 @@ def table_of(memory, at, page, is_whole=False):
 
 
 def held(block, before, page):
-    """Returns what is told of a page: where it is, and at which addresses."""
+    """Returns what the viewer says about a page: where it is, and at which addresses."""
     seg = page.split("·")[0]
     had, has = ([it for it in segments_of(each) if it[1] == seg] for each in (before or [["step"]], block))
     if not has:
@@ -128,7 +128,7 @@ def opened(session, page):
 
 
 def pages_in(blocks, memory):
-    """Returns the pages that may be opened from the list."""
+    """Returns the pages that can be opened from the list."""
     kept = {"·".join(line[at:at + 2]) for block in blocks for word, at in (("frame", 2), ("slot", 3)) for line in lines_of(block, word)}
     return sorted(kept | {*memory.used}, key=lambda page: [*map(int, page.split("·"))])
 
@@ -235,7 +235,7 @@ def open_in(folder, session, made):
 
 
 def check_late(count, session, made, late, folder):
-    """Steps that are chosen have the bytes that earlier steps left; after more than 2,000 steps those that no step named are unknown."""
+    """Chosen steps have the bytes that earlier steps left; after more than 2,000 steps those that no step named are unknown."""
     open_in(folder, session, made)
     check_tables(count, session, made)
     open_in(folder, session, late)

@@ -1,4 +1,4 @@
-"""How a page moves by itself and by what its reader looks for: play, the next step that has something, swipes, and a handout."""
+"""How a page moves: play, search for the next step of a kind, swipes, and the handout."""
 
 import os
 import re
@@ -15,7 +15,7 @@ WORDS = {"fault": "a page comes into a frame", "refusal": "a call is refused"}
 
 
 def walk(session, press, last):
-    """The steps that a key leads to, until it leads nowhere; and what is then said."""
+    """The steps to which a key leads, until it leads nowhere; and the message then."""
     seen = []
     while len(seen) <= last + 1:
         was = session.value(WHERE)
@@ -28,7 +28,7 @@ def walk(session, press, last):
 
 
 def check_seeking(count, session, made):
-    """All that may be looked for is found, forwards and backwards."""
+    """The page finds everything that can be looked for, forwards and backwards."""
     last, changed = number_of(made.blocks[-1]), Memory(made.blocks).changed()
     choices = session.value("[...document.getElementById('seek').options].map((it) => it.value)")
     count.take(choices == all_sought(made.blocks), f"{made.name}: {choices} may be looked for, not {all_sought(made.blocks)}")
@@ -56,7 +56,7 @@ def check_seeking(count, session, made):
 
 
 def check_playing(count, session, made, wait_for):
-    """Play goes on, by its key and its button, and ends at the last step and at any other move."""
+    """Play continues, by its key and its button, and ends at the last step and at any other move."""
     text = "document.getElementById('play').textContent"
     last = number_of(made.blocks[-1])
     session.press("Home")
@@ -112,7 +112,7 @@ def swipe(session, begin, end, selector=None):
 
 
 def check_swipes(count, session):
-    """On a phone a swipe to the left is a step on and one to the right a step back; a short or steep one, and one of a table, is none."""
+    """On a phone a swipe to the left goes a step on, and one to the right a step back; a short or steep one, or one in a table, does nothing."""
     session.ask("Emulation.setTouchEmulationEnabled", enabled=True)
     session.value("location.hash = '#step-3'; 0")
     settle(session)
@@ -126,7 +126,7 @@ def check_swipes(count, session):
 
 
 def check_handout(count, session, made):
-    """Chosen steps are printed, a sheet each with number, line and title."""
+    """Chosen steps are printed, each on a sheet with its number, line and title."""
     lines = [at for at, line in enumerate(made.script) if re.match("[0-9]", line)]
     for words, numbers, said in (("2, 4-6", [2, 4, 5, 6], ""), ("5-99", list(range(5, len(lines) + 1)), ""), ("1", [1], ""), ("0 1", [0, 1], ""),
                                  ("x", [], f"no steps are named by x: the steps are 0 to {len(lines)}"),

@@ -1,4 +1,4 @@
-"""The page of `shmview --serve`: what its reader sees in a browser as a script is edited, and what its server answers to whom.
+"""The page of `shmview --serve`: what its reader sees in a browser while a script is edited, and the server's answers.
 
 All values are written by hand, from the script below and docs/MACHINE.md.
 """
@@ -28,7 +28,7 @@ EXPLAINED = """line 9, column 3: bad line
 LESSONS = ["1. Three pages in two frames", "2. A read of swap that fails", "3. A swap area is taken away",
            "4. An attach in the middle of another", "5. A removed segment lives on", "6. A child and its parent", "7. Who may do what", "8. Pages that must stay",
            "9. Two processes at once"]
-# what is asked of the page after each edit: the text to find, what it becomes, and what is then seen
+# the edits of the page: the text to find, its replacement, and what the page must show then
 EDITS = (
     ("1 load a 1", "1 load a 2", "step 6 of 9", "process 1: load 0x40000000 2 = 0100 call 6 of the history", 2),
     ("limits 65536 16 64 2 0", "limits 65536 16 64 3 0", "step 6 of 9", "process 1: load 0x40000000 2 = 0100 call 6 of the history", 3),
@@ -162,7 +162,7 @@ def check_saving(count, session):
 
 
 def check_in_browser(count, session):
-    """A script that is edited beside its picture."""
+    """A script that is edited next to its picture."""
     with served() as found:
         if not found:
             count.take(False, "served: no address was printed")
@@ -210,7 +210,7 @@ SCRIPT = {"script": "limits 4096 1 1 2 0\nprocess 1 1 1\n1 stat 0\n", "swap": ["
 
 
 def check_hostile(count):
-    """Whom the server answers, and what it refuses."""
+    """The requests that the server answers, and those that it refuses."""
     with served() as (_address, port, token):
         run, good = f"/{token}/run", json.dumps(SCRIPT).encode()
         own = f"http://127.0.0.1:{port}"

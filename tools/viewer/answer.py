@@ -20,7 +20,7 @@ from show import shortened, told_of  # noqa: E402
 
 
 def read_fault(text, packages):
-    """Returns where a script's first fault is, none where it has none, and what is said of the script."""
+    """Returns where a script's first fault is, None if it has none, and the messages about the script."""
     sys.path.insert(0, packages)
     from nogcuvema.explain import explain
     from nogcuvema.script import ScriptFault, read_script
@@ -34,7 +34,7 @@ def read_fault(text, packages):
 
 def limited(program):
     """The words and the environment of a run. It is under the limits of this process; but an unproved program, which is built with
-    an address sanitizer, reserves terabytes that it never uses, and is told its limit in words of its own."""
+    an address sanitizer, reserves terabytes that it never uses, and gets its limit by options of its own."""
     if "/unproved/" not in program:
         return [program], None
     options = f"hard_rss_limit_mb={resource.getrlimit(resource.RLIMIT_AS)[0] >> 20}"

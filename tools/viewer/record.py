@@ -7,7 +7,7 @@ from functools import cached_property
 
 @dataclass
 class Step:
-    """How a machine stands after a step. Pages are pairs of a segment and a page number, all numbers are texts."""
+    """The state of a machine after a step. Pages are pairs of a segment and a page number; all numbers are texts."""
 
     number: int
     action: str = ""
@@ -16,7 +16,7 @@ class Step:
     frames: dict = field(default_factory=dict)      # frame: (page, referenced, dirty)
     frame_count: int = 0
     hand: str = ""
-    areas: list = field(default_factory=list)       # for each area its slots, none where it was taken away
+    areas: list = field(default_factory=list)       # for each area its number of slots; None if it was taken away
     slots: dict = field(default_factory=dict)       # (area, slot): page
     failures: int = 0
 
@@ -29,7 +29,7 @@ class Step:
         return self.words[-1] if self.words[:1] == ["call"] else ""
 
     def page_at(self, pid, address):
-        """Returns the page that a process has at an address, with its rights, and none where it has none."""
+        """Returns the page that a process has at an address, and its rights; None and no rights if it has none."""
         for base, seg, first, pages, rights in self.processes.get(pid, ("", ()))[1]:
             if 0 <= address - int(base, 16) < 4096 * int(pages):
                 return (seg, str(int(first) + (address - int(base, 16)) // 4096)), rights
@@ -140,14 +140,14 @@ def left(page, before, after):
 
 
 def came(page, frame, other, before):
-    """A page in a frame; its segment is not named again behind a page of the same."""
+    """A page in a frame; its segment is not named again after a page of the same segment."""
     slot = before.slot_of.get(page)
     name = f"page {page[1]}" if other and other[0] == page[0] else named(page)
     return f"{name} came into frame {frame}" + (f", read from {placed(slot, before)}" if slot else "")
 
 
 def say_frames(before, after):
-    """Which pages left their frames and which came in; a page of a segment that is gone is not told of."""
+    """Which pages left their frames and which came in; pages of a segment that was destroyed are not mentioned."""
     for frame in sorted(before.frames.keys() | after.frames.keys(), key=int):
         old, new = (it.frames.get(frame, (None,))[0] for it in (before, after))
         if old == new:
@@ -210,7 +210,7 @@ def say_areas(before, after):
 
 
 def access_of(step):
-    """Returns the process of a load, a store or an xadd, its address and how many bytes it names, and none for another step."""
+    """Returns the process of a load, a store or an xadd, its address and how many bytes it names; None for any other step."""
     words = step.words
     if words[:1] != ["call"] or words[3] not in ("load", "store", "xadd") or step.reply == "ESRCH":
         return None
@@ -254,7 +254,7 @@ def say_access(_before, after):
 
 
 def left_by(step, count):
-    """Returns the bytes that a load, a store or an xadd left where it named them, and none where it was refused."""
+    """Returns the bytes at the addresses of a load, a store or an xadd after it; no bytes if it was refused."""
     words, reply = step.words, step.reply
     if not re.fullmatch("ok|[0-9a-f]+", reply):
         return b""
@@ -265,7 +265,7 @@ def left_by(step, count):
 
 def reached(step):
     """Returns the pages that an access reached: for each its process, the page's address, its frame, which page, the first byte there,
-    how many, and the bytes that the access left. There is no frame where it has none, and no byte where the access was refused."""
+    how many, and the bytes after the access. The frame is missing if the page has none, and the bytes if the access was refused."""
     access, found = access_of(step), []
     left, at = left_by(step, access[2]) if access else b"", 0
     for first, last in parts_of(access) if access else ():
@@ -280,7 +280,7 @@ def reached(step):
 
 def turn(frames, hand, locked, pinned):
     """Returns how many frames the hand passes before it stops, and clears the referenced bits that it passes. A frame of a locked
-    segment and the pinned one are passed over."""
+    segment and the pinned one are skipped."""
     for passed in range(2 * len(frames)):
         at = str((hand + passed) % len(frames))
         page, is_referenced, *_ = frames[at]
@@ -319,7 +319,7 @@ def turns(before, after):
     return found
 
 
-# why a call was refused: by the call, and else by the refusal alone
+# why a call was refused: by the call and the error, or else by the error only
 REASONS = {
     ("shmget", "EINVAL"): "the size is not allowed, or the segment with this key is smaller",
     ("shmget", "ENOMEM"): "swap space for its pages is not left",
@@ -377,7 +377,7 @@ def replaced(before, pid, base, count):
 
 
 def say_times(before, after):
-    """The times and last pids that a call set, by the rules of docs/MACHINE.md: the time is its place in the history."""
+    """The times and last pids that a call set, by the rules of docs/MACHINE.md: a time is the call's place in the history."""
     words = after.words
     if words[:1] != ["call"] or re.fullmatch("E[A-Z]+", after.reply):
         return
@@ -393,7 +393,7 @@ def say_times(before, after):
 
 
 def say_start(step):
-    """What the machine is like as it opens."""
+    """The state of the machine when it opens."""
     if step.frame_count:
         areas = ", ".join(f"swap area {at} has {counted(slots, 'slot')}" for at, slots in enumerate(step.areas))
         live = [pid for pid, (state, _) in step.processes.items() if state == "live"]
@@ -409,7 +409,7 @@ def sentences(before, after):
 
 
 def all_sentences(steps, first=0):
-    """Returns for each step from the first its number and its sentences; a step before it is what it is compared with."""
+    """Returns for each step from the first its number and its sentences. An earlier step only serves for the comparison."""
     told = [(step.number, sentences(before, step)) for before, step in zip(steps, steps[1:])]
     if steps and steps[0].number >= first:
         opening = [*say_start(steps[0])] if steps[0].action == "start" else []

@@ -1,5 +1,5 @@
 #!/usr/bin/env python3
-"""Serves a page on this machine alone, in which a script is edited beside its picture: `shmview --serve` starts it.
+"""Serves a page, only on this machine, in which a script is edited next to its picture: `shmview --serve` starts it.
 
     tools/viewer/serve.py PROGRAM PACKAGES EXAMPLES TOUR PORT SCRIPT SWAP...    SCRIPT may be empty; PORT 0 is any free one
 
@@ -50,7 +50,7 @@ def read(path):
 
 
 def swaps_beside(path):
-    """Returns the swap words that are stored beside a script."""
+    """Returns the swap words that are stored with a script."""
     beside = os.path.splitext(path)[0] + ".swap"
     return read(beside).split() if os.path.isfile(beside) else ["ram:64"]
 
@@ -94,7 +94,7 @@ class Runner:
         self.turn = threading.Lock()
 
     def run(self, script, swaps):
-        """Returns an answer as JSON, or none where other runs did not end in time."""
+        """Returns an answer as JSON; None if other runs did not end in time."""
         if not self.turn.acquire(timeout=WAIT_SECONDS):
             return None
         try:
@@ -221,11 +221,11 @@ class Server(ThreadingHTTPServer):
             self.places.release()
 
     def handle_error(self, _request, _client_address):
-        """A client that went away or was too slow is no fault of ours."""
+        """A client that disconnected or was too slow is not an error of the server."""
 
 
 def served_page(opened, choices):
-    """The page with its editor, and what there is to choose from."""
+    """The page with its editor, its examples and its lessons."""
     with open(os.path.join(HERE, "editor.html"), encoding="utf-8") as file:
         editor = file.read()
     data = json.dumps({**choices, **opened}).replace("<", "\\u003c")

@@ -1,5 +1,5 @@
 #!/usr/bin/env python3
-"""Puts what each step changed beside the record of a run.
+"""Adds to the record of a run what each step changed.
 
     tools/viewer/show.py page [SCRIPT [STEPS]] < RECORD    one HTML page, which needs nothing else
     tools/viewer/show.py text [SCRIPT [STEPS]] < RECORD    the record for a terminal
@@ -37,14 +37,14 @@ def title_of(lines):
 
 
 def range_of(steps):
-    """Returns the first and the last number of the steps that were asked for; all where none were."""
+    """Returns the first and the last number of the chosen steps; of all steps if none were chosen."""
     first, last = steps.split("-") if steps else ("0", "")
     return int(first), int(last) if last else None
 
 
 def told_of(text, script="", asked=""):
-    """Returns what a page shows beside the record of a run. The bytes of a page are zeros, and then what the accesses left; those of
-    a segment that was there before the record begins are unknown until an access names them."""
+    """Returns what a page shows in addition to the record of a run. The bytes of a page are zeros, and later those that accesses
+    stored. In a segment that is older than the record they are unknown until an access names them."""
     first, last = range_of(asked)
     steps, lines = read_record(text), lines_of(script) if script else []
     shown = [step for step in steps if step.number >= first - 1]
@@ -61,14 +61,14 @@ def told_of(text, script="", asked=""):
 
 
 def shown_part(text, asked):
-    """Returns the record from the step before the first one that was asked for."""
+    """Returns the record from the step before the first chosen one."""
     first, _last = range_of(asked)
     return "".join(block + "\n\n" for block in text.split("\n\n") if block and int(block.split()[1]) >= first - 1)
 
 
 def shortened(text):
-    """Returns a record with what differs from step to step: `=N` are the next N lines of the step before, `-N` are passed over, and
-    no line of a record begins so. Each other line is new."""
+    """Returns a record with the differences from step to step: `=N` stands for the next N lines of the step before, and `-N` skips
+    N of them. No line of a record begins this way. Each other line is new."""
     blocks, old = [], []
     for block in filter(None, text.split("\n\n")):
         lines, made, at = block.split("\n"), [], 0
@@ -105,7 +105,7 @@ def page(text, script="", asked=""):
 
 
 def terminal(text, _script="", asked=""):
-    """Each block with what changed behind its second line, which says what was done."""
+    """Each block, with the changes after its second line, which says what the step did."""
     blocks = []
     first, _last = range_of(asked)
     chosen = [block for block in text.split("\n\n") if block and int(block.split()[1]) >= first]
@@ -116,7 +116,7 @@ def terminal(text, _script="", asked=""):
 
 
 def say_outside(text, script, asked):
-    """Says on standard error that a run has none of the steps that were asked for."""
+    """Says on standard error that a run has none of the chosen steps."""
     first, last = range_of(asked)
     if not any(step.number >= first for step in read_record(text)):
         most = sum(step is not None for _line, step in lines_of(script))

@@ -1,4 +1,4 @@
--- The names that the proofs cite, from below and from the words of this crate.
+-- The names that the proofs use: those of the crates below, and of the specs of this crate.
 pub use Rattle.std.proofs.BoxSteps.Form.{B, Bx, D, P, R, args, box_ty, box_typed, word, τ}
 pub use Rattle.std.proofs.BoxSteps.Steps.{box_in, box_out}
 pub use Rattle.std.proofs.Common.{Bool, Err, List, Ok, Result, [], ap, false, if◌then◌else◌, inr, lit<, map, nat_lt, not, of_z, refl, rules, subst, sym, take, to_z, w32, ℕ, ◌++◌, ◌+◌, ◌∙◌, ◌∷◌}

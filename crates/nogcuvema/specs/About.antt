@@ -1,4 +1,4 @@
--- What the library says of itself: the texts of codes, and where the fields of its structs lie.
+-- What the library says about itself: the texts of codes, and the offsets of its structs' fields.
 use Rattle.std.specs.Prelude.{ℕ, zero, suc, ◌≡◌, ◌+◌, ◌*◌, ◌==◌, if◌then◌else◌, min, List, [], ◌∷◌, ◌++◌, length, take, drop, Option, Some, None, codes}
 use Rattle.nogcuvema.specs.Answers.{out_of_range}
 use Rattle.shm_base.specs.Codes.{code_of, name_of}
@@ -12,7 +12,7 @@ pub record Text : Type 0 where
 abbrev pub named : Errno → Text
 named e = record { code = code_of e; text = name_of e }
 
--- an errno goes by its name
+-- the text of an errno is its name
 abbrev pub errno_texts : List Text
 errno_texts = named Eperm ∷ named Enoent ∷ named Esrch ∷ named Eio ∷ named Eagain ∷ named Enomem ∷ named Eacces ∷ named Eexist ∷ named Einval ∷ named Emfile ∷ named Enospc ∷ named Eidrm ∷ named Sigbus ∷ named Sigsegv ∷ []
 
@@ -46,18 +46,18 @@ abbrev pub text_in : List Text → ℕ → Option (List ℕ)
 text_in [] code = None
 text_in (t ∷ ts) code = if code == t.code then Some t.text else text_in ts code
 
--- the text of a code, none where it is no code
+-- the text of a code; none if the number is not a code
 abbrev pub text_by : ℕ → Option (List ℕ)
 text_by code = text_in (record { code = 0; text = codes "done" } ∷ errno_texts ++ own_texts) code
 
--- a buffer with a text, cut where it is long, and a zero behind it
+-- a buffer with a text, cut if it is too long, and a zero after it
 abbrev pub with_text : List ℕ → List ℕ → List ℕ
 with_text text [] = []
 with_text text (b ∷ bs) =
     let n = min (length text) (length bs) in
     take n text ++ (0 ∷ drop (n + 1) (b ∷ bs))
 
--- a text is told with its length, or there is none and nothing is written
+-- the text and its length are given; or there is none, and nothing is written
 abbrev pub TextTold : Option (List ℕ) → List ℕ → ℕ → ℕ → List ℕ → ℕ → Type 0
 TextTold None buffer len code text_new len_new = (code ≡ out_of_range) × (text_new ≡ buffer) × (len_new ≡ len)
 TextTold (Some text) buffer len code text_new len_new = (code ≡ 0) × (text_new ≡ with_text text buffer) × (len_new ≡ length text)
@@ -70,7 +70,7 @@ abbrev pub offsets : ℕ → ℕ → ℕ → List ℕ
 offsets at width zero = []
 offsets at width (suc n) = at ∷ offsets (at + width) width n
 
--- the size and the offsets of a struct of so many numbers of 64 bits, and behind them of 32 bits
+-- the size and the offsets of a struct with this many fields of 64 bits, and then of 32 bits
 abbrev pub struct_of : ℕ → ℕ → List ℕ
 struct_of wide narrow = (8 * wide + 4 * narrow) ∷ offsets 0 8 wide ++ offsets (8 * wide) 4 narrow
 

@@ -1,4 +1,4 @@
--- What a function of the interface answers, and what it leaves in the handle. One definition serves all calls.
+-- The codes of the interface's functions, and the handles afterwards. One definition serves all calls.
 use Rattle.std.specs.Prelude.{ℕ, ◌≡◌, ◌⊎◌, Bool, true, false, Option, Some, None, Ok, Err}
 use Rattle.shm_base.specs.Codes.{code_of}
 use Rattle.shm_base.specs.declared.call.Call.{Call}
@@ -26,23 +26,23 @@ refusal_code (Refused errno) = code_of errno
 refusal_code HostMemory = no_memory
 refusal_code Spent = spent
 
--- nothing changed, and this is why
+-- nothing changed, and the code says why
 abbrev pub Unchanged : ℕ → Option Machine → ℕ → Option Machine → Type 0
 Unchanged why before code after = (code ≡ why) × (after ≡ before)
 
--- a call was answered: 0 and this reply, or the code of a refusal
+-- the code is 0, and the call got this reply; or the code is that of a refusal
 abbrev pub AnswersFor : Machine → ℕ → Call → Reply → ℕ → Machine → Type 0
 AnswersFor before pid call reply code after =
     ((code ≡ 0) × Answered before.system pid call (Ok reply) after.system)
     ⊎ ((refusal : Refusal) × (code ≡ refusal_code refusal) × Answered before.system pid call (Err refusal) after.system)
 
--- a call of a process through a handle; the reply is what the outputs show where the code is 0
+-- a process's call through a handle; `reply` is what the outputs show if the code is 0
 abbrev pub AnswersThrough : Option Machine → ℕ → Call → Reply → ℕ → Option Machine → Type 0
 AnswersThrough None pid call reply code after = Unchanged closed None code after
 AnswersThrough (Some before) pid call reply code None = ⊥
 AnswersThrough (Some before) pid call reply code (Some after) = AnswersFor before pid call reply code after
 
--- the same, where a call can carry the numbers; where it can't, the code says so and nothing changed
+-- the same for numbers that a call can carry; for others the code says so, and nothing changed
 abbrev pub AnswersWhere : Bool → Option Machine → ℕ → Call → Reply → ℕ → Option Machine → Type 0
 AnswersWhere true before pid call reply code after = AnswersThrough before pid call reply code after
 AnswersWhere false before pid call reply code after = Unchanged out_of_range before code after

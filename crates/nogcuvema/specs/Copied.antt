@@ -3,7 +3,7 @@ use Rattle.std.specs.Prelude.{ℕ, ◌≡◌, ◌⊎◌, Option, Some, None, IsS
 use Rattle.shm_machine.specs.declared.machine.Machine.{Machine}
 use Rattle.nogcuvema.specs.Answers.{closed, no_memory}
 
--- the copy has the same system, or memory was out and the copy's handle is as it was; the machine stays in either case
+-- the copy has the same system; or the host refused memory, and the copy's handle is unchanged. The machine is unchanged
 abbrev pub CopiesTo : Option Machine → Option Machine → ℕ → Option Machine → Option Machine → Type 0
 CopiesTo None copy code after copied = (code ≡ closed) × (after ≡ None) × (copied ≡ copy)
 CopiesTo (Some m) copy code after copied =

@@ -10,7 +10,7 @@ use Rattle.nogcuvema.specs.Answers.{closed, out_of_range, refusal_code, Unchange
 abbrev pub ExchangesAs : Outcome → Machine → List ℕ → Result (Unit {0}) Refusal → Machine → Type 0
 ExchangesAs o before there result after = ExchangedBy o before.system there result after.system
 
--- an exchange was answered: 0 and the bytes that were there, or the code of a refusal
+-- the code is 0, and the outputs show the old bytes; or the code is that of a refusal
 abbrev pub ExchangesFor : (Flat → Outcome) → Machine → List ℕ → ℕ → Machine → Type 0
 ExchangesFor outcome before there code after =
     ((code ≡ 0) × ExchangesAs (outcome before.system.machine) before there (Ok tt) after)
@@ -21,7 +21,7 @@ ExchangesThrough outcome None there code after = Unchanged closed None code afte
 ExchangesThrough outcome (Some before) there code None = ⊥
 ExchangesThrough outcome (Some before) there code (Some after) = ExchangesFor outcome before there code after
 
--- the same, where an exchange can carry the numbers
+-- the same for numbers that an exchange can carry
 abbrev pub ExchangesWhere : Bool → (Flat → Outcome) → Option Machine → List ℕ → ℕ → Option Machine → Type 0
 ExchangesWhere true outcome before there code after = ExchangesThrough outcome before there code after
 ExchangesWhere false outcome before there code after = Unchanged out_of_range before code after

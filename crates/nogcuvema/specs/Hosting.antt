@@ -1,4 +1,4 @@
--- What the host of a guest does besides calls, through a handle.
+-- Changes that the host of a guest makes, through a handle.
 use Rattle.std.specs.Prelude.{ℕ, ◌≡◌, ◌+◌, ◌⊎◌, false, Option, Some, None, Result, Ok, Err}
 use Rattle.shm_base.specs.Codes.{code_of}
 use Rattle.shm_base.specs.declared.call.Process.{Process}
@@ -46,6 +46,6 @@ RecreditsBy pid cred before code after =
     ((code ≡ 0) × Recredited before.system pid cred (Ok tt) after.system)
     ⊎ ((errno : Errno) × (code ≡ code_of errno) × Recredited before.system pid cred (Err errno) after.system)
 
--- calls set this time from now on
+-- calls note this time from now on
 abbrev pub TellsTime : ℕ → Machine → ℕ → Machine → Type 0
 TellsTime time before code after = (code ≡ 0) × (after.system ≡ record before.system { clock = Some time; only_calls = false })

@@ -32,12 +32,12 @@ abbrev pub AnswersStat : Option Machine → ℕ → ℕ → NogSegment → ℕ �
 AnswersStat None pid index segment code after = Unchanged closed None code after
 AnswersStat (Some m) pid index segment code after = StatOf index segment code (stat_at m.system.machine pid index) × (after ≡ Some m)
 
--- a piece at a place, or there is none
+-- the piece at an index; out of range if there is none
 abbrev pub PieceFound : Piece → ℕ → Option Piece → Type 0
 PieceFound piece code None = code ≡ out_of_range
 PieceFound piece code (Some found) = (code ≡ 0) × (piece ≡ found)
 
--- a piece of a process, by its place among the pieces
+-- a piece of a process, by its index among the pieces
 abbrev pub PieceBy : ℕ → Piece → ℕ → Option Caller → Type 0
 PieceBy index piece code None = code ≡ code_of Esrch
 PieceBy index piece code (Some c) = PieceFound piece code (slice_get c.pieces index)
@@ -49,7 +49,7 @@ abbrev pub AnswersPiece : Option Machine → ℕ → ℕ → Piece → ℕ → O
 AnswersPiece None pid index piece code after = Unchanged closed None code after
 AnswersPiece (Some m) pid index piece code after = PieceOf index piece code pid m.system.machine × (after ≡ Some m)
 
--- a process at a place, or there is none
+-- the process at an index; out of range if there is none
 abbrev pub ProcessOf : NogProcess → ℕ → Option Runner → Type 0
 ProcessOf process code None = code ≡ out_of_range
 ProcessOf process code (Some r) = (code ≡ 0) × (process ≡ process_shown r.pid r.life)
@@ -58,7 +58,7 @@ abbrev pub AnswersProcess : Option Machine → ℕ → NogProcess → ℕ → Op
 AnswersProcess None index process code after = Unchanged closed None code after
 AnswersProcess (Some m) index process code after = ProcessOf process code (slice_get m.system.machine.runners index) × (after ≡ Some m)
 
--- where an access fails, or it does not
+-- the address at which an access fails; out of range if it does not
 abbrev pub FailedBy : ℕ → ℕ → Option ℕ → Type 0
 FailedBy at code None = code ≡ out_of_range
 FailedBy at code (Some a) = (code ≡ 0) × (at ≡ a)

@@ -1,4 +1,4 @@
--- What nog_open answers, and which machine it opens.
+-- The code of nog_open, and the machine that it opens.
 use Rattle.std.specs.Prelude.{ℕ, ◌≡◌, ◌≢◌, ◌+◌, ◌⊎◌, Bool, true, false, not, ◌&&◌, ◌||◌, ◌==◌, nat_le, nat_lt, if◌then◌else◌, List, map, min, Option, Some, None, Result, Ok, Err, slice_get, IsSomeAnd}
 use Rattle.std.specs.List.{list_all}
 use Rattle.shm_base.specs.Bounds.{Bounds, within, limits_of, machine_limits_of, profile, ruled}
@@ -35,12 +35,12 @@ process_of p = record { pid = p.pid; born = if p.is_born == 0 then None else Som
 abbrev pub are_kinds : List NogArea → Bool
 are_kinds areas = list_all (λ (a : NogArea). within 1 3 a.kind) areas
 
--- whether an area has the side
+-- the area exists and has this side
 abbrev pub has_side : ℕ → Option NogArea → Bool
 has_side side None = false
 has_side side (Some a) = nat_lt side (if a.kind == 3 then 2 else 1)
 
--- whether a call is listed of a side that is there
+-- the failure is one of an area and side that exist, and its call is at least 1
 abbrev pub is_there : List NogArea → NogFailure → Bool
 is_there areas f = has_side f.side (slice_get areas f.area) && nat_le 1 f.call
 
@@ -57,15 +57,15 @@ code_by (Ok limits) areas failures processes =
     if not (are_kinds areas && are_there areas failures) then out_of_range else
     start_code (start_error limits (sizes_of (map area_of areas)) (map process_of processes))
 
--- whether the numbers that the profile fixes are left out
+-- the three limits that the profile fixes are left 0
 abbrev pub is_of_profile : NogLimits → Bool
 is_of_profile l = (l.most_pieces == 0) && (l.most_processes == 0) && (l.most_slots == 0)
 
--- a number as rules: one with more bits than rules have is none of theirs
+-- the rules for a number; one that is too large gives bits that no rule has
 abbrev pub rules_of : ℕ → Rules
 rules_of n = record { 0 = min n 65535 }
 
--- all numbers as they are given
+-- the limits as the numbers say
 abbrev pub numbers_of : NogLimits → Bounds
 numbers_of l =
     record {
@@ -80,7 +80,7 @@ numbers_of l =
       rules = rules_of l.rules;
     }
 
--- the profile's numbers
+-- the profile's limits
 abbrev pub profile_of : NogLimits → Result Bounds BadLimits
 profile_of l = limits_of l.shmmax l.shmmni l.shmall l.frames l.memlock
 
@@ -97,27 +97,26 @@ bounds_of l =
     then record (profile l.shmmax l.shmmni l.shmall l.frames l.memlock) { rules = rules_of l.rules }
     else numbers_of l
 
--- the first refusal that holds, 0 where none does: a limit, a number that nothing can carry, a start error
+-- the first refusal that applies: a limit, a number that no call can carry, a start error; 0 if there is none
 abbrev pub opening_code : NogLimits → List NogArea → List NogFailure → List NogProcess → ℕ
 opening_code l areas failures processes = code_by (limits_by l) areas failures processes
 
--- such a machine stands, and nothing is refused
+-- nothing is refused, and this machine is open
 pub record Opens (l : NogLimits) (areas : List NogArea) (failures : List NogFailure) (processes : List NogProcess) (m : Machine) : Type 0 where
   pub sound : opening_code l areas failures processes ≡ 0
   pub opened : IsOpened (bounds_of l) (map area_of areas) (map process_of processes) m.system
 
--- out of memory comes in place of 0 and of an error of the processes alone: limits, numbers and areas are looked at before
--- memory is taken
+-- out of memory may replace 0 and the errors of processes, because limits, numbers and areas are tested before memory is taken
 abbrev pub may_want_memory : ℕ → Bool
 may_want_memory code = (code == 0) || nat_lt 2022 code
 
--- why nothing was opened: the first refusal, or out of memory where that may come
+-- why nothing was opened: the first refusal, or out of memory if that may replace it
 abbrev pub IsRefusedBy : NogLimits → List NogArea → List NogFailure → List NogProcess → ℕ → Type 0
 IsRefusedBy l areas failures processes code =
     ((code ≡ no_memory) × (may_want_memory (opening_code l areas failures processes) ≡ true))
     ⊎ (code ≡ opening_code l areas failures processes)
 
--- it was opened, or refused for the first reason or out of memory, and nothing changed
+-- the machine was opened; or it was refused, and nothing changed
 abbrev pub OpenedTo : Option Machine → NogLimits → List NogArea → List NogFailure → List NogProcess → ℕ → Option Machine → Type 0
 OpenedTo before l areas failures processes code after =
     ((code ≡ 0) × IsSomeAnd after (Opens l areas failures processes))

@@ -1,4 +1,4 @@
--- What is read of a machine with no call, and flushing.
+-- What is read of a machine without a call, and flush rounds.
 use Rattle.std.specs.Prelude.{ℕ, ℤ, ◌≡◌, Option, Some, None}
 use Rattle.shm_base.specs.declared.call.ShmidDs.{ShmidDs}
 use Rattle.shm_base.specs.declared.paging.FlushReport.{FlushReport}
@@ -9,7 +9,7 @@ use Rattle.nogcuvema.specs.declared.structs.NogSegment.{NogSegment}
 use Rattle.nogcuvema.specs.Shown.{shown_by}
 use Rattle.nogcuvema.specs.Answers.{closed, out_of_range, Unchanged}
 
--- a machine is there, shows this, and stays as it is
+-- the handle has a machine, which shows this and is unchanged
 abbrev pub Reads : Option Machine → (Machine → Type 0) → ℕ → Option Machine → Type 0
 Reads None shows code after = Unchanged closed None code after
 Reads (Some m) shows code after = Unchanged 0 (Some m) code after × shows m
@@ -18,12 +18,12 @@ abbrev pub AnswersFound : ℕ → NogSegment → ℕ → Option (ℤ × ShmidDs)
 AnswersFound index segment code None = code ≡ out_of_range
 AnswersFound index segment code (Some found) = (code ≡ 0) × (segment.index ≡ index) × (segment.id ≡ found.0) × (shown_by segment ≡ found.1)
 
--- the segment at an index, out of range where there is none; the machine stays as it is
+-- the segment at an index, or out of range; the machine is unchanged
 abbrev pub AnswersSegment : Option Machine → ℕ → NogSegment → ℕ → Option Machine → Type 0
 AnswersSegment None index segment code after = Unchanged closed None code after
 AnswersSegment (Some m) index segment code after = AnswersFound index segment code (segment_at m.system.machine index) × (after ≡ Some m)
 
--- a flush round, by what it reports
+-- a flush round with this report
 abbrev pub FlushedTo : Option Machine → ℕ → FlushReport → ℕ → Option Machine → Type 0
 FlushedTo None pages report code after = Unchanged closed None code after
 FlushedTo (Some m) pages report code None = ⊥

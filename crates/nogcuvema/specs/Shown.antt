@@ -1,4 +1,4 @@
--- What the structs that C reads say.
+-- The structs that C reads, as values.
 use Rattle.std.specs.Prelude.{ℕ, ◌==◌, not}
 use Rattle.shm_base.specs.State.{Piece, Life, Unborn, Live, Ended}
 use Rattle.shm_base.specs.declared.call.ShmidDs.{ShmidDs}
@@ -61,7 +61,7 @@ piece_by p =
       may_write = not (p.may_write == 0);
     }
 
--- a process as a list shows it: 0, a child that is not born, 1, live, 2, ended
+-- a process as a listing shows it: 0 for a child that is not born yet, 1 for live, 2 for ended
 abbrev pub process_shown : ℕ → Life → NogProcess
 process_shown pid Unborn = record { pid = pid; is_born = 0; uid = 0; gid = 0 }
 process_shown pid (Live cred) = record { pid = pid; is_born = 1; uid = cred.uid; gid = cred.gid }

@@ -1,4 +1,4 @@
-//! What the library says of itself.
+//! What the library says about itself.
 ghost use Rattle.std.specs.Prelude.{◌≡◌, option_map, slice_get};
 ghost use Rattle.nogcuvema.specs.About.{text_by, with_text, layout_by, TextTold, ValueTold};
 
@@ -54,7 +54,7 @@ fn text_of(code: u32) -> Option<&'static str>
     }
 }
 
-// The text with a zero after it, cut where it is long.
+// Writes the text, cut if it is too long, and a zero after it.
 fn put_text(text: &[u8], buffer: &mut [u8])
     ensures { buffer.new ≡ with_text text.now buffer.old }
 {
@@ -66,8 +66,8 @@ fn put_text(text: &[u8], buffer: &mut [u8])
     buffer[count] = 0;
 }
 
-/// The text of a code, ended by a zero and cut to one byte less than the buffer; `len` is its whole length. Out of
-/// range for a number that is no code.
+/// The text of a code, with a zero after it, cut to one byte less than the buffer; `len` is its whole length.
+/// Out of range: no code has the number.
 #[unsafe(no_mangle)]
 pub extern "C" fn nog_text(code: u32, text: &mut [u8], len: &mut usize) -> u32
     ensures { TextTold (text_by code) text.old len.old result text.new len.new }
@@ -80,7 +80,7 @@ pub extern "C" fn nog_text(code: u32, text: &mut [u8], len: &mut usize) -> u32
     DONE
 }
 
-/// The version: 10000 is 1.0.0.
+/// The version: 10000 means 1.0.0.
 #[unsafe(no_mangle)]
 pub extern "C" fn nog_version() -> u32
     ensures { result ≡ 10000 }
@@ -159,8 +159,9 @@ fn layout_of(which: u32, field: usize) -> Option<usize>
     layout.get(field).copied()
 }
 
-/// What the library has for its structs: `which` 0 is the machine, 1 limits, 2 area, 3 failure, 4 process, 5 segment, 6
-/// tally, 7 flushed, 8 usage, 9 piece; field 0 the size in bytes, field n the offset of the n-th field. Out of range for others.
+/// The layout of the structs as the library sees it. `which`: 0 machine, 1 limits, 2 area, 3 failure, 4
+/// process, 5 segment, 6 tally, 7 flushed, 8 usage, 9 piece. `field`: 0 gives the size in bytes, n the offset
+/// of the n-th field. Out of range: any other number.
 #[unsafe(no_mangle)]
 pub extern "C" fn nog_layout(which: u32, field: u32, value: &mut usize) -> u32
     ensures { ValueTold (slice_get (layout_by which) field) value.old result value.new }

@@ -11,7 +11,7 @@ use shm_base::LONGEST_ACCESS;
 use shm_machine::Machine;
 use std::alloc::Global;
 
-// Whether an access in one step can have this many bytes.
+// Whether an access in one step may have this many bytes.
 #[inline(always)]
 pub(crate) fn is_size(len: usize) -> bool
     ensures { result ≡ within 1 64 len }
@@ -33,7 +33,7 @@ fn load(machine: &mut Machine, pid: u32, addr: u64, bytes: &mut [u8]) -> u32
     }
 }
 
-/// Reads 1 to 64 bytes of attached memory, in one step.
+/// Reads 1 to 64 bytes of attached memory in one step.
 #[unsafe(no_mangle)]
 pub extern "C" fn nog_load(
     alloc: Global,
@@ -69,7 +69,7 @@ fn store(machine: &mut Machine, pid: u32, addr: u64, bytes: &[u8]) -> u32
     }
 }
 
-/// Replaces 1 to 64 bytes of attached memory, in one step.
+/// Replaces 1 to 64 bytes of attached memory in one step.
 #[unsafe(no_mangle)]
 pub extern "C" fn nog_store(
     alloc: Global,
@@ -106,7 +106,8 @@ fn add_to(machine: &mut Machine, pid: u32, addr: u64, add: u64, before: &mut u64
     }
 }
 
-/// Adds to eight little-endian bytes of attached memory modulo 2^64, in one step; `before` is the number that stood there.
+/// Adds to eight little-endian bytes of attached memory, modulo 2^64, in one step; `before` gets the old
+/// number.
 #[unsafe(no_mangle)]
 pub extern "C" fn nog_add(
     alloc: Global,

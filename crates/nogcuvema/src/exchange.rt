@@ -44,7 +44,7 @@ fn compare(
     }
 }
 
-/// Puts 1 to 64 bytes in the place of others, in one step; `before`, which has as many, shows those.
+/// Replaces 1 to 64 bytes in one step; `before`, which has the same length, gets the old ones.
 #[unsafe(no_mangle)]
 pub extern "C" fn nog_exchange(
     alloc: Global,
@@ -69,7 +69,7 @@ pub extern "C" fn nog_exchange(
     code
 }
 
-/// As nog_exchange, but the bytes are replaced only if they are the expected ones, of which there are as many.
+/// As nog_exchange, but replaces the bytes only if they equal the expected ones. All three lengths are equal.
 #[unsafe(no_mangle)]
 pub extern "C" fn nog_compare_exchange(
     alloc: Global,

@@ -1,4 +1,4 @@
-//! What a C program holds.
+//! The handle that a C program keeps.
 ghost use Rattle.std.specs.Prelude.{◌≡◌, Option, Some, None, option_map};
 ghost use Rattle.nogcuvema.specs.Owned.{IsOpenAs};
 
@@ -8,7 +8,7 @@ use shm_machine::Machine;
 use std::alloc::Global;
 use std::mem::replace;
 
-/// A machine, or none yet. C keeps it, and moves it only as a whole.
+/// A machine, or none. C keeps it, and moves it only as a whole.
 #[repr(C)]
 #[derive(Drop)]
 pub struct Handle {
@@ -18,7 +18,7 @@ pub struct Handle {
 }
 
 impl Handle {
-    /// A handle with no machine.
+    /// A handle without a machine.
     #[inline(always)]
     pub fn empty() -> Handle
         ensures { result.kept.value ≡ None }
@@ -42,7 +42,7 @@ impl Handle {
         Some(kept.into_parts(alloc).into_box())
     }
 
-    /// Puts a machine in, where there is none.
+    /// Puts a machine into a handle without one.
     #[inline(always)]
     pub fn put(&mut self, machine: Box<Machine>)
         requires { self.old.kept.value ≡ None }

@@ -1,4 +1,4 @@
-//! What the host of a guest does besides calls: processes join and leave, credentials change, and the time is given.
+//! Changes that the host of a guest makes: processes join and leave, credentials change, and the time is set.
 ghost use Rattle.std.specs.Prelude.{◌≡◌};
 ghost use Rattle.nogcuvema.specs.Hosting.{admit_code, dismiss_code, HostedThrough, AdmitsBy, DismissesBy, RecreditsBy, TellsTime};
 ghost use Rattle.nogcuvema.specs.Opens.{process_of};
@@ -58,8 +58,8 @@ fn recredited(machine: &mut Machine, pid: u32, cred: Cred) -> u32
     }
 }
 
-/// A process joins: live with its user and group, or a child to be forked. An ended process with its pid gives its place
-/// to it. It is no call.
+/// A process joins: live with its user and group, or as a child to be forked. An ended process with its pid
+/// gives its place to it. Not counted as a call.
 #[unsafe(no_mangle)]
 pub extern "C" fn nog_admit(alloc: Global, handle: &mut Handle, process: &NogProcess) -> u32
     ensures { HostedThrough (AdmitsBy (process_of process.now)) handle.old.kept.value result handle.new.kept.value }
@@ -72,7 +72,8 @@ pub extern "C" fn nog_admit(alloc: Global, handle: &mut Handle, process: &NogPro
     code
 }
 
-/// A process that ended leaves, or a child that is not born: its pid may come back. It is no call.
+/// A process that ended, or a child that is not born yet, leaves. Its pid can be used again. Not counted as a
+/// call.
 #[unsafe(no_mangle)]
 pub extern "C" fn nog_dismiss(alloc: Global, handle: &mut Handle, pid: u32) -> u32
     ensures { HostedThrough (DismissesBy pid) handle.old.kept.value result handle.new.kept.value }
@@ -85,7 +86,7 @@ pub extern "C" fn nog_dismiss(alloc: Global, handle: &mut Handle, pid: u32) -> u
     code
 }
 
-/// A live process has another effective user and group from now on. Its pieces stay. It is no call.
+/// Gives a live process another effective user and group. Its pieces stay. Not counted as a call.
 #[unsafe(no_mangle)]
 pub extern "C" fn nog_set_user(
     alloc: Global,
@@ -104,7 +105,7 @@ pub extern "C" fn nog_set_user(
     code
 }
 
-/// The times that calls set are this number from now on, until it is set again. It is no call.
+/// Sets the time that calls note from now on. Not counted as a call.
 #[unsafe(no_mangle)]
 pub extern "C" fn nog_set_time(alloc: Global, handle: &mut Handle, time: u64) -> u32
     ensures { HostedThrough (TellsTime time) handle.old.kept.value result handle.new.kept.value }

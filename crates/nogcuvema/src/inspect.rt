@@ -1,4 +1,4 @@
-//! Flushing, and what is read of a machine with no call.
+//! Flush rounds, and what can be read of a machine without a call.
 ghost use Rattle.std.specs.Prelude.{◌≡◌, ◌≢◌, length};
 ghost use Rattle.shm_life.specs.Counts.{Counts};
 ghost use Rattle.nogcuvema.specs.Shown.{tally_by, report_by};
@@ -9,7 +9,8 @@ use crate::handle::Handle;
 use crate::structs::{NogFlushed, NogSegment, NogTally};
 use std::alloc::Global;
 
-/// Writes the first `pages` dirty frames of segments that are not locked out to their slots. It is no call.
+/// Writes the first `pages` dirty frames of segments that are not locked to their slots. Not counted as a
+/// call.
 #[unsafe(no_mangle)]
 pub extern "C" fn nog_flush(
     alloc: Global,
@@ -70,8 +71,8 @@ pub extern "C" fn nog_calls(alloc: Global, handle: &mut Handle, calls: &mut u64)
     DONE
 }
 
-/// The segment at an index of the table as stat shows it, with no permission asked; out of range where no segment holds
-/// the index.
+/// The segment at an index of the table, as `stat` shows it, without a permission test. Out of range: the
+/// index has no segment.
 #[unsafe(no_mangle)]
 pub extern "C" fn nog_segment_at(
     alloc: Global,

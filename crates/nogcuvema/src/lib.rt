@@ -1,4 +1,5 @@
-//! The machine for programs in C: a handle, and a function for each call.
+//! The machine for programs in C: a handle, and a function for each call. The header, bindings/c/nogcuvema.h,
+//! lists the codes of each function.
 #![tactic(auto)]
 
 mod about;

@@ -1,4 +1,4 @@
-//! What ipcs(1) and /proc show of a machine. None of it is a call, and nothing changes.
+//! What ipcs(1) and /proc show of a machine. These are not calls, and change nothing.
 ghost use Rattle.std.specs.Prelude.{◌≡◌, ◌≢◌, ◌==◌, not, slice_get};
 ghost use Rattle.shm_life.specs.Listed.{stat_at};
 ghost use Rattle.nogcuvema.specs.Shown.{piece_by};
@@ -12,7 +12,7 @@ use shm_base::Errno;
 use shm_machine::Machine;
 use std::alloc::Global;
 
-/// Sums over all segments, and the highest index that one holds (SHM_INFO).
+/// Sums over all segments, and the highest index that has one (SHM_INFO).
 #[unsafe(no_mangle)]
 pub extern "C" fn nog_info(alloc: Global, handle: &mut Handle, usage: &mut NogUsage) -> u32
     ensures machine { Reads handle.old.kept.value (λ m. Uses m.system usage.new) result handle.new.kept.value }
@@ -39,7 +39,7 @@ fn stat_at(machine: &Machine, pid: u32, index: u32, segment: &mut NogSegment) ->
     }
 }
 
-/// The segment at an index as a process may see it (SHM_STAT). It is no call.
+/// The segment at an index, as a process may see it (SHM_STAT). Not counted as a call.
 #[unsafe(no_mangle)]
 pub extern "C" fn nog_stat_at(
     alloc: Global,
@@ -76,7 +76,7 @@ fn piece_at(machine: &Machine, pid: u32, index: u32, piece: &mut NogPiece) -> u3
     }
 }
 
-/// A piece of a live process, by its place among the pieces by rising base; out of range after the last.
+/// A piece of a live process, by its index in the order of their bases. Out of range: after the last.
 #[unsafe(no_mangle)]
 pub extern "C" fn nog_piece_at(
     alloc: Global,
@@ -109,7 +109,7 @@ fn process_at(machine: &Machine, index: u32, process: &mut NogProcess) -> u32
     }
 }
 
-/// A process, by its place among the processes, live or not; out of range after the last.
+/// A process, live or not, by its index. Out of range: after the last.
 #[unsafe(no_mangle)]
 pub extern "C" fn nog_process_at(
     alloc: Global,
@@ -128,8 +128,8 @@ pub extern "C" fn nog_process_at(
     code
 }
 
-/// The first byte of an access that has no piece, or that lies in a piece which may not be written; out of range
-/// where there is none.
+/// The first byte of an access that has no piece or, for a write, is in a read-only piece. Out of range:
+/// there is none.
 #[unsafe(no_mangle)]
 pub extern "C" fn nog_failed_at(
     alloc: Global,
@@ -158,8 +158,8 @@ pub extern "C" fn nog_failed_at(
     }
 }
 
-/// The first byte of an access whose page is in no frame, if all bytes before it have pieces; out of range where there is
-/// none.
+/// The first byte of an access whose page is in no frame, if all bytes before it are in pieces. Out of range:
+/// there is none.
 #[unsafe(no_mangle)]
 pub extern "C" fn nog_absent_at(
     alloc: Global,

@@ -33,7 +33,8 @@ fn protected(machine: &mut Machine, pid: u32, addr: u64, len: u64, writable: boo
     }
 }
 
-/// munmap(2) of a range of a live process: pieces in it go, and those that reach beyond are cut. It is no call.
+/// munmap(2) of a range of a live process: pieces in it are removed, and those that reach beyond it are cut.
+/// Not counted as a call.
 #[unsafe(no_mangle)]
 pub extern "C" fn nog_unmap(
     alloc: Global,
@@ -52,8 +53,8 @@ pub extern "C" fn nog_unmap(
     code
 }
 
-/// mprotect(2) of a range of a live process, which becomes writable, or read-only where `is_writable` is 0. It is no
-/// call.
+/// mprotect(2) of a range of a live process, which becomes writable, or read-only if `is_writable` is 0. Not
+/// counted as a call.
 #[unsafe(no_mangle)]
 pub extern "C" fn nog_protect(
     alloc: Global,

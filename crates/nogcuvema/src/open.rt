@@ -1,4 +1,4 @@
-//! Opening and closing.
+//! Opens and closes machines.
 ghost use Rattle.std.specs.Prelude.{◌≡◌, ◌≢◌, [], map, IfOk, IfErr, None, is_some, if◌then◌else◌};
 ghost use Rattle.shm_life.specs.Start.{start_error};
 ghost use Rattle.shm_machine.specs.Opened.{sizes_of};
@@ -116,14 +116,14 @@ fn are_there(areas: &[NogArea], failures: &[NogFailure]) -> bool
     true
 }
 
-// A number as rules. Where it has more than their bits, the rules have bits without a name too.
+// The rules for a number. A number with more bits than rules have gives bits that no rule has.
 fn rules_of(number: u64) -> Rules
     ensures { result ≡ rules_of number }
 {
     Rules::from_bits_retain(number.min(65535) as u16)
 }
 
-// The limits, or which is the first that is out of its range: the profile's where the three last numbers are 0.
+// The limits, or the first that is out of its range. If the last three numbers are 0, the profile's limits.
 fn limits_by(limits: &NogLimits) -> Result<Limits, BadLimits>
     ensures { result ≡ limits_by limits.now }
 {
@@ -155,7 +155,7 @@ fn limits_by(limits: &NogLimits) -> Result<Limits, BadLimits>
     })
 }
 
-// The first start error of the areas that holds.
+// The first start error of the areas.
 fn area_error(limits: &Limits, areas: &[NogArea]) -> Option<StartError>
     ensures { result ≡ start_error limits.now (sizes_of (map area_of areas.now)) [] }
 {
@@ -201,7 +201,7 @@ fn machine_of(
     }
 }
 
-/// Opens a machine in the handle, and lets go of the one before where the new one stands.
+/// Opens a machine in the handle. The machine that was in it is dropped if that succeeds.
 #[unsafe(no_mangle)]
 pub extern "C" fn nog_open(
     alloc: Global,
@@ -225,7 +225,7 @@ pub extern "C" fn nog_open(
     DONE
 }
 
-/// Lets go of the machine.
+/// Drops the machine.
 #[unsafe(no_mangle)]
 pub extern "C" fn nog_close(alloc: Global, handle: &mut Handle) -> u32
     ensures code { result ≡ (if is_some handle.old.kept.value then 0 else closed) }

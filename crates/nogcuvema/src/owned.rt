@@ -1,4 +1,4 @@
-//! A machine on the heap, behind a pointer that C keeps.
+//! A machine on the heap, by a pointer that C keeps.
 ghost use Rattle.std.specs.Prelude.{◌≡◌, Option, Some, None, IsSome};
 ghost use Rattle.nogcuvema.specs.Owned.{owned};
 ghost use Rattle.shm_machine.specs.declared.machine.Machine.{Machine};
@@ -8,7 +8,7 @@ use shm_machine::Machine;
 use std::alloc::{Allocator, Global};
 use std::marker::Model;
 
-/// A machine's block, or nothing. Dropping it frees nothing.
+/// The block of a machine, or nothing. Dropping it frees nothing.
 #[repr(C)]
 #[derive(Drop)]
 pub struct Kept {
@@ -31,7 +31,7 @@ impl Kept {
         }
     }
 
-    /// Takes over a machine's block.
+    /// Takes over the block of a machine.
     #[inline(always)]
     pub fn of(parts: Parts<Machine, Global>) -> Kept
         ensures { result.value ≡ Some parts.value }
@@ -40,7 +40,7 @@ impl Kept {
         Kept { at: ptr as *mut u8 }
     }
 
-    /// Gives the block back.
+    /// Returns the block.
     #[inline(always)]
     pub fn into_parts(self, alloc: Global) -> Parts<Machine, Global>
         requires { IsSome self.value }

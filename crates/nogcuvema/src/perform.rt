@@ -1,4 +1,4 @@
-//! The calls that have nothing to tell but that they were done.
+//! The calls whose reply has no value.
 ghost use Rattle.std.specs.Prelude.{◌≡◌, true, nat_lt};
 ghost use Rattle.shm_base.specs.declared.call.Call.TheVariants as call;
 ghost use Rattle.shm_base.specs.declared.call.Reply.TheVariants as reply;
@@ -34,7 +34,7 @@ fn perform(alloc: Global, handle: &mut Handle, pid: u32, call: &Call) -> u32
     code
 }
 
-/// shmdt(2): takes out the pieces of one attach.
+/// shmdt(2): detaches what is left of one attach.
 #[unsafe(no_mangle)]
 pub extern "C" fn nog_detach(alloc: Global, handle: &mut Handle, pid: u32, addr: u64) -> u32
     ensures { AnswersThrough handle.old.kept.value pid (call.Shmdt addr) reply.Done result handle.new.kept.value }
@@ -42,7 +42,7 @@ pub extern "C" fn nog_detach(alloc: Global, handle: &mut Handle, pid: u32, addr:
     perform(alloc, handle, pid, &Call::Shmdt { addr })
 }
 
-/// shmctl(2), IPC_SET: owner, group and mode of a segment. The mode is below 65536.
+/// shmctl(2), IPC_SET: sets owner, group and mode of a segment. The mode is below 65536.
 #[unsafe(no_mangle)]
 pub extern "C" fn nog_set(
     alloc: Global,
@@ -62,7 +62,8 @@ pub extern "C" fn nog_set(
     perform(alloc, handle, pid, &Call::Set { id, uid, gid, mode })
 }
 
-/// shmctl(2), IPC_RMID: marks a segment, which goes with its last piece.
+/// shmctl(2), IPC_RMID: destroys a segment without pieces; marks any other, which is then destroyed with its
+/// last piece.
 #[unsafe(no_mangle)]
 pub extern "C" fn nog_remove(alloc: Global, handle: &mut Handle, pid: u32, id: i32) -> u32
     ensures { AnswersThrough handle.old.kept.value pid (call.Rmid id) reply.Done result handle.new.kept.value }
@@ -70,7 +71,7 @@ pub extern "C" fn nog_remove(alloc: Global, handle: &mut Handle, pid: u32, id: i
     perform(alloc, handle, pid, &Call::Rmid { id })
 }
 
-/// shmctl(2), SHM_LOCK: the pages of a segment stay resident.
+/// shmctl(2), SHM_LOCK: the pages of a segment stay resident once they are.
 #[unsafe(no_mangle)]
 pub extern "C" fn nog_lock(alloc: Global, handle: &mut Handle, pid: u32, id: i32) -> u32
     ensures { AnswersThrough handle.old.kept.value pid (call.Lock id) reply.Done result handle.new.kept.value }
@@ -78,7 +79,7 @@ pub extern "C" fn nog_lock(alloc: Global, handle: &mut Handle, pid: u32, id: i32
     perform(alloc, handle, pid, &Call::Lock { id })
 }
 
-/// shmctl(2), SHM_UNLOCK.
+/// shmctl(2), SHM_UNLOCK: the pages of a segment may leave their frames again.
 #[unsafe(no_mangle)]
 pub extern "C" fn nog_unlock(alloc: Global, handle: &mut Handle, pid: u32, id: i32) -> u32
     ensures { AnswersThrough handle.old.kept.value pid (call.Unlock id) reply.Done result handle.new.kept.value }
@@ -86,7 +87,7 @@ pub extern "C" fn nog_unlock(alloc: Global, handle: &mut Handle, pid: u32, id: i
     perform(alloc, handle, pid, &Call::Unlock { id })
 }
 
-/// fork(2): a declared child begins, with the pieces and the ids of the process.
+/// fork(2): a declared child is born, with the pieces and the ids of the process.
 #[unsafe(no_mangle)]
 pub extern "C" fn nog_fork(alloc: Global, handle: &mut Handle, pid: u32, child: u32) -> u32
     ensures { AnswersThrough handle.old.kept.value pid (call.Fork child) reply.Done result handle.new.kept.value }
@@ -94,7 +95,7 @@ pub extern "C" fn nog_fork(alloc: Global, handle: &mut Handle, pid: u32, child: 
     perform(alloc, handle, pid, &Call::Fork { child })
 }
 
-/// execve(2): the process loses its pieces.
+/// execve(2): detaches every piece of the process.
 #[unsafe(no_mangle)]
 pub extern "C" fn nog_exec(alloc: Global, handle: &mut Handle, pid: u32) -> u32
     ensures { AnswersThrough handle.old.kept.value pid call.Exec reply.Done result handle.new.kept.value }
@@ -102,7 +103,7 @@ pub extern "C" fn nog_exec(alloc: Global, handle: &mut Handle, pid: u32) -> u32
     perform(alloc, handle, pid, &Call::Exec)
 }
 
-/// _exit(2): the process ends, and loses its pieces.
+/// _exit(2): detaches every piece of the process, and ends it.
 #[unsafe(no_mangle)]
 pub extern "C" fn nog_exit(alloc: Global, handle: &mut Handle, pid: u32) -> u32
     ensures { AnswersThrough handle.old.kept.value pid call.Exit reply.Done result handle.new.kept.value }

@@ -1,4 +1,4 @@
-//! Making, finding and attaching segments.
+//! Makes, finds and attaches segments.
 ghost use Rattle.std.specs.Prelude.{◌≡◌, ◌≢◌, ◌&&◌, nat_lt};
 ghost use Rattle.shm_base.specs.declared.call.Call.TheVariants as call;
 ghost use Rattle.shm_base.specs.declared.call.Reply.TheVariants as reply;
@@ -75,7 +75,8 @@ fn attach(machine: &mut Machine, pid: u32, id: i32, addr: u64, flags: u16, at: &
     }
 }
 
-/// shmat(2): the address at which the segment is attached; 0 has the machine choose it. Flags are below 65536.
+/// shmat(2): the address at which the segment is attached; the machine chooses it if `addr` is 0. Flags are
+/// below 65536.
 #[unsafe(no_mangle)]
 pub extern "C" fn nog_attach(
     alloc: Global,
@@ -115,7 +116,7 @@ fn stat(machine: &mut Machine, pid: u32, id: i32, segment: &mut NogSegment) -> u
     }
 }
 
-/// shmctl(2), IPC_STAT: what a segment shows, under its identifier and its index in the table.
+/// shmctl(2), IPC_STAT: shows a segment, with its identifier and its index in the table.
 #[unsafe(no_mangle)]
 pub extern "C" fn nog_stat(
     alloc: Global,

@@ -6,8 +6,9 @@ use crate::code::{CLOSED, DONE, NO_MEMORY};
 use crate::handle::Handle;
 use std::alloc::Global;
 
-/// Puts a machine with the same state and memory into another handle, and lets go of the one that was there. Each goes on
-/// without the other. Out of memory changes neither handle. It is no call.
+/// Puts a machine with the same state and memory into another handle, and drops the machine that was in that.
+/// Afterwards the two are independent. If the host refuses memory, neither handle changes. Not counted as a
+/// call.
 #[unsafe(no_mangle)]
 pub extern "C" fn nog_snapshot(alloc: Global, handle: &mut Handle, copy: &mut Handle) -> u32
     ensures { CopiesTo handle.old.kept.value copy.old.kept.value result handle.new.kept.value copy.new.kept.value }

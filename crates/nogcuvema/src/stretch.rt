@@ -7,7 +7,7 @@ use crate::handle::Handle;
 use shm_machine::{Machine, Refusal};
 use std::alloc::Global;
 
-// The code of what an access was stopped by.
+// The code of the refusal that stopped an access; 0 if none did.
 fn stop_code(stopped: Option<Refusal>) -> u32
     ensures { result ≡ stop_code stopped }
 {
@@ -26,8 +26,8 @@ fn read(machine: &mut Machine, pid: u32, addr: u64, bytes: &mut [u8], done: &mut
     stop_code(progress.stopped)
 }
 
-/// Reads attached memory into the buffer, by a load for each page, until one is refused; `done` is how many bytes were
-/// read.
+/// Reads attached memory into the buffer, by a load for each page, until one is refused; `done` gets the
+/// number of bytes that were read.
 #[unsafe(no_mangle)]
 pub extern "C" fn nog_read(
     alloc: Global,
@@ -56,8 +56,8 @@ fn write(machine: &mut Machine, pid: u32, addr: u64, bytes: &[u8], done: &mut u6
     stop_code(progress.stopped)
 }
 
-/// Replaces attached memory by the bytes, by a store for each page, until one is refused; `done` is how many bytes were
-/// written.
+/// Replaces attached memory by the bytes, by a store for each page, until one is refused; `done` gets the
+/// number of bytes that were written.
 #[unsafe(no_mangle)]
 pub extern "C" fn nog_write(
     alloc: Global,
@@ -95,8 +95,8 @@ fn copy(
     stop_code(progress.stopped)
 }
 
-/// Copies attached memory of a process to that of another, or of the same one, as one load and then one store of the bytes
-/// that can be read; `done` is how many were written.
+/// Copies attached memory of a process to that of another, or of the same one: one load of the bytes that can
+/// be read, and then one store of them; `done` gets the number of bytes that were written.
 #[unsafe(no_mangle)]
 pub extern "C" fn nog_copy(
     alloc: Global,

@@ -1,4 +1,4 @@
-//! What C and the library hand each other.
+//! The structs that C and the library exchange.
 ghost use Rattle.std.specs.Prelude.{◌≡◌};
 ghost use Rattle.shm_areas.specs.Arranged.{bare};
 ghost use Rattle.nogcuvema.specs.Shown.{shown_by, tally_by, report_by, sums_by, piece_by, process_shown};
@@ -10,9 +10,9 @@ use shm_attach::Life;
 use shm_base::{Cred, FlushReport, ShmidDs, Tally};
 use shm_life::ShmInfo;
 
-/// The limits of a machine. Where the three last numbers are 0 they are the profile's (256 pieces, 64 processes, 65536 slots),
-/// and the first five have the profile's ranges; else all eight
-/// have the ranges of [`Limits::of`](shm_base::Limits::of). Rules are the bits of [`Rules`](shm_base::Rules).
+/// The limits of a machine. If the three that begin with `most_` are 0, they are the profile's (256 pieces,
+/// 64 processes, 65536 slots), and the first five have the profile's ranges. Otherwise all eight have the
+/// ranges of [`Limits::of`](shm_base::Limits::of). `rules` has the bits of [`Rules`](shm_base::Rules).
 #[repr(C)]
 #[derive(Clone, Copy)]
 pub struct NogLimits {
@@ -27,7 +27,8 @@ pub struct NogLimits {
     pub rules: u64,
 }
 
-/// A swap area: its kind, 1 ram, 2 sparse, 3 a mirror, and how many slots it has, or each side of a mirror.
+/// A swap area: its kind (1 ram, 2 sparse, 3 mirror) and its number of slots; of a mirror, the slots of each
+/// side.
 #[repr(C)]
 #[derive(Clone, Copy)]
 pub struct NogArea {
@@ -35,8 +36,9 @@ pub struct NogArea {
     pub slots: u32,
 }
 
-/// The `call`-th read of a side of an area fails, or write where `is_write` is not 0. Calls count from 1, areas from
-/// 0. Side 0 is the area, or a mirror's left side, 1 a mirror's right one.
+/// A call of a side of an area that fails: its `call`-th read, or its `call`-th write if `is_write` is not 0.
+/// Calls count from 1, areas from 0. Side 0 is the area, or a mirror's left side; side 1 is a mirror's right
+/// side.
 #[repr(C)]
 #[derive(Clone, Copy)]
 pub struct NogFailure {
@@ -47,7 +49,7 @@ pub struct NogFailure {
     pub call: u64,
 }
 
-/// A process; where `is_born` is 0 a child that a fork begins, whose ids count for nothing.
+/// A process. If `is_born` is 0 it is a child to be forked, and `uid` and `gid` are ignored.
 #[repr(C)]
 #[derive(Clone, Copy)]
 pub struct NogProcess {
@@ -75,9 +77,9 @@ impl NogProcess {
     }
 }
 
-/// What a segment shows (shmctl(2), IPC_STAT), with its identifier and its index in the table. A time is the place of a
-/// call among those that were answered, counted from 1; 0 means never. Of the status 512 says that the segment is to
-/// be removed, and 1024 that it is locked.
+/// What `stat` shows of a segment (shmctl(2), IPC_STAT), with its identifier and its index in the table. A
+/// time is the place of a call in the history, counted from 1, or the time that the host gave; 0 means never.
+/// In `status`, 512 means marked for removal, and 1024 locked.
 #[repr(C)]
 #[derive(Clone, Copy)]
 pub struct NogSegment {
@@ -165,7 +167,7 @@ impl NogTally {
     }
 }
 
-/// What a flush round did: pages written, and writes that failed.
+/// What a flush round did: pages that it wrote, and writes that failed.
 #[repr(C)]
 #[derive(Clone, Copy)]
 pub struct NogFlushed {
@@ -184,7 +186,7 @@ impl NogFlushed {
     }
 }
 
-/// Sums over all segments, and the highest index that one holds (shmctl(2), SHM_INFO).
+/// Sums over all segments, and the highest index that has one (shmctl(2), SHM_INFO).
 #[repr(C)]
 #[derive(Clone, Copy)]
 pub struct NogUsage {
@@ -210,8 +212,8 @@ impl NogUsage {
     }
 }
 
-/// A piece of a process: pages of a segment from `first_page` on, at `base`. Where `may_write` is 0 it can't become
-/// writable.
+/// A piece of a process: pages of a segment from `first_page` on, at `base`. If `may_write` is 0, it can't
+/// become writable.
 #[repr(C)]
 #[derive(Clone, Copy)]
 pub struct NogPiece {

@@ -1,4 +1,5 @@
--- The pieces that a range meets stand side by side. Taking it out leaves a part of the first of them below, and one of the last above.
+-- The pieces that a range meets are consecutive. Taking it out leaves a part of the first of them below, and one of the last
+-- above.
 use Rattle.shm_areas.proofs.Names.{nat_tests, sym, ◌≡◌, ◌⊎◌, ℕ, zero, suc, ◌+◌, ◌-◌, ◌<◌, ◌≤◌, true, false, nat_lt, List, [], ◌∷◌, ◌++◌, length, get_or, take, drop, refl, ap, ◌∙◌, arith, append_assoc, append-nil, length-append, length-take, length-drop, common_steps, splice, lt-ltb, le-ltb, cases_lt, cases_eq, and_right, get_or_default, end_of, meets, occupied, Piece, bare, bare_all, Arranged, stored_below, stored_above, stored_cut, met, IsPieceRange}
 use Rattle.std.specs.Prelude.{slice_range}
 use Rattle.shm_areas.proofs.Placing.{low_bound}
@@ -67,14 +68,14 @@ cut-none from to (p ∷ ps) zero r =
 cut-none from to (p ∷ ps) (suc first) r =
     rw (is_below from to p (r.before 0 p (omega arith))) (ap (λ (xs : List Piece). p ∷ xs) (cut-none from to ps first (rest_run r (omega arith) (omega arith))))
 
--- nothing stays below of a piece that begins in the range, and nothing above of one that ends in it
+-- a piece that begins in the range leaves nothing below it, and one that ends in it leaves nothing above
 below-none : (from : ℕ) (p : Piece) → from ≤ p.base → stored_below from p ≡ []
 below-none from p le = rw (le-ltb p.base from le) refl
 
 above-none : (to : ℕ) (p : Piece) → end_of (bare p) ≤ to → stored_above to p ≡ []
 above-none to p le = rw (le-ltb to (end_of (bare p)) le) refl
 
--- a piece with another of the run behind it ends in the range
+-- a piece of the run that is not the last ends in the range
 ends_in : (from to last low : ℕ) (p : Piece) (ps : List Piece) → Arranged low (bare_all (p ∷ ps)) → IsPieceRange from to (p ∷ ps) 0 (suc (suc last)) → end_of (bare p) ≤ to
 ends_in from to last low p ps ar r = grind (arith, common_steps, low_bound)
 
@@ -139,7 +140,7 @@ pub run_from : (low from to count last : ℕ) (ps : List Piece) (e : Piece) → 
     → 0 < count → from < end_of (bare (get_or ps (count - 1) e)) → IsPieceRange from to ps (count - 1) last
 run_from low from to count last ps e ar lt c l some reaches = grind (arith, common_steps, cases_lt, end_of, bare, ends_before, get_or_default)
 
--- or it does not, or there is none
+-- or it does not, or there is no such piece
 pub run_behind : (low from to count last : ℕ) (ps : List Piece) (e : Piece) → Arranged low (bare_all ps) → from < to → IsCount from ps count → IsCount (to - 1) ps last
     → (count ≡ 0) ⊎ (end_of (bare (get_or ps (count - 1) e)) ≤ from) → IsPieceRange from to ps count last
 run_behind low from to count last ps e ar lt c l over = grind (arith, common_steps, cases_lt, cases_eq, end_of, bare, get_or_default, ends_before)

@@ -14,7 +14,7 @@ pub length_inserted : (p : Piece) (qs : List Piece) → length (stored_inserted 
 length_inserted p [] = refl
 length_inserted p (q ∷ qs) = grind (arith, length_inserted p qs)
 
--- the place of an insertion
+-- the index of an insertion
 pub inserted_at : (p : Piece) (qs : List Piece) (n : ℕ) → n ≤ length qs
     → ((k : ℕ) (d : Piece) → k < n → (get_or qs k d).base ≤ p.base)
     → ((k : ℕ) (d : Piece) → n ≤ k → k < length qs → p.base < (get_or qs k d).base)
@@ -29,7 +29,7 @@ inserted_at p (q ∷ qs) (suc n) le below above =
     (ap (λ (xs : List Piece). q ∷ xs)
     (inserted_at p qs n (omega arith) (λ k d l. below (suc k) d (omega arith)) (λ k d g l. above (suc k) d (omega arith) (omega arith))))
 
--- a fit piece that meets no other may be put in its place
+-- a fit piece that meets no other can be inserted
 pub apart : (p q : flat.Piece) → IsFit p → IsFit q → meets q.base (end_of q) p ≡ false → (end_of q ≤ p.base) ⊎ (end_of p ≤ q.base)
 apart p q fp fq away = grind (arith, common_steps, both_ways)
 

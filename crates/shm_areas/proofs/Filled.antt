@@ -1,4 +1,4 @@
--- Where no gap begins that is large enough, the walk to the least gap may begin behind.
+-- The search for the least gap may begin after addresses at which no large enough gap begins.
 use Rattle.shm_areas.proofs.Names.{◌≡◌, ℕ, zero, suc, ◌+◌, ◌*◌, ◌%◌, ◌<◌, ◌≤◌, ◌⊎◌, inl, inr, true, false, List, [], ◌∷◌, ◌++◌, length, get_or, drop, max, refl, sym, ap, ◌∙◌, arith, common_steps, lt-leb, cases_lt, cases_Bool, both_ways, false_from_ne_true, is_gap, end_address, end_of, meets, parts, occupied, inserted, cut, without_named, stored_named, first_chosen, lowest_address, gap_from, leb-true, stored_inserted, stored_cut, stored_without, IsPieceRange, Piece, bare, bare_all, Arranged, IsFit}
 use Rattle.std.specs.Prelude.{min, if◌then◌else◌, nat_le, All}
 use Rattle.std.proofs.lemmas.List.Elements.{All-head, All-tail, All-weaker}
@@ -13,7 +13,7 @@ use Rattle.shm_areas.proofs.Gaps.{free_below, left_past, low_gap, too_high, gap_
 
 -- THE WALK
 
--- pieces from a place on lie in order too
+-- the pieces from an index on are in order too
 pub arranged-drop : (low n : ℕ) (ps : List Piece) → Arranged low (bare_all ps) → Arranged low (bare_all (drop n ps))
 arranged-drop low zero ps ar = ar
 arranged-drop low (suc n) [] ar = ar
@@ -26,7 +26,7 @@ first-begins low a b p ps ar full = elim (cases_lt p.base b) [
   | inr le ↦ absurd (both_ways _ (free_below p.base a b (bare_all (p ∷ ps)) (omega arith, ar.1) le) full)
 ]
 
--- what meets a range meets a longer one
+-- a piece that meets a range meets a longer one
 pub occupied-longer : (ps : List flat.Piece) (a b c : ℕ) → b ≤ c → occupied ps a b ≡ true → occupied ps a c ≡ true
 occupied-longer [] a b c le full = absurd (both_ways false refl full)
 occupied-longer (p ∷ ps) a b c le full = grind (arith, common_steps, full, le, occupied-longer ps a b c le)
@@ -143,7 +143,7 @@ filled-without filled addr seg ps f =
     lowered-filled filled addr ps (stored_without addr seg ps) f
     (λ a lt full. rw (bare_filter addr seg ps) (occupied-without a (a + 1) addr seg (bare_all ps) (omega (arith, lt)) full))
 
--- WHERE NO GAP OF SO MANY PAGES BEGINS
+-- WHERE NO GAP OF THIS MANY PAGES BEGINS
 
 pub filled-passed : (pages filled : ℕ) (ps : List Piece) → 1 ≤ pages → IsFilled filled ps → IsPassed pages filled ps
 filled-passed pages filled ps some f =
@@ -153,7 +153,7 @@ filled-passed pages filled ps some f =
       none = λ a from lt. occupied-longer (bare_all ps) a (a + 1) (a + 4096 * pages) (omega (arith, some)) (f.full a from lt);
     }
 
--- where a walk goes on, by one entry
+-- where a search continues, by one hint
 passed-jump : (pages from : ℕ) (h : Passed) (ps : List Piece) → IsPassed pages from ps → IsHint h ps → IsPassed pages (jumped pages from h) ps
 passed-jump pages from h ps f g = elim (cases_Bool (nat_le h.pages pages)) [
   | inl few ↦ elim (cases_Bool (nat_le h.from from)) [
@@ -178,7 +178,7 @@ passed-jump pages from h ps f g = elim (cases_Bool (nat_le h.pages pages)) [
   | inr no' ↦ rw no' f
 ]
 
--- and by all of them
+-- and by all hints
 pub passed-over : (pages from : ℕ) (hs : List Passed) (ps : List Piece) → IsPassed pages from ps → All (λ (h : Passed). IsHint h ps) hs → IsPassed pages (jumped_over pages from hs) ps
 passed-over pages from [] ps f known = f
 passed-over pages from (h ∷ hs) ps f known =
@@ -191,7 +191,7 @@ occupied-at [] i a b d lt m = absurd (omega (arith, lt))
 occupied-at (p ∷ ps) zero a b d lt m = rw m refl
 occupied-at (p ∷ ps) (suc i) a b d lt m = grind (arith, common_steps, occupied-at ps i a b d (omega (arith, lt)) m)
 
--- no gap begins between an address and the end of a piece that is too near for it
+-- no gap begins between an address and the end of a piece that is too near to it
 pub passed-piece : (pages base i : ℕ) (ps : List Piece) (d : Piece) → i < length ps → IsFit (bare (get_or ps i d)) → (get_or ps i d).base < base + 4096 * pages → IsPassed pages base ps
     → IsPassed pages (max base (end_of (bare (get_or ps i d)))) ps
 passed-piece pages base i ps d lt fit near f =
@@ -217,7 +217,7 @@ below_gap all pages base a gap from lt none = elim (cases_lt end_address (base +
   ]
 ]
 
--- below the least gap none begins
+-- no gap begins below the least one
 pub passed-least : (pages base : ℕ) (ps : List Piece) → IsLeastGap (bare_all ps) pages base → IsPassed pages base ps
 passed-least pages base ps g =
     record {
@@ -249,7 +249,7 @@ passed-own p ps fit f =
           ]);
     }
 
--- filled addresses are an entry for one page
+-- filled addresses are a hint for one page
 pub filled-hint : (filled : ℕ) (h : Passed) (ps : List Piece) → first_chosen ≤ h.from → h.to ≡ filled → h.pages ≡ 1 → IsFilled filled ps → IsHint h ps
 filled-hint filled h ps low to one f =
     record {
@@ -317,7 +317,7 @@ kept-without addr seg end ps named =
       above = λ a b lt le full. occupied-without_above a b addr seg end ps named le full;
     }
 
--- the walk that begins there finds the least gap
+-- the search that begins there finds the least gap
 pub gap-behind : (pages to last n : ℕ) (ps : List Piece) → 1 ≤ pages → Arranged lowest_address (bare_all ps) → IsPassed pages to ps → IsPieceRange to (to + 1) ps n last
     → gap_from pages first_chosen (bare_all ps) ≡ gap_from pages to (bare_all (drop n ps))
 gap-behind pages to last n ps some ar f r = skip pages to lowest_address first_chosen n ps some f.first ar f.none r.before r.after

@@ -1,4 +1,4 @@
--- Walking up the pieces finds the least gap, which is the definition's.
+-- Going up the pieces finds the least gap of the definition.
 use Rattle.shm_areas.proofs.Names.{Option, ◌≡◌, ℕ, ◌+◌, ◌*◌, ◌%◌, ◌<◌, ◌≤◌, ◌⊎◌, inl, inr, Bool, true, false, List, [], ◌∷◌, length, get_or, map, find, max, MatchOption, refl, ◌∙◌, arith, drop, drop-cons, add-one, common_steps, le-leb, lt-leb, cases_lt, false_from_ne_true, and_right, both_ways, end_of, lowest_address, first_chosen, end_address, occupied, is_gap, choose, Stored, bare, bare_all, Arranged, gap_from, IsLeastGap, HasNoGap}
 use Rattle.shm_base.specs.State.{Piece}
 
@@ -21,7 +21,7 @@ too_high all pages b high = rw (lt-leb (b + 4096 * pages) end_address high) (gri
 pub too_low : (all : List Piece) (pages b : ℕ) → b < first_chosen → is_gap all pages b ≡ false
 too_low all pages b low = rw (lt-leb first_chosen b low) refl
 
--- on the way up: which pieces are left, and that nothing below is a gap
+-- on the way up: the remaining pieces, and that nothing below is a gap
 pub record Walk (all : List Piece) (pages c low : ℕ) (ps : List Piece) : Type 0 where
   pub arranged : Arranged low ps
   pub first : first_chosen ≤ c
@@ -67,7 +67,7 @@ fits_here all ps p pages c low w fits = grind (arith, common_steps, gap_here, fr
 pub none_left : (all : List Piece) (pages c : ℕ) → ((b : ℕ) → is_gap all pages b ≡ true → c ≤ b) → end_address < c + 4096 * pages → HasNoGap all pages
 none_left all pages c least high b = grind (arith, common_steps, false_from_ne_true, too_high)
 
--- the walk finds what the definition does, and that is the least gap
+-- the search finds what the definition does: the least gap
 pub record IsWalked (all ps : List Piece) (pages c : ℕ) (found : Option ℕ) : Type 0 where
   pub same : found ≡ find (is_gap all pages) (c ∷ map end_of ps)
   pub law : MatchOption found (HasNoGap all pages) (λ base. IsLeastGap all pages base)

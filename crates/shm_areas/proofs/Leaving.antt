@@ -1,4 +1,4 @@
--- Of the pieces that a range meets, a cut leaves parts of the first and of the last alone.
+-- Only the first and the last of the pieces that a range meets leave a part.
 use Rattle.shm_areas.proofs.Names.{◌≡◌, ℕ, suc, ◌-◌, ◌<◌, ◌≤◌, true, List, [], ◌∷◌, ◌++◌, length, get_or, refl, arith, common_steps, end_of, meets, Piece, bare, bare_all, Arranged, met}
 use Rattle.std.specs.Prelude.{All}
 use Rattle.std.proofs.lemmas.List.Elements.{All-head, All-tail}
@@ -7,18 +7,18 @@ use Rattle.shm_base.specs.Space.{rest_segments}
 Meets : ℕ → ℕ → Piece → Type 0
 Meets from to p = meets from to (bare p) ≡ true
 
--- what is left of some pieces and of others
+-- the rests of some pieces, and of others
 rests-cons : (from to : ℕ) (p : Piece) (ps : List Piece) → rest_segments from to (bare_all (p ∷ ps)) ≡ rest_segments from to (bare p ∷ []) ++ rest_segments from to (bare_all ps)
 rests-cons from to p ps = grind arith
 
--- a piece with another behind it ends in the range, and leaves nothing where it begins in it too
+-- a piece with another after it ends in the range; if it also begins there, it leaves nothing
 inner : (from to low : ℕ) (p q : Piece) (ps : List Piece) → from ≤ low → Arranged low (bare_all (p ∷ q ∷ ps)) → All (Meets from to) (p ∷ q ∷ ps) → rest_segments from to (bare p ∷ []) ≡ []
 unfolding Meets
 inner from to low p q ps le ar all =
     let next = All-head (Meets from to) q ps (All-tail (Meets from to) p (q ∷ ps) all) in
     grind (arith, common_steps, next, ar.0, ar.1.1.0)
 
--- where all begin in the range, the last alone leaves a part
+-- if all begin in the range, only the last leaves a part
 rests-begun : (from to low : ℕ) (p : Piece) (ps : List Piece) (d : Piece) → from ≤ low → Arranged low (bare_all (p ∷ ps)) → All (Meets from to) (p ∷ ps)
     → rest_segments from to (bare_all (p ∷ ps)) ≡ rest_segments from to (bare (get_or (p ∷ ps) (length ps) d) ∷ [])
 rests-begun from to low p [] d le ar all = refl
@@ -46,7 +46,7 @@ rests-many from to low (p ∷ q ∷ qs) d ar all more =
     let behind : length (p ∷ q ∷ qs) - 1 ≡ suc (length qs) = omega arith in
     rw (rests-cons from to p (q ∷ qs), rest, behind) refl
 
--- what is met leaves all that is left of parts
+-- only the pieces that the range meets leave rests
 pub rests-met : (from to : ℕ) (ps : List Piece) → rest_segments from to (bare_all (met from to ps)) ≡ rest_segments from to (bare_all ps)
 rests-met from to [] = refl
 rests-met from to (p ∷ ps) = grind (arith, common_steps, rests-met from to ps)

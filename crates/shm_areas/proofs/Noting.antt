@@ -1,4 +1,4 @@
--- What a space remembers of its gaps still holds once an entry is put in.
+-- The hints of a space still hold after one is added.
 use Rattle.shm_areas.proofs.Names.{◌≡◌, ℕ, ◌+◌, ◌<◌, ◌≤◌, inl, inr, List, length, get_or, max, arith, cases_eq, length-take, Piece}
 use Rattle.std.proofs.Common.{set}
 use Rattle.std.proofs.lemmas.List.{get_or-take, get_or-set_same, get_or-set_other}
@@ -10,7 +10,7 @@ use Rattle.shm_areas.specs.declared.hints.Hints.{Hints}
 pub hint-at : (hs : Hints) (ps : List Piece) (i : ℕ) (d : Passed) → IsHints hs ps → hs.count ≤ length hs.known → i < hs.count → IsHint (get_or hs.known i d) ps
 hint-at hs ps i d f long lt = rw (get_or-take hs.count hs.known i d lt) at (f.known i d (omega (arith, length-take hs.count hs.known, long, lt)))
 
--- the first entries alone
+-- the first hints only
 pub hints-fewer : (hs : Hints) (ps : List Piece) (kept : ℕ) → IsHints hs ps → kept ≤ hs.count → IsHints (record hs { count = kept }) ps
 hints-fewer hs ps kept f fewer =
     record {
@@ -21,7 +21,7 @@ hints-fewer hs ps kept f fewer =
           (rw (get_or-take hs.count hs.known k d (omega (arith, within, fewer))) at (f.known k d (omega (arith, lt, fewer, length-take kept hs.known, length-take hs.count hs.known))));
     }
 
--- with one in a place, or after them
+-- with one hint at an index, or after the others
 pub hints-with : (hs : Hints) (ps : List Piece) (x : Passed) (place count : ℕ) → IsHints hs ps → IsHint x ps → place ≤ hs.count → place < length hs.known → length hs.known ≡ 10
     → count ≡ max hs.count (place + 1) → IsHints (record { known = set hs.known place x; count = count }) ps
 hints-with hs ps x place count f own le lt long same =

@@ -10,7 +10,7 @@ use Rattle.shm_areas.specs.Arranged.{AreWithin}
 use Rattle.shm_areas.specs.Edit.{taken_between}
 use Rattle.shm_areas.specs.Met.{IsOriginRange}
 
--- the stored piece shows what is found among what all of them show
+-- the stored piece shows the piece that the flat machine finds
 pub stored_origin : (addr : ℕ) (ps : List Piece) → option_map bare (find (λ (p : Piece). has_origin addr (bare p)) ps) ≡ origin_of addr (bare_all ps)
 stored_origin addr [] = refl
 stored_origin addr (p ∷ ps) = go (has_origin addr (bare p)) (stored_origin addr ps)
@@ -30,7 +30,7 @@ stored_origin-drop addr (suc n) (p ∷ ps) le below =
     rw (ne_eqb p.base (addr + 4096 * p.first_page) (λ same. absurd (omega (arith, same, lower))))
     (stored_origin-drop addr n ps (omega arith) (λ k d l. below (suc k) d (omega arith)))
 
--- no piece below an address has it as its origin, as they are stored and as they are shown
+-- no piece below an address has it as its origin, stored or shown
 pub origin_of-drop : (addr n : ℕ) (ps : List Piece) → n ≤ length ps → ((k : ℕ) (d : Piece) → k < n → (get_or ps k d).base < addr)
     → (find (λ (p : Piece). has_origin addr (bare p)) ps ≡ find (λ (p : Piece). has_origin addr (bare p)) (drop n ps))
     × (origin_of addr (bare_all ps) ≡ origin_of addr (bare_all (drop n ps)))
@@ -38,7 +38,7 @@ origin_of-drop addr n ps le below =
     let stored = stored_origin-drop addr n ps le below in
     (stored, sym (stored_origin addr ps) ∙ ap (option_map bare) stored ∙ stored_origin addr (drop n ps))
 
--- WHERE NO PIECE HAS A HIGHER FIRST PAGE
+-- IF NO PIECE HAS A HIGHER FIRST PAGE
 
 other-below : (addr : ℕ) (p : Piece) → p.base < addr → has_origin addr (bare p) ≡ false
 other-below addr p lt = ne_eqb p.base (addr + 4096 * p.first_page) (λ same. absurd (omega (arith, same, lt)))
@@ -49,7 +49,7 @@ other-above addr reach p le lt = ne_eqb p.base (addr + 4096 * p.first_page) (λ 
 Within : ℕ → Piece → Type 0
 Within reach p = p.first_page ≤ reach
 
--- no piece further above has the origin
+-- no piece farther above has the origin
 pub none-further : (addr reach : ℕ) (ps : List Piece) → AreWithin reach ps → ((k : ℕ) (d : Piece) → k < length ps → addr + 4096 * reach < (get_or ps k d).base)
     → find (λ (p : Piece). has_origin addr (bare p)) ps ≡ None
 unfolding Within
@@ -87,7 +87,7 @@ taken-first addr seg reach (suc last) (p ∷ ps) within r =
       | inr h ↦ rw h (ap (λ (xs : List Piece). p ∷ xs) rest)
     ]
 
--- taking out the named pieces of the range takes out all that are named
+-- taking the named pieces out of the run takes out all of them
 pub taken-run : (addr seg reach first last : ℕ) (ps : List Piece) → AreWithin reach ps → IsOriginRange addr reach ps first last → taken_between addr seg ps first last ≡ stored_without addr seg ps
 unfolding Within
 taken-run addr seg reach zero last ps within r = let whole : last - 0 ≡ last = omega arith in rw whole (taken-first addr seg reach last ps within r)
@@ -102,7 +102,7 @@ taken-run addr seg reach (suc first) (suc last) (p ∷ ps) within r =
 abbrev pub NamedEnd : ℕ → ℕ → ℕ → List Piece → Type 0
 NamedEnd addr seg end ps = All (λ (p : Piece). stored_named addr seg p ≡ true → end_of (bare p) ≤ end) ps
 
--- so they do where the pieces of the run end there
+-- so they do if the pieces of the run end there
 pub named-end : (addr seg reach first last end : ℕ) (ps : List Piece) → AreWithin reach ps → IsOriginRange addr reach ps first last
     → ((k : ℕ) (d : Piece) → first ≤ k → k < last → end_of (bare (get_or ps k d)) ≤ end) → NamedEnd addr seg end ps
 named-end addr seg reach first last end ps within r ends k d lt named = elim (cases_lt k first) [
@@ -115,7 +115,7 @@ named-end addr seg reach first last end ps within r ends k d lt named = elim (ca
 
 -- ONE BY ONE
 
--- what comes of it where the pieces up to k have moved down to those before `kept`
+-- the final list, if the pieces up to k have moved down to those before `kept`
 abbrev pub taken_from : ℕ → ℕ → List Piece → ℕ → ℕ → ℕ → List Piece
 taken_from addr seg xs kept k last = take kept xs ++ (stored_without addr seg (take (last - k) (drop k xs)) ++ drop last xs)
 
@@ -146,7 +146,7 @@ other-stays addr seg xs kept k last x le lt bound is other =
 
 -- WHERE A WALK STOPS
 
--- no piece from a place on has the origin, where the first of them lies too far above
+-- no piece from an index on has the origin, if the first of them is too far above
 pub none-from : (addr reach start i n : ℕ) (ps : List Piece) (d : Piece) → Arranged lowest_address (bare_all ps) → AreWithin reach ps → n ≡ start + i → n < length ps → addr + 4096 * reach < (get_or ps n d).base
     → find (λ (p : Piece). has_origin addr (bare p)) (drop i (drop start ps)) ≡ None
 none-from addr reach start i n ps d ar within at lt further =

@@ -1,4 +1,4 @@
--- What holds of each piece, and of each part of one that it holds of, holds through a cut and an insertion.
+-- A property of all pieces that each part of a piece inherits holds after a cut and an insertion.
 use Rattle.shm_areas.proofs.Names.{ℕ, nat_lt, List, [], ◌∷◌, inl, inr, cases_Bool, cut, inserted, parts}
 use Rattle.std.specs.Prelude.{All}
 use Rattle.std.proofs.lemmas.List.Concat.{flat_map-cons}

@@ -1,9 +1,9 @@
--- Pieces in order: which one an address lies in.
+-- Pieces in order: the one that has an address.
 use Rattle.shm_areas.proofs.Names.{◌≡◌, ℕ, zero, suc, ◌+◌, ◌<◌, ◌≤◌, true, false, nat_le, nat_lt, if◌then◌else◌, List, [], ◌∷◌, length, get_or, Option, Some, None, option_map, IfSome, refl, sym, arith, common_steps, le-leb, and_right, none-some, place, place_by, end_of, Piece, bare, bare_all, IsFit, Arranged, covering, occupied, end_address}
 use Rattle.std.specs.List.Sorted.{IsNonDecreasingBy}
 use Rattle.shm_base.specs.State as flat
 
--- what a list answers past its end
+-- the value beyond the end of a list
 abbrev pub nothing : Piece
 nothing = record { base = 0; seg = 0; first_page = 0; pages = 0; writable = false; may_write = false; key = 0 }
 
@@ -27,7 +27,7 @@ ends_rise low (p ∷ ps) ar zero (suc j) d e le lt = omega (arith, low_bound (en
 ends_rise low (p ∷ ps) ar (suc i) zero d e le lt = absurd (omega (arith, le))
 ends_rise low (p ∷ ps) ar (suc i) (suc j) d e le lt = ends_rise (end_of (bare p)) ps ar.1.1 i j d e (omega (arith, le)) (omega (arith, lt))
 
--- where all pieces begin above the address
+-- all pieces begin above the address
 pub none_above : (a low : ℕ) (ps : List Piece) → a < low → Arranged low (bare_all ps) → covering a (bare_all ps) ≡ None
 none_above a low [] lt ar = refl
 none_above a low (p ∷ ps) lt ar = grind (arith, common_steps, none_above a (end_of (bare p)) ps)
@@ -73,13 +73,13 @@ free_beyond low from to (p ∷ ps) ar beyond =
     let within = ar.1.0.within in
     grind (arith, common_steps, and_right, within, free_beyond (end_of (bare p)) from to ps ar.1.1)
 
--- ALONE: an address lies in one piece at most
+-- ALONE: an address is in at most one piece
 
 pub covering_low : (a low : ℕ) (ps : List flat.Piece) (p : flat.Piece) → Arranged low ps → covering a ps ≡ Some p → low ≤ p.base
 covering_low a low [] p ar found = absurd (none-some p found)
 covering_low a low (q ∷ ps) p ar found = grind (arith, common_steps, covering_low a (end_of q) ps p ar.1.1)
 
--- every address of the piece that an address lies in lies in it
+-- the piece with an address has all of its other addresses too
 pub covering_whole : (a b low : ℕ) (ps : List flat.Piece) (p : flat.Piece) → Arranged low ps → covering a ps ≡ Some p → p.base ≤ b → b < end_of p → covering b ps ≡ Some p
 covering_whole a b low [] p ar found from to = absurd (none-some p found)
 covering_whole a b low (q ∷ ps) p ar found from to = grind (arith, common_steps, le-leb, covering_low, and_right, covering_whole a b (end_of q) ps p ar.1.1)

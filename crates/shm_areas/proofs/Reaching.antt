@@ -1,4 +1,4 @@
--- No piece has a higher first page, through an insertion and a cut.
+-- An insertion and a cut keep the bound of the first pages.
 use Rattle.shm_areas.proofs.Names.{◌≤◌, ℕ, nat_lt, List, [], ◌∷◌, ◌++◌, inl, inr, cases_Bool, arith, take, drop, Piece, stored_inserted, left_by}
 use Rattle.std.specs.Prelude.{option_to_list}
 use Rattle.std.proofs.lemmas.List.Elements.{All-append, All-cons, All-drop, All-head, All-nil, All-tail, All-take, All-weaker}

@@ -1,4 +1,4 @@
--- What an attach, a cut and a detach leave of the stored pieces, with their keys.
+-- What an attach, a cut and a detach change in the stored pieces and their keys.
 use Rattle.std.specs.Prelude.{◌≡◌, ◌≤◌, length, option_to_list, ℕ, ◌+◌, ◌-◌, ◌/◌, Bool, not, nat_lt, if◌then◌else◌, List, [], ◌∷◌, ◌++◌, filter, take, drop}
 use Rattle.std.specs.List.{flat_map, splice}
 use Rattle.shm_base.specs.Access.{end_of}
@@ -8,7 +8,7 @@ use Rattle.shm_areas.specs.declared.cut.Cut.{Cut}
 use Rattle.shm_areas.specs.Arranged.{bare}
 use Rattle.shm_base.specs.declared.paging.TheConstants.{PAGE_SIZE}
 
--- the pieces with one more, by rising base
+-- the pieces with one more, in order of their bases
 abbrev pub stored_inserted : Piece → List Piece → List Piece
 stored_inserted p [] = p ∷ []
 stored_inserted p (q ∷ qs) = if nat_lt p.base q.base then p ∷ q ∷ qs else q ∷ stored_inserted p qs
@@ -32,7 +32,7 @@ stored_above to p =
 abbrev pub stored_parts : ℕ → ℕ → Piece → List Piece
 stored_parts from to p = if meets from to (bare p) then stored_below from p ++ stored_above to p else p ∷ []
 
--- the pieces with the range taken out
+-- the pieces without the range
 abbrev pub stored_cut : ℕ → ℕ → List Piece → List Piece
 stored_cut from to ps = flat_map (stored_parts from to) ps
 
@@ -42,11 +42,11 @@ stored_named addr seg p = is_named addr seg (bare p)
 abbrev pub stored_without : ℕ → ℕ → List Piece → List Piece
 stored_without addr seg ps = filter (λ p. not (stored_named addr seg p)) ps
 
--- the pieces once those between two places went that are of the segment and have the origin
+-- the pieces, without those between two places that belong to the segment and have the origin
 abbrev pub taken_between : ℕ → ℕ → List Piece → ℕ → ℕ → List Piece
 taken_between addr seg ps first last = take first ps ++ (stored_without addr seg (take (last - first) (drop first ps)) ++ drop last ps)
 
--- the pieces once those of a cut's run have given way to its parts
+-- the pieces, where a cut's parts replace the run that it met
 abbrev pub left_by : List Piece → Cut → List Piece
 left_by ps c = splice ps c.first c.last (option_to_list c.below ++ option_to_list c.above)
 

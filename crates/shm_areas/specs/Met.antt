@@ -15,7 +15,7 @@ pub record AreMet (from to : ℕ) (ps : List Piece) : Type 0 where
   pub arranged : Arranged lowest_address (bare_all ps)
   pub meet : All (λ (p : Piece). meets from to (bare p) ≡ true) ps
 
--- they are those from one place up to another
+-- they are the pieces from index `first` up to index `last`
 pub record IsPieceRange (from to : ℕ) (ps : List Piece) (first last : ℕ) : Type 0 where
   pub order : first ≤ last
   pub bound : last ≤ length ps
@@ -24,7 +24,7 @@ pub record IsPieceRange (from to : ℕ) (ps : List Piece) (first last : ℕ) : T
   pub below : (k : ℕ) (d : Piece) → k < last → (get_or ps k d).base < to
   pub above : (k : ℕ) (d : Piece) → last ≤ k → k < length ps → to ≤ (get_or ps k d).base
 
--- those at other places have another origin, where no piece has a higher first page
+-- pieces at other indexes have another origin, if no piece has a first page above `reach`
 pub record IsOriginRange (addr reach : ℕ) (ps : List Piece) (first last : ℕ) : Type 0 where
   pub order : first ≤ last
   pub bound : last ≤ length ps

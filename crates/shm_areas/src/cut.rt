@@ -1,4 +1,4 @@
-//! Taking a range out of pieces in order: at most one part stays below it, and one above.
+//! Takes a range out of pieces in order: at most one part stays below it, and one above.
 ghost use Rattle.std.specs.Prelude.{◌≡◌, ◌+◌, ◌<◌, ◌≤◌, length, vec_capacity, option_to_list};
 ghost use Rattle.std.specs.List.{splice};
 ghost use Rattle.shm_base.specs.Access as access;
@@ -11,8 +11,8 @@ use crate::piece::Piece;
 use crate::search::run_in;
 use shm_base::PAGE_SIZE;
 
-/// What a range that is taken out does: the pieces from the first place up to the last go, and the
-/// parts of them that reach beyond the range stand there.
+/// The effect of taking a range out: the pieces from index `first` up to `last` are replaced by their parts
+/// outside the range.
 #[derive(Clone, Copy)]
 pub(crate) struct Cut {
     pub(crate) first: usize,
@@ -34,7 +34,7 @@ impl Cut {
     ghost use Rattle.std.specs.Prelude.{option_to_list};
     ghost use Rattle.shm_areas.specs.Arranged.{AreWithin};
 
-    /// No part has a higher first page.
+    /// The highest first page of the parts, or a higher number.
     pub(crate) fn reach(&self) -> u32
         ensures below { AreWithin result (option_to_list self.now.below) }
         ensures above { AreWithin result (option_to_list self.now.above) }
@@ -43,7 +43,7 @@ impl Cut {
     }
 }
 
-/// What is left of a piece below a range.
+/// The part of a piece below a range.
 fn part_below(piece: &Piece, from: u64) -> Option<Piece>
     requires fit { IsFit (bare piece.now) }
     requires ends { from < access.end_of (bare piece.now) }
@@ -58,7 +58,7 @@ fn part_below(piece: &Piece, from: u64) -> Option<Piece>
     })
 }
 
-/// What is left of a piece above a range.
+/// The part of a piece above a range.
 fn part_above(piece: &Piece, to: u64) -> Option<Piece>
     requires fit { IsFit (bare piece.now) }
     requires begins { piece.now.base < to }
@@ -76,7 +76,7 @@ fn part_above(piece: &Piece, to: u64) -> Option<Piece>
     })
 }
 
-/// What taking a range out does.
+/// The effect of taking a range out.
 pub(crate) fn cut_of(pieces: &[Piece], from: u64, to: u64) -> Cut
     requires arranged { Arranged flat.lowest_address (bare_all pieces.now) }
     requires order { from < to }
@@ -108,7 +108,7 @@ fn count_of(part: Option<Piece>) -> usize
     }
 }
 
-/// How many pieces there are once the range is taken out.
+/// How many pieces are left when the range is taken out.
 pub(crate) fn count_left(pieces: &[Piece], cut: Cut) -> usize
     requires order { cut.first ≤ cut.last }
     requires bound { cut.last ≤ length pieces.now }

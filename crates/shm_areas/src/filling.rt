@@ -1,4 +1,4 @@
-//! Up to where the addresses from 0x40000000 on all lie in pieces.
+//! The filled addresses: from 0x40000000 up to a bound, every address is in a piece.
 ghost use Rattle.std.specs.Prelude.{◌≡◌, nat_le, if◌then◌else◌, max, min};
 ghost use Rattle.shm_base.specs.Access as access;
 ghost use Rattle.shm_base.specs.Space as flat;
@@ -7,7 +7,7 @@ ghost use Rattle.shm_areas.specs.Arranged.{bare, IsFit};
 use crate::piece::Piece;
 use shm_base::FIRST_GAP;
 
-/// Up to where they do once a piece is put in.
+/// The bound after a piece is inserted.
 pub(crate) fn raised(filled: u64, piece: &Piece) -> u64
     requires { IsFit (bare piece.now) }
     ensures { let end = access.end_of (bare piece.now) in
@@ -20,7 +20,7 @@ pub(crate) fn raised(filled: u64, piece: &Piece) -> u64
     }
 }
 
-/// Up to where they do once addresses from one on are free.
+/// The bound after the addresses from one on became free.
 pub(crate) fn lowered(filled: u64, from: u64) -> u64
     ensures { result ≡ min filled (max from flat.first_chosen) }
 {

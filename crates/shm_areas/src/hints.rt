@@ -1,6 +1,8 @@
-//! Between which addresses no gap of so many pages begins. What holds for so many holds for more.
+//! Hints: ranges of addresses in which no gap of a number of pages begins. A hint for a number holds for each
+//! larger one.
 //!
-//! All that is known holds of the pieces at hand. What is forgotten, as where sizes and gaps are many, costs a walk.
+//! Every hint is true of the present pieces. A forgotten hint only makes a search longer; with many sizes and
+//! gaps some are forgotten.
 ghost use Rattle.std.specs.Prelude.{◌≡◌, ◌≤◌, ◌<◌, ℕ, List, Contains, IfSome, max, if◌then◌else◌};
 ghost use Rattle.shm_base.specs.Access as access;
 ghost use Rattle.shm_areas.specs.Arranged.{bare, IsFit};
@@ -13,7 +15,7 @@ ghost use Rattle.shm_areas.specs.declared.piece.Piece.{Piece as Stored};
 use crate::piece::Piece;
 use shm_base::{FIRST_GAP, PAGE_SIZE};
 
-/// No gap of this many pages begins from an address on up to another.
+/// No gap of `pages` pages begins at `from` or above it, up to `to`.
 #[derive(Clone, Copy)]
 pub(crate) struct Passed {
     pub(crate) pages: u32,
@@ -21,17 +23,17 @@ pub(crate) struct Passed {
     pub(crate) to: u64,
 }
 
-/// How many ranges a space remembers. Each process has room for them, so they are few.
+/// How many hints a space keeps. Each process has room for them, so they are few.
 pub(crate) const MOST_HINTS: usize = 10;
 
-/// What a space remembers of its gaps. The entries after the first `count` say nothing.
+/// What a space remembers of its gaps. Only the first `count` entries are in use.
 #[derive(Clone, Copy)]
 pub(crate) struct Hints {
     pub(crate) known: [Passed; MOST_HINTS],
     pub(crate) count: usize,
 }
 
-/// What the filled addresses say of those after a range that ends at an address.
+/// What the filled addresses say about the addresses after a range that ends at `to`.
 pub(crate) fn filled_after(filled: u64, to: u64) -> Option<Passed>
     ensures { (ps : List Stored) → IsFilled filled ps → IfSome result (λ h. IsHint h ps) }
 {
@@ -45,7 +47,8 @@ pub(crate) fn filled_after(filled: u64, to: u64) -> Option<Passed>
     })
 }
 
-/// Up to where no gap for a piece's pages begins once it is put in, if none began below an address.
+/// The end of the addresses in which no gap for the piece's pages begins after the piece is inserted, if none
+/// began below `base`.
 pub(crate) fn passed_with(piece: &Piece, base: u64) -> u64
     requires { IsFit (bare piece.now) }
     ensures { (ps : List Stored) → IsPassed piece.now.pages base ps
@@ -65,7 +68,7 @@ impl Passed {
         to: FIRST_GAP,
     };
 
-    // Where a walk to a gap for this many pages goes on that is at an address.
+    // Where a search for a gap of this many pages continues from an address.
     fn jump(&self, from: u64, pages: u32) -> u64
         ensures { result ≡ jumped pages from self.now }
     {
@@ -76,12 +79,12 @@ impl Passed {
         }
     }
 
-    // Whether another says no more.
+    // Whether this says all that another hint says.
     fn covers(&self, other: &Passed) -> bool {
         self.pages <= other.pages && self.from <= other.from && other.to <= self.to
     }
 
-    // What still holds below a range that becomes free.
+    // The part of the hint that holds below a range that became free.
     fn below(&self, from: u64) -> Option<Passed>
         ensures { (to : ℕ) (ps qs : List Stored) → IsKeptOutside from to ps qs → IsHint self.now ps
             → IfSome result (λ h. IsHint h qs) }
@@ -95,7 +98,7 @@ impl Passed {
         Some(Passed { to, ..*self })
     }
 
-    // What still holds above it.
+    // The part of the hint that holds above it.
     fn above(&self, to: u64) -> Option<Passed>
         ensures { (from : ℕ) (ps qs : List Stored) → IsKeptOutside from to ps qs → IsHint self.now ps
             → IfSome result (λ h. IsHint h qs) }
@@ -119,7 +122,7 @@ impl Hints {
         }
     }
 
-    /// Where a walk to a gap for this many pages goes on that is at an address.
+    /// Where a search for a gap of this many pages continues from an address.
     pub(crate) fn jump(&self, from: u64, pages: u32) -> u64
         requires { self.now.count ≤ MOST_HINTS }
         ensures { result ≡ jumped_over pages from (known_of self.now) }
@@ -131,7 +134,7 @@ impl Hints {
         reached
     }
 
-    /// The next address from which a walk for this many pages goes on elsewhere.
+    /// The next address at which a search for this many pages can skip pieces.
     pub(crate) fn next(&self, from: u64, pages: u32) -> Option<u64>
         requires { self.now.count ≤ MOST_HINTS }
     {
@@ -144,7 +147,7 @@ impl Hints {
         next
     }
 
-    // Forgets what says no more than this.
+    // Forgets hints that say no more than this one.
     fn forget_covered(&mut self, passed: &Passed)
         requires { self.old.count ≤ MOST_HINTS }
         ensures few { self.new.count ≤ MOST_HINTS }
@@ -161,7 +164,8 @@ impl Hints {
         self.count = kept;
     }
 
-    /// Notes what was learned, if anything was. If all places are taken, it takes one by the address.
+    /// Notes what was learned, if anything. If all places are in use, the hint's address picks the one to
+    /// replace.
     pub(crate) fn note(&mut self, learned: Option<Passed>)
         requires { self.old.count ≤ MOST_HINTS }
         ensures few { self.new.count ≤ MOST_HINTS }
@@ -182,7 +186,7 @@ impl Hints {
         self.count = self.count.max(place + 1);
     }
 
-    /// Forgets what no longer holds once a range is free.
+    /// Forgets what no longer holds after a range became free.
     pub(crate) fn lower(&mut self, from: u64, to: u64)
         requires { self.old.count ≤ MOST_HINTS }
         ensures few { self.new.count ≤ MOST_HINTS }

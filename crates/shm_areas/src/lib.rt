@@ -1,4 +1,4 @@
-//! The address space of a process: attached pieces that never overlap.
+//! The address space of a process: attached pieces that do not overlap.
 #![tactic(auto)]
 
 mod cut;

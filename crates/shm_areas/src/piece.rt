@@ -1,7 +1,7 @@
 use shm_base::PAGE_SIZE;
 use std::marker::Model;
 
-/// An attached run of pages of a segment. Its translations lie under the key.
+/// An attached run of pages of a segment. `key` finds the table with its translations.
 #[derive(Clone, Copy, Debug, PartialEq, Eq)]
 pub struct Piece {
     pub base: u64,
@@ -9,7 +9,7 @@ pub struct Piece {
     pub first_page: u32,
     pub pages: u32,
     pub writable: bool,
-    /// Whether its attach may write, so that it can become writable.
+    /// Whether the attach has write permission, so that the piece can become writable.
     pub may_write: bool,
     pub key: usize,
 }
@@ -39,7 +39,7 @@ impl Piece {
     ghost use Rattle.shm_base.specs.Space.{has_origin, is_named, meets, parts, rest_segments};
     ghost use Rattle.shm_areas.specs.Arranged.{bare, IsFit, IsCovering};
 
-    /// Where the piece ends.
+    /// The first address after the piece.
     pub fn end(&self) -> u64
         requires { IsFit (bare self.now) }
         ensures { result ≡ flat.end_of (bare self.now) }
@@ -56,7 +56,7 @@ impl Piece {
         PAGE_SIZE * self.first_page as u64 + (addr - self.base)
     }
 
-    /// How many parts of a piece with a page in a range lie outside it.
+    /// How many parts of a piece, which has a page in a range, are outside the range.
     pub fn parts_outside(&self, from: u64, to: u64) -> u32
         requires fit { IsFit (bare self.now) }
         requires meets { meets from to (bare self.now) ≡ true }
@@ -65,7 +65,7 @@ impl Piece {
         (self.base < from) as u32 + (to < self.end()) as u32
     }
 
-    /// The piece's segment, if a part of the piece lies outside a range with a page of it.
+    /// The piece's segment, if a part of the piece is outside a range that has one of its pages.
     pub(crate) fn rest(&self, from: u64, to: u64) -> Option<u32>
         requires fit { IsFit (bare self.now) }
         requires meets { meets from to (bare self.now) ≡ true }
@@ -78,13 +78,13 @@ impl Piece {
         }
     }
 
-    /// Whether the piece's segment would begin at the address.
+    /// Whether the piece's segment, attached as a whole, would begin at the address.
     pub(crate) fn has_origin(&self, addr: u64) -> bool
         ensures { result ≡ has_origin addr (bare self.now) }
     {
         self.base as u128 == addr as u128 + PAGE_SIZE as u128 * self.first_page as u128
     }
-    /// Whether the piece is one of a segment that would begin at the address.
+    /// Whether the piece is one of this segment with this origin.
     pub(crate) fn is_named(&self, addr: u64, seg: u32) -> bool
         ensures { result ≡ is_named addr seg (bare self.now) }
     {

@@ -1,4 +1,5 @@
-//! What a cut leaves of the pieces that it meets: at most a part of the first below it, and one of the last above.
+//! What remains of the pieces that a cut meets: at most a part of the first below it, and one of the last
+//! above.
 ghost use Rattle.std.specs.Prelude.{◌≡◌, ◌++◌, ◌≤◌, length, option_to_list};
 ghost use Rattle.shm_base.specs.Space as flat;
 ghost use Rattle.shm_areas.specs.Arranged.{bare_all};
@@ -7,7 +8,8 @@ ghost use Rattle.shm_areas.specs.Met.{AreMet};
 use crate::piece::Piece;
 use std::marker::Model;
 
-/// The segments of which a cut leaves a part of a piece, by rising base: a segment is here once for each such piece.
+/// The segments of the pieces of which a cut leaves a part, in order of the pieces' bases; once for each such
+/// piece.
 #[derive(Debug, Drop)]
 pub struct Rests {
     segments: [u32; 2],
@@ -44,7 +46,7 @@ impl Rests {
         }
     }
 
-    /// The segments.
+    /// The segments, at most two.
     pub fn segments(&self) -> &[u32]
         ensures value { result.now ≡ self.now }
         ensures few { length result.now ≤ 2 }
@@ -53,7 +55,7 @@ impl Rests {
     }
 }
 
-/// What a cut leaves of the pieces that it meets.
+/// The segments of the pieces of which a cut leaves a part.
 pub(crate) fn rests_of(met: &[Piece], from: u64, to: u64) -> Rests
     requires { AreMet from to met.now }
     ensures { result ≡ flat.rest_segments from to (bare_all met.now) }

@@ -1,4 +1,4 @@
-//! Where an address or a range lies among pieces in order. Each search is binary.
+//! Finds an address or a range among pieces in order, by binary search.
 ghost use Rattle.std.specs.Prelude.{◌≡◌, ◌+◌, ◌*◌, ◌<◌, ◌≤◌, ℕ, length, slice_index_or};
 ghost use Rattle.shm_base.specs.Space as flat;
 ghost use Rattle.shm_base.specs.declared.bounds.TheConstants.{MOST_SHMALL};
@@ -11,7 +11,7 @@ ghost use Rattle.shm_areas.specs.declared.piece.Piece.{Piece as Stored};
 use crate::piece::Piece;
 use shm_base::{END_ADDRESS, PAGE_SIZE};
 
-/// Pieces side by side: the place of the first, and the place after the last.
+/// Consecutive pieces: the index of the first, and the index after the last.
 #[derive(Clone, Copy)]
 pub(crate) struct PieceRange {
     pub(crate) first: usize,
@@ -26,7 +26,7 @@ pub(crate) fn count_to(pieces: &[Piece], addr: u64) -> usize
     ensures above { (k : ℕ) (d : Stored) → result ≤ k → k < length pieces.now
         → addr < (slice_index_or pieces.now k d).base }
 {
-    // Behind the last one, where a new piece often goes, nothing is searched.
+    // New pieces often come after the last one, which needs no search.
     let Some(last) = pieces.last() else {
         return 0;
     };
@@ -65,7 +65,7 @@ pub(crate) fn run_in(pieces: &[Piece], from: u64, to: u64) -> PieceRange
     PieceRange { first: count, last }
 }
 
-/// The pieces whose segment may begin at an address, where no piece has a higher first page than `reach`.
+/// The pieces that may have this origin, if no piece has a first page above `reach`.
 pub(crate) fn run_of_origin(pieces: &[Piece], addr: u64, reach: u32) -> PieceRange
     requires { Arranged flat.lowest_address (bare_all pieces.now) }
     ensures { IsOriginRange addr reach pieces.now result.first result.last }
@@ -77,7 +77,7 @@ pub(crate) fn run_of_origin(pieces: &[Piece], addr: u64, reach: u32) -> PieceRan
     }
 }
 
-/// Where the pieces of a run end, or an address where there is none.
+/// The end of the last piece of a run, or an address if the run is empty.
 pub(crate) fn end_of_run(pieces: &[Piece], run: PieceRange, addr: u64) -> u64
     requires arranged { Arranged flat.lowest_address (bare_all pieces.now) }
     requires order { run.first ≤ run.last }
@@ -91,8 +91,8 @@ pub(crate) fn end_of_run(pieces: &[Piece], run: PieceRange, addr: u64) -> u64
     pieces[run.last - 1].end()
 }
 
-/// Up to where no gap for this many pages begins, if none begins below an address: walking up the pieces that
-/// end above it, to a gap or to an address to stop at.
+/// The end of the addresses in which no gap for this many pages begins, if none begins below `from`. Goes up
+/// the pieces that end above it, to a gap or to an address to stop at.
 pub(crate) fn passed_to(pieces: &[Piece], from: u64, pages: u32, stop: u64) -> u64
     requires pages { (1 ≤ pages) × (pages ≤ MOST_SHMALL) }
     requires arranged { Arranged flat.lowest_address (bare_all pieces.now) }
@@ -112,7 +112,7 @@ pub(crate) fn passed_to(pieces: &[Piece], from: u64, pages: u32, stop: u64) -> u
     reached
 }
 
-/// The least gap for this many pages at or above an address, walking up the pieces that end above it.
+/// The least gap for this many pages at or above an address. Goes up the pieces that end above it.
 pub(crate) fn least_gap(pieces: &[Piece], from: u64, pages: u32) -> Option<u64>
     requires pages { (1 ≤ pages) × (pages ≤ MOST_SHMALL) }
     requires arranged { Arranged flat.lowest_address (bare_all pieces.now) }

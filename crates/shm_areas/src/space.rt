@@ -1,4 +1,4 @@
-//! A sorted list of pieces that never overlap.
+//! A sorted list of pieces that do not overlap.
 ghost use Rattle.std.specs.Prelude.{◌≡◌, ℕ, ◌+◌, ◌*◌, ◌%◌, ◌<◌, ◌≤◌, Bool, true, false, All, nat_lt, IfOk, length, IfSome, Some, option_map, find};
 ghost use Rattle.shm_base.specs.Access as access;
 ghost use Rattle.shm_base.specs.Space as flat;
@@ -23,17 +23,18 @@ use shm_base::{END_ADDRESS, FIRST_GAP, HostMemory, PAGE_SIZE};
 use std::alloc::{AllocError, Global};
 use std::marker::Model;
 
-/// The pieces of a process by rising base. There is room from the beginning for the most that the process may
-/// have, so that no change takes memory.
+/// The pieces of a process in order of their bases. Room for the most that the process may have is reserved
+/// at the beginning, so no change takes memory.
 pub struct Space {
     pieces: Vec<Piece>,
     most: u32,
-    // No piece has a higher first page: so no piece lies further above the address where its segment would begin.
+    // No piece has a higher first page, so no piece is farther above the address where its segment would
+    // begin.
     reach: u32,
-    // Each address from 0x40000000 up to this one lies in a piece: so no gap begins below.
+    // Each address from 0x40000000 up to this one is in a piece, so no gap begins below.
     filled: u64,
-    // Between which addresses gaps are known to be too small. It is noted when a piece comes right after another,
-    // as one does where the machine chooses.
+    // Ranges in which gaps are known to be too small. One is noted when a piece is inserted right after
+    // another, as happens when the machine chooses the address.
     hints: Hints,
 }
 
@@ -66,7 +67,8 @@ impl Model for Space {
 impl Clone for Space {
     ghost is_clone = { λ s copy. copy ≡ s };
 
-    /// The same pieces once more. It takes the room for the most that there may be.
+    /// A copy of the pieces. Reserves room for the most that there may be. AllocError: the host refused
+    /// memory.
     fn clone(&self) -> Result<Space, AllocError> {
         let mut pieces = Vec::with_capacity(*self.pieces.allocator(), self.most as usize)?;
         pieces.extend_from_slice(&self.pieces)?;
@@ -83,7 +85,8 @@ impl Clone for Space {
 impl Space {
     ghost use Rattle.std.specs.Prelude.{[], MatchOption};
 
-    /// No pieces. It takes the room for the most that there may be, at most 65530.
+    /// An empty space, with room for the most pieces that there may be, at most 65530. HostMemory: the host
+    /// refused memory.
     pub fn new(alloc: Global, most: u32) -> Result<Space, HostMemory>
         requires { most ≤ MOST_PIECES }
         ensures { IfOk result (λ s. s ≡ record { pieces = []; most = most }) }
@@ -98,14 +101,14 @@ impl Space {
         })
     }
 
-    /// The most pieces that it may have.
+    /// The most pieces that there may be.
     pub fn most(&self) -> u32
         ensures { result ≡ self.now.most }
     {
         self.most
     }
 
-    /// The pieces by rising base.
+    /// The pieces in order of their bases.
     pub fn pieces(&self) -> &[Piece]
         ensures value { result.now ≡ self.now.pieces }
         ensures arranged { Arranged flat.lowest_address (bare_all self.now.pieces) }
@@ -115,7 +118,7 @@ impl Space {
         self.pieces.as_slice()
     }
 
-    /// The piece that an address lies in, as it is stored. Every address of it lies in it alone.
+    /// The piece that an address is in, as it is stored. No other piece has the address.
     #[inline(always)]
     pub fn piece_at(&self, addr: u64) -> Option<Piece>
         ensures value { option_map bare result ≡ flat.covering addr (bare_all self.now.pieces) }
@@ -152,7 +155,8 @@ impl Space {
         })
     }
 
-    // Up to where no gap for this many pages begins, by what is known. Pieces are walked between that alone.
+    // The end of the addresses in which no gap for this many pages begins, by the hints. Visits pieces only
+    // between hints.
     fn start(&self, pages: u32) -> u64
         requires { (1 ≤ pages) × (pages ≤ MOST_SHMALL) }
         ensures { IsPassed pages result self.now.pieces }
@@ -171,8 +175,8 @@ impl Space {
         start
     }
 
-    /// The least page-aligned gap for this many pages at or above 0x40000000 (this profile; shmop(2)
-    /// leaves the choice to the system).
+    /// The address of the least gap for this many pages at or above 0x40000000, a multiple of 4096 (this
+    /// profile; shmop(2) leaves the choice to the system). None if no gap is large enough.
     #[tactic(auto, using(crate::proofs::Gaps::free_below))]
     pub fn choose(&self, pages: u32) -> Option<u64>
         requires { (1 ≤ pages) × (pages ≤ MOST_SHMALL) }
@@ -185,8 +189,9 @@ impl Space {
         least_gap(&self.pieces[run.first..], start, pages)
     }
 
-    // What is learned of the gaps when a piece comes, after this many others. A piece that comes right after one
-    // is often at the least gap for its pages: so this walks as `choose` did, and the next choice need not.
+    // What an insert of a piece after this many others teaches of the gaps. A piece right after another is
+    // often at the least gap for its pages. So this repeats the search of `choose`, and the next choice need
+    // not.
     fn learned(&self, piece: &Piece, count: usize) -> Option<Passed>
         requires fit { IsFit (bare piece.now) }
         requires count { count ≤ length self.now.pieces }
@@ -206,7 +211,8 @@ impl Space {
         })
     }
 
-    /// Whether a piece has a page among this many from an address on. The range may reach beyond the last address.
+    /// Whether a piece has a page among this many from an address on. The range may end above the last
+    /// address.
     pub fn is_occupied(&self, base: u64, pages: u32) -> bool
         requires { (1 ≤ pages) × (pages ≤ MOST_SHMALL) }
         ensures { result ≡ flat.occupied (bare_all self.now.pieces) base (base + PAGE_SIZE * pages) }
@@ -232,7 +238,7 @@ impl Space {
         &self.pieces[run.first..run.last]
     }
 
-    /// How many pieces there would be once a range is taken out.
+    /// How many pieces would be left if a range were taken out.
     pub fn count_outside(&self, from: u64, to: u64) -> usize
         requires order { from < to }
         ensures { result ≡ length (flat.cut from to (bare_all self.now.pieces)) }
@@ -240,7 +246,7 @@ impl Space {
         count_left(&self.pieces, cut_of(&self.pieces, from, to))
     }
 
-    /// The segments of which a cut of a range would leave a part of a piece.
+    /// The segments of the pieces of which a cut of a range would leave a part.
     pub fn rests(&self, from: u64, to: u64) -> Rests
         requires order { from < to }
         ensures { result ≡ flat.rest_segments from to (bare_all self.now.pieces) }
@@ -248,7 +254,7 @@ impl Space {
         rests_of(self.met(from, to), from, to)
     }
 
-    /// Puts a piece where no other piece lies.
+    /// Inserts a piece at free addresses.
     pub fn insert(&mut self, piece: Piece)
         requires room { length self.old.pieces < self.old.most }
         requires low { flat.lowest_address ≤ piece.base }
@@ -267,8 +273,8 @@ impl Space {
         prove!(put.is_ok());
     }
 
-    /// Takes a range out: pieces in it go, and of pieces that reach beyond it the parts outside stay, each
-    /// a piece with its own first page and the same key.
+    /// Takes a range out. Of a piece that reaches beyond it the parts outside stay, each as a piece with its
+    /// own first page and the same key.
     pub fn cut(&mut self, from: u64, to: u64)
         requires from { from % 4096 ≡ 0 }
         requires to { to % 4096 ≡ 0 }
@@ -285,7 +291,8 @@ impl Space {
         replace(&mut self.pieces, cut);
     }
 
-    /// The lowest piece whose segment would begin at the address, as it is stored.
+    /// The lowest piece with this origin, as it is stored. A piece's origin is the address at which its
+    /// segment, attached as a whole, would begin.
     pub fn origin_of(&self, addr: u64) -> Option<Piece>
         ensures stored { result ≡ find (λ (p : Stored). flat.has_origin addr (bare p)) self.now.pieces }
         ensures flat { option_map bare result ≡ flat.origin_of addr (bare_all self.now.pieces) }
@@ -303,7 +310,7 @@ impl Space {
         None
     }
 
-    /// Takes out the pieces of a segment that would begin at the address.
+    /// Takes out the pieces of a segment that have this origin.
     pub fn take_at(&mut self, addr: u64, seg: u32)
         ensures kept { self.new ≡ record self.old { pieces = stored_without addr seg self.old.pieces } }
         ensures flat { bare_all self.new.pieces ≡ flat.without_named addr seg (bare_all self.old.pieces) }

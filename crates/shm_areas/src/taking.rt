@@ -1,12 +1,12 @@
-//! Taking out what is left of an attach.
+//! Takes out what is left of an attach.
 ghost use Rattle.std.specs.Prelude.{◌≡◌, ◌≤◌, length, vec_capacity};
 ghost use Rattle.shm_areas.specs.Edit.{taken_between};
 
 use crate::piece::Piece;
 use crate::search::PieceRange;
 
-/// Takes the pieces of a segment that would begin at an address out of a run. What stays of the run moves down piece by
-/// piece, and what lies after it at once.
+/// Takes the pieces of a segment with this origin out of a run. The rest of the run moves down piece by
+/// piece, and all later pieces at once.
 pub(crate) fn take_named(pieces: &mut Vec<Piece>, run: PieceRange, addr: u64, seg: u32)
     requires order { run.first ≤ run.last }
     requires bound { run.last ≤ length pieces.old.items }

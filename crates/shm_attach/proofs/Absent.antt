@@ -1,4 +1,4 @@
--- The first address whose page has no frame, where one page serves a run of addresses.
+-- The first address whose page has no frame, when one page serves several addresses.
 use Rattle.shm_attach.proofs.Names.{◌≡◌, ℕ, zero, suc, ◌+◌, ◌/◌, ◌%◌, ◌<◌, ◌≤◌, Bool, true, false, List, Option, Some, None, get_or, refl, arith, All, Slab, get, covering, place_covering, bare, IsCovering, Stored, TableView, HasTable, AllTrue, frame_in, size_in}
 use Rattle.std.specs.Prelude.{is_some}
 use Rattle.shm_base.specs.State.{Piece}

@@ -1,4 +1,4 @@
--- An access within one page asks for a run of one piece; one over two pages asks for the places of both.
+-- An access within one page uses consecutive bytes of one piece; one over two pages uses the places of both.
 use Rattle.shm_attach.proofs.Names.{◌≡◌, inl, inr, ℕ, zero, suc, ◌+◌, ◌-◌, ◌*◌, ◌%◌, ◌<◌, ◌≤◌, Bool, true, false, ◌&&◌, List, [], ◌∷◌, ◌++◌, map, Option, Some, None, option_map, refl, ap, subst, ◌∙◌, arith, common_steps, All, cases_Bool, none-some, map-append, Place, places, joined, covers, all_writable, only_writable, covering, place_covering, run, unmarked, wanted_in}
 use Rattle.shm_base.specs.State.{Piece}
 
@@ -50,7 +50,7 @@ wanted_in-both w ps a n m len xs ys sum some more = rw (← sum) (wanted_in-sum 
 
 -- ONE PIECE
 
--- where each address of a range lies in the piece, it denotes a run
+-- if each address of a range is in the piece, they denote consecutive bytes
 pub places-run : (ps : List Piece) (p : Piece) (a n : ℕ) → p.base ≤ a → ((b : ℕ) → a ≤ b → b < a + n → covering b ps ≡ Some p)
     → places ps a n ≡ Some (run p.seg (4096 * p.first_page + (a - p.base)) n p.writable)
 places-run ps p a zero le all = refl
@@ -79,14 +79,14 @@ pub wanted_in-none : (w : Bool) (ps : List Piece) (a n : ℕ) → 1 ≤ n → co
 wanted_in-none w ps a zero some none = absurd (omega arith)
 wanted_in-none w ps a (suc n) some none = grind (arith, common_steps, place_covering)
 
--- a write through a piece that is read-only
+-- a write to a read-only piece
 pub wanted_in-readonly : (ps : List Piece) (p : Piece) (a n : ℕ) → 1 ≤ n → covering a ps ≡ Some p → p.writable ≡ false → wanted_in true ps a n ≡ None
 wanted_in-readonly ps p a zero some found only = absurd (omega arith)
 wanted_in-readonly ps p a (suc n) some found only = grind (arith, common_steps, place_covering)
 
 -- THE PIECE OF AN ADDRESS
 
--- what holds of all pieces holds of the one that an address lies in
+-- a property of all pieces holds for the one with an address
 pub covering-passes : (P : Piece → Type 0) (a : ℕ) (ps : List Piece) (p : Piece) → All P ps → covering a ps ≡ Some p → P p
 covering-passes P a [] p all found = absurd (none-some p found)
 covering-passes P a (q ∷ ps) p all found =
@@ -95,6 +95,6 @@ covering-passes P a (q ∷ ps) p all found =
       | inr h ↦ covering-passes P a ps p (λ k d l. all (suc k) d (omega arith)) (rw h at found)
     ]
 
--- the addresses of a page lie on one side of a whole page's boundary
+-- the addresses of a page are on one side of a page boundary
 pub in_page : (base pages a b n : ℕ) → base % 4096 ≡ 0 → base ≤ a → a < base + 4096 * pages → a % 4096 + n ≤ 4096 → b < a + n → b < base + 4096 * pages
 in_page base pages a b n aligned from to page lt = omega arith

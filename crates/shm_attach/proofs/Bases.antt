@@ -1,4 +1,4 @@
--- Where a new piece goes, there is room for it.
+-- There is room for a new piece where it is placed.
 use Rattle.shm_attach.proofs.Names.{◌+◌, ◌*◌, ◌≤◌, List, length, arith, common_steps, cut, IsRange, IsPlaceFor, MOST_PIECES, MOST_SHMALL}
 use Rattle.shm_base.specs.State.{Piece}
 use Rattle.shm_attach.proofs.Keeping.{occupied-cut}

@@ -1,4 +1,4 @@
--- Which process a pid names, and what changes of its pieces are for the flat machine.
+-- The process that a pid names, and changes of its pieces as the flat machine sees them.
 use Rattle.shm_attach.proofs.Names.{is_live, true, keys_of, ◌≡◌, ◌≢◌, ◌⊎◌, inl, inr, ℕ, zero, suc, ◌+◌, ◌<◌, ◌≤◌, false, nat_eq, ◌==◌, if◌then◌else◌, List, [], ◌∷◌, length, get_or, Option, Some, None, slice_get, refl, ap, sym, ◌∙◌, arith, eq-eqb, ne_eqb, length-set, common_steps, position, position_or_len, cases_eq, cases_lt, lt-ltb, eqb-true, eqb-false, length-map, set-set, get_or-map, position-Some, fails_before_first, none-some, slice_get-get_or, slice_get_within, get_or_from_slice_get, gets, Cred, caller_by, caller_from, is_unborn, unborn_from, with_pieces, with_end, bare_all, Ended, life_view, runner_view, runners_view, with_own, with_pieces_at, with_life_at, pieces_at, life_at, caller_seen, IsCaller, FlatCaller, Life, Live, Runner}
 use Rattle.shm_base.specs.State as flat
 use Rattle.shm_attach.specs.declared.process.Caller.{Caller}
@@ -8,11 +8,11 @@ pub use Rattle.shm_attach.proofs.Processes.{first_runner}
 use Rattle.std.proofs.lemmas.Map.Keys.{apart_from_distinct}
 use Rattle.std.specs.List.{IsDistinct}
 
--- what a list of entries answers past its end
+-- the value beyond the end of a list of entries
 abbrev pub nobody : ℕ × Runner
 nobody = (0, record { life = Ended; space = record { pieces = []; most = 0 } })
 
--- WHAT IS SAID OF THE FIRST PROCESS WITH A PID
+-- A FACT ABOUT THE FIRST PROCESS WITH A PID
 
 abbrev pub first : {X : Type 0} → (ℕ → flat.Runner → Option X) → ℕ → ℕ → List flat.Runner → Option X
 first f n pid [] = None
@@ -45,7 +45,7 @@ pub first-none : {X : Type 0} (f : ℕ → flat.Runner → Option X) (n pid : �
 first-none f n pid [] others = refl
 first-none f n pid (e ∷ es) others = rw (ne_eqb e.0 pid (others 0 (omega arith))) (first-none f (n + 1) pid es (λ k l. others (suc k) (omega arith)))
 
--- the process that is meant, and what is said of it
+-- that process, and the fact about it
 record IsFirstOf {X : Type 0} (f : ℕ → flat.Runner → Option X) (n pid : ℕ) (rs : List flat.Runner) (x : X) : Type 0 where
   place : ℕ
   within : place < length rs
@@ -65,12 +65,12 @@ first-there f n pid (r ∷ rs) x found =
           record { place = suc t.place; within = omega (arith, t.within); named = t.named; said = rw next t.said }
     ]
 
--- THE PLACE THAT A LOOK-UP ANSWERS
+-- THE INDEX THAT A LOOKUP GIVES
 
 key-at : (es : List (ℕ × Runner)) (k : ℕ) → k < length es → get_or (keys_of es) k 0 ≡ (get_or es k nobody).0
 key-at es k l = grind (arith, common_steps, get_or-map)
 
--- the place that a look-up by pid answers
+-- the index that a lookup by pid gives
 record IsFirst (pid i : ℕ) (es : List (ℕ × Runner)) : Type 0 where
   within : i < length es
   own : (get_or es i nobody).0 ≡ pid
@@ -97,7 +97,7 @@ no_place pid es none = by (cases_lt (position_or_len (nat_eq pid) (keys_of es)) 
         (rw (← key-at es k l) (fails_before_first (nat_eq pid) (keys_of es) k 0 (omega (arith, le, length-map es (λ (e : ℕ × Runner). e.0)))))
         (sym same)
 
--- each pid is there once, so a process is the first with its own
+-- each pid occurs once, so a process is the first with its own
 own_place : (i : ℕ) (es : List (ℕ × Runner)) (e : ℕ × Runner) → IsDistinct nat_eq (keys_of es) → slice_get es i ≡ Some e → IsFirst e.0 i es
 own_place i es e distinct at =
     let lt : i < length es = slice_get_within es i e at in
@@ -163,7 +163,7 @@ caller_there c rs is =
 pub with_pieces-at : (c : Caller) (rs : List flat.Runner) (f : List flat.Piece → List flat.Piece) → IsCaller c rs → with_pieces rs (caller_seen c rs) (f (pieces_at rs c.index)) ≡ with_pieces_at rs c.index f
 with_pieces-at c rs f is = sym (ap (with_own rs c.index f) (caller_there c rs is))
 
--- the same, for the processes that are shown
+-- the same for the processes that are shown
 pub with_pieces-of : (c : Caller) (rs shown : List flat.Runner) (f : List flat.Piece → List flat.Piece) → rs ≡ shown → IsCaller c shown
     → with_pieces_at rs c.index f ≡ with_pieces shown (caller_seen c shown) (f (pieces_at shown c.index))
 with_pieces-of c rs shown f same is = ap (λ (xs : List flat.Runner). with_pieces_at xs c.index f) same ∙ sym (with_pieces-at c shown f is)
@@ -184,11 +184,11 @@ not_live i pid ps l never = grind arith
 pub caller_within : (c : Caller) (es : List (ℕ × Runner)) → IsCaller c (runners_view es) → c.index < length es
 caller_within c es is = let within = slice_get_within (runners_view es) c.index _ (caller_there c (runners_view es) is) in omega (arith, within, length-map es runner_view)
 
--- the caller ended, once its pieces are gone
+-- the caller has ended, after its pieces are gone
 pub with_end-at : (c : Caller) (rs : List flat.Runner) → IsCaller c rs → with_life_at (with_pieces rs (caller_seen c rs) []) c.index flat.Ended ≡ with_end rs (caller_seen c rs)
 with_end-at c rs is = let there = caller_there c rs is in grind (arith, common_steps, gets, set-set)
 
--- its place stays that of a process
+-- its index is still that of a process
 pub length-with_pieces : (c : Caller) (rs : List flat.Runner) (ps : List flat.Piece) → length (with_pieces rs (caller_seen c rs) ps) ≡ length rs
 length-with_pieces c rs ps = length-set rs c.index (record { pid = c.pid; life = flat.Live c.cred; pieces = ps })
 
@@ -214,7 +214,7 @@ record IsAsleep (i j : ℕ) (l : flat.Life) : Type 0 where
 asleep_is : (i j : ℕ) (l : flat.Life) → (if is_unborn l then Some i else None) ≡ Some j → IsAsleep i j l
 asleep_is i j l said = record { at = grind arith; life = grind arith }
 
--- the child stands at the place that is found
+-- the child is at the index that was found
 pub record ChildAt (pid j : ℕ) (rs : List flat.Runner) : Type 0 where
   pub within : j < length rs
   pub named : (get_or rs j first_runner).pid ≡ pid

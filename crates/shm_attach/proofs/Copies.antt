@@ -1,4 +1,4 @@
--- The same processes and tables once more.
+-- A copy of the processes and of the tables.
 use Rattle.shm_attach.proofs.Names.{◌≡◌, ◌∙◌, ℕ, List, Option, Some, None, refl, ap, sym, get_or, runners_view, Slab, get, TableView, count_in, seg_in, counted, counted_under, key_of, stored_at, HasTable, OneTableEach, AllHaveTables, AreCountsExact, AreTablesSound, Tables, Runner}
 use Rattle.std.specs.Prelude.{slice_index_or}
 use Rattle.slab.specs.Slab.{IsSlotClone}
@@ -34,7 +34,7 @@ tables-same es t u same all i k d lt =
     let at = get-same t.slab u.slab p.key same.slots in
     record { seg = ap seg_in at ∙ own.seg; pages = rw at own.pages }
 
--- what holds of the processes and their tables holds of copies of the tables
+-- the invariant of the processes and their tables holds for copies of the tables
 pub sound-same : (extra : ℕ → ℕ) (es : List (ℕ × Runner)) (t u : Tables) → AreSameTables t u → AreTablesSound extra es t → AreTablesSound extra es u
 sound-same extra es t u same sound =
     let exact : AreCountsExact extra (runners_view es) u =

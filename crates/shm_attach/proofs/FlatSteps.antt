@@ -1,4 +1,4 @@
--- The flat machine's steps, by what the address spaces answer. For the machine above.
+-- The flat machine's steps in terms of the address spaces, for the crates above.
 use Rattle.shm_attach.proofs.Names.{◌≡◌, ℕ, true, false, List, [], ◌∷◌, length, map, Option, Some, None, option_map, refl, ap, arith, common_steps, none-some, Bytes, Done, Machine, Place, places, writable_places, byte_at, with_byte, loaded, stored, origin_of, without_named, after_detach, caller_from, gives, with_pieces, shmdt, load, store, unmarked, wanted_in, pieces_by, pieces_of_caller}
 use Rattle.shm_base.specs.State.{Entry, Piece, Runner}
 use Rattle.shm_base.specs.Step.{Caller}
@@ -11,11 +11,11 @@ shmdt-named s n c addr seg named = grind arith
 
 -- ACCESSES
 
--- the pieces that a live process asks with
+-- the pieces of a live process that makes an access
 pub pieces_by-caller : (pid : ℕ) (rs : List Runner) (c : Caller) → caller_from 0 pid rs ≡ Some c → pieces_by pid rs ≡ c.pieces
 pieces_by-caller pid rs c found = ap pieces_of_caller found
 
--- marks are not looked at where bytes are read and written
+-- reading and writing bytes ignores whether places are writable
 pub loaded-unmarked : (table : List Entry) (ps : List Place) → loaded table (map unmarked ps) ≡ loaded table ps
 loaded-unmarked table [] = refl
 loaded-unmarked table (p ∷ ps) = ap (λ (bs : List ℕ). byte_at table p ∷ bs) (loaded-unmarked table ps)
@@ -25,7 +25,7 @@ stored-unmarked table [] bs = refl
 stored-unmarked table (p ∷ ps) [] = refl
 stored-unmarked table (p ∷ ps) (b ∷ bs) = stored-unmarked (with_byte table p b) ps bs
 
--- the places are there, and without their marks they are these
+-- the places exist, and without the marks they are these
 pub record AreAsked (asked : Option (List Place)) (wanted : List Place) : Type 0 where
   pub ps : List Place
   pub there : asked ≡ Some ps

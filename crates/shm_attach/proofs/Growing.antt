@@ -1,4 +1,4 @@
--- A protection never makes fewer pieces: what it joins goes into one, and the rest of the piece that it cuts stays.
+-- A protect never makes fewer pieces: the parts that it joins become one, and the rest of the piece that it cuts stays.
 use Rattle.shm_attach.proofs.Names.{◌≡◌, ◌⊎◌, ℕ, ◌+◌, ◌-◌, ◌<◌, ◌≤◌, List, [], ◌∷◌, ◌++◌, length, Option, Some, None, refl, sym, ap, arith, common_steps, none-some, cases_Bool, inl, inr, covers, end_of, covering, cut, parts, lowest_address, Arranged, Bool, ◌∙◌, lower, option_to_list, most_at, Runner}
 use Rattle.std.proofs.Common.{append_assoc, length-append}
 use Rattle.std.specs.Prelude.{IfSome}
@@ -10,14 +10,14 @@ use Rattle.shm_attach.proofs.Processes.{length-inserted}
 use Rattle.shm_attach.proofs.Renewed.{covers-found, not-here}
 use Rattle.std.proofs.lemmas.List.Concat.{flat_map-cons}
 
--- pieces above a range stay
+-- pieces above a range are unchanged
 far : (l low high : ℕ) (ps : List Piece) → Arranged l ps → high ≤ l → cut low high ps ≡ ps
 far l low high [] ar le = refl
 far l low high (p ∷ ps) ar le =
     let rest = far (end_of p) low high ps ar.1.1 (omega (arith, ar.0, le)) in
     grind (arith, common_steps, ar.0, rest)
 
--- and pieces below it
+-- and so are pieces below it
 near : (low high : ℕ) (p : Piece) (ps : List Piece) → end_of p ≤ low → length (cut low high (p ∷ ps)) ≡ length (cut low high ps) + 1
 near low high p ps le = grind (arith, common_steps)
 
@@ -48,14 +48,14 @@ inside l a low high (q ∷ ps) p ar found from to = elim (cases_Bool (covers q a
       omega (arith, near low high q ps (omega (arith, under, from)), inside (end_of q) a low high ps p ar.1.1 later from to)
 ]
 
--- a piece that reaches beyond a range on a side leaves a part there
+-- a piece that reaches beyond one side of a range leaves a part there
 leaves-above : (low high : ℕ) (p : Piece) → high < end_of p → 1 ≤ length (parts low high p)
 leaves-above low high p lt = grind (arith, common_steps, length-append)
 
 leaves-below : (low high : ℕ) (p : Piece) → p.base < low → 1 ≤ length (parts low high p)
 leaves-below low high p lt = grind (arith, common_steps, length-append)
 
--- where the first of some pieces has an address
+-- the first of some pieces has an address
 first-kept : (a low high : ℕ) (ps : List Piece) (p : Piece) → Arranged a ps → covering a ps ≡ Some p → high < end_of p → length ps ≤ length (cut low high ps)
 first-kept a low high [] p ar found lt = absurd (none-some p found)
 first-kept a low high (q ∷ ps) p ar found lt =
@@ -159,11 +159,11 @@ module _ (w : Bool) (at to : ℕ) (p : Piece) (ps : List Piece) (ar : Arranged l
 pub length-turned : (w : Bool) (at to : ℕ) (p : Piece) (ps : List Piece) → length (turned w at to p ps) ≡ length (cut (low_end w at to p ps) (high_end w at to p ps) ps) + 1
 length-turned w at to p ps = length-inserted (part_between w (low_end w at to p ps) (high_end w at to p ps) p) (cut (low_end w at to p ps) (high_end w at to p ps) ps)
 
--- a protection never makes fewer pieces
+-- a protect never makes fewer pieces
 pub never-fewer : (w : Bool) (at to : ℕ) (p : Piece) (ps : List Piece) → Arranged lowest_address ps → covering at ps ≡ Some p → at < to → length ps ≤ length (turned w at to p ps)
 never-fewer w at to p ps ar found order = omega (arith, kept-many w at to p ps ar found order, length-turned w at to p ps)
 
--- what is named is one more piece, for which there is room
+-- a named segment has one more piece, for which there is room
 pub grows : (es fs : List (ℕ × Runner)) (i id : ℕ) (split : Option ℕ) (now : List Piece) → option_to_list split ≡ split_in id (length (held es i)) (length now) → held fs i ≡ now
     → length (held es i) ≤ length now → length now ≤ most_at es i → Grows es fs i split
 grows es fs i id None now named is more room = record { more = omega (arith, ap length is, more); room = tt }

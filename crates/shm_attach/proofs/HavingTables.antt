@@ -1,10 +1,10 @@
--- The table of each piece: what a change of the pieces and of the tables leaves.
+-- The table of each piece, after a change of the pieces and of the tables.
 use Rattle.shm_attach.proofs.Names.{HaveRoom, most_at, values_of, gets, slice_get-map, ◌≡◌, ◌≢◌, inl, inr, ℕ, zero, suc, ◌+◌, ◌<◌, ◌≤◌, ◌==◌, ◌&&◌, Bool, true, false, nat_lt, List, [], ◌∷◌, length, filter, get_or, slice_get, Option, Some, None, refl, ap, sym, subst, ◌∙◌, arith, common_steps, All, cases_Bool, cases_eq, slice_get_cases, All-append, All-cons, All-head, All-tail, All-filter, length-map, set_value_at, Slab, get, pieces_of, bare, bare_all, stored_inserted, stored_parts, stored_cut, Tables, runner_view, runners_view, pieces_at, seg_in, size_in, frame_in, TrueSlot, counted, stored_in, stored_at, HasTable, AllHaveTables, AreCountsExact, Piece, Runner, TableView}
 use Rattle.shm_base.specs.State as flat
 use Rattle.shm_attach.proofs.Processes.{entry_there, entries_set}
 use Rattle.shm_attach.proofs.Keeping.{own_counted, pieces_of-there, bare-get_or}
 
--- WHERE THE PIECES STAND
+-- THE PIECES OF A PROCESS, AS STORED
 
 pub stored_at-value : (es : List (ℕ × Runner)) (i : ℕ) (w : Runner) → Some w ≡ slice_get (values_of es) i → stored_at es i ≡ w.space.pieces
 stored_at-value es i w at = grind (arith, common_steps, entry_there es i w at)
@@ -28,7 +28,7 @@ most_at-set (e ∷ es) zero w v at same (suc j) = refl
 most_at-set (e ∷ es) (suc i) w v at same zero = refl
 most_at-set (e ∷ es) (suc i) w v at same (suc j) = most_at-set es i w v at same j
 
--- the most pieces of a process, as it is stored
+-- the limit of pieces of a process, as stored
 pub most_at-value : (es : List (ℕ × Runner)) (i : ℕ) (w : Runner) → Some w ≡ slice_get (values_of es) i → most_at es i ≡ w.space.most
 most_at-value es i w at = grind (arith, common_steps, entry_there es i w at)
 
@@ -64,7 +64,7 @@ tables-passes t p own = grind (arith, common_steps)
 pub tables-passed : (t : Slab TableView) (p : Piece) → has_table t p ≡ true → HasTable t p
 tables-passed t p passes = grind (arith, common_steps)
 
--- what is read under a key is true
+-- a frame that is read by a key is true
 pub frame-true : (at : ℕ → ℕ → Option ℕ) (o : Option TableView) (seg page : ℕ) → seg_in o ≡ Some seg → TrueSlot at o → page < size_in o → frame_in o page ≡ at seg page
 frame-true at o seg page own tr lt = grind arith
 
@@ -108,7 +108,7 @@ counts-piece extra es u exact i k d lt =
     let all : pieces_of (get_or ps k d).seg (bare_all ps) ≤ counted u (get_or ps k d).seg = rw own at (own_counted extra (runners_view es) u i exact within (get_or ps k d).seg) in
     omega (arith, here, all)
 
--- the tables that are left are those of the pieces that are there
+-- the remaining tables are those of the existing pieces
 pub tables-all : (extra : ℕ → ℕ) (es : List (ℕ × Runner)) (t : Slab TableView) (u : Tables) → AreCountsExact extra (runners_view es) u → AllHaveTables es t
     → ((p : Piece) → HasTable t p → 0 < counted u p.seg → HasTable u.slab p) → AllHaveTables es u.slab
 tables-all extra es t u exact all step i k d lt = step (get_or (stored_at es i) k d) (all i k d lt) (counts-piece extra es u exact i k d lt)

@@ -1,4 +1,4 @@
--- Processes that join and leave: what stays sound.
+-- Processes that join and leave keep the invariant.
 use Rattle.std.proofs.lemmas.List.Sums.{sum_by-swap_remove}
 use Rattle.std.proofs.Common.{◌⊎◌, inl, inr, position}
 use Rattle.std.specs.Prelude.{swap_remove, IfSome, slice_set, min, nat_le, Ok}
@@ -28,7 +28,7 @@ standing-first : (n pid : ℕ) (rs : List flat.Runner) → standing_from n pid r
 standing-first n pid [] = refl
 standing-first n pid (r ∷ rs) = ap (λ o. if r.pid == pid then as_standing n r else o) (standing-first (n + 1) pid rs)
 
--- where it stands
+-- its position
 pub record IsThere (n pid : ℕ) (rs : List flat.Runner) (x : Standing) : Type 0 where
   pub place : ℕ
   pub at : x.index ≡ n + place
@@ -70,7 +70,7 @@ absent-from n pid (e ∷ es) none (suc j) l = λ same.
       | inr other ↦ absent-from (n + 1) pid es (rw (ne_eqb e.0 pid other) at none) j (omega arith) same
     ]
 
--- a new process is seen behind the others
+-- a new process is shown after the others
 pub shown-behind : (pid : ℕ) (es : List (ℕ × Runner)) (r : Runner) → standing pid (runners_view es) ≡ None → runners_view (insert_entry nat_eq es pid r) ≡ runners_view es ++ runner_view (pid, r) ∷ []
 shown-behind pid es r none = view-insert_entry es pid r (absent-from 0 pid es none)
 
@@ -84,7 +84,7 @@ joins-behind most p rs low high none few =
 pub asleep : (l : Life) → ((cred : Cred) → l ≡ Live cred → ⊥) → is_live (life_view l) ≡ false
 asleep l never = grind arith
 
--- A SOUND LIST WHERE EACH PROCESS IS ONE THAT WAS THERE, OR HAS NO PIECE
+-- A SOUND LIST IN WHICH EACH PROCESS WAS THERE BEFORE, OR HAS NO PIECE
 
 abbrev pub IsOld : List (ℕ × Runner) → Option (ℕ × Runner) → Type 0
 IsOld es o = ((k : ℕ) × (o ≡ slice_get es k)) ⊎ (stored_in o ≡ [])
@@ -168,7 +168,7 @@ module _ (es : List (ℕ × Runner)) (i : ℕ) (d : ℕ × Runner) (lt : i < len
   stays : (j : ℕ) → j < length (swap_remove es i d) → get_or (swap_remove es i d) j d ≡ get_or (set es i last) j d
   stays j l = get_or-take (length es - 1) (set es i last) j d (omega (arith, l, length-left))
 
-  -- each of the others is there still
+  -- each of the others is still there
   pub swapped : (j : ℕ) → j < length (swap_remove es i d) → (k : ℕ) × (slice_get (swap_remove es i d) j ≡ slice_get es k) × (k < length es)
   swapped j l =
       let at : slice_get (swap_remove es i d) j ≡ Some (get_or (set es i last) j d) = slice_get-get_or (swap_remove es i d) j d l ∙ ap (λ x. Some x) (stays j l) in

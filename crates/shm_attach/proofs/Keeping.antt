@@ -29,7 +29,7 @@ pub with_pieces_at-twice : (rs : List Runner) (i : ℕ) (f g : List Piece → Li
     → with_pieces_at (with_pieces_at rs i f) i g ≡ with_pieces_at rs i (λ ps. g (f ps))
 with_pieces_at-twice rs i f g lt = let there = slice_get-get_or rs i first_runner lt in grind (arith, common_steps, gets, set-set)
 
--- the pieces that come of a change, in place of the change
+-- the pieces that a change gives, in place of the change
 pub with_pieces_at-const : (rs : List Runner) (i : ℕ) (f : List Piece → List Piece) → i < length rs
     → with_pieces_at rs i f ≡ with_pieces_at rs i (λ (_ : List Piece). f (pieces_at rs i))
 with_pieces_at-const rs i f lt = let there = slice_get-get_or rs i first_runner lt in grind (arith, common_steps, gets)
@@ -48,7 +48,7 @@ module _ (rs : List Runner) (i j : ℕ) (l : Life) (lt : j < length rs) where
 
 -- THE COUNTS
 
--- a process that had no piece takes none from a count
+-- a process without pieces adds nothing to a count
 pub attach_count-more : (rs : List Runner) (j id : ℕ) (r : Runner) → j < length rs → pieces_at rs j ≡ [] → attach_count rs id ≤ attach_count (set rs j r) id
 attach_count-more rs j id r lt none = grind (arith, common_steps, sum_by-set, pieces_at-get_or)
 
@@ -115,7 +115,7 @@ occupied-cut from to (p ∷ ps) = occupied-append (parts from to p) (cut from to
 
 -- ALL PIECES, AND THOSE OF ONE ATTACH
 
--- the addresses hold every piece
+-- all pieces are within the addresses
 pub cut-all : (low : ℕ) (ps : List Piece) → lowest_address ≤ low → Arranged low ps → cut lowest_address end_address ps ≡ []
 cut-all low [] le ar = refl
 cut-all low (p ∷ ps) le ar = grind (arith, common_steps, cut-all (end_of p) ps)
@@ -134,11 +134,11 @@ pieces_of-there (suc k) (p ∷ ps) d l = grind (arith, common_steps, one_more, p
 pub bare-get_or : (ps : List Stored) (k : ℕ) (d : Stored) (e : Piece) → k < length ps → bare (get_or ps k d) ≡ get_or (bare_all ps) k e
 bare-get_or ps k d e l = grind (arith, common_steps, get_or-map)
 
--- the same pieces in place of those that are there
+-- the same pieces replace those that are there
 pub with_pieces_at-same : (rs : List Runner) (i : ℕ) (f : List Piece → List Piece) → i < length rs → f (pieces_at rs i) ≡ pieces_at rs i → rs ≡ with_pieces_at rs i f
 with_pieces_at-same rs i f lt same = let there = slice_get-get_or rs i first_runner lt in grind (arith, common_steps, gets, set-get_or)
 
--- the next piece of some that are in order lies behind those before it
+-- the next of some pieces in order is above those before it
 base_behind : (low k : ℕ) (ps : List Piece) (d : Piece) → Arranged low ps → k < length ps → low ≤ (get_or ps k d).base
 base_behind low k [] d ar lt = absurd (omega arith)
 base_behind low zero (p ∷ ps) d ar lt = ar.0

@@ -1,4 +1,4 @@
--- The names that the proofs cite, from below and from the words of this crate.
+-- The names that the proofs use: those of the crates below, and of the specs of this crate.
 pub use Rattle.std.proofs.Common.{Bool, List, None, Option, Some, [], add-one, ap, append-nil, arith, cond, drop, drop-cons, eq-eqb, false, filter, get_or, if◌then◌else◌, inl, inr, length, length-set, length-take, map, nat_eq, nat_lt, ne_eqb, not, option_map, refl, set, slice_get, subst, suc, sym, take, true, zero, ℕ, ◌%◌, ◌&&◌, ◌*◌, ◌++◌, ◌+◌, ◌-◌, ◌/◌, ◌<◌, ◌==◌, ◌∙◌, ◌∷◌, ◌≡◌, ◌≢◌, ◌≤◌, ◌⊎◌}
 pub use Rattle.std.proofs.lemmas.Bool.{cases_Bool, cases_eq, cases_lt, eqb-false, eqb-true, le-leb, le-ltb, lt-leb, lt-ltb, true≢false}
 pub use Rattle.std.proofs.lemmas.Grind.{common_steps}

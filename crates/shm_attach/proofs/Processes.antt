@@ -1,8 +1,8 @@
--- One process's pieces change, and the counts with them.
+-- One process's pieces change, and the counts change with them.
 use Rattle.shm_attach.proofs.Names.{map-set, slice_get-map, set, slice_get_cases, ◌≡◌, ℕ, zero, suc, ◌+◌, ◌-◌, ◌<◌, ◌≤◌, Bool, true, ◌==◌, List, [], ◌∷◌, length, map, get_or, Some, slice_get, filter, refl, ap, arith, ◌++◌, cond, drop, drop-cons, add-one, common_steps, filter_passes, sum_by-cons, sum_by-set, sum_by-append, length-filter, count_by-le-length, slice_get-get_or, set_value_at, values_of, pieces_of, meets, parts, cut, cut_segments, inserted, without_named, attach_count, bare, bare_all, met, with_pieces_at, with_life_at, some_if, life_view, runners_view, pieces_at, Stored, Runner, Life}
 use Rattle.shm_base.specs.State as flat
 
--- what a list of processes answers past its end
+-- the value beyond the end of a list of processes
 abbrev pub first_runner : flat.Runner
 first_runner = record { pid = 0; life = flat.Unborn; pieces = [] }
 
@@ -26,7 +26,7 @@ attach_count-changed id i f rs lt =
     let after = sum_by-set (λ (x : flat.Runner). pieces_of id x.pieces) rs i (record r { pieces = f r.pieces }) first_runner lt in
     rw at after
 
--- a value set at a place is an entry set there
+-- setting the value at an index sets the entry there
 pub entries_set : (es : List (ℕ × Runner)) (i : ℕ) (e : ℕ × Runner) (v : Runner) → slice_get es i ≡ Some e → set_value_at es i v ≡ set es i (e.0, v)
 entries_set [] i e v at = refl
 entries_set (x ∷ es) zero e v at = grind arith
@@ -71,11 +71,11 @@ few_parts from to p = grind arith
 pub some_if-le : (id seg n : ℕ) → some_if id seg n ≤ n
 some_if-le id seg n = grind arith
 
--- what has pieces after a change had some before
+-- a segment with pieces after a change had some before
 pub was_counted : (id seg a b n m : ℕ) → (seg ≡ id → 0 < a) → b + some_if id seg n ≡ a + some_if id seg m → 0 < b → 0 < a
 was_counted id seg a b n m own change some = grind (arith, common_steps)
 
--- the pieces that are not met stay
+-- the pieces that are not met are unchanged
 pub pieces_of-cut_met : (id from to : ℕ) (ps : List flat.Piece)
     → pieces_of id ps + pieces_of id (cut from to (filter (meets from to) ps)) ≡ pieces_of id (cut from to ps) + pieces_of id (filter (meets from to) ps)
 pieces_of-cut_met id from to [] = refl
@@ -104,7 +104,7 @@ seg-met from to (p ∷ ps) = let rest = seg-met from to ps in grind arith
 pub met-meets : (from to : ℕ) (ps : List Stored) (k : ℕ) (d : Stored) → k < length (met from to ps) → meets from to (bare (get_or (met from to ps) k d)) ≡ true
 met-meets from to ps k d l = filter_passes (λ (p : Stored). meets from to (bare p)) ps k d l
 
--- one more piece is passed
+-- one more piece is done
 pub drop-bare : (ps : List Stored) (i : ℕ) (d : Stored) → i < length ps → bare_all (drop i ps) ≡ bare (get_or ps i d) ∷ bare_all (drop (i + 1) ps)
 drop-bare ps i d lt = rw (add-one, drop-cons ps i d lt) refl
 

@@ -1,4 +1,4 @@
--- A part of an attach takes another protection: where it begins and ends, and why it may stand there.
+-- A part of an attach gets another protection: where it begins and ends, and why it may be placed there.
 use Rattle.shm_attach.proofs.Names.{most_at, ◌≡◌, ◌≢◌, ◌==◌, ◌^◌, eq-eqb, ne_eqb, nat_le, ℕ, ◌+◌, ◌-◌, ◌*◌, ◌/◌, ◌%◌, ◌<◌, ◌≤◌, zero, suc, Bool, true, false, not, ◌&&◌, nat_lt, lt-ltb, le-ltb, lt-leb, le-leb, List, [], ◌∷◌, length, Option, Some, None, cases_Bool, inl, inr, refl, ap, ◌∙◌, arith, common_steps, none-some, All, All-nil, All-cons, All-head, All-tail, length-map, get, is_live, end_of, covering, cut, inserted, lowest_address, end_address, bare, bare_all, IsFit, Arranged, Tables, runner_view, runners_view, with_pieces_at, pieces_at, life_at, size_in, HasTable, OneTableEach, AreTablesSound, no_reservations, Piece, Runner, MOST_PIECES, MOST_SHMALL}
 use Rattle.shm_base.specs.State as flat
 use Rattle.shm_base.specs.State.{pages_of}
@@ -9,7 +9,7 @@ use Rattle.shm_attach.proofs.Accesses.{covering-passes}
 use Rattle.shm_attach.proofs.Processes.{length-inserted}
 use Rattle.shm_attach.proofs.Keeping.{life_at-changed, pieces_at-changed, with_pieces_at-same, with_pieces_at-twice}
 
--- WHAT A PROCESS HAS NOW
+-- THE PIECES THAT A PROCESS HAS NOW
 
 -- it has the pieces that it had
 pub now-same : (es : List (ℕ × Runner)) (t : Tables) (i : ℕ) → i < length es → AreTablesSound no_reservations es t → AreNow es es t t i (pieces_at (runners_view es) i)
@@ -61,7 +61,7 @@ low_is w at to p ps ar found page = by (covering (at - 1) ps) refl
         let below = covering_there (at - 1) lowest_address ps q ar is in
         grind (arith, common_steps)
 
--- a segment's table has so many pages
+-- a segment's table has this many pages
 pub record IsHigh (p : flat.Piece) (size at high : ℕ) : Type 0 where
   pub page : high % 4096 ≡ 0
   pub over : at < high
@@ -109,7 +109,7 @@ sized_by t p (q ∷ qs) tied own all =
 pub stretch_of : (p : flat.Piece) (size at low high : ℕ) → IsLow p at low → IsHigh p size at high → IsStretch p low high
 stretch_of p size at low high l h = grind (arith, common_steps)
 
--- THE PART MAY STAND THERE
+-- THE PART CAN BE PLACED THERE
 
 pub part_replaces : (es : List (ℕ × Runner)) (t : Tables) (i : ℕ) (p q : Piece) (w : Bool) (at low high : ℕ) → i < length es → is_live (life_at (runners_view es) i) ≡ true
     → most_at es i ≤ MOST_PIECES → HasTable t.slab p → IsLow (bare p) at low → IsHigh (bare p) (size_in (get t.slab p.key)) at high
@@ -121,7 +121,7 @@ part_ends p size at low high w l h = grind (arith, common_steps)
 
 -- A PIECE WITH ANOTHER PROTECTION
 
--- the piece of an address may be given a protection that it does not have
+-- the piece of an address can get a protection that it does not have
 pub record IsTurnable (w : Bool) (at : ℕ) (p : flat.Piece) (ps : List flat.Piece) : Type 0 where
   pub found : covering at ps ≡ Some p
   pub may : w ≡ true → p.may_write ≡ true
@@ -131,7 +131,7 @@ may-test : (w : Bool) (p : flat.Piece) → (w ≡ true → p.may_write ≡ true)
 may-test true p may = rw (may refl) refl
 may-test false p may = refl
 
--- it is refused where there would be too many pieces
+-- it is refused if there would be too many pieces
 pub protects-refused : (most : ℕ) (w : Bool) (at to : ℕ) (p : flat.Piece) (ps : List flat.Piece) (next : ℕ → List flat.Piece → Protected) → IsTurnable w at p ps
     → most ≤ length (cut (low_end w at to p ps) (high_end w at to p ps) ps) → protects_piece most w at to ps next (covering at ps) ≡ stopped ps Enomem
 protects-refused most w at to p ps next t many =
@@ -139,7 +139,7 @@ protects-refused most w at to p ps next t many =
     let over : nat_lt most (length (turned w at to p ps)) ≡ true = lt-ltb most (length (turned w at to p ps)) (omega (arith, long, many)) in
     rw (t.found, t.lacks, over, may-test w p t.may) refl
 
--- the segment of a piece that was split comes before those behind it
+-- the segment of a split piece comes before those after it
 split-noted : (id : ℕ) (before after : List flat.Piece) (x : Protected) → with_split id before after x ≡ noted (split_in id (length before) (length after)) x
 split-noted id before after x = elim (cases_Bool (nat_lt (length before) (length after))) [ inl h ↦ rw h refl | inr h ↦ rw h refl ]
 
@@ -150,7 +150,7 @@ protects-turned most w at to p ps next t room =
     let fits : nat_lt most (length (turned w at to p ps)) ≡ false = le-ltb most (length (turned w at to p ps)) (omega (arith, long, room)) in
     rw (t.found, t.lacks, fits, may-test w p t.may) (split-noted p.seg ps (turned w at to p ps) (next (end_of p) (turned w at to p ps)))
 
--- what the part leaves
+-- the pieces after the part is in
 pub replaced_by : (p q : flat.Piece) (w : Bool) (size at low high : ℕ) (ps : List flat.Piece) → q ≡ part_between w low high p → IsLow p at low → IsHigh p size at high
     → inserted q (cut q.base (end_of q) ps) ≡ replaced w low high p ps
 replaced_by p q w size at low high ps is l h =
@@ -179,7 +179,7 @@ lives-now es fs t u i ps lt now live =
     let same = life_at-changed (runners_view es) i (λ (_ : List flat.Piece). ps) (omega (arith, lt, length-map es runner_view)) in
     ap (λ rs. is_live (life_at rs i)) now.runners ∙ ap is_live same ∙ live
 
--- pages that are left come to the piece of the first of them
+-- while pages are left, the piece of the first one is next
 pub protects-next : (left most : ℕ) (w : Bool) (to at : ℕ) (ps : List flat.Piece) → at < to → to ≤ at + 4096 * left
     → protects_from left most w to at ps ≡ protects_piece most w at to ps (protects_from (left - 1) most w to) (covering at ps)
 protects-next zero most w to at ps lt enough = absurd (omega (arith, lt, enough))

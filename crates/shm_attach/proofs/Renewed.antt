@@ -1,5 +1,5 @@
--- A part of an attach that takes another protection takes the place of pieces of its own attach alone: each segment that has
--- a piece keeps one, and no page comes that was not there.
+-- A part of an attach that gets another protection replaces pieces of its own attach only. So each segment that has a piece keeps
+-- one, and no page is added.
 use Rattle.std.proofs.lemmas.List.Elements.{All-weaker}
 use Rattle.shm_attach.proofs.Names.{◌≡◌, ℕ, ◌+◌, ◌-◌, ◌*◌, ◌/◌, ◌%◌, ◌<◌, ◌≤◌, Bool, true, false, List, [], ◌∷◌, filter, cases_eq, cases_Bool, cases_lt, Option, Some, None, refl, ap, sym, subst, ◌∙◌, inl, inr, arith, common_steps, none-some, All, All-nil, All-cons, All-head, All-tail, All-append, nat_lt, if◌then◌else◌, ◌++◌, end_of, covers, meets, parts, part_below, part_above, covering, cut, inserted, pieces_of, lowest_address, IsFit, Arranged}
 use Rattle.std.specs.Prelude.{max, ◌≢◌, ◌⊎◌}
@@ -12,7 +12,7 @@ use Rattle.shm_attach.proofs.Accesses.{covering-passes}
 use Rattle.shm_areas.proofs.Passing.{all-cut, all-inserted}
 use Rattle.shm_attach.proofs.Processes.{one_more, pieces_of-inserted, pieces_of-cut_met}
 
--- A PIECE THAT A RANGE MEETS IS THAT OF AN ADDRESS IN IT
+-- A PIECE THAT A RANGE MEETS HAS AN ADDRESS OF IT
 
 all-above : (low : ℕ) (ps : List Piece) → Arranged low ps → All (λ (q : Piece). low ≤ q.base) ps
 all-above low [] ar = All-nil (λ (q : Piece). low ≤ q.base)
@@ -24,7 +24,7 @@ all-fit : (low : ℕ) (ps : List Piece) → Arranged low ps → All IsFit ps
 all-fit low [] ar = All-nil IsFit
 all-fit low (p ∷ ps) ar = All-cons IsFit p ps ar.1.0 (all-fit (end_of p) ps ar.1.1)
 
--- the piece of the first address of the range that lies in it
+-- the piece of the first address of the range that is in it
 IsCovered : ℕ → ℕ → List Piece → Piece → Type 0
 IsCovered low high ps q = meets low high q ≡ true → covering (max low q.base) ps ≡ Some q
 
@@ -44,7 +44,7 @@ all-covered l low high (p ∷ ps) ar =
     let q = all-above (end_of p) ps ar.1.1 k d lt in
     not-here p ps _ (omega (arith, q)) ∙ all-covered (end_of p) low high ps ar.1.1 k d lt m)
 
--- THE PIECES THAT A PART TAKES THE PLACE OF
+-- THE PIECES THAT A PART REPLACES
 
 pub covers-found : (a : ℕ) (ps : List Piece) (p : Piece) → covering a ps ≡ Some p → (p.base ≤ a) × (a < end_of p)
 covers-found a [] p found = absurd (none-some p found)
@@ -92,7 +92,7 @@ module _ (w : Bool) (at to : ℕ) (p : Piece) (ps : List Piece) (ar : Arranged l
     ]
   ]
 
-  -- those that the part meets are of its segment
+  -- those that the part meets belong to its segment
   own : All (λ (q : Piece). meets low high q ≡ true → q.seg ≡ p.seg) ps
   unfolding IsCovered
   own =
@@ -122,7 +122,7 @@ still-named low high x ps all id some = elim (cases_eq id x.seg) [
       omega (arith, none, left, more, some)
 ]
 
--- NO PAGE COMES
+-- NO PAGE IS ADDED
 
 abbrev rest_above : ℕ → Piece → Piece
 rest_above to p = record p { base = to; first_page = p.first_page + (to - p.base) / 4096; pages = (end_of p - to) / 4096 }
@@ -207,7 +207,7 @@ module _ (seg : ℕ → Bool) (page : ℕ → ℕ → Bool) where
         let fit = fit-found at p found in
         page-of p at j ((from + 4096 * j - p.base) / 4096) found refl (sym same) (omega (arith, le, lt, fit.aligned))
 
-    -- the part has pages of its attach alone
+    -- the part has pages of its attach only
     pub part-has : HasPages seg page (part_between w from end p)
     part-has = ((covering-passes (HasPages seg page) at ps p all found).0, λ j lt. page-at j lt)
       where
@@ -243,7 +243,7 @@ module _ (seg : ℕ → Bool) (page : ℕ → ℕ → Bool) where
         all-inserted (HasPages seg page) (part_between w from end p) (cut from end ps) part-has
         (all-cut (HasPages seg page) from end (parts-have from end) ps all)
 
--- a segment that has a piece has one still
+-- a segment that has a piece still has one
 pub turned-named : (w : Bool) (at to : ℕ) (p : Piece) (ps : List Piece) → Arranged lowest_address ps → covering at ps ≡ Some p → at < to → (id : ℕ) → 0 < pieces_of id ps
     → 0 < pieces_of id (inserted (part_between w (low_end w at to p ps) (high_end w at to p ps) p) (cut (low_end w at to p ps) (high_end w at to p ps) ps))
 turned-named w at to p ps ar found order =

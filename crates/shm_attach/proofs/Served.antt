@@ -1,4 +1,4 @@
--- An access fails first where it fails behind what one piece serves.
+-- If one piece serves the first addresses of an access, its first failure is that of the rest.
 use Rattle.shm_attach.proofs.Names.{◌≡◌, ℕ, zero, suc, ◌+◌, ◌<◌, ◌≤◌, Bool, true, false, List, Some, None, refl, arith, covering, place_covering}
 use Rattle.shm_base.specs.State.{Piece}
 use Rattle.shm_base.specs.Access.{place}
@@ -22,7 +22,7 @@ pub failed-none : (w : Bool) (ps : List Piece) (a n : ℕ) → 1 ≤ n → cover
 failed-none w ps a zero some none = absurd (omega arith)
 failed-none w ps a (suc n) some none = rw (place_covering a ps, none) refl
 
--- a write to a piece that is read-only
+-- a write to a read-only piece
 pub failed-readonly : (w : Bool) (ps : List Piece) (p : Piece) (a n : ℕ) → 1 ≤ n → w ≡ true → covering a ps ≡ Some p → p.writable ≡ false → first_failed w ps a n ≡ Some a
 failed-readonly w ps p a zero some write found only = absurd (omega arith)
 failed-readonly w ps p a (suc n) some write found only = rw (write, place_covering a ps, found, only) refl

@@ -1,4 +1,4 @@
--- The counts stay exact, and each piece has its segment's table, where one process changes.
+-- A change of one process keeps the counts exact, and each piece keeps its segment's table.
 use Rattle.shm_attach.proofs.Names.{is_live, true, false, true≢false, most_at, length-set_value_at, values_of, ◌≡◌, ◌≢◌, ℕ, ◌+◌, ◌<◌, ◌≤◌, List, [], length, Some, slice_get, sym, subst, arith, common_steps, All, length-map, set_value_at, lowest_address, inserted, cut, without_named, pieces_of, bare_all, Arranged, arranged_cut, arranged_inserted, Tables, runner_view, runners_view, with_pieces_at, with_life_at, pieces_at, life_at, counted, stored_at, HasTable, OneTableEach, AllHaveTables, IsPlaceFor, IsCuttable, AreCountsExact, AreTablesSound, HasReservations, no_reservations, one_reserved, Piece, Runner, MOST_PIECES, most_of_segment}
 use Rattle.shm_base.specs.State as flat
 use Rattle.shm_attach.proofs.Processes.{some_if-le, runners_set, length-inserted, shorter_filter}
@@ -19,7 +19,7 @@ pub changed : (es : List (ℕ × Runner)) (i : ℕ) (w v : Runner) (f : List fla
     → bare_all v.space.pieces ≡ f (bare_all w.space.pieces) → v.space.most ≡ w.space.most → IsChanged es (set_value_at es i v) i f v.space.pieces
 changed es i w v f at life space most = grind (arith, common_steps, runners_set, length-set_value_at, stored_at-set, stored_at-other, (most_at-set es i w v at most))
 
--- the tables follow pieces that give way to others
+-- the tables follow when pieces are replaced by others
 pub record IsRecounted (t u : Tables) (before after : List flat.Piece) : Type 0 where
   pub counts : (id : ℕ) → counted u id + pieces_of id before ≡ counted t id + pieces_of id after
   pub tables : (p : Piece) → HasTable t.slab p → 0 < counted u p.seg → HasTable u.slab p
@@ -31,7 +31,7 @@ pub record AreFit (rs : List flat.Runner) (i : ℕ) (ps : List flat.Piece) : Typ
   pub order : Arranged lowest_address ps
   pub idle : is_live (life_at rs i) ≡ false → ps ≡ []
 
--- one more piece, where there is a place for it
+-- one more piece, if there is room for it
 pub fit-inserted : (extra : ℕ → ℕ) (es : List (ℕ × Runner)) (t : Tables) (i : ℕ) (p : flat.Piece) → AreTablesSound extra es t → IsPlaceFor p (pieces_at (runners_view es) i)
     → is_live (life_at (runners_view es) i) ≡ true → AreFit (runners_view es) i (inserted p (pieces_at (runners_view es) i))
 fit-inserted extra es t i p sound place live = grind (arith, common_steps, length-inserted, arranged_inserted, true≢false)
@@ -41,7 +41,7 @@ pub fit-cut : (extra : ℕ → ℕ) (es : List (ℕ × Runner)) (t : Tables) (i 
     → AreFit (runners_view es) i (cut from to (pieces_at (runners_view es) i))
 fit-cut extra es t i from to sound can = grind (arith, common_steps, arranged_cut)
 
--- the pieces of an attach go
+-- the pieces of an attach are removed
 pub fit-without : (extra : ℕ → ℕ) (es : List (ℕ × Runner)) (t : Tables) (i addr seg : ℕ) → AreTablesSound extra es t
     → AreFit (runners_view es) i (without_named addr seg (pieces_at (runners_view es) i))
 fit-without extra es t i addr seg sound = grind (arith, common_steps, shorter_filter, arranged-without)
@@ -71,9 +71,9 @@ sound-life es fs t i l lt idle sound life same =
       tables = λ j. subst (λ (ps : List Piece). All (HasTable t.slab) ps) (sym (same j)) (sound.tables j);
     }
 
--- WHAT HOLDS A SEGMENT
+-- THE TABLES THAT ARE RESERVED
 
--- other tables are reserved beside the pieces
+-- other tables are reserved in addition to those of the pieces
 pub sound-reserved : (e f : ℕ → ℕ) (es : List (ℕ × Runner)) (t u : Tables) → AreTablesSound e es t → ((id : ℕ) → counted u id + e id ≡ counted t id + f id) → OneTableEach u
     → ((p : Piece) → HasTable t.slab p → 0 < counted u p.seg → HasTable u.slab p) → AreTablesSound f es u
 sound-reserved e f es t u sound counts tied step =

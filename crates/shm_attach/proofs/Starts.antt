@@ -4,7 +4,7 @@ use Rattle.shm_base.specs.State as flat
 use Rattle.shm_attach.proofs.HavingTables.{pieces_at-bare}
 use Rattle.shm_attach.proofs.Callers.{nobody}
 
--- a process under a new pid stands behind the others
+-- a process under a new pid comes after the others
 pub view-insert_entry : (es : List (ℕ × Runner)) (k : ℕ) (r : Runner) → ((j : ℕ) → j < length es → (get_or es j nobody).0 ≢ k)
     → runners_view (insert_entry nat_eq es k r) ≡ runners_view es ++ runner_view (k, r) ∷ []
 view-insert_entry [] k r others = refl
@@ -51,7 +51,7 @@ AllHaveTables-start es ps t same i k d lt =
     let none : bare_all (stored_at es i) ≡ [] = sym (pieces_at-bare es i) ∙ ap (λ (rs : List flat.Runner). pieces_at rs i) same ∙ pieces_at-start ps i in
     absurd (omega (arith, lt, length-map (stored_at es i) bare, ap length none))
 
--- a process more has its room
+-- one more process has room for its pieces
 pub room-more : (most : ℕ) (es : List (ℕ × Runner)) (k : ℕ) (r : Runner) → ((i : ℕ) → i < length es → most_at es i ≡ most) → r.space.most ≡ most
     → (i : ℕ) → i < length (insert_entry nat_eq es k r) → most_at (insert_entry nat_eq es k r) i ≡ most
 room-more most [] k r each own zero lt = own
@@ -59,7 +59,7 @@ room-more most [] k r each own (suc i) lt = absurd (omega (arith, lt))
 room-more most (e ∷ es) k r each own zero lt = grind (arith, common_steps, each 0)
 room-more most (e ∷ es) k r each own (suc i) lt = grind (arith, common_steps, each (suc i), (room-more most es k r (λ j within. each (suc j) (omega (arith, within))) own i))
 
--- a process that is put in behind the others begins with no piece
+-- a process that is added after the others begins without pieces
 pub started : (es fs : List (ℕ × Runner)) (ps : List Process) (i : ℕ) (d : Process) (r : Runner) → fs ≡ insert_entry nat_eq es (get_or ps i d).pid r
     → runners_view es ≡ map runner_at_start (take i ps) → i < length ps
     → ((a b : ℕ) (e : Process) → a < b → b < length ps → (get_or ps a e).pid ≢ (get_or ps b e).pid)

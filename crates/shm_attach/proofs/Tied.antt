@@ -1,4 +1,4 @@
--- One table for each segment with pieces: what a change of the map and of the slab leaves.
+-- One table for each segment with pieces, after a change of the map and of the slab.
 use Rattle.shm_attach.proofs.Names.{◌≡◌, ◌≢◌, ℕ, ◌<◌, Option, Some, None, refl, arith, common_steps, cases_eq, none-some, Slab, get, with_value, Updates, PageRef, Tables, seg_in, count_in, TrueTable, TrueSlot, AllTrue, with_frame, counted, counted_under, key_of, HasTable, OneTableEach, Piece, TableView}
 
 -- a piece that has its table is counted
@@ -23,7 +23,7 @@ module _ (t : Tables) (key : ℕ) (e v : TableView) (tied : OneTableEach t) (at 
 
 -- A MOVE
 
--- the tables of other segments are true still
+-- the tables of other segments are still true
 true-apart : (at : ℕ → ℕ → Option ℕ) (r : PageRef) (f : Option ℕ) (o : Option TableView) → seg_in o ≢ Some r.seg → TrueSlot at o → TrueSlot (with_frame r f at) o
 true-apart at r f o other now = grind (arith, common_steps)
 

@@ -1,4 +1,4 @@
--- The translations of all pieces are true where each entry is.
+-- The translations of all pieces are true if each entry is.
 use Rattle.shm_attach.proofs.Names.{◌≡◌, ◌≢◌, ℕ, zero, suc, ◌+◌, ◌<◌, List, [], ◌∷◌, ◌++◌, length, get_or, Option, Some, None, refl, ap, sym, subst, ◌∙◌, arith, common_steps, All, ⊤, flat_map, All-append, All-nil, All-cons, All-head, All-tail, Slab, get, StoreView, frame_of, Tables, Translation, AreTrue, translations_from, translations_in, translations_of, seg_in, TrueSlot, AllTrue, counted, OneTableEach, TableView}
 
 abbrev IsTrueAt : (ℕ → ℕ → Option ℕ) → Translation → Type 0
@@ -39,7 +39,7 @@ slots-of at (Some e ∷ os) all zero =
     λ j lt. let here : 0 + j ≡ j = omega arith in rw here at (frames-of at e.seg 0 e.frames (All-left (IsTrueAt at) (translations_from e.seg 0 e.frames) (flat_map translations_in os) all) j lt)
 slots-of at (o ∷ os) all (suc k) = slots-of at os (All-right (IsTrueAt at) (translations_in o) (flat_map translations_in os) all) k
 
--- a fact of each entry's translations is one of all
+-- a fact about each entry's translations is one about all
 slots-all : (P : Translation → Type 0) (S : Option TableView → Type 0) → ((o : Option TableView) → S o → All P (translations_in o)) → (os : List (Option TableView))
     → ((k : ℕ) → S (get_or os k None)) → All P (flat_map translations_in os)
 slots-all P S one [] each = All-nil P
@@ -55,7 +55,7 @@ all-true at t all = slots-of at t.slots all
 pub true-all : (at : ℕ → ℕ → Option ℕ) (t : Slab TableView) → AllTrue at t → All (λ (x : Translation). x.frame ≡ at x.seg x.page) (translations_of t)
 true-all at t all = slots-all (IsTrueAt at) (TrueSlot at) (of-slot at) t.slots all
 
--- translations stay true where each entry does
+-- translations stay true if each entry does
 pub keeps : (ts : List Translation) (t u : Slab TableView) → translations_of t ≡ ts → ((at : ℕ → ℕ → Option ℕ) → AllTrue at t → AllTrue at u)
     → (m : StoreView) → AreTrue ts m → AreTrue (translations_of u) m
 keeps ts t u is step m old = true-all (frame_of m) u (step (frame_of m) (all-true (frame_of m) t (subst (λ (xs : List Translation). AreTrue xs m) (sym is) old)))

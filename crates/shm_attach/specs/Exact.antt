@@ -1,4 +1,4 @@
--- What the processes, the stored counts and the tables keep.
+-- The invariant of the processes, the stored counts and the tables.
 use Rattle.std.specs.Prelude.{◌≡◌, ℕ, ◌+◌, ◌≤◌, false, List, [], length}
 use Rattle.shm_base.specs.State as flat
 use Rattle.shm_base.specs.Guest.{is_live}
@@ -16,8 +16,8 @@ use Rattle.shm_base.specs.declared.bounds.TheConstants.{MOST_PIECES, MOST_PROCES
 abbrev pub most_of_segment : ℕ
 most_of_segment = 2147287040
 
--- each count is that of the pieces and of the reservations beside them; the pieces are few and in order in each
--- process; a process that is not live has none
+-- each count is the number of pieces and reservations; the pieces of each process are in order and not too many; a process that
+-- is not live has none
 pub record AreCountsExact (extra : ℕ → ℕ) (rs : List flat.Runner) (t : Tables) : Type 0 where
   pub counts : (id : ℕ) → counted t id ≡ attach_count rs id + extra id
   pub processes : length rs ≤ MOST_PROCESSES
@@ -25,7 +25,7 @@ pub record AreCountsExact (extra : ℕ → ℕ) (rs : List flat.Runner) (t : Tab
   pub idle : (i : ℕ) → is_live (life_at rs i) ≡ false → pieces_at rs i ≡ []
   pub arranged : (i : ℕ) → Arranged lowest_address (pieces_at rs i)
 
--- the counts are exact, and each piece has its segment's table
+-- the counts are exact, and each piece has the table of its segment
 pub record AreTablesSound (extra : ℕ → ℕ) (es : List (ℕ × Runner)) (t : Tables) : Type 0 where
   pub exact : AreCountsExact extra (runners_view es) t
   pub tied : OneTableEach t
@@ -35,11 +35,11 @@ pub record AreTablesSound (extra : ℕ → ℕ) (es : List (ℕ × Runner)) (t :
 abbrev pub no_reservations : ℕ → ℕ
 no_reservations id = 0
 
--- one table is reserved, that of a segment
+-- one table is reserved, for this segment
 abbrev pub one_reserved : ℕ → ℕ → ℕ
 one_reserved seg id = some_if id seg 1
 
--- at most one attach under way has reserved each segment's table
+-- each segment's table is reserved by at most one attach under way
 pub record HasReservations (es : List (ℕ × Runner)) (t : Tables) : Type 0 where
   pub extra : ℕ → ℕ
   pub few : (id : ℕ) → extra id ≤ 1

@@ -1,4 +1,4 @@
--- What a fork leaves of the processes.
+-- The processes after a fork.
 use Rattle.std.specs.Prelude.{List, slice_set}
 use Rattle.shm_base.specs.State.{Runner, Live}
 use Rattle.shm_base.specs.Step.{Caller}

@@ -1,4 +1,4 @@
--- A process of any state, as the flat machine has it.
+-- A process in any state, as the flat machine has it.
 use Rattle.std.specs.Prelude.{ℕ, List}
 use Rattle.shm_base.specs.State as flat
 use Rattle.shm_base.specs.State.{Runner}
@@ -8,11 +8,11 @@ use Rattle.shm_attach.specs.declared.process.Listed.{Listed}
 use Rattle.shm_attach.specs.Spaces.{pieces_at}
 use Rattle.shm_attach.specs.Views.{life_view}
 
--- the process with this pid at a place
+-- the process that was found at an index under this pid
 abbrev pub found_as : ℕ → Found → List Runner → Standing
 found_as pid f rs = record { index = f.index; runner = record { pid = pid; life = life_view f.life; pieces = pieces_at rs f.index } }
 
--- a process without its pieces
+-- a process's pid and state
 abbrev pub listed : Runner → ℕ × flat.Life
 listed r = (r.pid, r.life)
 

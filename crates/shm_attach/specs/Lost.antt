@@ -1,4 +1,4 @@
--- What contracts see of the segments that a change of pieces concerns.
+-- The segments that a change of pieces concerns, as contracts see them.
 use Rattle.std.specs.Prelude.{ℕ, List}
 
 -- the segments, and the most that there may be

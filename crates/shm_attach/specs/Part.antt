@@ -1,4 +1,4 @@
--- What goes from the pieces of a process, and what is left.
+-- The pieces that a process loses, and those that are left.
 use Rattle.std.specs.Prelude.{◌≡◌, ℕ, ◌%◌, ◌≤◌, ◌<◌, List, length, ⊤}
 use Rattle.shm_base.specs.State.{Piece}
 use Rattle.shm_base.specs.Space.{cut, without_named}
@@ -11,7 +11,7 @@ abbrev pub left : Part → List Piece → List Piece
 left (Range from to) ps = cut from to ps
 left (Attach addr seg) ps = without_named addr seg ps
 
--- a range of whole pages that leaves no more pieces than a process may have
+-- a range of whole pages whose cut leaves at most as many pieces as a process may have
 pub record IsCuttable (from to : ℕ) (ps : List Piece) : Type 0 where
   pub from_page : from % PAGE_SIZE ≡ 0
   pub to_page : to % PAGE_SIZE ≡ 0
@@ -22,7 +22,7 @@ abbrev pub CanGo : Part → List Piece → Type 0
 CanGo (Range from to) ps = IsCuttable from to ps
 CanGo (Attach addr seg) ps = ⊤
 
--- what is left has room, where so many pieces are the most
+-- at most `most` pieces are left
 abbrev pub LeavesRoom : ℕ → Part → List Piece → Type 0
 LeavesRoom most (Range from to) ps = length (cut from to ps) ≤ most
 LeavesRoom most (Attach addr seg) ps = ⊤

@@ -1,28 +1,28 @@
--- What contracts see of the processes with their pieces, and of where each piece's pages are thought to be.
+-- The processes with their pieces, as contracts see them, and the frames in their tables.
 use Rattle.std.specs.Prelude.{◌≡◌, ℕ, List, [], Option, Some, None, slice_get, All}
 use Rattle.shm_base.specs.State.{Piece, Life, Unborn, Runner}
 use Rattle.shm_base.specs.Step.{Caller as FlatCaller, caller_from}
 use Rattle.shm_fault.specs.Store.{StoreView, frame_of}
 use Rattle.shm_attach.specs.declared.process.Caller.{Caller}
 
--- one page of a segment, and the frame that the table of its pieces keeps for it
+-- one page of a segment, and its frame in the table of the segment's pieces
 pub record Translation : Type 0 where
   pub seg : ℕ
   pub page : ℕ
   pub frame : Option ℕ
 
--- `most` are the most pieces of a process, `lost` the segments that the last change of pieces concerns
+-- `most` is the limit of pieces of a process; `lost` are the segments that the last change of pieces concerns
 pub record SpacesView : Type 0 where
   pub runners : List Runner
   pub translations : List Translation
   pub most : ℕ
   pub lost : List ℕ
 
--- each translation is what the residency says
+-- each translation agrees with the frames of the store
 abbrev pub AreTrue : List Translation → StoreView → Type 0
 AreTrue ts m = All (λ (t : Translation). t.frame ≡ frame_of m t.seg t.page) ts
 
--- translations that were true of a store are true of it still
+-- translations that agreed with a store still do
 abbrev pub KeepTrue : SpacesView → SpacesView → Type 0
 KeepTrue s t = (m : StoreView) → AreTrue s.translations m → AreTrue t.translations m
 
@@ -30,7 +30,7 @@ abbrev pub pieces_in : Option Runner → List Piece
 pieces_in None = []
 pieces_in (Some r) = r.pieces
 
--- the pieces of the process at a place
+-- the pieces of the process at an index
 abbrev pub pieces_at : List Runner → ℕ → List Piece
 pieces_at rs i = pieces_in (slice_get rs i)
 
@@ -38,14 +38,14 @@ abbrev pub life_in : Option Runner → Life
 life_in None = Unborn
 life_in (Some r) = r.life
 
--- the state of the process at a place
+-- the state of the process at an index
 abbrev pub life_at : List Runner → ℕ → Life
 life_at rs i = life_in (slice_get rs i)
 
--- a caller as the flat machine has it, among these processes
+-- a caller among these processes, as the flat machine has it
 abbrev pub caller_seen : Caller → List Runner → FlatCaller
 caller_seen c rs = record { index = c.index; pid = c.pid; cred = c.cred; pieces = pieces_at rs c.index }
 
--- the caller is a live process of these
+-- the caller is one of these processes, and live
 abbrev pub IsCaller : Caller → List Runner → Type 0
 IsCaller c rs = caller_from 0 c.pid rs ≡ Some (caller_seen c rs)

@@ -1,4 +1,4 @@
--- Spans of bytes of segments, as the places that an access asks for.
+-- Spans of bytes of segments, as the places that an access uses.
 use Rattle.std.specs.Prelude.{ℕ, ◌≡◌, ◌+◌, ◌<◌, ◌^◌, Bool, true, false, List, Option, Some, option_map, map, All, sum_by}
 use Rattle.shm_base.specs.State.{Piece, Runner}
 use Rattle.shm_base.specs.Access.{Place, places, writable_places}
@@ -9,40 +9,40 @@ use Rattle.shm_base.specs.declared.paging.Span.{Span}
 use Rattle.slab.specs.Slab.{Slab}
 use Rattle.shm_attach.specs.Table.{AllTrue, TableView}
 
--- a place without its mark
+-- a place, without whether it is writable
 abbrev pub unmarked : Place → Place
 unmarked p = record p { writable = false }
 
--- the places that a process asks for, or none
+-- the places that an access uses; none if it fails
 abbrev pub asked : Bool → List Piece → ℕ → ℕ → Option (List Place)
 asked true ps addr n = writable_places ps addr n
 asked false ps addr n = places ps addr n
 
--- the same without their marks
+-- the same places without whether they are writable
 abbrev pub wanted_in : Bool → List Piece → ℕ → ℕ → Option (List Place)
 wanted_in write ps addr len = option_map (map unmarked) (asked write ps addr len)
 
--- the pieces of a live process, none of another
+-- the pieces of a live process; none for any other
 abbrev pub pieces_by : ℕ → List Runner → List Piece
 pieces_by pid rs = pieces_of_caller (caller_from 0 pid rs)
 
--- what a process asks for
+-- the places that a process's access uses
 abbrev pub wanted : Bool → ℕ → ℕ → ℕ → List Runner → Option (List Place)
 wanted write pid addr len rs = wanted_in write (pieces_by pid rs) addr len
 
--- a test passes at every page of every piece
+-- a test passes for every page of every piece
 abbrev pub PassPages : (ℕ → ℕ → Bool) → List Piece → Type 0
 PassPages test ps = All (λ (p : Piece). (j : ℕ) → j < p.pages → test p.seg (p.first_page + j) ≡ true) ps
 
--- the spans of an access of a process with these pieces: each within a page, of so many bytes together, of pages that its
--- pieces have
+-- the spans of an access by a process with these pieces: each is within one page, which the pieces have, and together they have
+-- the bytes of the access
 pub record AreSpans (write : Bool) (ps : List Piece) (addr len : ℕ) (s : List Span) : Type 0 where
   pub places : wanted_in write ps addr len ≡ Some (span_places false s)
   pub within : All InPage s
   pub sum : sum_by (λ (p : Span). p.len) s ≡ len
   pub pages : (test : ℕ → ℕ → Bool) → PassPages test ps → All (λ (p : Span). test p.seg (page_of p) ≡ true) s
 
--- the span of an access to addresses of one page, with the frame that its table keeps for the page
+-- the span of an access within one page, with the frame of the page in its table
 pub record IsSpan (write : Bool) (ps : List Piece) (addr len : ℕ) (t : Slab TableView) (s : Span) : Type 0 where
   pub places : wanted_in write ps addr len ≡ Some (run s.seg s.at s.len false)
   pub within : InPage s
@@ -51,6 +51,6 @@ pub record IsSpan (write : Bool) (ps : List Piece) (addr len : ℕ) (t : Slab Ta
   pub pages : (test : ℕ → ℕ → Bool) → PassPages test ps → test s.seg (page_of s) ≡ true
   pub frames : (at : ℕ → ℕ → Option ℕ) → AllTrue at t → s.frame ≡ at s.seg (page_of s)
 
--- a piece whose segment passes one test, and each of whose pages another
+-- the piece's segment passes one test, and each of its pages another
 abbrev pub HasPages : (ℕ → Bool) → (ℕ → ℕ → Bool) → Piece → Type 0
 HasPages seg page p = (seg p.seg ≡ true) × ((j : ℕ) → j < p.pages → page p.seg (p.first_page + j) ≡ true)

@@ -1,4 +1,4 @@
--- The frames of the pages of a segment, and when they are true.
+-- The frames of a segment's pages, and when they are true.
 use Rattle.std.specs.Prelude.{◌≡◌, ℕ, ◌+◌, ◌<◌, if◌then◌else◌, List, [], ◌∷◌, length, get_or, Option, Some, None, ⊤}
 use Rattle.std.specs.List.{flat_map}
 use Rattle.slab.specs.Slab.{Slab, get}
@@ -6,7 +6,7 @@ use Rattle.shm_base.specs.declared.paging.PageRef.{PageRef}
 use Rattle.shm_fault.specs.Steps.{is_page}
 use Rattle.shm_attach.specs.Spaces.{Translation}
 
--- how many pieces a segment has, and the frames of its first pages
+-- a table: its segment, how many pieces the segment has, and the frames of its first pages
 pub record TableView : Type 0 where
   pub seg : ℕ
   pub count : ℕ
@@ -28,17 +28,17 @@ abbrev pub frame_in : Option TableView → ℕ → Option ℕ
 frame_in None j = None
 frame_in (Some e) j = get_or e.frames j None
 
--- the segment of a table that is there
+-- the segment of a table
 abbrev pub seg_in : Option TableView → Option ℕ
 seg_in None = None
 seg_in (Some e) = Some e.seg
 
--- how many pieces a table counts
+-- the number of pieces that a table counts
 abbrev pub count_in : Option TableView → ℕ
 count_in None = 0
 count_in (Some e) = e.count
 
--- how many pages a table has
+-- the number of pages that a table has
 abbrev pub size_in : Option TableView → ℕ
 size_in None = 0
 size_in (Some e) = length e.frames
@@ -56,6 +56,6 @@ TrueSlot at (Some e) = TrueTable at e
 abbrev pub AllTrue : (ℕ → ℕ → Option ℕ) → Slab TableView → Type 0
 AllTrue at t = (key : ℕ) → TrueSlot at (get t key)
 
--- a residency with another frame for one page
+-- a residency, with another frame for one page
 abbrev pub with_frame : PageRef → Option ℕ → (ℕ → ℕ → Option ℕ) → ℕ → ℕ → Option ℕ
 with_frame r f at seg page = if is_page r seg page then f else at seg page

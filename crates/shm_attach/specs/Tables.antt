@@ -1,4 +1,4 @@
--- How the tables of the attached segments are tied to the pieces.
+-- How the tables of the attached segments match the pieces.
 use Rattle.std.specs.Prelude.{◌≡◌, ℕ, ◌+◌, ◌<◌, ◌≤◌, List, [], slice_get, Option, Some, None, nat_eq, All}
 use Rattle.std.specs.HashMap as hash
 use Rattle.slab.specs.Slab.{Slab, get}
@@ -15,7 +15,7 @@ counted_under s (Some key) = count_in (get s key)
 abbrev pub key_of : Tables → ℕ → Option ℕ
 key_of t id = hash.get nat_eq t.keys id
 
--- how many pieces a segment has
+-- the stored number of pieces of a segment
 abbrev pub counted : Tables → ℕ → ℕ
 counted t id = counted_under t.slab (key_of t id)
 
@@ -24,13 +24,13 @@ pub record AreSameTables (t copy : Tables) : Type 0 where
   pub keyed : (id : ℕ) → key_of copy id ≡ key_of t id
   pub slots : copy.slab.slots ≡ t.slab.slots
 
--- a segment has a table just where it has pieces, and just one
+-- a segment has exactly one table if it has pieces, and none otherwise
 pub record OneTableEach (t : Tables) : Type 0 where
   pub keyed : (id key : ℕ) → key_of t id ≡ Some key → seg_in (get t.slab key) ≡ Some id
   pub named : (id key : ℕ) → seg_in (get t.slab key) ≡ Some id → key_of t id ≡ Some key
   pub some : (id : ℕ) → counted t id ≡ 0 → key_of t id ≡ None
 
--- a piece's key is that of a table of its segment, which has its pages
+-- the piece's key finds a table of its segment, and the table has its pages
 pub record HasTable (t : Slab TableView) (p : Piece) : Type 0 where
   pub seg : seg_in (get t p.key) ≡ Some p.seg
   pub pages : p.first_page + p.pages ≤ size_in (get t p.key)
@@ -39,27 +39,27 @@ abbrev pub stored_in : Option (ℕ × Runner) → List Piece
 stored_in None = []
 stored_in (Some e) = e.1.space.pieces
 
--- the pieces of the process at a place, with their keys
+-- the pieces of the process at an index, with their keys
 abbrev pub stored_at : List (ℕ × Runner) → ℕ → List Piece
 stored_at es i = stored_in (slice_get es i)
 
--- so it is with every piece
+-- every piece has its table
 abbrev pub AllHaveTables : List (ℕ × Runner) → Slab TableView → Type 0
 AllHaveTables es t = (i : ℕ) → All (HasTable t) (stored_at es i)
 
 -- THROUGH A CHANGE
 
--- the counts stay
+-- the counts are unchanged
 abbrev pub KeepCounts : Tables → Tables → Type 0
 KeepCounts t u = (id : ℕ) → counted u id ≡ counted t id
 
--- each piece that had its table has it still, or does if its segment is still counted
+-- each piece that had its table still has it; or does so if its segment is still counted
 abbrev pub KeepTables : Slab TableView → Slab TableView → Type 0
 KeepTables t u = (p : Piece) → HasTable t p → HasTable u p
 
 abbrev pub KeepCounted : Tables → Tables → Type 0
 KeepCounted t u = (p : Piece) → HasTable t.slab p → 0 < counted u p.seg → HasTable u.slab p
 
--- frames that were true are true of the same residency
+-- frames that were true of a residency still are
 abbrev pub KeepFrames : Slab TableView → Slab TableView → Type 0
 KeepFrames t u = (at : ℕ → ℕ → Option ℕ) → AllTrue at t → AllTrue at u

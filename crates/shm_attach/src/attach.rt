@@ -1,4 +1,4 @@
-//! Attaching pages of a segment.
+//! Attaches the pages of a segment.
 ghost use Rattle.std.specs.Prelude.{◌≡◌, ◌+◌, ◌*◌, ◌≤◌, length, OnOk, OnErr};
 ghost use Rattle.shm_base.specs.Space.{cut_segments};
 ghost use Rattle.shm_attach.specs.Mapping.{own_pieces, left_beside, attached};
@@ -16,10 +16,11 @@ use shm_fault::PageStore;
 use shm_pager::Pager;
 
 impl Spaces {
-    /// Attaches all pages of a segment at a base. Pieces in the range give way to the new one, and those that
-    /// reach beyond it are cut: the segments that lost pages so are noted. Where the piece is its segment's
-    /// first, the translations are what the store's pages are then. The growths come first, and reserve the
-    /// segment's table while pieces go that may be its last.
+    /// Attaches all pages of a segment at a base, in place of whatever its range has: pieces in the range are
+    /// removed, and those that reach beyond it are cut. The segments that lost pages to it are noted. If the
+    /// piece is the first of its segment, the translations are read from the store. All memory is taken
+    /// first, and the segment's table is reserved, since the pieces that are removed may be its last.
+    /// HostMemory: the host refused memory, and nothing changed.
     pub fn attach<P: Pager>(
         &mut self,
         caller: &Caller,

@@ -1,7 +1,7 @@
-//! Changes of the pieces of one process. Every piece that comes goes through `put` and every one that goes through
-//! `take`, whatever the cause: shmat, a remap, shmdt, fork, exec and exit. The pieces, the counts and the
-//! translations change together, so that the counts stay exact and each piece has its segment's table. A shmat reserves
-//! that table by one count more until its piece stands.
+//! Changes of the pieces of one process. `put` adds every piece and `take` removes every piece, whatever the
+//! cause: shmat, a remap, shmdt, fork, exec and exit. Pieces, counts and translations change together, so the
+//! counts stay exact and each piece has its segment's table. A shmat reserves that table, by one count more,
+//! until its piece is in.
 ghost use Rattle.std.specs.Prelude.{◌≡◌, ℕ, ◌<◌, ◌≤◌, ◌+◌, length, true, All};
 ghost use Rattle.shm_base.specs.Guest.{is_live};
 ghost use Rattle.shm_base.specs.Space.{lowest_address, inserted, meets, pieces_of};
@@ -23,16 +23,16 @@ use crate::tables::Tables;
 use indexmap::IndexMap;
 use shm_areas::{Piece, Space};
 
-/// What goes from the pieces of a process.
+/// What is removed from the pieces of a process.
 #[derive(Clone, Copy)]
 pub(crate) enum Part {
-    /// The addresses from one up to another: pieces there go, and those that reach beyond are cut.
+    /// The addresses in a range: pieces there are removed, and those that reach beyond it are cut.
     Range { from: u64, to: u64 },
-    /// What is left of an attach: the pieces of a segment that would begin at the address.
+    /// What is left of an attach: the pieces of a segment with this origin.
     Attach { addr: u64, seg: u32 },
 }
 
-/// The address space of the process at a place.
+/// The address space of the process at an index.
 #[inline(always)]
 pub(crate) fn space_at(processes: &IndexMap<u32, Runner>, index: usize) -> &Space
     requires { index < length processes.now.entries }
@@ -43,7 +43,7 @@ pub(crate) fn space_at(processes: &IndexMap<u32, Runner>, index: usize) -> &Spac
     &processes[index].space
 }
 
-/// Puts a piece in. Its segment's table is there.
+/// Adds a piece. Its segment's table exists.
 pub(crate) fn put(
     processes: &mut IndexMap<u32, Runner>,
     tables: &mut Tables,
@@ -64,7 +64,7 @@ pub(crate) fn put(
     processes[index].space.insert(piece);
 }
 
-/// Counts what becomes of pieces that a range meets: each goes, and its parts outside come.
+/// Counts a cut of the pieces that a range meets: each is removed, and its parts outside the range are added.
 fn recount(tables: &mut Tables, met: &[Piece], from: u64, to: u64)
     requires fit { Arranged lowest_address (bare_all met.now) }
     requires meets { All (λ (p : Stored). meets from to (bare p) ≡ true) met.now }
@@ -81,7 +81,7 @@ fn recount(tables: &mut Tables, met: &[Piece], from: u64, to: u64)
     }
 }
 
-/// Takes pieces out, and the tables of segments that have none left.
+/// Removes pieces, and the tables of segments that have none left.
 pub(crate) fn take(
     processes: &mut IndexMap<u32, Runner>,
     tables: &mut Tables,
@@ -112,8 +112,9 @@ pub(crate) fn take(
     }
 }
 
-/// A piece takes the place of what is in its range: pieces there go, and those that reach beyond are cut. Its segment's
-/// table was reserved before, since the pieces that go may be the last that have it.
+/// Replaces whatever is in a piece's range by the piece: pieces there are removed, and those that reach
+/// beyond it are cut. The segment's table was reserved before, because the pieces that are removed may be its
+/// last.
 pub(crate) fn exchange(
     processes: &mut IndexMap<u32, Runner>,
     tables: &mut Tables,
@@ -133,7 +134,7 @@ pub(crate) fn exchange(
     tables.replace(piece.seg, piece.key, 1, 0);
 }
 
-/// Another state for the process at a place.
+/// Sets the state of the process at an index.
 pub(crate) fn set_life_at(processes: &mut IndexMap<u32, Runner>, index: usize, life: Life)
     requires { index < length processes.old.entries }
     ensures runners { let rs = runners_view processes.old.entries in

@@ -1,11 +1,11 @@
-//! The same processes once more.
+//! A copy of the processes.
 ghost use Rattle.std.specs.Prelude.{◌≡◌, IfOk};
 
 use crate::spaces::Spaces;
 use shm_base::HostMemory;
 
 impl Spaces {
-    /// The same processes once more, each with the room for its most pieces.
+    /// A copy of the processes, each with room for its most pieces. HostMemory: the host refused memory.
     pub fn try_clone(&self) -> Result<Spaces, HostMemory>
         ensures { IfOk result (λ copy. copy ≡ self.now) }
     {

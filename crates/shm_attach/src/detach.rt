@@ -1,4 +1,4 @@
-//! Detaching pieces: those of one attach by shmdt, and all of them by exec and exit.
+//! Detaches pieces: those of one attach by shmdt, all of them by exec and exit.
 ghost use Rattle.std.specs.Prelude.{◌≡◌, []};
 ghost use Rattle.shm_base.specs.Space.{without_named};
 ghost use Rattle.shm_base.specs.Step.{with_end, segments_of};
@@ -11,8 +11,7 @@ use crate::spaces::Spaces;
 use shm_base::{END_ADDRESS, LOWEST_ADDRESS};
 
 impl Spaces {
-    /// Takes out the pieces of a segment that would begin at the address: those that are left of an attach. It
-    /// takes no memory.
+    /// Removes the pieces of a segment with this origin: what is left of an attach. Takes no memory.
     pub fn detach(&mut self, caller: &Caller, addr: u64, seg: u32)
         requires { IsCaller caller.now self.old.runners }
         ensures gone { self.new.runners
@@ -28,7 +27,7 @@ impl Spaces {
         );
     }
 
-    /// Takes all pieces of a process out, and notes the segments that they named. It takes no memory.
+    /// Removes all pieces of a process, and notes their segments. Takes no memory.
     pub fn exec(&mut self, caller: &Caller)
         requires { IsCaller caller.now self.old.runners }
         ensures lost { self.new.lost ≡ segments_of (caller_seen caller.now self.old.runners) }
@@ -49,7 +48,7 @@ impl Spaces {
         );
     }
 
-    /// Ends a process: as `exec`, and it is live no more. It takes no memory.
+    /// Ends a process: removes its pieces as `exec` does, and the process is no longer live. Takes no memory.
     pub fn exit(&mut self, caller: &Caller)
         requires { IsCaller caller.now self.old.runners }
         ensures lost { self.new.lost ≡ segments_of (caller_seen caller.now self.old.runners) }

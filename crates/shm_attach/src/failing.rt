@@ -1,4 +1,4 @@
-//! Where an access fails, and which address of it no frame serves.
+//! The address at which an access fails, and the first one whose page has no frame.
 ghost use Rattle.std.specs.Prelude.{◌≡◌, ℕ, Option, All};
 ghost use Rattle.shm_areas.specs.Arranged.{bare_all};
 ghost use Rattle.shm_fault.specs.Store.{StoreView, frame_of};
@@ -14,7 +14,7 @@ use crate::tables::Tables;
 use shm_areas::Space;
 use shm_base::PAGE_SIZE;
 
-/// The first failing address of an access to a space, looked for piece by piece.
+/// The first failing address of an access to a space. Searches piece by piece.
 fn failed_in(space: &Space, addr: u64, len: u64, write: bool) -> Option<u64>
     ensures { result ≡ first_failed write (bare_all space.now.pieces) addr len }
 {
@@ -34,7 +34,7 @@ fn failed_in(space: &Space, addr: u64, len: u64, write: bool) -> Option<u64>
     None
 }
 
-/// The first address of an access to a space whose page has no frame, looked for page by page.
+/// The first address of an access to a space whose page has no frame. Searches page by page.
 fn absent_in(space: &Space, tables: &Tables, addr: u64, len: u64) -> Option<u64>
     requires { All (HasTable tables.now.slab) space.now.pieces }
     ensures { (frame : ℕ → ℕ → Option ℕ) → AllTrue frame tables.now.slab
@@ -58,8 +58,8 @@ fn absent_in(space: &Space, tables: &Tables, addr: u64, len: u64) -> Option<u64>
 }
 
 impl Spaces {
-    /// The first address at which an access of a process fails: one without a piece, or for a write one in a piece
-    /// that is read-only. Addresses past 2^64 - 1 have no piece, nor has a process that is not live.
+    /// The first address at which an access of a process fails: one without a piece or, for a write, one in a
+    /// read-only piece. Addresses above 2^64 - 1 have no piece, and a process that is not live has none.
     pub fn failed_at(&self, pid: u32, addr: u64, len: u64, write: bool) -> Option<u64>
         ensures { result ≡ first_failed write (pieces_by pid self.now.runners) addr len }
     {
@@ -71,8 +71,8 @@ impl Spaces {
             None => Some(addr),
         }
     }
-    /// The first address of an access of a process whose page has no frame, if all addresses below it have pieces.
-    /// Once a page-in failed, it is the address that the failure is about.
+    /// The first address of an access whose page has no frame, if all addresses below it are in pieces. After
+    /// a page-in failed, this is the address that the failure is about.
     pub fn absent_at(&self, pid: u32, addr: u64, len: u64) -> Option<u64>
         ensures { (m : StoreView) → AreTrue self.now.translations m
             → result ≡ first_absent (frame_of m) (pieces_by pid self.now.runners) addr len }

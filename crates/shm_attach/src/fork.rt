@@ -1,4 +1,4 @@
-//! A child is born with its parent's credentials and pieces.
+//! fork: a child is born with its parent's credentials and pieces.
 ghost use Rattle.std.specs.Prelude.{◌≡◌, ◌≢◌, ℕ, ◌<◌, ◌≤◌, [], length, Some, true};
 ghost use Rattle.shm_base.specs.Guest.{is_live};
 ghost use Rattle.shm_base.specs.Segments.{attach_count};
@@ -15,7 +15,7 @@ use crate::spaces::Spaces;
 use crate::tables::Tables;
 use indexmap::IndexMap;
 
-/// Puts the pieces of one process into another that has none.
+/// Copies the pieces of one process to another that has none.
 fn copy_pieces(
     processes: &mut IndexMap<u32, Runner>,
     tables: &mut Tables,
@@ -40,8 +40,8 @@ fn copy_pieces(
 }
 
 impl Spaces {
-    /// A child becomes live, with the credentials and the pieces of the caller (fork(2); shmop(2): a child inherits
-    /// the attached segments). It takes no memory.
+    /// A child becomes live, with the credentials and the pieces of the caller (fork(2); shmop(2): a child
+    /// inherits the attached segments). Takes no memory.
     pub fn fork(&mut self, caller: &Caller, child: &Child)
         requires live { IsCaller caller.now self.old.runners }
         requires unborn { unborn_from 0 child.now.pid self.old.runners ≡ Some child.now.index }

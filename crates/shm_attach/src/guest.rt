@@ -1,4 +1,4 @@
-//! Processes that join and leave between calls, and credentials that change.
+//! Processes that join and leave between calls, and changes of credentials.
 ghost use Rattle.std.specs.Prelude.{◌≡◌, ℕ, ◌≤◌, true, [], None, Some, IfSome, IfNone, IfOk, OnErr, IsOk, is_ok, is_some};
 ghost use Rattle.shm_base.specs.Guest.{standing, joins, joins_beside, leaves, becomes, left_by};
 ghost use Rattle.shm_base.specs.Segments.{attach_count};
@@ -12,7 +12,7 @@ use shm_areas::Space;
 use shm_base::{AdmitRefusal, Cred, DismissRefusal, Errno, HostMemory, LAST_PID, Process};
 use std::alloc::Global;
 
-/// A process of any state: its place among the processes.
+/// A process in any state: its index among the processes.
 #[derive(Clone, Copy)]
 pub(crate) struct Found {
     pub(crate) index: usize,
@@ -33,9 +33,10 @@ impl Spaces {
         })
     }
 
-    /// A process joins, with no piece: the new one takes the place of an ended one that has its pid, and no memory
-    /// then; else it comes after the others, of which there may be `most`, and takes its room. Out of memory
-    /// changes nothing, and comes only where nothing is refused.
+    /// A process joins, without pieces. If an ended process has its pid, the new one takes that one's place
+    /// and needs no memory. Otherwise it comes after the others, of which there may be `most`, and takes
+    /// memory for all its pieces. Errors: the refusals of `AdmitRefusal`; out of memory only if none of them
+    /// applies, and then nothing changed.
     pub fn admit(
         &mut self,
         alloc: Global,
@@ -86,7 +87,7 @@ impl Spaces {
         Ok(())
     }
 
-    /// A process that ended leaves, or a child that is not born, and the last of all takes its place.
+    /// A process that ended, or a child that is not born yet, leaves. The last process takes its place.
     pub fn dismiss(&mut self, pid: u32) -> Result<(), DismissRefusal>
         ensures leaves { leaves pid self.old.runners ≡ left_by result self.new.runners }
         ensures refused { OnErr result (self.new ≡ self.old) }
@@ -103,7 +104,7 @@ impl Spaces {
         Ok(())
     }
 
-    /// A live process has other credentials from now on. Its pieces stay.
+    /// Gives a live process other credentials. Its pieces stay. Esrch: the process is not live.
     pub fn set_cred(&mut self, pid: u32, cred: Cred) -> Result<(), Errno>
         ensures becomes { becomes pid cred self.old.runners ≡ left_by result self.new.runners }
         ensures refused { OnErr result (self.new ≡ self.old) }

@@ -1,5 +1,5 @@
-//! The pieces of all processes, how many pieces each segment has, in which frame each of their pages is,
-//! and the spans of an access.
+//! The pieces of all processes, the number of pieces of each segment, the frame of each of their pages, and
+//! the spans of an access.
 #![tactic(auto)]
 
 mod attach;

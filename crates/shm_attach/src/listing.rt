@@ -1,4 +1,4 @@
-//! The processes, one after another.
+//! The processes in order.
 ghost use Rattle.std.specs.Prelude.{◌≡◌, length, option_map, slice_get};
 ghost use Rattle.shm_attach.specs.Guest.{listed, listed_view};
 
@@ -6,14 +6,14 @@ use crate::process::Listed;
 use crate::spaces::Spaces;
 
 impl Spaces {
-    /// How many processes there are, live or not.
+    /// The number of processes, live or not.
     pub fn process_count(&self) -> u32
         ensures { result ≡ length self.now.runners }
     {
         self.processes.len() as u32
     }
 
-    /// The process at a place, from 0 on. A process that is dismissed gives its place to the last one.
+    /// The process at an index, from 0. When a process is dismissed, the last one takes its index.
     pub fn process_at(&self, index: u32) -> Option<Listed>
         ensures { option_map listed_view result ≡ option_map listed (slice_get self.now.runners index) }
     {

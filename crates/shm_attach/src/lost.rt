@@ -1,4 +1,4 @@
-//! The segments that a change of pieces concerns: those that lost pieces, or those of pieces that were split.
+//! The segments that a change of pieces concerns: those that lost pieces, or those whose pieces were split.
 ghost use Rattle.std.specs.Prelude.{◌≡◌, ◌+◌, ◌++◌, ◌≤◌, [], length, map, option_to_list, IfOk};
 ghost use Rattle.shm_areas.specs.declared.piece.Piece.{Piece as Stored};
 
@@ -7,8 +7,9 @@ use shm_base::HostMemory;
 use std::alloc::{AllocError, Global};
 use std::marker::Model;
 
-/// The segments that a call concerns, by rising base: a segment is here once for each piece that went or was cut, or
-/// that a protection split. There is room for the most pieces of a process, so noting them takes no memory.
+/// The segments that a call concerns, in order of the pieces' bases: once for each piece that was removed or
+/// cut, or that a protect split. There is room for the most pieces of a process, so noting them takes no
+/// memory.
 pub(crate) struct Lost {
     segments: Vec<u32>,
     most: u32,
@@ -35,7 +36,7 @@ impl Model for Lost {
 }
 
 impl Lost {
-    /// No segment. It takes the room for the most that there may be.
+    /// No segments, with room for the most that there may be. HostMemory: the host refused memory.
     pub(crate) fn new(alloc: Global, most: u32) -> Result<Lost, HostMemory>
         ensures { IfOk result (λ l. l ≡ record { segments = []; most = most }) }
     {
@@ -43,7 +44,7 @@ impl Lost {
         Ok(Lost { segments, most })
     }
 
-    /// The same segments once more, with the room for the most that there may be.
+    /// A copy, with room for the most that there may be.
     pub(crate) fn try_clone(&self) -> Result<Lost, AllocError>
         ensures { IfOk result (λ copy. copy ≡ self.now) }
     {
@@ -55,7 +56,7 @@ impl Lost {
         })
     }
 
-    /// Notes the segments of these pieces in place of those of an earlier call.
+    /// Notes the segments of these pieces, and forgets those of an earlier call.
     pub(crate) fn note(&mut self, pieces: &[Piece])
         requires { length pieces.now ≤ self.old.most }
         ensures { self.new ≡ record self.old { segments = map (λ (p : Stored). p.seg) pieces.now } }
@@ -66,7 +67,7 @@ impl Lost {
         }
     }
 
-    /// Forgets those of an earlier call.
+    /// Forgets the segments of an earlier call.
     pub(crate) fn clear(&mut self)
         ensures { self.new ≡ record self.old { segments = [] } }
     {
@@ -83,7 +84,6 @@ impl Lost {
         }
     }
 
-    /// The segments.
     pub(crate) fn segments(&self) -> &[u32]
         ensures value { result.now ≡ self.now.segments }
         ensures few { length result.now ≤ self.now.most }

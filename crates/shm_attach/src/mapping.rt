@@ -1,5 +1,5 @@
-//! What a process does to its attached memory beside the calls: it unmaps a range (munmap(2)), or protects one
-//! (mprotect(2)). Neither takes memory.
+//! What a process does to its attached memory without a call of this interface: it unmaps a range
+//! (munmap(2)), or protects one (mprotect(2)). Neither takes memory.
 ghost use Rattle.std.specs.Prelude.{◌≡◌, ◌+◌, ◌%◌, ◌^◌, ◌<◌, ◌≤◌, [], Some, true, length, option_to_list, SomeIff, IfOk, OnOk, OnErr};
 ghost use Rattle.shm_base.specs.Access as access;
 ghost use Rattle.shm_base.specs.Guest.{is_live};
@@ -22,14 +22,14 @@ use indexmap::IndexMap;
 use shm_areas::{Piece, Space};
 use shm_base::{Errno, PAGE_SIZE};
 
-/// Where a range of this many bytes ends, which are rounded up to whole pages.
+/// The end of a range of this many bytes, rounded up to whole pages; none if that is 2^64 or more.
 fn range_end(addr: u64, len: u64) -> Option<u64>
     ensures { SomeIff result (addr + flat.rounded len < 2 ^ 64) (addr + flat.rounded len) }
 {
     addr.checked_add(len.checked_next_multiple_of(PAGE_SIZE)?)
 }
 
-/// Whether a piece goes on where another ends, as two parts of one attach do.
+/// Whether one piece ends where the next begins, and both are parts of one attach.
 fn goes_on(piece: &Piece, next: &Piece) -> bool
     requires piece { IsFit (bare piece.now) }
     requires next { IsFit (bare next.now) }
@@ -41,7 +41,7 @@ fn goes_on(piece: &Piece, next: &Piece) -> bool
             == next.base + PAGE_SIZE * piece.first_page as u64
 }
 
-/// Where a part from an address on begins, once it has joined the part below.
+/// Where the changed part begins, after it joined the part below if that has the protection already.
 fn low_end(space: &Space, piece: &Piece, at: u64, to: u64, writable: bool) -> u64
     requires arranged { Arranged lowest_address (bare_all space.now.pieces) }
     requires piece { covering at (bare_all space.now.pieces) ≡ Some (bare piece.now) }
@@ -57,7 +57,7 @@ fn low_end(space: &Space, piece: &Piece, at: u64, to: u64, writable: bool) -> u6
     }
 }
 
-/// Where a part from an address on ends, once it has joined the part above.
+/// Where the changed part ends, after it joined the part above if that has the protection already.
 fn high_end(space: &Space, piece: &Piece, at: u64, to: u64, writable: bool) -> u64
     requires within { IsCovering at piece.now }
     ensures { result ≡ flat.high_end writable at to (bare piece.now) (bare_all space.now.pieces) }
@@ -88,7 +88,7 @@ fn part_between(piece: &Piece, low: u64, high: u64, writable: bool) -> Piece
     }
 }
 
-/// Puts a part of an attach in place of what is in its range.
+/// Replaces whatever is in its range by a part of an attach.
 fn renew(processes: &mut IndexMap<u32, Runner>, tables: &mut Tables, index: usize, part: Piece)
     requires can { CanReplace processes.old.entries tables.old index part }
     requires sound { AreTablesSound no_reservations processes.old.entries tables.old }
@@ -98,14 +98,15 @@ fn renew(processes: &mut IndexMap<u32, Runner>, tables: &mut Tables, index: usiz
     exchange(processes, tables, index, part);
 }
 
-/// Where a protection goes on after a piece, and the piece's segment where the piece was split.
+/// The address after a protected piece, and the piece's segment if the piece was split.
 #[derive(Clone, Copy)]
 pub(crate) struct Passed {
     pub(crate) end: u64,
     pub(crate) split: Option<u32>,
 }
 
-/// The segment, where a piece that is put in place of a range would be one more. So many are left without the range.
+/// The segment, if a piece that replaces a range makes one piece more; `left` pieces remain without the
+/// range.
 fn split_by(space: &Space, left: usize, seg: u32) -> Option<u32>
     ensures { option_to_list result ≡ split_in seg (length space.now.pieces) (left + 1) }
 {
@@ -116,7 +117,7 @@ fn split_by(space: &Space, left: usize, seg: u32) -> Option<u32>
     }
 }
 
-/// Protects the piece that an address lies in, from the address on as far as the range reaches into it.
+/// Protects the piece at an address, from there to its end or to the end of the range.
 fn protect_piece(
     processes: &mut IndexMap<u32, Runner>,
     tables: &mut Tables,
@@ -200,9 +201,9 @@ fn protect_range(
 }
 
 impl Spaces {
-    /// Takes a range of whole pages out of the pieces of a process: pieces there go, and those that reach beyond are
-    /// cut. The segments that lost pages so are noted. Enomem where what is left would be more pieces than a process
-    /// may have.
+    /// Takes a range of whole pages out of the pieces of a process: pieces there are removed, and those that
+    /// reach beyond it are cut. Notes the segments that lost pages. Enomem: the process would have too many
+    /// pieces; nothing changed.
     pub fn unmap(&mut self, caller: &Caller, from: u64, to: u64) -> Result<(), Errno>
         requires live { IsCaller caller.now self.old.runners }
         requires range { IsPageRange from to }
@@ -227,9 +228,12 @@ impl Spaces {
         Ok(())
     }
 
-    /// A range of a process becomes writable, or read-only, up to the first refusal: Einval where it does not begin
-    /// with a page, Enomem at an address without a piece, Eacces at a piece that may not become writable, Enomem
-    /// where there would be too many pieces. The segments of pieces that were split are noted, up to the refusal too.
+    /// Makes a range of a process writable or read-only, from its beginning up to the first refusal. Notes
+    /// the segments of pieces that were split, also if it is refused.
+    ///
+    /// - Einval: the range does not begin with a page.
+    /// - Enomem: an address without a piece, or the process would have too many pieces.
+    /// - Eacces: a piece that may not become writable.
     pub fn protect(
         &mut self,
         caller: &Caller,

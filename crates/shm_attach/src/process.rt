@@ -5,7 +5,7 @@ use shm_areas::Space;
 use shm_base::Cred;
 use std::alloc::AllocError;
 
-/// A process is declared, born with its credentials or later as a child, and ends once.
+/// A process is declared, is born with its credentials at once or later as a child, and ends once.
 #[derive(Clone, Copy, Debug, PartialEq, Eq)]
 pub enum Life {
     Unborn,
@@ -35,22 +35,22 @@ impl Clone for Runner {
     }
 }
 
-/// A process as a list shows it.
+/// A process as a listing shows it.
 #[derive(Clone, Copy, Debug, PartialEq, Eq)]
 pub struct Listed {
     pub pid: u32,
     pub life: Life,
 }
 
-/// A child that was declared and is not born yet: its place among the processes.
+/// A child that was declared and is not born yet, by its index among the processes.
 #[derive(Clone, Copy, Debug, PartialEq, Eq)]
 pub struct Child {
     pub index: usize,
     pub pid: u32,
 }
 
-/// A live process: its place among the processes, from 0 in the order in which they were declared, and
-/// its credentials. It serves until the process ends.
+/// A live process: its index among the processes, from 0 in the order of their declaration, and its
+/// credentials. Valid until the process ends.
 #[derive(Clone, Copy, Debug, PartialEq, Eq)]
 pub struct Caller {
     pub index: usize,

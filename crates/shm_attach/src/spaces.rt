@@ -25,15 +25,15 @@ use shm_fault::PageMove;
 use std::alloc::Global;
 use std::marker::Model;
 
-/// The processes in the order in which they were declared, each with its pieces, the attach count of each
-/// segment, and the translations: for each page of each attached segment the frame that it is in, or none.
+/// The processes in the order of their declaration, each with its pieces; the attach count of each segment;
+/// and the translations: for each page of each attached segment its frame, or none.
 pub struct Spaces {
     pub(crate) processes: IndexMap<u32, Runner>,
     pub(crate) tables: Tables,
     pub(crate) lost: Lost,
     // The most pieces of a process.
     pub(crate) most: u32,
-    // Where the last caller was found. By now another process may be there, or none.
+    // The index at which the last caller was found. Another process, or none, may be there now.
     pub(crate) last: usize,
 }
 
@@ -80,7 +80,8 @@ pub(crate) fn born(process: &Process) -> Life
 }
 
 impl Spaces {
-    /// The processes as they are declared, none with a piece. It takes the room of each, for its most pieces.
+    /// The processes as they are declared, without pieces. Takes memory for the most pieces of each.
+    /// HostMemory: the host refused memory.
     pub fn new(alloc: Global, processes: &[Process], most: u32) -> Result<Spaces, HostMemory>
         requires most { most ≤ MOST_PIECES }
         requires few { length processes.now ≤ MOST_PROCESSES }
@@ -119,7 +120,7 @@ impl Spaces {
         }
     }
 
-    // The live process at a place, where it has the pid.
+    // The live process at an index, if it has the pid.
     #[inline(always)]
     fn caller_at(&self, index: usize, pid: u32) -> Option<Caller>
         ensures pid { IfSome result (λ c. c.pid ≡ pid) }
@@ -135,7 +136,7 @@ impl Spaces {
         Some(Caller { index, pid, cred })
     }
 
-    // Looks for the live process with a pid, and keeps where it was found.
+    // Searches the live process with a pid, and keeps its index.
     #[inline(never)]
     fn find_caller(&mut self, pid: u32) -> Option<Caller>
         ensures pid { IfSome result (λ c. c.pid ≡ pid) }
@@ -148,7 +149,7 @@ impl Spaces {
         Some(caller)
     }
 
-    /// As [`Spaces::caller`]. A process that calls again is found where it was, with no search.
+    /// As [`Spaces::caller`]. If the same process calls again, it is found without a search.
     #[inline(always)]
     pub fn caller_again(&mut self, pid: u32) -> Option<Caller>
         ensures pid { IfSome result (λ c. c.pid ≡ pid) }
@@ -162,7 +163,7 @@ impl Spaces {
         }
     }
 
-    /// The child with a pid that was declared and is not born yet.
+    /// The child with this pid, if it was declared and is not born yet.
     pub fn child(&self, pid: u32) -> Option<Child>
         ensures pid { IfSome result (λ c. c.pid ≡ pid) }
         ensures unborn { IfSome result (λ c. unborn_from 0 c.pid self.now.runners ≡ Some c.index) }
@@ -184,7 +185,7 @@ impl Spaces {
         space_at(&self.processes, caller.index)
     }
 
-    /// How many pieces of all processes name the segment (shm_nattch): a number that is read.
+    /// How many pieces of all processes belong to the segment (shm_nattch). The number is stored.
     pub fn count(&self, seg: u32) -> u32
         ensures value { result ≡ attach_count self.now.runners seg }
         ensures unnamed { result ≡ 0 → All (λ (t : Translation). t.seg ≢ seg) self.now.translations }
@@ -192,9 +193,8 @@ impl Spaces {
         self.tables.count(seg)
     }
 
-    /// The spans of an access of a process to this many addresses, each with the frame that is kept for its page.
-    /// Segv where the process is not live, where an address has no piece, and for a write where one lies in a
-    /// piece that is read-only.
+    /// The spans of an access to `len` addresses of a process, each with the frame that is kept for its page.
+    /// Segv: the process is not live, an address has no piece, or a write meets a read-only piece.
     pub fn spans(&self, pid: u32, addr: u64, len: u64, write: bool) -> Result<Spans, Segv>
         requires size { (1 ≤ len) × (len ≤ 4096) }
         ensures spans { IfOk result (λ s. AreSpans write (pieces_by pid self.now.runners) addr len s) }
@@ -208,7 +208,7 @@ impl Spaces {
         }
     }
 
-    /// As [`Spaces::spans`], of a process that is known to be live.
+    /// As [`Spaces::spans`], for a process that is known to be live.
     #[inline(always)]
     pub fn spans_of(&self, caller: &Caller, addr: u64, len: u64, write: bool) -> Result<Spans, Segv>
         requires live { IsCaller caller.now self.now.runners }
@@ -223,10 +223,10 @@ impl Spaces {
         spans_in(space, &self.tables, addr, len, write)
     }
 
-    /// The segments that the last change of pieces concerns, by rising base. After an attach, an unmap, an exec or an
-    /// exit: those that lost pages, once for each piece that went or was cut. After a protection, refused or not: those
-    /// of pieces that were split, once for each piece more. Other calls leave them, and an attach or an unmap that
-    /// fails does too.
+    /// The segments that the last change of pieces concerns, in order of the pieces' bases. After an attach,
+    /// an unmap, an exec or an exit these are the segments that lost pages, once for each piece that was
+    /// removed or cut. After a protect, refused or not, they are the segments of split pieces, once for each
+    /// additional piece. Other calls leave the list as it is, and so does an attach or an unmap that fails.
     pub fn lost(&self) -> &[u32]
         ensures value { result.now ≡ self.now.lost }
         ensures few { length result.now ≤ MOST_PIECES }
@@ -234,7 +234,7 @@ impl Spaces {
         self.lost.segments()
     }
 
-    /// Notes which pages moved, one after another, for all pieces at once. It takes no memory.
+    /// Notes the frames of pages that moved, in order, for all pieces at once. Takes no memory.
     #[inline(always)]
     pub fn note(&mut self, moved: &[PageMove])
         ensures runners { self.new.runners ≡ self.old.runners }

@@ -13,12 +13,12 @@ use shm_base::{PAGE_SIZE, Span};
 use std::marker::Model;
 use thiserror::Error;
 
-/// An address without a piece, or a write through a piece that is read-only (SIGSEGV).
+/// An address has no piece, or a write meets a read-only piece (SIGSEGV).
 #[derive(Clone, Copy, Debug, PartialEq, Eq, Error)]
 #[error("address not mapped, or not writable")]
 pub struct Segv;
 
-// What follows a single span.
+// Fills the second place if there is one span.
 const NO_SPAN: Span = Span {
     seg: 0,
     at: 0,
@@ -26,7 +26,7 @@ const NO_SPAN: Span = Span {
     frame: None,
 };
 
-/// The spans of an access, one or two, in address order. Each lies within one page of its segment.
+/// The spans of an access, one or two, in address order. Each is within one page of its segment.
 #[derive(Debug, Drop)]
 pub struct Spans {
     spans: [Span; 2],
@@ -65,7 +65,6 @@ impl Spans {
         }
     }
 
-    /// The spans.
     #[inline(always)]
     pub fn as_slice(&self) -> &[Span]
         ensures value { result.now ≡ self.now }
@@ -75,7 +74,7 @@ impl Spans {
     }
 }
 
-/// The span of an access to addresses of one page.
+/// The span of an access within one page.
 #[inline(always)]
 fn span_in(space: &Space, tables: &Tables, addr: u64, len: u64, write: bool) -> Option<Span>
     requires some { 1 ≤ len }
@@ -97,7 +96,7 @@ fn span_in(space: &Space, tables: &Tables, addr: u64, len: u64, write: bool) -> 
     })
 }
 
-/// The spans of an access to addresses of a process. An access of at most 4,096 bytes has at most two pages.
+/// The spans of an access of a process. An access of at most 4,096 bytes has at most two pages.
 #[inline(always)]
 pub(crate) fn spans_in(
     space: &Space,

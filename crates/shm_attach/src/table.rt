@@ -9,8 +9,7 @@ use shm_pager::Pager;
 use std::alloc::{AllocError, Global};
 use std::marker::Model;
 
-/// How many pieces a segment has, and the frames of its first pages: where each is resident, and none where it
-/// is not.
+/// How many pieces a segment has, and the frames of its first pages; none for a page that is not resident.
 pub(crate) struct Table {
     seg: u32,
     count: u32,
@@ -47,7 +46,7 @@ impl Clone for Table {
     }
 }
 
-// The frame of a page, where those from `touched` on were never touched: the store is asked for the others alone.
+// The frame of a page. Pages from `touched` on were never touched, so the store is asked only for the others.
 #[inline(always)]
 fn frame_of<P: Pager>(store: &PageStore<P>, seg: u32, page: u32, touched: u32) -> Option<FrameNo>
     requires { (p : ℕ) → touched ≤ p → frame_of store.now seg p ≡ None }
@@ -60,7 +59,7 @@ fn frame_of<P: Pager>(store: &PageStore<P>, seg: u32, page: u32, touched: u32) -
 }
 
 impl Table {
-    /// One piece of a segment, and no page.
+    /// A table with one piece of a segment, and no page.
     pub(crate) fn new(alloc: Global, seg: u32) -> Table
         ensures { result ≡ record { seg = seg; count = 1; frames = [] } }
     {
@@ -71,14 +70,14 @@ impl Table {
         }
     }
 
-    /// How many pieces there are.
+    /// The number of pieces.
     pub(crate) fn count(&self) -> u32
         ensures { result ≡ self.now.count }
     {
         self.count
     }
 
-    /// Some pieces give way to `parts` others. It tells how many there are now.
+    /// Replaces `gone` pieces by `parts` others, and returns how many there are now.
     pub(crate) fn replace(&mut self, gone: u32, parts: u32) -> u32
         requires gone { gone ≤ self.old.count }
         requires fits { self.old.count + parts < 2 ^ 32 }
@@ -89,7 +88,8 @@ impl Table {
         self.count
     }
 
-    /// Has this many pages then, each further one as it is in the store. The store is asked for pages that were touched.
+    /// Extends the table to this many pages, by the frames that they have in the store. Asks the store only
+    /// for pages that were touched.
     pub(crate) fn extend<P: Pager>(
         &mut self,
         store: &PageStore<P>,
@@ -120,7 +120,7 @@ impl Table {
         self.frames.get(page).copied().flatten()
     }
 
-    /// Notes where a page of the segment is now.
+    /// Notes the frame of a page of the segment.
     pub(crate) fn set(&mut self, page: PageRef, frame: Option<FrameNo>)
         requires { page.seg ≡ self.old.seg }
         ensures rest { self.new ≡ record self.old { frames = self.new.frames } }

@@ -1,5 +1,6 @@
-//! The attach counts, and where the pages of the attached segments are. The pieces of a segment share one
-//! table, whose key each of them has, so that a move is noted in one place. A segment without pieces has none.
+//! The attach counts, and the frames of the pages of attached segments. The pieces of a segment share one
+//! table, and each has its key, so a move of a page is noted in one place. A segment without pieces has no
+//! table.
 ghost use Rattle.std.specs.Prelude.{◌≡◌, ℕ, ◌+◌, ◌^◌, ◌<◌, ◌≤◌, [], ◌∷◌, Option, Some, IfOk, OnOk, OnErr};
 ghost use Rattle.slab.specs.Slab.{get};
 ghost use Rattle.shm_fault.specs.Steps.{moved};
@@ -17,7 +18,7 @@ use slab::Slab;
 use std::alloc::{AllocError, Global};
 use std::collections::HashMap;
 
-/// The tables of the attached segments, and the key of each segment's.
+/// The tables of the attached segments, and the key of each.
 pub(crate) struct Tables {
     alloc: Global,
     keys: HashMap<u32, usize>,
@@ -35,7 +36,7 @@ impl Drop for Tables {
 }
 
 impl Tables {
-    /// No pieces.
+    /// No pieces and no tables.
     pub(crate) fn new(alloc: Global) -> Tables
         ensures none { (id : ℕ) → counted result id ≡ 0 }
         ensures slots { result.slab.slots ≡ [] }
@@ -48,7 +49,7 @@ impl Tables {
         }
     }
 
-    /// The same tables once more, each under its key.
+    /// A copy of the tables under the same keys.
     pub(crate) fn try_clone(&self) -> Result<Tables, AllocError>
         ensures { IfOk result (λ copy. AreSameTables self.now copy) }
     {
@@ -68,7 +69,7 @@ impl Tables {
         self.keys.get(&seg).copied()
     }
 
-    /// How many pieces a segment has.
+    /// The number of pieces of a segment.
     pub(crate) fn count(&self, seg: u32) -> u32
         ensures { result ≡ counted self.now seg }
     {
@@ -81,7 +82,7 @@ impl Tables {
         }
     }
 
-    /// The frame of a page of the segment whose table lies under a key.
+    /// The frame of a page of the segment whose table has this key.
     #[inline(always)]
     pub(crate) fn frame(&self, key: usize, page: usize) -> Option<FrameNo>
         ensures { result ≡ frame_in (get self.now.slab key) page }
@@ -92,7 +93,7 @@ impl Tables {
         }
     }
 
-    // A table has this many pages of its segment then.
+    // Extends a table to this many pages of its segment.
     fn extend<P: Pager>(
         &mut self,
         store: &PageStore<P>,
@@ -116,8 +117,8 @@ impl Tables {
         }
     }
 
-    /// Reserves a segment's table for a piece that is to come: it counts as one, and the table, whose key is told,
-    /// has the first `pages` pages. The growths come first.
+    /// Reserves a segment's table for a piece that is still to come: counts it as one, gives the table the
+    /// first `pages` pages, and returns its key. Takes all memory first.
     pub(crate) fn reserve<P: Pager>(
         &mut self,
         store: &PageStore<P>,
@@ -151,8 +152,8 @@ impl Tables {
         Ok(key)
     }
 
-    /// Some pieces of a segment, whose table lies under the key, give way to `parts` others. Where none is left
-    /// the table goes. It takes no memory.
+    /// Replaces `gone` pieces of a segment, whose table has this key, by `parts` others. Removes the table if
+    /// none is left. Takes no memory.
     pub(crate) fn replace(&mut self, seg: u32, key: usize, gone: u32, parts: u32)
         requires own { seg_in (get self.old.slab key) ≡ Some seg }
         requires gone { gone ≤ counted self.old seg }
@@ -173,7 +174,7 @@ impl Tables {
         }
     }
 
-    /// Some pieces of a segment go. It takes no memory.
+    /// Removes pieces of a segment. Takes no memory.
     pub(crate) fn release(&mut self, seg: u32, gone: u32)
         requires gone { gone ≤ counted self.old seg }
         requires fits { counted self.old seg < 2 ^ 32 }
@@ -188,7 +189,7 @@ impl Tables {
         }
     }
 
-    // Notes where a page is now.
+    // Notes the frame of a page.
     fn set(&mut self, page: PageRef, frame: Option<FrameNo>)
         requires { OneTableEach self.old }
         ensures counts { KeepCounts self.old self.new }
@@ -205,7 +206,7 @@ impl Tables {
         }
     }
 
-    /// Notes which pages moved, one after another, each in the table of its segment. It takes no memory.
+    /// Notes the frames of pages that moved, in order, each in its segment's table. Takes no memory.
     #[inline(always)]
     pub(crate) fn note(&mut self, moves: &[PageMove])
         requires { OneTableEach self.old }

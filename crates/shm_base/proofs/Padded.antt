@@ -1,4 +1,4 @@
--- Zeros behind the bytes of a chunk.
+-- Zeros after the bytes of a chunk.
 use Rattle.std.proofs.Common.{arith, ◌≡◌, ◌≤◌, ◌-◌, ◌++◌, ℕ, List, refl, take, drop, replicate, length, length-append}
 use Rattle.std.proofs.lemmas.List.{length-replicate, drop-replicate}
 use Rattle.std.proofs.Math.Seq.{take-append_seam}

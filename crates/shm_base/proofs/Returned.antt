@@ -1,4 +1,4 @@
--- Numbers that are taken and given back, where those given back are a list in some order.
+-- Numbers that are taken and returned; those returned are a list in some order.
 use Rattle.std.proofs.Common.{◌≡◌, ℕ, ◌+◌, ◌<◌, ◌≤◌, true, false, nat_eq, List, [], ◌∷◌, length, slice_index_or, map, Ok, Err, Result, refl, sym, ap, ◌∙◌, arith, true≢false}
 use Rattle.std.specs.Result.{OnOk, is_ok}
 use Rattle.std.specs.Ordering.{nat_cmp}
@@ -12,7 +12,7 @@ use Rattle.std.proofs.lemmas.Map.Keys.{IsDistinct-IsPermutation, IsDistinct-cons
 use Rattle.std.proofs.lemmas.Map.Steps.{length-le_from_distinct_below}
 use Rattle.shm_base.specs.Numbers.{NumbersView, is_among, is_taken, IsLeastNumber, WithTaken, WithReturned, AreNumbersSound}
 
--- what an answer that is there says
+-- the property that a successful answer has
 pub ok_given : {A E : Type 0} {P : Type 0} (r : Result A E) → is_ok r ≡ true → OnOk r P → P
 ok_given (Ok a) is p = p
 ok_given (Err e) is p = absurd (true≢false (sym is))
@@ -20,7 +20,7 @@ ok_given (Err e) is p = absurd (true≢false (sym is))
 flips : (x y : ℕ) → nat_eq x y ≡ nat_eq y x
 flips x y = grind (arith, nat_tests)
 
--- a number that is not among others differs from each
+-- a number that is not in a list differs from each of its elements
 apart : (n : ℕ) (xs : List ℕ) → is_among n xs ≡ false → AllByRecursion (λ y. nat_eq n y ≡ false) xs
 apart n [] none = tt
 apart n (x ∷ xs) none = (grind (arith, nat_tests), apart n xs (grind (arith, nat_tests)))
@@ -35,7 +35,7 @@ pub sound_none : (room : ℕ) → AreNumbersSound (record { fresh = 0; returned 
 unfolding IsDistinct
 sound_none room = record { once = tt; within = λ n h. absurd (true≢false (sym h)); room = omega arith }
 
--- no more were given back than were taken
+-- no more numbers were returned than were taken
 pub few_returned : (v : NumbersView) → AreNumbersSound v → length v.returned ≤ v.room
 few_returned v sound =
     let few : length v.returned ≤ v.fresh = length-le_from_distinct_below v.returned v.fresh sound.once sound.within in
@@ -79,7 +79,7 @@ module _ (v : NumbersView) (n : ℕ) (sound : AreNumbersSound v) (taken : is_tak
 
 -- TAKEN
 
--- a number among others is below the fresh ones
+-- a returned number is below the fresh ones
 module _ (v : NumbersView) (n : ℕ) (ys : List ℕ) (sound : AreNumbersSound v) (moved : IsPermutation v.returned (n ∷ ys)) where
   same_left : (i : ℕ) → is_among i v.returned ≡ is_among i (n ∷ ys)
   same_left i = list_any-IsPermutation (nat_eq i) v.returned (n ∷ ys) moved
@@ -104,7 +104,7 @@ module _ (v : NumbersView) (n : ℕ) (ys : List ℕ) (sound : AreNumbersSound v)
   pub taken_from : WithTaken v (record v { returned = ys }) n
   taken_from i = let s = same_left i in let w = sound.within n among in grind (arith, nat_tests, s, w, once_left)
 
--- the top of a heap whose greatest number is the least
+-- the top of a heap whose order is reversed: the least number
 above : (i : ℕ) (x : Reverse ℕ) (xs : List (Reverse ℕ)) → IsUpperBound (λ a b. nat_cmp b.0 a.0) x xs → i < x.0 → is_among i (map (λ r. r.0) xs) ≡ false
 above i x [] bound l = refl
 above i x (y ∷ ys) bound l =
@@ -135,11 +135,11 @@ sound_fresh v sound room = record { once = sound.once; within = λ n h. let w = 
 pub taken_fresh : (v : NumbersView) → v.returned ≡ [] → WithTaken v (record v { fresh = v.fresh + 1 }) v.fresh
 taken_fresh v none i = let out : is_among i v.returned ≡ false = ap (is_among i) none in grind (arith, nat_tests)
 
--- the numbers of a heap, which are those given back
+-- the numbers in a heap: the returned ones
 abbrev pub numbers_in : List (Reverse ℕ) → List ℕ
 numbers_in xs = map (λ r. r.0) xs
 
--- the first of them is among them
+-- the first of them is one of them
 pub among_first : (x : Reverse ℕ) (xs : List (Reverse ℕ)) → 0 < length xs → x ≡ slice_index_or xs 0 x → is_among x.0 (numbers_in xs) ≡ true
 among_first x [] some is = absurd (omega (arith, some))
 among_first x (y ∷ ys) some is = let same : x.0 ≡ y.0 = ap (λ (r : Reverse ℕ). r.0) is in grind (arith, nat_tests)

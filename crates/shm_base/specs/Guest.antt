@@ -1,5 +1,4 @@
--- What the host of a machine changes between calls: a process joins, leaves, or has other credentials. These are no
--- part of the step.
+-- Changes that the host makes between calls: a process joins, leaves, or gets other credentials. They are not calls.
 use Rattle.std.specs.Prelude.{ℕ, ◌+◌, ◌==◌, Bool, true, false, not, nat_le, if◌then◌else◌, List, [], ◌∷◌, ◌++◌, length, Option, Some, None, Result, Ok, Err, slice_set, swap_remove}
 use Rattle.shm_base.specs.Bounds.{within}
 use Rattle.shm_base.specs.State.{Life, Unborn, Live, Ended, Runner, Machine, runner_at_start}
@@ -14,7 +13,7 @@ use Rattle.shm_base.specs.declared.guest.AdmitRefusal.TheVariants.{BadPid, PidTa
 use Rattle.shm_base.specs.declared.guest.DismissRefusal.{DismissRefusal}
 use Rattle.shm_base.specs.declared.guest.DismissRefusal.TheVariants.{NoProcess, StillLive}
 
--- a process with its place among the processes
+-- a process with its position in the list of processes
 pub record Standing : Type 0 where
   pub index : ℕ
   pub runner : Runner
@@ -43,8 +42,8 @@ abbrev pub joins_beside : ℕ → Process → List Runner → Option Standing �
 joins_beside most p rs None = if nat_le most (length rs) then Err TooManyProcesses else Ok (rs ++ runner_at_start p ∷ [])
 joins_beside most p rs (Some x) = if not (is_ended x.runner.life) then Err PidTaken else Ok (slice_set rs x.index (runner_at_start p))
 
--- a new process stands behind the others, of which there may be so many; where an ended one has its pid, in the place
--- of that one. It has no piece, and is live with its credentials, or a child to be forked
+-- a new process joins at the end of the list, which has at most `most` processes; if an ended one has its pid, it takes that
+-- one's position. It has no piece; it is live with its credentials, or a child that is not born yet
 abbrev pub joins : ℕ → Process → List Runner → Result (List Runner) AdmitRefusal
 joins most p rs = if not (within 1 LAST_PID p.pid) then Err BadPid else joins_beside most p rs (standing p.pid rs)
 
@@ -54,13 +53,13 @@ abbrev pub leaves_found : List Runner → Option Standing → Result (List Runne
 leaves_found rs None = Err NoProcess
 leaves_found rs (Some x) = if is_live x.runner.life then Err StillLive else Ok (swap_remove rs x.index x.runner)
 
--- a process that ended, or a child that was not born, leaves, and the last of all takes its place
+-- a process that ended, or a child that is not born yet, leaves, and the last process of the list takes its position
 abbrev pub leaves : ℕ → List Runner → Result (List Runner) DismissRefusal
 leaves pid rs = leaves_found rs (standing pid rs)
 
 -- A PROCESS HAS OTHER CREDENTIALS
 
--- the processes with other credentials for a caller, whose pieces stay
+-- the processes, with other credentials for a caller, who keeps its pieces
 abbrev pub with_cred : List Runner → Caller → Cred → List Runner
 with_cred rs c cred = slice_set rs c.index (record { pid = c.pid; life = Live cred; pieces = c.pieces })
 
@@ -68,13 +67,13 @@ abbrev pub becomes_by : Cred → List Runner → Option Caller → Result (List 
 becomes_by cred rs None = Err Esrch
 becomes_by cred rs (Some c) = Ok (with_cred rs c cred)
 
--- a live process has other credentials from now on
+-- a live process has these credentials from now on
 abbrev pub becomes : ℕ → Cred → List Runner → Result (List Runner) Errno
 becomes pid cred rs = becomes_by cred rs (caller_from 0 pid rs)
 
 -- THE MACHINE
 
--- what is left, or the refusal
+-- the second value if the first is a success, else the first one's refusal
 abbrev pub left_by : {T E X : Type 0} → Result T E → X → Result X E
 left_by (Ok t) x = Ok x
 left_by (Err e) x = Err e

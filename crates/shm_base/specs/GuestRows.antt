@@ -1,4 +1,4 @@
--- Worked rows: what a host changes between calls, and what the calls answer then.
+-- Worked rows: changes that a host makes between calls, and the replies that calls give afterwards.
 use Rattle.std.specs.Prelude.{pos, ◌≡◌, ℕ, ◌*◌, ◌-◌, ◌^◌, Bool, true, false, List, [], ◌∷◌, Option, Some, None, Result, Ok, Err}
 use Rattle.shm_base.specs.declared.owner.Cred.{Cred}
 use Rattle.shm_base.specs.declared.errno.Errno.{Errno}
@@ -18,7 +18,7 @@ use Rattle.shm_base.specs.Guest.{admits, dismisses, recredits}
 use Rattle.shm_base.specs.Mapping.{unmaps, protects}
 use Rattle.shm_base.specs.Rows.{does, id, mode, rdonly, shmget, shmat, stat, shows, process, child, of_processes}
 
--- a call at a time, or a change by the host, with its reply or its refusal
+-- a call at its time, or a change by the host, with its reply or its refusal
 pub data Deed : Type 0 where
   At : (n : ℕ) → (event : Event) → Deed
   Admits : (process : Process) → (refusal : Option AdmitRefusal) → Deed
@@ -35,7 +35,7 @@ abbrev pub state_of : {E : Type 0} → Machine → Result Machine E → Machine
 state_of s (Ok t) = t
 state_of s (Err e) = s
 
--- the deed with what the machine answers
+-- the deed, with the machine's answer in place of the one it had
 abbrev pub answered : Machine → Deed → Deed
 answered s (At n e) = At n (record e { reply = (step s n e.pid e.call).reply })
 answered s (Admits p refusal) = Admits p (refusal_of (admits s p))
@@ -56,14 +56,14 @@ abbrev pub all_answered : Machine → List Deed → List Deed
 all_answered s [] = []
 all_answered s (d ∷ ds) = answered s d ∷ all_answered (after s d) ds
 
--- each deed has the answer that stands in it
+-- the machine answers each deed as the row says
 abbrev pub Go : Machine → List Deed → Type 0
 Go s ds = all_answered s ds ≡ ds
 
 abbrev pub cred : ℕ → ℕ → Cred
 cred uid gid = record { uid = uid; gid = gid }
 
--- a machine that has two processes at most
+-- a machine that has at most two processes
 abbrev pub of_two : List Process → Machine
 of_two processes =
     start_of
@@ -73,7 +73,7 @@ of_two processes =
       processes = processes;
     })
 
--- a pid is used again, by another user; an ended process has its room until it is dismissed
+-- another user's process uses a pid again; an ended process counts until it is dismissed
 abbrev pub PidRow : Type 0
 PidRow =
     Go (of_two (process 1 100 100 ∷ []))
@@ -99,7 +99,7 @@ PidRow =
     ∷ At 8 (does 3 (shmat 0 0 0) (Addr 0x40000000))
     ∷ [])
 
--- a child that joins is forked, or dismissed before
+-- a child that joins is forked, or dismissed before it is born
 abbrev pub ChildRow : Type 0
 ChildRow =
     Go (of_processes (process 1 100 100 ∷ []))
@@ -119,7 +119,7 @@ ChildRow =
     ∷ At 9 (does 2 (Load 0x40000000 1) (Bytes (0 ∷ [])))
     ∷ [])
 
--- another user may do what the process was refused before, and its pieces stay
+-- with other credentials a process may do what was refused before, and it keeps its pieces
 abbrev pub UserRow : Type 0
 UserRow =
     Go (of_processes (process 1 100 100 ∷ process 2 200 200 ∷ child 3 ∷ []))
@@ -135,7 +135,7 @@ UserRow =
     ∷ Becomes 4 (cred 0 0) (Some Esrch)
     ∷ [])
 
--- times are what the clock says, and may be the same for several calls
+-- times come from the host's clock, and several calls may have the same one
 abbrev pub TimeRow : Type 0
 TimeRow =
     Go (of_processes (process 1 100 100 ∷ []))
@@ -148,11 +148,11 @@ TimeRow =
 
 -- PARTS OF AN ATTACH
 
--- how many pages those are in bytes
+-- the bytes of this many pages
 abbrev pub bytes_in : ℕ → ℕ
 bytes_in pages = 4096 * pages
 
--- eight pages are attached, by a process that may have this many pieces
+-- a process, which may have at most `most` pieces, has attached a segment of eight pages
 abbrev pub eight_pages : ℕ → Machine
 eight_pages most =
     after
@@ -160,8 +160,7 @@ eight_pages most =
     (At 1 (does 1 (shmget 0 32768 (mode 6 0 0) 0) (id 0))))
     (At 2 (does 1 (shmat 0 0x50000000 0) (Addr 0x50000000)))
 
--- Parts with another protection are pieces of their own. A border moves where a part joins its neighbour, and whole pieces
--- do not
+-- A part with another protection is a piece of its own. A border moves if a part joins its neighbour; whole pieces never join
 abbrev pub ProtectRow : Type 0
 ProtectRow =
     Go (eight_pages 256)
@@ -187,7 +186,7 @@ ProtectRow =
     ∷ At 15 (does 1 (stat 0) (shows 0 32768 1 0 2 14))
     ∷ [])
 
--- what is below a hole, or below a piece that may not be written, was changed by then
+-- a protect that stops at a hole or at a piece that may not be written has changed everything below it
 abbrev pub StoppedRow : Type 0
 StoppedRow =
     Go (eight_pages 256)
@@ -210,7 +209,7 @@ StoppedRow =
     ∷ At 10 (does 1 (Store 0x50008000 (7 ∷ [])) (Refused Sigsegv))
     ∷ [])
 
--- a range is unmapped, and a marked segment goes with its last piece
+-- an unmap takes a range out, and a marked segment is destroyed with its last piece
 abbrev pub UnmapRow : Type 0
 UnmapRow =
     Go (eight_pages 256)
@@ -232,7 +231,7 @@ UnmapRow =
     ∷ At 17 (does 1 (stat 0) (Refused Eidrm))
     ∷ [])
 
--- with two pieces at most the middle of one is neither unmapped nor protected
+-- with at most two pieces, the middle of a piece can be neither unmapped nor protected
 abbrev pub FewPiecesRow : Type 0
 FewPiecesRow =
     Go (eight_pages 2)

@@ -1,5 +1,5 @@
--- What a process does to attached memory beside the calls: it unmaps a range of its addresses (munmap(2)), or protects one
--- (mprotect(2)). Neither is a part of the step. Lengths are rounded up to whole pages.
+-- What a process does to attached memory without a call of this interface: it unmaps a range of its addresses (munmap(2)), or
+-- protects one (mprotect(2)). Lengths are rounded up to whole pages.
 use Rattle.std.specs.Prelude.{ℕ, zero, suc, ◌+◌, ◌-◌, ◌*◌, ◌/◌, ◌%◌, ◌^◌, Bool, not, ◌&&◌, ◌==◌, nat_le, nat_lt, min, if◌then◌else◌, List, [], ◌∷◌, length, Option, Some, None, Result, Ok, Err}
 use Rattle.shm_base.specs.State.{Entry, Piece, Machine, pages_of}
 use Rattle.shm_base.specs.Access.{end_of}
@@ -16,7 +16,7 @@ rounded len = PAGE_SIZE * pages_of len
 
 -- UNMAP
 
--- where the range ends that an unmap takes out
+-- the address at which the unmapped range ends, or the refusal
 abbrev pub unmapped_to : ℕ → ℕ → Result ℕ Errno
 unmapped_to addr len =
     if not (addr % PAGE_SIZE == 0) then Err Einval else
@@ -24,12 +24,12 @@ unmapped_to addr len =
     if nat_lt end_address (addr + len) then Err Einval else
     Ok (addr + rounded len)
 
--- the table after a range was taken out: what lost pages, and what the range attaches anew
+-- the table after a range was taken out: its segments are detached, and those with a rest may be attached anew
 abbrev pub after_cut : Machine → ℕ → Caller → ℕ → ℕ → List Entry
 after_cut s n c from to =
     attach_all n c.pid (detach_all n c.pid s.table (cut_segments from to c.pieces)) (rests s from to c.pieces)
 
--- the range is taken out, as a remap takes one out. Refused where its rest would be too many pieces
+-- takes the range out, as a remap does; refused if too many pieces would be left
 abbrev pub unmaps_range : Machine → ℕ → Caller → ℕ → Result ℕ Errno → Result Machine Errno
 unmaps_range s n c from (Err e) = Err e
 unmaps_range s n c from (Ok to) =
@@ -47,7 +47,7 @@ unmaps s n pid addr len = unmaps_of s n addr len (caller_of s pid)
 
 -- PROTECT
 
--- a piece that goes on where another ends: two parts of one attach
+-- q ends where p begins, and both are parts of one attach
 abbrev pub goes_on : Piece → Piece → Bool
 goes_on q p =
     (end_of q == p.base) && (q.seg == p.seg) && (q.base + PAGE_SIZE * p.first_page == p.base + PAGE_SIZE * q.first_page)
@@ -55,25 +55,25 @@ goes_on q p =
 abbrev pub has_protection : Bool → Piece → Bool
 has_protection w p = if w then p.writable else not p.writable
 
--- where a part at the beginning of a piece begins, once it has joined the part below that has its protection already
+-- where the changed part begins, if it is the beginning of p: the piece below joins if it has this protection already
 abbrev pub joined_below : Bool → Piece → Option Piece → ℕ
 joined_below w p None = p.base
 joined_below w p (Some q) = if goes_on q p && has_protection w q then q.base else p.base
 
--- where a part at the end of a piece ends, once it has joined the part above
+-- where the changed part ends, if it is the end of p: the piece above joins if it has this protection already
 abbrev pub joined_above : Bool → Piece → Option Piece → ℕ
 joined_above w p None = end_of p
 joined_above w p (Some q) = if goes_on p q && has_protection w q then end_of q else end_of p
 
--- From an address on a piece has another protection, up to `to` or to its end. Where that is a part of it, a neighbour
--- of the same attach with this protection grows by the part; a whole piece stays one of its own
+-- The range of addresses that one step protects: from `at` to `to`, or to the end of the piece p. If that is a part of p, a
+-- neighbour of the same attach with this protection joins it; a whole piece stays one of its own
 abbrev pub low_end : Bool → ℕ → ℕ → Piece → List Piece → ℕ
 low_end w at to p ps = if (at == p.base) && nat_lt to (end_of p) then joined_below w p (covering (at - 1) ps) else at
 
 abbrev pub high_end : Bool → ℕ → ℕ → Piece → List Piece → ℕ
 high_end w at to p ps = if nat_lt p.base at && nat_le (end_of p) to then joined_above w p (covering (end_of p) ps) else min to (end_of p)
 
--- the part of an attach between two addresses, with a protection
+-- the part of an attach between two addresses, with this protection
 abbrev pub part_between : Bool → ℕ → ℕ → Piece → Piece
 part_between w low high p =
     record p {
@@ -89,7 +89,7 @@ replaced w low high p ps = inserted (part_between w low high p) (cut low high ps
 abbrev pub turned : Bool → ℕ → ℕ → Piece → List Piece → List Piece
 turned w at to p ps = replaced w (low_end w at to p ps) (high_end w at to p ps) p ps
 
--- the pieces that are left, the segments that have a piece more, and why it stopped
+-- the pieces afterwards, the segments that got one more piece, and the refusal at which it stopped
 pub record Protected : Type 0 where
   pub pieces : List Piece
   pub split : List ℕ
@@ -101,11 +101,11 @@ stopped ps e = record { pieces = ps; split = []; refusal = Some e }
 abbrev pub ended : List Piece → Protected
 ended ps = record { pieces = ps; split = []; refusal = None }
 
--- a piece of the segment was protected: where that made a new one, the segment is named
+-- names the segment if the change made one more piece
 abbrev pub with_split : ℕ → List Piece → List Piece → Protected → Protected
 with_split id before after x = if nat_lt (length before) (length after) then record x { split = id ∷ x.split } else x
 
--- what becomes of the pieces when the one at an address is protected, and how that goes on behind it
+-- protects the piece at `at`, if there is one, and continues with `next` after its end
 abbrev pub protects_piece : ℕ → Bool → ℕ → ℕ → List Piece → (ℕ → List Piece → Protected) → Option Piece → Protected
 protects_piece most w at to ps next None = stopped ps Enomem
 protects_piece most w at to ps next (Some p) =
@@ -114,7 +114,7 @@ protects_piece most w at to ps next (Some p) =
     if nat_lt most (length (turned w at to p ps)) then stopped ps Enomem else
     with_split p.seg ps (turned w at to p ps) (next (end_of p) (turned w at to p ps))
 
--- up the range piece by piece, of which there are no more than pages. What is below the refusal was changed
+-- up the range piece by piece, at most `k` of them; everything below a refusal stays changed
 abbrev pub protects_from : ℕ → ℕ → Bool → ℕ → ℕ → List Piece → Protected
 protects_from zero most w to at ps = ended ps
 protects_from (suc k) most w to at ps =
@@ -128,12 +128,12 @@ protects_pieces most w addr len ps =
     if nat_le (2 ^ 64) (addr + rounded len) then stopped ps Enomem else
     protects_from (pages_of len) most w (addr + rounded len) addr ps
 
--- a machine, and why a change of it stopped where it did
+-- a machine after a change, and the refusal at which the change stopped
 pub record Protection : Type 0 where
   pub state : Machine
   pub refusal : Option Errno
 
--- the table after pieces were split, which may attach their segments anew
+-- the table after pieces were split; a rule may attach their segments anew
 abbrev pub after_split : Machine → ℕ → Caller → List ℕ → List Entry
 after_split s n c ids = if rest_is_attached s.limits.rules then attach_all n c.pid s.table ids else s.table
 
@@ -148,6 +148,6 @@ abbrev pub protects_of : Machine → ℕ → Bool → ℕ → ℕ → Option Cal
 protects_of s n w addr len None = record { state = s; refusal = Some Esrch }
 protects_of s n w addr len (Some c) = with_protected s n c (protects_pieces s.limits.most_pieces w addr len c.pieces)
 
--- a range of a live process becomes writable, or read-only, at time n
+-- a live process makes a range writable or read-only at time n
 abbrev pub protects : Machine → ℕ → ℕ → ℕ → ℕ → Bool → Protection
 protects s n pid addr len w = protects_of s n w addr len (caller_of s pid)

@@ -1,4 +1,4 @@
--- Which calls may take memory of the system's own.
+-- The calls that may need the host's memory.
 use Rattle.std.specs.Prelude.{◌≡◌, Bool, true, false}
 use Rattle.shm_base.specs.declared.call.Call.{Call}
 use Rattle.shm_base.specs.declared.call.Call.TheVariants.{Shmget, Shmat}

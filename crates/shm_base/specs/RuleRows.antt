@@ -1,4 +1,4 @@
--- Worked rows: what the rules of Linux change, each alone, beside what the profile answers.
+-- Worked rows: what each rule of Linux changes, next to the profile's replies.
 use Rattle.std.specs.Prelude.{ℕ, ◌+◌, ◌-◌, ◌^◌, pos, true, false, List, [], ◌∷◌, None}
 use Rattle.shm_base.specs.declared.errno.Errno.TheVariants.{Eperm, Enomem, Eacces, Einval, Emfile}
 use Rattle.shm_base.specs.declared.call.Call.TheVariants.{Set, Rmid, Lock, Unlock, Fork}
@@ -9,7 +9,7 @@ use Rattle.shm_base.specs.Bounds.{profile}
 use Rattle.shm_base.specs.GuestRows.{Go, At, Unmaps, Protects}
 use Rattle.shm_base.specs.Rows.{Answers, does, id, mode, creat, rdonly, rnd, remap, shmget, shmat, stat, shows, process, child}
 
--- the machine of the other rows, with these rules, so many pages that may be locked and so many pieces
+-- the machine of the other rows, with these rules, this memlock and this limit of pieces
 abbrev pub ruled : ℕ → ℕ → ℕ → List Process → Machine
 ruled rules memlock pieces processes =
     start_of
@@ -33,7 +33,7 @@ RemovedRule =
     ∷ does 1 (Lock (pos 0)) (Refused Einval)
     ∷ [])
 
--- EXECUTE_IS_ASKED: an execute bit of any class asks for one of the caller's class. User 0 passes
+-- EXECUTE_IS_ASKED: if the mode has an execute bit in any class, the caller's class needs one; user 0 passes
 abbrev pub ExecuteRule : Type 0
 ExecuteRule =
     Answers (with_rules 2 (process 1 100 100 ∷ process 2 200 100 ∷ process 3 0 0 ∷ []))
@@ -55,7 +55,7 @@ NoExecuteRow =
     ∷ does 1 (shmget 0 4096 (mode 6 0 0) 2048) (id 1)
     ∷ [])
 
--- FORK_MARKS: the time, and the parent as last pid
+-- FORK_MARKS: a fork sets the attach time, and the parent is the last pid
 abbrev pub ForkRule : Type 0
 ForkRule =
     Answers (with_rules 4 (process 1 100 100 ∷ child 2 ∷ []))
@@ -78,7 +78,7 @@ RestRule =
     ∷ does 1 (stat 0) (shows 0 8192 1 0 4 6)
     ∷ [])
 
--- and an unmap, and a protect that makes a part; one of the whole makes none
+-- REST_IS_ATTACHED: an unmap, and a protect that splits a piece; a protect of a whole piece attaches nothing
 abbrev pub RestOfMappingsRule : Type 0
 RestOfMappingsRule =
     Go (with_rules 8 (process 1 100 100 ∷ []))
@@ -94,7 +94,7 @@ RestOfMappingsRule =
     ∷ At 10 (does 1 (stat 0) (shows 0 8192 1 1 5 9))
     ∷ [])
 
--- END_IS_ENOMEM: beyond the end; where the bytes reach 2^64; and with a piece in the range
+-- END_IS_ENOMEM: a range beyond the end; one whose bytes reach 2^64; one that also meets a piece
 abbrev pub EndRule : Type 0
 EndRule =
     Answers (with_rules 16 (process 1 100 100 ∷ []))
@@ -109,8 +109,8 @@ EndRule =
     ∷ does 1 (shmat 0 0x1000 0) (Refused Einval)
     ∷ [])
 
--- LOW_IS_EPERM: below the lowest address, for user 100 and user 0; with a piece in the range; where the address
--- rounds to 0; and after a permission that is not there
+-- LOW_IS_EPERM: a range below the lowest address, for user 100 and user 0; one that meets a piece; an address that rounds to 0;
+-- and a caller without permission
 abbrev pub LowRule : Type 0
 LowRule =
     Answers (with_rules 32 (process 1 100 100 ∷ process 2 0 0 ∷ process 3 200 200 ∷ []))
@@ -126,7 +126,7 @@ LowRule =
     ∷ does 1 (shmat 0 0x7fffffffe000 0) (Refused Einval)
     ∷ [])
 
--- NO_LAST_USER: after the permission
+-- NO_LAST_USER: the permission is tested first
 abbrev pub LastUserRule : Type 0
 LastUserRule =
     Answers (with_rules 64 (process 1 100 100 ∷ process 2 200 200 ∷ []))
@@ -137,7 +137,7 @@ LastUserRule =
     ∷ does 1 (Set (pos 0) 4294967294 100 384) Done
     ∷ [])
 
--- PIECES_ARE_ENOMEM, also where a remap would leave as many; in the profile it takes the other's place
+-- PIECES_ARE_ENOMEM, also for a remap that would leave no more pieces; in the profile such a remap is allowed
 abbrev pub PiecesRule : Type 0
 PiecesRule =
     Answers (ruled 128 1 1 (process 1 100 100 ∷ []))
@@ -157,7 +157,7 @@ RemappedRow =
     ∷ does 1 (shmat 0 0x40000000 remap) (Addr 0x40000000)
     ∷ [])
 
--- LOCKS_BY_USER: each user has MEMLOCK pages, whoever unlocks; user 0 may lock what the frames allow
+-- LOCKS_BY_USER: each user may lock memlock pages, whoever unlocks them; user 0 may lock as many as the frames allow
 abbrev pub LockerRule : Type 0
 LockerRule =
     Answers (ruled 256 1 256 (process 1 100 100 ∷ process 2 200 200 ∷ process 3 0 0 ∷ []))
@@ -173,7 +173,7 @@ LockerRule =
     ∷ does 1 (Lock (pos 1)) Done
     ∷ [])
 
--- a user who may lock nothing, also where it is locked; user 0 has no limit
+-- with memlock 0 a user may lock nothing, not even a locked segment; user 0 has no limit of its own
 abbrev pub NoLocksRule : Type 0
 NoLocksRule =
     Answers (ruled 256 0 256 (process 1 100 100 ∷ process 2 200 200 ∷ process 3 0 0 ∷ []))
@@ -185,7 +185,7 @@ NoLocksRule =
     ∷ does 1 (Unlock (pos 0)) Done
     ∷ [])
 
--- EXEC_IS_ASKED: an attach with the flag for execution
+-- EXEC_IS_ASKED: an attach that asks for execution
 abbrev pub ExecRule : Type 0
 ExecRule =
     Answers (with_rules 512 (process 1 100 100 ∷ process 2 0 0 ∷ []))
@@ -197,7 +197,7 @@ ExecRule =
     ∷ does 1 (shmat 0 0 (32768 + rdonly)) (Addr 0x40001000)
     ∷ [])
 
--- HUGE_IS_REFUSED: where one is made, after its size; for user 0 and group 0; and without a reserve
+-- HUGE_IS_REFUSED: a segment that would be made, after the test of its size; user 0 and group 0; and without a reserve
 abbrev pub HugeRule : Type 0
 HugeRule =
     Answers (with_rules 1024 (process 1 100 100 ∷ process 2 0 0 ∷ process 3 100 0 ∷ []))

@@ -1,4 +1,4 @@
--- Stretches of bytes of segments, as the places that they stand for.
+-- Spans of bytes of segments, as the places that they cover.
 use Rattle.std.specs.Prelude.{ℕ, zero, suc, ◌+◌, ◌*◌, ◌/◌, ◌<◌, ◌≤◌, Bool, List, [], ◌∷◌, ◌++◌}
 use Rattle.shm_base.specs.declared.paging.Span.{Span}
 use Rattle.shm_base.specs.Access.{Place}
@@ -9,7 +9,7 @@ abbrev pub run : ℕ → ℕ → ℕ → Bool → List Place
 run seg at zero w = []
 run seg at (suc n) w = record { seg = seg; at = at; writable = w } ∷ run seg (at + 1) n w
 
--- the places that spans name, in their order. All are marked alike
+-- the places that spans cover, in order; all are writable, or none
 abbrev pub span_places : Bool → List Span → List Place
 span_places w [] = []
 span_places w (p ∷ ps) = run p.seg p.at p.len w ++ span_places w ps

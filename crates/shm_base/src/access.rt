@@ -3,7 +3,7 @@ ghost use Rattle.std.specs.Prelude.{◌≡◌, ℕ, List, ◌+◌, ◌-◌, ◌+
 use crate::bounds::LONGEST_ACCESS;
 use std::marker::Model;
 
-/// How many bytes an access takes: 1 to 64.
+/// The length of an access in bytes: 1 to 64.
 #[derive(Clone, Copy, Debug, PartialEq, Eq)]
 pub struct AccessLen {
     len: u8,
@@ -20,7 +20,7 @@ impl Model for AccessLen {
 }
 
 impl AccessLen {
-    /// The length, or none outside 1 to 64.
+    /// The length, or none if it is not 1 to 64.
     pub fn new(len: u64) -> Option<AccessLen>
         ensures which { IsSome result ↔ (1 ≤ len) × (len ≤ 64) }
         ensures value { IfSome result (λ a. a ≡ len) }
@@ -43,7 +43,7 @@ impl AccessLen {
 /// The bytes of an access, 1 to 64 of them.
 #[derive(Clone, Copy, Debug)]
 pub struct Chunk {
-    // Those after the length are zeros, so that its bytes tell a chunk's fields.
+    // Zeros follow the length, so equal bytes mean equal fields.
     bytes: [u8; LONGEST_ACCESS],
     len: AccessLen,
 }
@@ -67,7 +67,7 @@ impl Model for Chunk {
 }
 
 impl Chunk {
-    /// A copy of the bytes, or none where there are not 1 to 64 of them. It takes no memory.
+    /// Copies the bytes; none if there are not 1 to 64 of them. Takes no memory.
     #[inline(always)]
     pub fn new(bytes: &[u8]) -> Option<Chunk>
         ensures which { IsSome result ↔ (1 ≤ length bytes.now) × (length bytes.now ≤ 64) }
@@ -79,18 +79,17 @@ impl Chunk {
         Some(Chunk { bytes: all, len })
     }
 
-    /// The first bytes of an array that has zeros after them. It takes no memory.
+    /// The first `len` bytes of an array whose other bytes are zeros. Takes no memory.
     #[inline(always)]
     pub fn from_array(bytes: [u8; LONGEST_ACCESS], len: AccessLen) -> Chunk
         requires zeros { bytes ≡ take len bytes ++ replicate (64 - len) 0 }
         ensures { result ≡ take len bytes }
     {
-        // What is read has a proof know its range.
+        // Reading the length tells the proof its range.
         let _ = len.get();
         Chunk { bytes, len }
     }
 
-    /// The bytes.
     #[inline(always)]
     pub fn as_slice(&self) -> &[u8]
         ensures value { result.now ≡ self.now }

@@ -1,18 +1,18 @@
-//! The bounds, each in one place: those of any machine, and, where it has lower ones, those of the profile.
+//! Every bound once: those of any machine, and the lower ones of the profile.
 
 /// The lowest address at which a piece may be attached.
 pub const LOWEST_ADDRESS: u64 = 0x10000;
 
-/// Where the search for a gap begins, for a null address.
+/// The lowest address that the machine chooses when a process attaches at a null address.
 pub const FIRST_GAP: u64 = 0x4000_0000;
 
-/// The end of what may be attached: the first address after it.
+/// The first address after those that can be attached.
 pub const END_ADDRESS: u64 = 0x7fff_ffff_f000;
 
-/// How many indexes a table of segments may have. An identifier is its index and so often a sequence number.
+/// How many indexes a table of segments can have: identifier = index + INDEXES * sequence number.
 pub const INDEXES: u32 = 32768;
 
-/// How many segments may be destroyed at an index: one for each sequence number of its identifiers.
+/// How many segments can be destroyed at one index: one for each sequence number.
 pub const SEQUENCES: u32 = 65536;
 
 /// The largest identifier.
@@ -21,13 +21,13 @@ pub const LAST_ID: u32 = 2_147_483_647;
 /// The largest pid.
 pub const LAST_PID: u32 = 2_147_483_647;
 
-/// The most processes of a machine.
+/// The most processes of any machine.
 pub const MOST_PROCESSES: usize = 32768;
 
 /// The most processes of a machine of the profile.
 pub const PROFILE_PROCESSES: usize = 64;
 
-/// The most pieces of a process.
+/// The most pieces of a process in any machine.
 pub const MOST_PIECES: usize = 65530;
 
 /// The most pieces of a process of the profile.
@@ -36,13 +36,13 @@ pub const PROFILE_PIECES: usize = 256;
 /// The most swap areas of a machine.
 pub const MOST_AREAS: usize = 8;
 
-/// The most slots of a swap area.
+/// The most slots of a swap area in any machine.
 pub const MOST_SLOTS: u32 = 268_435_456;
 
 /// The most slots of a swap area of the profile.
 pub const PROFILE_SLOTS: u32 = 65536;
 
-/// How many modes there are: of a mode the low nine bits count.
+/// How many modes there are: only the low nine bits of a mode count.
 pub const MODES: u16 = 512;
 
 /// The most bytes of a load or a store.
@@ -66,13 +66,13 @@ pub const MOST_SHMALL: u64 = 268_435_456;
 /// The largest SHMALL of the profile.
 pub const PROFILE_SHMALL: u64 = 65536;
 
-/// The most frames of a machine.
+/// The most frames of any machine.
 pub const MOST_FRAMES: u64 = 16_777_216;
 
 /// The most frames of a machine of the profile.
 pub const PROFILE_FRAMES: u64 = 4096;
 
-/// The most pages that a flush line of a script asks for.
+/// The most pages that a flush line of a script can ask for.
 pub const MOST_FLUSHED: u32 = 4096;
 
 /// The most bytes of a script.

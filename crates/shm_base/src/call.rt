@@ -8,10 +8,10 @@ use crate::errno::Errno;
 use crate::flags::{AtFlags, GetFlags, Status};
 use crate::owner::{Cred, Perm};
 
-/// An identifier of a segment, as shmget(2) answers it. No segment has a negative one.
+/// An identifier of a segment, as shmget(2) returns it. No segment has a negative one.
 pub type ShmId = i32;
 
-/// The index in an identifier; in a negative one, which no segment has, 0.
+/// The index in an identifier; 0 for a negative one, which no segment has.
 pub fn index_of(id: ShmId) -> u32
     ensures { result ≡ index_of id }
 {
@@ -21,14 +21,14 @@ pub fn index_of(id: ShmId) -> u32
     }
 }
 
-/// A process as it was declared: born with its ids, or a child that is not born yet.
+/// A process as it was declared: live with its ids, or a child that is not born yet.
 #[derive(Clone, Copy, Debug, PartialEq, Eq)]
 pub struct Process {
     pub pid: u32,
     pub born: Option<Cred>,
 }
 
-/// Whether a pid is that of one of the processes.
+/// Whether one of the processes has this pid.
 pub fn has_pid(processes: &[Process], pid: u32) -> bool
     ensures { result ≡ has_pid pid processes.now }
 {
@@ -36,7 +36,7 @@ pub fn has_pid(processes: &[Process], pid: u32) -> bool
 }
 
 /// A call of a process: the shared memory calls (shmget(2), shmop(2), shmctl(2)), accesses to attached
-/// memory, process events, and taking a swap area away. Of a mode only the low nine bits count.
+/// memory, fork, exec and exit, and swapoff. Only the low nine bits of a mode count.
 #[derive(Clone, Copy, Debug, PartialEq, Eq)]
 pub enum Call {
     Shmget {
@@ -94,7 +94,7 @@ pub enum Call {
 }
 
 /// What `stat` shows of a segment (shmctl(2), IPC_STAT). A time is the place of a call in the history,
-/// counted from 1, or what the machine's host gave; 0 means never.
+/// counted from 1, or the time that the host gave; 0 means never.
 #[derive(Clone, Copy, Debug, PartialEq, Eq)]
 pub struct ShmidDs {
     pub key: u32,
@@ -109,8 +109,8 @@ pub struct ShmidDs {
     pub ctime: u64,
 }
 
-/// The answer to a call: `Id` of shmget, `Addr` of shmat, `Bytes` of a load, `Number` of an xadd, which
-/// is the old number, `Stat`, `Done` of all else, or a refusal.
+/// The reply to a call: `Id` of shmget, `Addr` of shmat, `Bytes` of a load, the old number as `Number` of an
+/// xadd, `Stat` of stat, `Done` of every other call, or a refusal.
 #[derive(Clone, Copy, Debug, PartialEq, Eq)]
 pub enum Reply {
     Id(ShmId),

@@ -3,8 +3,8 @@ ghost use Rattle.shm_base.specs.Codes.{code_of, name_of};
 
 use std::fmt;
 
-/// Why a call was refused, by the names and numbers of errno(3). The two signals stand for a fault of an
-/// access, which is a reply here (this project's profile).
+/// Why a call was refused, by the names and numbers of errno(3). An access that faults is refused with one of
+/// the two signals (this project's profile).
 #[derive(Clone, Copy, Debug, PartialEq, Eq)]
 pub enum Errno {
     Eperm,
@@ -24,7 +24,7 @@ pub enum Errno {
 }
 
 impl Errno {
-    /// The error's number.
+    /// The error's number in errno(3). For a signal it is 1000 and the signal's number.
     pub fn code(self) -> u32
         ensures { result ≡ code_of self }
     {
@@ -46,7 +46,6 @@ impl Errno {
         }
     }
 
-    // The error's name.
     fn name(self) -> &'static str
         ensures { result.now ≡ name_of self }
     {

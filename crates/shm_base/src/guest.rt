@@ -1,10 +1,12 @@
-//! Why a change of a machine's processes is refused: those that its host makes between calls.
+//! Why the host's changes of a machine's processes are refused.
 use thiserror::Error;
 
-/// Why a process is not admitted: the first of these that holds, in this order. `BadPid`: the pid is 0, or above
-/// 2147483647. `PidTaken`: it is that of a live process, or of a child that is not born yet. `TooManyProcesses`:
-/// there are as many processes as the limits allow, ended ones that were not dismissed among them, and none of
-/// those has this pid.
+/// Why a process is not admitted. The first that applies is returned:
+///
+/// - `BadPid`: the pid is 0, or above 2147483647.
+/// - `PidTaken`: a live process, or a child that is not born yet, has the pid.
+/// - `TooManyProcesses`: no ended process has the pid, and there are as many processes as the limits allow.
+///   Ended processes count until they are dismissed.
 #[derive(Clone, Copy, Debug, PartialEq, Eq, Error)]
 pub enum AdmitRefusal {
     #[error("a pid out of range")]
@@ -15,7 +17,8 @@ pub enum AdmitRefusal {
     TooManyProcesses,
 }
 
-/// Why a process is not dismissed. `NoProcess`: no process has the pid. `StillLive`: the process has not ended.
+/// Why a process is not dismissed. `NoProcess`: no process has the pid. `StillLive`: the process has not
+/// ended.
 #[derive(Clone, Copy, Debug, PartialEq, Eq, Error)]
 pub enum DismissRefusal {
     #[error("no process has the pid")]

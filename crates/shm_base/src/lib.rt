@@ -1,6 +1,6 @@
-//! What every layer of the shared memory facility speaks of: identities, limits, flags, errors,
-//! calls and replies. Its `specs/` define the flat machine, in which a segment is one list of bytes
-//! and a call is one step.
+//! What every layer of the shared memory facility uses: identifiers, limits, flags, errors, calls and
+//! replies. Its `specs/` define the flat machine, in which a segment is one list of bytes and a call is one
+//! step.
 #![tactic(auto)]
 
 mod access;

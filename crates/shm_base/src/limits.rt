@@ -11,13 +11,13 @@ use bitflags::Flags;
 use std::marker::Model;
 use thiserror::Error;
 
-/// The first limit that is out of its range: 1 SHMMAX, 2 SHMMNI, 3 SHMALL, 4 frames, 5 MEMLOCK, 6 the most
-/// pieces of a process, 7 the most processes, 8 the most slots of a swap area, 9 the rules.
+/// The first limit that is out of its range, by its number: 1 SHMMAX, 2 SHMMNI, 3 SHMALL, 4 frames, 5
+/// MEMLOCK, 6 pieces of a process, 7 processes, 8 slots of a swap area, 9 the rules.
 #[derive(Clone, Copy, Debug, PartialEq, Eq, Error)]
 #[error("bad limits {0}")]
 pub struct BadLimits(pub u8);
 
-/// The numbers that a machine's limits are made of, in any range.
+/// A request for limits: numbers that are not checked yet.
 #[derive(Clone, Copy, Debug, PartialEq, Eq)]
 pub struct Sizes {
     /// SHMMAX: the most bytes of a segment.
@@ -32,7 +32,7 @@ pub struct Sizes {
     pub memlock: u64,
     /// The most pieces of a process.
     pub most_pieces: u64,
-    /// The most processes that there are at a time.
+    /// The most processes at a time.
     pub most_processes: u64,
     /// The most slots of a swap area.
     pub most_slots: u64,
@@ -66,7 +66,7 @@ impl Sizes {
     };
 }
 
-/// The limits of a machine, each within its range. [`Limits::new`] makes those of this project's profile,
+/// The limits of a machine, each within its range. [`Limits::new`] makes limits of this project's profile,
 /// [`Limits::of`] those of a larger machine.
 #[derive(Clone, Copy, Debug, PartialEq, Eq)]
 pub struct Limits {
@@ -97,10 +97,16 @@ impl Limits {
     ghost use Rattle.std.specs.Prelude.{Ok, Err};
     ghost use Rattle.shm_base.specs.Bounds.{limits_of, machine_limits_of, limits_within, bounds_of, lockable, ruled, AreBounds};
 
-    /// The limits of a machine of the profile, or which is the first that is out of range, in the order of the
-    /// arguments: SHMMAX is 1 to 2^24 bytes, SHMMNI 1 to 4096 segments, SHMALL 1 to 65536 pages, frames are 2 to
-    /// 4096, MEMLOCK is at least 2 less than the frames. A process has at most 256 pieces, a machine 64
-    /// processes, a swap area 65536 slots. No rule of Linux holds.
+    /// The limits of a machine of the profile, with these ranges:
+    ///
+    /// - SHMMAX: 1 to 2^24 bytes
+    /// - SHMMNI: 1 to 4096 segments
+    /// - SHMALL: 1 to 65536 pages
+    /// - frames: 2 to 4096
+    /// - MEMLOCK: 0 to the frames less 2, in pages
+    ///
+    /// A process has at most 256 pieces, a machine 64 processes, a swap area 65536 slots. No rule of Linux
+    /// holds. Returns the number of the first limit that is out of its range, in the order of the arguments.
     pub fn new(
         shmmax: u64,
         shmmni: u64,
@@ -121,17 +127,26 @@ impl Limits {
         Limits::within(&Sizes::LARGEST_OF_PROFILE, &sizes)
     }
 
-    /// The limits of a machine that may be larger than one of the profile, or which is the first that is out of
-    /// range, in the order of the fields: SHMMAX is 1 to 2^40 bytes, SHMMNI 1 to 32768 segments, SHMALL 1 to 2^28
-    /// pages, frames are 2 to 2^24, MEMLOCK is at least 2 less than the frames, pieces are 1 to 65530, processes 1
-    /// to 32768, slots 1 to 2^28. Rules are any set of those that have a name.
+    /// The limits of a machine, which may be larger than those of the profile, with these ranges:
+    ///
+    /// - SHMMAX: 1 to 2^40 bytes
+    /// - SHMMNI: 1 to 32768 segments
+    /// - SHMALL: 1 to 2^28 pages
+    /// - frames: 2 to 2^24
+    /// - MEMLOCK: 0 to the frames less 2, in pages
+    /// - pieces of a process: 1 to 65530
+    /// - processes: 1 to 32768
+    /// - slots of a swap area: 1 to 2^28
+    /// - rules: any set of those that have a name
+    ///
+    /// Returns the number of the first limit that is out of its range, in the order of the fields.
     pub fn of(sizes: &Sizes) -> Result<Limits, BadLimits>
         ensures { result ≡ machine_limits_of (bounds_of sizes.now) }
     {
         Limits::within(&Sizes::LARGEST, sizes)
     }
 
-    /// These limits with other rules, which are any set of those that have a name; else the rules are refused.
+    /// The same limits with other rules. Returns `BadLimits(9)` if a bit is not that of a known rule.
     pub fn with_rules(self, rules: Rules) -> Result<Limits, BadLimits>
         ensures { result ≡ ruled rules self }
     {
@@ -141,7 +156,7 @@ impl Limits {
         Ok(Limits { rules, ..self })
     }
 
-    // The limits, or which is the first that is out of its range, where these are the largest.
+    // The limits, or the number of the first that is out of its range; `most` are the largest allowed.
     fn within(most: &Sizes, sizes: &Sizes) -> Result<Limits, BadLimits>
         requires { AreBounds (bounds_of most.now) }
         ensures { result ≡ limits_within (bounds_of most.now) (bounds_of sizes.now) }
@@ -202,7 +217,7 @@ impl Limits {
         self.shmmni
     }
 
-    /// The most pages of all segments.
+    /// The most pages of all segments together.
     pub fn shmall(&self) -> u64
         ensures value { result ≡ self.now.shmall }
         ensures range { result ≤ MOST_SHMALL }
@@ -218,7 +233,7 @@ impl Limits {
         self.frames
     }
 
-    /// The most pages of locked segments.
+    /// The most pages of locked segments; of each user's if the rule LOCKS_BY_USER holds.
     pub fn memlock(&self) -> u64
         ensures value { result ≡ self.now.memlock }
         ensures range { result ≤ MOST_FRAMES }
@@ -258,7 +273,7 @@ impl Limits {
         self.rules
     }
 
-    /// The most pages that are locked at a time: MEMLOCK, or two less than the frames where MEMLOCK is a limit of
+    /// The most pages that may be locked at a time: MEMLOCK; or the frames less 2, if MEMLOCK is a limit of
     /// each user.
     pub fn lockable(&self) -> u64
         ensures value { result ≡ lockable self.now }

@@ -1,8 +1,9 @@
-//! Numbers that are taken and given back: the least free of 0, 1, 2 and so on, in logarithmic time.
+//! Numbers that are taken and returned: `take` gives the least free one of 0, 1, 2 and so on, in logarithmic
+//! time.
 //!
-//! A number is taken when it is the least free one. So the numbers that were ever taken are those below a bound,
-//! and the free ones among them lie in a heap. Room in the heap is reserved before a number is taken, so giving a
-//! number back takes no memory and cannot fail.
+//! Only the least free number is ever taken. So the numbers that were ever taken are those below a bound, and
+//! a heap keeps the free ones among them. Room in the heap is reserved before a number is taken, so returning
+//! a number takes no memory and cannot fail.
 ghost use Rattle.std.specs.Prelude.{◌≡◌, ◌<◌, ◌≤◌, ℕ, true, false, IsOk, OnOk};
 ghost use Rattle.shm_base.specs.Numbers.{is_taken, IsLeastNumber, WithTaken, WithReturned};
 
@@ -11,13 +12,13 @@ use std::cmp::Reverse;
 use std::collections::BinaryHeap;
 use std::marker::Model;
 
-/// Which numbers are taken.
+/// The set of taken numbers.
 pub struct Numbers {
-    // No number from this one on was ever taken.
+    // Numbers from this one on were never taken.
     fresh: u32,
-    // The numbers below it that are free.
+    // The free numbers below it.
     returned: BinaryHeap<Reverse<u32>>,
-    // There is room for the numbers below this one.
+    // The heap has room for the numbers below this one.
     room: u32,
 }
 
@@ -48,7 +49,7 @@ impl Model for Numbers {
 }
 
 impl Numbers {
-    /// Each number is free, and there is room for none.
+    /// Every number is free. There is room for none.
     pub fn new(alloc: Global) -> Numbers
         ensures free { (n : ℕ) → is_taken result n ≡ false }
     {
@@ -59,7 +60,8 @@ impl Numbers {
         }
     }
 
-    /// Makes room for the numbers below `room`. Takes no memory where it is there.
+    /// Makes room for the numbers below `room`. Takes no memory if it is there. AllocError: the host refused
+    /// memory, and nothing changed.
     pub fn reserve(&mut self, room: u32) -> Result<(), AllocError>
         ensures same { (n : ℕ) → is_taken self.new n ≡ is_taken self.old n }
         ensures room { OnOk result (room ≤ self.new.room) }
@@ -83,7 +85,7 @@ impl Numbers {
         }
     }
 
-    /// Takes the least free number.
+    /// Takes the least free number, which needs room.
     pub fn take(&mut self) -> u32
         requires { (n : ℕ) → IsLeastNumber self.old n → n < self.old.room }
         ensures least { IsLeastNumber self.old result }
@@ -100,7 +102,7 @@ impl Numbers {
         }
     }
 
-    /// Gives a number back. Takes no memory.
+    /// Returns a taken number. Takes no memory.
     pub fn give(&mut self, number: u32)
         requires { is_taken self.old number ≡ true }
         ensures given { WithReturned self.old self.new number }
@@ -110,7 +112,7 @@ impl Numbers {
         prove!(pushed.is_ok());
     }
 
-    /// Gives every number back.
+    /// Returns every number. The room stays.
     pub fn clear(&mut self)
         ensures free { (n : ℕ) → is_taken self.new n ≡ false }
         ensures room { self.new.room ≡ self.old.room }

@@ -8,7 +8,7 @@ pub struct Cred {
     pub gid: u32,
 }
 
-/// Who owns a segment, who made it, and the nine mode bits.
+/// Owner and creator of a segment, and its nine mode bits.
 #[derive(Clone, Copy, Debug, PartialEq, Eq)]
 pub struct Perm {
     pub uid: u32,
@@ -18,7 +18,7 @@ pub struct Perm {
     pub mode: u16,
 }
 
-/// What an access asks for.
+/// The permissions that an access asks for.
 #[derive(Clone, Copy, Debug, PartialEq, Eq)]
 pub struct Want {
     pub read: bool,
@@ -38,9 +38,9 @@ fn triple(cred: &Cred, perm: &Perm) -> u16
     }
 }
 
-/// Whether the permissions allow what is wanted (sysvipc(7)). Owner bits apply where the user is owner or
-/// creator, else group bits where the group is theirs, else the other bits; user 0 passes every test
-/// (this project's profile, in which no call asks for execution).
+/// Whether the permissions allow what is wanted (sysvipc(7)). The owner's bits apply if the user is owner or
+/// creator, else the group's bits if the group is that of either, else the other bits. User 0 passes every
+/// test (this project's profile).
 pub fn grants(cred: &Cred, perm: &Perm, want: Want) -> bool
     ensures { result ≡ flat.grants cred.now perm.now want }
 {

@@ -1,4 +1,4 @@
-//! Pages, frames and slots, and what is counted of them.
+//! Pages, frames and slots, and the counts of a machine.
 ghost use Rattle.std.specs.Prelude.{◌≡◌, ◌≤◌, ◌^◌, ◌<◌};
 ghost use Rattle.shm_base.specs.State as flat;
 ghost use Rattle.shm_base.specs.Bounds.{within};
@@ -9,13 +9,13 @@ use crate::bounds::PROFILE_SLOTS;
 /// The bytes of a page. SHMLBA, the unit of attach addresses, is the same.
 pub const PAGE_SIZE: u64 = 4096;
 
-/// The same, as the length of a page's bytes.
+/// The same as the length of an array.
 pub const PAGE_BYTES: usize = PAGE_SIZE as usize;
 
 /// The number of a frame, from 0.
 pub type FrameNo = u32;
 
-/// A page of a segment. The segment goes by its identifier, the page by its number from 0.
+/// A page of a segment, by the segment's identifier and the page's number from 0.
 #[derive(Clone, Copy, Debug, PartialEq, Eq)]
 pub struct PageRef {
     pub seg: u32,
@@ -29,8 +29,8 @@ pub struct Slot {
     pub slot: u32,
 }
 
-/// A stretch of bytes within one page of a segment: `len` bytes from byte `at` of the segment on. The
-/// frame is that of the page where it is resident.
+/// Bytes within one page of a segment: `len` bytes from byte `at` of the segment on. `frame` is the page's
+/// frame if it is resident.
 #[derive(Clone, Copy, Debug, PartialEq, Eq)]
 pub struct Span {
     pub seg: u32,
@@ -39,16 +39,16 @@ pub struct Span {
     pub frame: Option<FrameNo>,
 }
 
-/// What a flush round did: pages written, and writes that failed.
+/// What a flush round did: pages that it wrote, and writes that failed.
 #[derive(Clone, Copy, Debug, PartialEq, Eq)]
 pub struct FlushReport {
     pub written: u64,
     pub failed: u64,
 }
 
-/// The counts of a machine. `reserved` and `locked` are pages of all and of the locked segments, `slots`
-/// those of the areas that are there. `ins` and `outs` are successful pager reads for faults and pager
-/// writes for evictions and flushes; they stay at their last value, as `failures` does.
+/// The counts of a machine. `reserved` are the pages of all segments, `locked` those of the locked ones,
+/// `slots` the slots of all active areas. `ins` counts successful pager reads for faults, `outs` successful
+/// pager writes for evictions and flushes. `ins`, `outs` and `failures` stop at their last value.
 #[derive(Clone, Copy, Debug, PartialEq, Eq)]
 pub struct Tally {
     pub events: u64,
@@ -72,7 +72,7 @@ pub fn is_slot_count(slots: u64) -> bool
     1 <= slots && slots <= u64::from(PROFILE_SLOTS)
 }
 
-/// How many pages hold `size` bytes.
+/// How many pages `size` bytes need.
 pub fn pages_of(size: u64) -> u64
     ensures value { result ≡ flat.pages_of size }
     ensures small { result ≤ 2 ^ 52 }

@@ -50,7 +50,7 @@ unset_all-push frames (k ∷ rest) i = unset_all-push (unset frames k) rest i
 pub may_go-unset_all : (passes : PageRef → Bool) (pinned : Option ℕ) (frames : List Frame) (list : List ℕ) (i : ℕ) → may_go passes pinned (unset_all frames list) i ≡ may_go passes pinned frames i
 may_go-unset_all passes pinned frames list i = ap (λ f. owner_passes passes f.owner && not (is_pinned pinned i)) (unset_all-at frames list i)
 
--- of the frames that pass p, those within so many steps from the hand are among the first so many of the ring
+-- a frame that passes p within n steps from the hand is among the first n of the ring that pass
 module _ (p : ℕ → Bool) (hand n i : ℕ) (on : hand < n) (there : i < n) where
   abbrev passed : ℕ → List ℕ
   passed j = filter p (take j (ring hand n))

@@ -1,4 +1,4 @@
--- The first of a list that fails a test, and what stands before it.
+-- The first element of a list that fails a test, and the elements before it.
 use Rattle.std.proofs.Common.{◌≡◌, ℕ, ◌+◌, ◌<◌, ◌≤◌, List, [], ◌∷◌, ◌++◌, length, get_or, take, drop, filter, Bool, true, false, not, Option, Some, None, unwrap_or, refl, sym, ap, ◌∙◌, add-one, drop-cons, append-nil, arith}
 use Rattle.std.proofs.lemmas.Grind.{common_steps}
 use Rattle.std.specs.Prelude.{find, take_while, slice_index}
@@ -37,7 +37,7 @@ first_of-some [] v e = cc
 first_of-some (y ∷ ys) v e = cc
 
 module _ (r : ℕ → Bool) where
-  -- where one fails behind some that pass
+  -- one fails, after some that pass
   take_while-stop : (xs ys : List ℕ) (y : ℕ) → EachPasses r xs → r y ≡ false → take_while r (xs ++ y ∷ ys) ≡ xs
   take_while-stop [] ys y each fails = rw (take_while-cons r y ys, fails) refl
   take_while-stop (x ∷ xs) ys y each fails = rw (take_while-cons r x (xs ++ y ∷ ys), each.0) (ap (λ t. x ∷ t) (take_while-stop xs ys y each.1 fails))
@@ -84,6 +84,6 @@ module _ (p r : ℕ → Bool) (xs : List ℕ) (j : ℕ) where
         take_while-stop r (filter p (take j xs)) (filter p (drop (j + 1) xs)) (get_or xs j 0) each fails,
       )
 
-  -- the scan comes to the end
+  -- the scan reaches the end
   pub ends : (v : ℕ) → length xs ≤ j → EachPasses r (filter p (take j xs)) → first_of (filter p (take j xs)) ≡ Some v → Stops r (filter p xs) v (filter p (take j xs))
   ends v le each first = grind (arith, common_steps, take_all, find-none, first_of-some, take_while-all)

@@ -1,4 +1,4 @@
--- Where a frame stands on the ring, and how far on from the hand.
+-- The position of a frame on the ring, and its distance from the hand.
 use Rattle.std.proofs.Common.{◌≡◌, ℕ, ◌+◌, ◌-◌, ◌<◌, ◌≤◌, length, refl, arith, zero-add, length-append}
 use Rattle.std.proofs.lemmas.Grind.{common_steps}
 use Rattle.std.proofs.lemmas.Bool.{lt-ltb, le-ltb}
@@ -24,11 +24,11 @@ distance-after hand n i le = rw (le-ltb i hand le) refl
 pub distance-lt : (hand n i : ℕ) → hand < n → i < n → distance hand n i < n
 distance-lt hand n i on lt = grind arith
 
--- the frame so many steps on is that far away
+-- the frame that is n steps away is at distance n
 pub distance-ring_at : (hand n j : ℕ) → hand < n → j < n → distance hand n (ring_at hand n j) ≡ j
 distance-ring_at hand n j on lt = grind (arith, ring_at-low, ring_at-high)
 
--- each frame is as many steps on as it is far away
+-- each frame is as many steps away as its distance
 pub ring_at-distance : (hand n i : ℕ) → hand < n → i < n → ring_at hand n (distance hand n i) ≡ i
 ring_at-distance hand n i on lt = grind (arith, ring_at-high, ring_at-low)
 

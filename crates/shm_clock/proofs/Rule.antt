@@ -21,7 +21,7 @@ module _ (p : ℕ → Bool) (hand : ℕ) (frames : List Frame) (on : hand < leng
   abbrev bit : ℕ → Bool
   bit i = is_referenced frames i
 
-  -- the frames that pass p within so many steps have their bits set
+  -- the frames that pass p within n steps have their bits set
   abbrev SetWithin : ℕ → Type 0
   SetWithin j = (k : ℕ) → k < j → p (ring_at hand n k) ≡ true → bit (ring_at hand n k) ≡ true
 
@@ -100,7 +100,7 @@ module _ (p : ℕ → Bool) (hand : ℕ) (frames : List Frame) (on : hand < leng
       among : (i : ℕ) → i < n → is_among (filter p xs) i ≡ (p i && true)
       among i l = rw (← whole) (rw (among_is p hand n i on l n (omega arith), lt-ltb (distance hand n i) n (distance-lt hand n i on l)) refl)
 
-  -- the rule on the list, and the words on each frame
+  -- the rule over the list, and the rule frame by frame
   pub rule-clock : filter p xs ≢ [] → (victim : ℕ) (after : List Frame) → IsRule victim after → IsClockVictim p hand frames victim after
   rule-clock some victim after r = by (cases_lt (position_or_len open_to xs) (length xs)) (cases_lt (position_or_len p xs) (length xs))
     where

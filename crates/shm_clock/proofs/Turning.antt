@@ -11,7 +11,7 @@ use Rattle.shm_clock.proofs.Firsts.{EachPasses, EachPasses-push, first_of, first
 use Rattle.shm_clock.proofs.Bits.{unset_all-at, unset_all-push, may_go-unset_all, among_is}
 use Rattle.shm_clock.proofs.Rule.{IsRule}
 
--- after so many steps: the frames now, the first eligible frame met, and the looks
+-- after this many steps: the frames, the first eligible frame, and the looks
 pub record IsOnWay (passes : PageRef → Bool) (pinned : Option ℕ) (hand : ℕ) (before : List Frame) (looked steps : ℕ) (now : List Frame) (first : Option ℕ) (looks : ℕ) : Type 0 where
   pub bits : now ≡ unset_all before (filter (may_go passes pinned before) (take steps (ring hand (length before))))
   pub set : EachPasses (is_referenced before) (filter (may_go passes pinned before) (take steps (ring hand (length before))))

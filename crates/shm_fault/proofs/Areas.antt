@@ -1,4 +1,4 @@
--- Pages that leave a swap area, and the area that goes.
+-- Pages that leave a swap area, and the area that is turned off.
 use Rattle.shm_fault.proofs.Names.{◌≡◌, ◌≢◌, ℕ, zero, suc, ◌<◌, ◌≤◌, ◌+◌, true, cond, List, [], ◌∷◌, length, get_or, set, sum_by, Option, Some, None, is_some, refl, sym, ap, ◌∙◌, inl, inr, arith, length-set, get_or-set_same, get_or-set_other, cases_eq, get_or_past, length-map, sum_by-set, sum_by-cons, PageRef, Slot, pages_in_store, used_count, SwapView, no_area, area_at, with_area, off, HasSlot, IsArea, IsSwap, IsFirstFree, OneArea, AfterWriteFault, owner_of, page_in, size_of, sizes, swap_slots, slots_in, used_in, used_slots, with_slot_owner, with_slot_page, without_slot, GoesOn, IsSteady, had_cause, Frame, no_frame, frame_at, PageRec, rec_by, HasPage, with_rec, StoreView, held, IsTied, Tied, IsStoreSound, Goes, Still, AtRest, SameOwned, IsRelocated, IsCleared, common_steps, nat_tests}
 use Rattle.shm_fault.proofs.Pages.{rec-with, other, other_ne, has-frame, has-slot}
 use Rattle.shm_fault.proofs.Slots.{OnlySlot, OnlySlot-trans, OnlySlot-owner, OnlySlot-page, OnlySlot-given, page-written, owner-written, owner-set, owner-given, cases_slot, set-cases}
@@ -150,7 +150,7 @@ keeps-owned s sound u owned is same goes_on =
     let slots : SlotsApart every s.swap u = record { has = λ k q e o. owned.has k; kept = λ k q e o. (owned.owners k ∙ o, owned.pages k q o); owners = λ k q e o. sym (owned.owners k) ∙ o } in
     keeps-every s (record s { swap = u }) sound (record { segs = segs-same s.segs; frames = frames-same s.frames sound.tied.free; slots = slots }) is same sound.hand goes_on
 
--- an area none of whose slots is owned goes
+-- an area without owned slots is turned off
 module _ (s : StoreView) (sound : IsStoreSound s) (area : ℕ) (here : (area_at s.swap area).here ≡ true) (free : (j : ℕ) → owner_of s.swap area j ≡ None) where
   abbrev without_area : StoreView
   without_area = record s { swap = with_area s.swap area (off (area_at s.swap area)) }
@@ -229,7 +229,7 @@ module _ (area n : ℕ) (s t : StoreView) (d : IsCleaned area n s t) (here : (ar
   pub cleaned-room : pages_in_store (held s) + length (area_at s.swap area).pages ≤ swap_slots s.swap → pages_in_store (held t) + length (area_at t.swap area).pages ≤ swap_slots t.swap
   cleaned-room room = grind (arith, nat_tests, common_steps, cleaned-here.1, d.goes.bytes, t.swap, s.swap, sum_by, d.goes.same_sizes)
 
-  -- the area goes once the slots that it has are free
+  -- the area is turned off after its slots are free
   module _ (all : length (area_at s.swap area).pages ≤ n) where
     pub cleaned-free : (slot : ℕ) → owner_of t.swap area slot ≡ None
     cleaned-free slot = grind (arith, nat_tests, common_steps, d.free, get_or_past, t.swap, cleaned-here.1, d.sound.swap.each)

@@ -3,7 +3,7 @@ use Rattle.shm_fault.proofs.Names.{◌≡◌, ◌≢◌, ℕ, zero, suc, ◌<◌
 use Rattle.shm_fault.specs.Store.{held}
 use Rattle.shm_fault.proofs.Pages.{has-head, rec-head, has-tail, rec-tail}
 
--- the bytes of so many pages of a segment, from page i on, joined
+-- the bytes of a segment's pages from page i on, joined
 unfoldable pub joined : (PageRef → List ℕ) → ℕ → ℕ → ℕ → List ℕ
 joined b id i zero = []
 joined b id i (suc n) = b (record { seg = id; page = i }) ++ joined b id (suc i) n

@@ -1,4 +1,4 @@
--- Page tables once more, and the pages of all tables that are in a slot alone.
+-- Copies of page tables, and the pages of all tables that are only in a slot.
 use Rattle.shm_fault.proofs.Names.{◌≡◌, ◌<◌, ◌≤◌, ◌+◌, ℕ, zero, suc, List, [], ◌∷◌, take, length, get_or, sum_by, sum_by-cons, count_by, count_by-le-length, values_of, refl, arith, TableView, is_swapped, page_count, seg_view, segs_view}
 use Rattle.std.specs.List.{AllZip}
 use Rattle.shm_fault.specs.Store.{swapped_pages}

@@ -10,7 +10,7 @@ pub byte-one : (b : Bool) → bool_byte b ≡ one_if b
 byte-one true = refl
 byte-one false = refl
 
--- a step that counted so many reads and so many writes
+-- a step that counted these reads and writes
 pub counts-more : (u v : Touched) (s t : StoreView) (a b : ℕ) → v.ins ≡ u.ins + a → t.ins ≡ raised s.ins a → v.outs ≡ u.outs + b → t.outs ≡ raised s.outs b → CountsOn u v s t
 counts-more u v s t a b ins read_in outs written_out = grind (arith, nat_tests, common_steps, raised-trans, u.ins, u.outs)
 

@@ -71,7 +71,7 @@ weigh-nothing (g ∷ gs) = omega (arith, from-const 0 g.id 0 g.pages, weigh-noth
 pub weigh-zero : (h : PageRef → PageRec → ℕ) (gs : List SegRec) → AreApart gs → ((r : PageRef) → HasPage gs r → h r (rec_by gs r) ≡ 0) → weigh h gs ≡ 0
 weigh-zero h gs apart void = weigh-ext h nothing gs apart void ∙ weigh-nothing gs
 
--- where one page alone weighs something
+-- only one page counts
 module _ (h : PageRef → PageRec → ℕ) (r : PageRef) where
   from-one : (i j : ℕ) (ps : List PageRec) → i + j ≡ r.page → j < length ps → ((m : ℕ) → m < length ps → m ≢ j → h (record { seg = r.seg; page = i + m }) (rec_at ps m) ≡ 0) → weigh_from h r.seg i ps ≡ h r (rec_at ps j)
   unfolding weigh_from

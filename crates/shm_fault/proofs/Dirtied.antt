@@ -1,4 +1,4 @@
--- Which frames become dirty: none where pages come in, and those of the pages that are written.
+-- The frames that become dirty: none if pages come in, and those of pages that are written.
 use Rattle.shm_fault.proofs.Names.{◌≡◌, ℕ, Bool, true, false, not, cond, false≢true, List, [], ◌∷◌, map, set, Option, Some, None, is_some, refl, sym, ap, ◌∙◌, inl, inr, ◌<◌, ◌≢◌, length, length-map, get_or-set_same, get_or-set_other, cases_eq, frame_by, PageRef, Slot, Span, Frame, no_frame, frame_at, unlocked, rec_by, StoreView, ref_of}
 use Rattle.std.specs.Prelude.{position}
 use Rattle.shm_frames.specs.Frame.{is_free}
@@ -15,7 +15,7 @@ none-set frames f x was g e = elim (set-cases frames f x no_frame g) [
   | inr kept ↦ rw kept at e
 ]
 
--- the slot of a page is no frame
+-- giving a page a slot changes no frame
 slotted-frames : (f : ℕ) (s : Places) → (slotted f s).frames ≡ s.frames
 slotted-frames f s = by-owner (frame_at s.frames f).owner
   where

@@ -204,7 +204,7 @@ module _ (t : StoreView) (sound : IsStoreSound t) (id : ℕ) (gone : (page : ℕ
   count-but : (q : PageRef) → q.seg ≢ id → count_by_id (but id t.segs) q.seg ≡ count_by_id t.segs q.seg
   count-but q n = rw (find-but t.segs id q.seg n) refl
 
-  -- what names a page that is there names none of the segment that goes
+  -- an existing page with a frame or a slot is not one of the dropped segment
   other-seg : (q : PageRef) → HasPage t.segs q → rec_by t.segs q ≢ no_page → q.seg ≢ id
   other-seg q has ne same = grind (arith, nat_tests, common_steps, q.page, ref_parts, t.segs)
 

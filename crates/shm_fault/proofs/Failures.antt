@@ -60,7 +60,7 @@ cause-more s t u g e = grind (arith, nat_tests, total-le t u g, e)
 pub cause-before : (s t u : SwapView) → (some_spent t ≡ true → had_cause s t ≡ true) → GoesOn s t → GoesOn t u → had_cause t u ≡ true → had_cause s u ≡ true
 cause-before s t u spent g h e = grind (arith, nat_tests, total-le s t g, spent, cause-more s t u h, e)
 
--- an area that is spent stays so, where none goes
+-- a spent area stays spent, if none is turned off
 pub unspent-before : (s t : SwapView) → IsSwap t → GoesOn s t → sizes t ≡ sizes s → some_spent t ≡ false → some_spent s ≡ false
 unfolding some_spent
 unspent-before s t swap g same e = grind (arith, nat_tests, common_steps, spent-stays, s.areas, t.areas, rose, swap.each, pages-same)

@@ -10,7 +10,7 @@ use Rattle.shm_fault.proofs.Moves.{flush-none, flush-push, flush-same}
 abbrev pub due : StoreView → ℕ → List ℕ
 due s i = filter (may_flush s) (range_with_len 0 i)
 
--- the frames below i were looked at, and the first n of those that may be flushed were written
+-- the frames below i were tested, and the first n that may be flushed were written
 pub record Flushed (n : ℕ) (s : StoreView) (i : ℕ) (t : StoreView) (written failed : ℕ) : Type 0 where
   pub sound : IsStoreSound t
   pub goes : Goes s t
@@ -130,7 +130,7 @@ module _ (n : ℕ) (s : StoreView) (i : ℕ) (t : StoreView) (written failed : �
       other : (f : ℕ) → f ≢ i → frame_at u.frames f ≡ frame_at t.frames f
       other f ne = ap (λ (fs : List Frame). frame_at fs f) frames ∙ get_or-set_other t.frames i f (record (frame_at t.frames i) { dirty = dirty_after u i }) no_frame ne
 
--- enough frames were written, whatever comes after them
+-- enough frames were written, so later ones don't count
 pub flushed-full : (n : ℕ) (s : StoreView) (i k : ℕ) (t : StoreView) (written failed : ℕ) → n ≤ written + failed → Flushed n s i t written failed → Flushed n s (i + k) t written failed
 flushed-full n s i zero t written failed le d = let e : i + 0 ≡ i = omega arith in rw e d
 flushed-full n s i (suc k) t written failed le d =

@@ -1,4 +1,4 @@
--- What a segment that goes makes of the places, and what is counted of them.
+-- Places and counts after a segment is dropped.
 use Rattle.shm_fault.proofs.Names.{◌≡◌, ℕ, suc, ◌+◌, cond, List, [], ◌∷◌, map, sum_by, Option, Some, None, refl, sym, ap, ◌∙◌, arith, sum_by-cons, used_count, used_in, used_slots, AreaView, PageRef, Slot, SwapView, Frame, no_frame, frame_at, is_owned, is_dirty, resident_of, dirty_of, no_page, rec_by, with_rec, but, StoreView, Given, emptied, page_in}
 use Rattle.shm_fault.specs.declared.touched.PageTally.{PageTally}
 use Rattle.shm_fault.specs.Placing.{Places, bare, area_owners, slot_owners, places, frame_freed, slot_freed, after_forget, after_forgets, without_segment, IsTallyOf}
@@ -35,7 +35,7 @@ forgets-suc seg n s t u first then = rw (← first) then
 pub forgets-then : (seg n : ℕ) (s t u : Places) → t ≡ after_forgets seg n s → u ≡ after_forget (record { seg = seg; page = n }) t → u ≡ after_forgets seg (n + 1) s
 forgets-then seg n s t u first then = let e : n + 1 ≡ suc n = omega arith in rw e (forgets-suc seg n s t u first then)
 
--- the segment goes
+-- the segment is removed
 segment-off : (t : StoreView) (seg : ℕ) → places (record t { segs = but seg t.segs }) ≡ without_segment seg (places t)
 unfolding places without_segment
 segment-off t seg = refl

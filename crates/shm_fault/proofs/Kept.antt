@@ -1,4 +1,4 @@
--- No identifier stands twice, whatever is added, dropped or changed.
+-- All identifiers are different, after any addition, drop or change.
 use Rattle.std.proofs.Common.{◌≡◌, ◌≢◌, ℕ, zero, suc, ◌<◌, Bool, true, false, List, [], ◌∷◌, ◌++◌, length, get_or, set, drop, map, Some, option_map, refl, ◌∙◌, inl, inr, ne_eqb, arith}
 use Rattle.std.proofs.lemmas.Grind.{common_steps}
 use Rattle.std.proofs.lemmas.Bool.Decides.{eqb_tells}
@@ -18,7 +18,7 @@ pub find_held-id : (hs : List Held) (id : ℕ) (g : Held) → find_held hs id �
 find_held-id [] id g found = cc
 find_held-id (h ∷ hs) id g found = grind (arith, common_steps, (find_held-id hs id g))
 
--- a segment that stands somewhere is held
+-- a segment in the list is held
 pub stands-held : (hs : List Held) (i : ℕ) (g : Held) → slice_get hs i ≡ Some g → is_held hs g.id ≡ true
 stands-held [] i g at = cc
 stands-held (h ∷ hs) zero g at = grind (arith, common_steps)
@@ -71,14 +71,14 @@ map-none : (f : Held → Held) (id : ℕ) → ((g : Held) → g.id ≢ id → f 
 map-none f id others [] none = refl
 map-none f id others (h ∷ hs) none = grind (arith, common_steps, (map-none f id others hs))
 
--- the segment with an identifier is changed where it stands
+-- the segment with an identifier is changed at its place
 pub map-set : (f : Held → Held) (id : ℕ) → ((g : Held) → g.id ≢ id → f g ≡ g) → (hs : List Held) (i : ℕ) (g : Held)
     → AreHeldApart hs → find_held hs id ≡ slice_get hs i → slice_get hs i ≡ Some g → map f hs ≡ set hs i (f g)
 map-set f id others [] i g apart found at = refl
 map-set f id others (h ∷ hs) zero g apart found at = grind (arith, common_steps, find_held-id, map-none)
 map-set f id others (h ∷ hs) (suc i) g apart found at = grind (arith, common_steps, (map-set f id others hs i g apart.1), eqb_tells, true_false, stands-held)
 
--- the same, by what stands there before and after
+-- the same, by the elements before and after it
 pub set-map : (f : Held → Held) (id : ℕ) → ((g : Held) → g.id ≢ id → f g ≡ g) → (hs : List Held) (i : ℕ) (g y : Held)
     → AreHeldApart hs → find_held hs id ≡ slice_get hs i → i < length hs → g ≡ get_or hs i g → (g.id ≡ id → y ≡ f g) → set hs i y ≡ map f hs
 set-map f id others hs i g y apart found within is after = grind (arith, common_steps, slice_get_read, set, find_held-id, map-set)

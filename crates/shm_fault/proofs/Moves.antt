@@ -97,7 +97,7 @@ moves-then area n s t u first then = let e : n + 1 ≡ suc n = omega arith in rw
 pub stops-moving : (area n : ℕ) (s t u : StoreView) → n < length (area_at s.swap area).owners → places t ≡ after_moves area n (places s) → StopsAtMove (record { area = area; slot = n }) (places t) (places u) → StopsMoving area (places s) (places u)
 stops-moving area n s t u there first stopped = record { slot = n; there = length-place s area n there; stopped = rw first at stopped }
 
--- the area goes
+-- the area is turned off
 area-off : (t u : StoreView) (area : ℕ) → u ≡ record t { swap = with_area t.swap area (off (area_at t.swap area)) } → places u ≡ without_area area (places t)
 unfolding places without_area slot_owners
 area-off t u area gone = rw gone (rw (map-set area_owners t.swap.areas area (off (area_at t.swap area))) refl)

@@ -253,7 +253,7 @@ edited f g id-keeps keeps same es i id made w v apart rising below key value is 
       below = rw order (all-map (λ (e : Entry). e.1.number < made) h (λ e l. rw (edit-keeps id g keeps e) l) (by_number es) below);
     }
 
--- Where a table is put does not matter to one put before it.
+-- Two tables can be inserted in either order.
 put-put : (x y : Entry) (es : List Entry) → x.1.number ≢ y.1.number → put_in x (put_in y es) ≡ put_in y (put_in x es)
 put-put x y [] n =
     elim (cases_lt x.1.number y.1.number) [

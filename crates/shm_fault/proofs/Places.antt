@@ -62,7 +62,7 @@ pub dirty-is : (s t : StoreView) (f : ℕ) → (frame_at s.frames f).dirty ≡ t
 unfolding places after_clean
 dirty-is s t f dirty out = rw (bare-at s.frames f, dirty) out
 
--- the page that had to go goes
+-- the victim's page is evicted
 pub eviction-is : (s t₁ t₂ t₃ : StoreView) (pinned : Option ℕ) (f : ℕ) → f ≡ victim_in pinned (places s) → places t₁ ≡ after_turn pinned (places s) → places t₂ ≡ after_clean f (places t₁) → places t₃ ≡ vacated f (places t₂)
     → places t₃ ≡ after_eviction pinned (places s)
 unfolding after_eviction
@@ -110,7 +110,7 @@ settled-is s t r f clean hand swap segs frames =
     let x : Frame = record (frame_at s.frames f) { owner = Some r; referenced = true } in
     rw (hand, swap, segs, frames, bare-set s.frames f x, clean) refl
 
--- bytes that come into a frame are no place
+-- reading bytes into a frame changes no place
 pub same-places : (s t : StoreView) (f : ℕ) (bytes : List ℕ) → t.segs ≡ s.segs → t.hand ≡ s.hand → slot_owners t.swap ≡ slot_owners s.swap → t.frames ≡ set s.frames f (record (frame_at s.frames f) { bytes = bytes }) → places t ≡ places s
 unfolding places
 same-places s t f bytes segs hand slots frames = rw (segs, hand, slots, frames, map-set_same bare s.frames f (record (frame_at s.frames f) { bytes = bytes }) no_frame refl) refl

@@ -22,7 +22,7 @@ OnlySlot-trans k s t u a b = record {
   owners = λ j n. b.owners j n ∙ a.owners j n;
 }
 
--- the area of one slot was set, with that slot's page and owner alone changed
+-- the area of one slot was set: only that slot's page and owner changed
 area_only : (k : Slot) (s : SwapView) (a : AreaView) (flag : Bool) → length a.pages ≡ length (area_at s k.area).pages
     → ((i : ℕ) → i ≢ k.slot → get_or a.pages i [] ≡ get_or (area_at s k.area).pages i [])
     → ((i : ℕ) → i ≢ k.slot → get_or a.owners i None ≡ get_or (area_at s k.area).owners i None)

@@ -67,7 +67,7 @@ module _ (off : PageRef → Bool) (s t : StoreView) (to : Touches off s t) where
       → ((k : Slot) (q : PageRef) → off q ≡ false → owner_of t.swap k.area k.slot ≡ Some q → HasPage s.segs q) → Tied t
   tied_touched tied here own_frame own_slot = grind (arith, nat_tests, has-same, cases_Bool, tied_off)
 
--- the owner is a page that may be touched, or nobody
+-- the owner is a page that may be touched, or none
 abbrev pub IsOwn : (PageRef → Bool) → Option PageRef → Type 0
 IsOwn off o = (q : PageRef) → o ≡ Some q → off q ≡ false
 
@@ -77,11 +77,11 @@ IsOwn-none off o e q h = cc
 pub IsOwn-some : (r : PageRef) (o : Option PageRef) → o ≡ Some r → IsOwn (other r) o
 IsOwn-some r o e q h = let same : q ≡ r = cc in rw same (other-self r)
 
--- one frame set, whose owner was and is such a page or nobody
+-- one frame is set; its owner was and is such a page, or none
 pub frames-set : (off : PageRef → Bool) (frames : List Frame) (f : ℕ) (x : Frame) → IsOwn off (frame_at frames f).owner → IsOwn off x.owner → (x.owner ≡ None → x.dirty ≡ false)
     → ((g : ℕ) → (frame_at frames g).owner ≡ None → (frame_at frames g).dirty ≡ false) → FramesApart off frames (set frames f x)
 frames-set off frames f x was is clean free = grind (arith, nat_tests, common_steps, set-cases)
 
--- slots, where one may have another page or owner, and that is such a page or nobody
+-- slots of which one may have another page or owner; that is such a page, or none
 pub slots-only : (off : PageRef → Bool) (k : Slot) (s u : SwapView) → OnlySlot k s u → IsOwn off (owner_of s k.area k.slot) → IsOwn off (owner_of u k.area k.slot) → SlotsApart off s u
 slots-only off k s u only was is = grind (arith, nat_tests, cases_slot, only.owners, only.pages)

@@ -13,13 +13,13 @@ swapped-padded ps n = rw (sum_by-append (λ p. cond (is_swapped p) 1 0) ps (repl
 pub rest-padded : (ps : List PageRec) (n page : ℕ) → length ps ≤ page → rec_at (padded ps n no_page) page ≡ no_page
 rest-padded ps n page past = get_or-padded ps n page no_page ∙ get_or_past ps page no_page past
 
--- what is noted of a page once it has a record
+-- what is noted of a page when it has a record
 pub edit-reached : (ps : List PageRec) (n page : ℕ) (p : PageRec) → length ps ≤ n → page < n → padded (set (padded ps (page + 1) no_page) page p) n no_page ≡ set (padded ps n no_page) page p
 edit-reached ps n page p within there =
     set-padded (padded ps (page + 1) no_page) n page p no_page (within-padded ps (page + 1) page no_page (omega arith))
     ∙ ap (λ qs. set qs page p) (padded-padded ps (page + 1) n no_page (omega (arith, there)) within)
 
--- as many pages as before
+-- the number of pages is unchanged
 pub fits-reached : (ps : List PageRec) (n page : ℕ) (p : PageRec) → length ps ≤ n → page < n → length (set (padded ps (page + 1) no_page) page p) ≤ n
 fits-reached ps n page p within there = rw (length-set (padded ps (page + 1) no_page) page p) (fits-padded ps (page + 1) n no_page (omega (arith, there)) within)
 

@@ -1,4 +1,4 @@
--- What an access is asked for, and what it leaves beside the bytes that it reads or writes.
+-- What an access requires, and what it changes other than the bytes that it reads or writes.
 use Rattle.std.specs.Prelude.{ℕ, ◌≡◌, ◌≤◌, ◌+◌, ◌&&◌, Bool, true, false, List, [], ◌∷◌, Option, Some, None, Result, Ok, Err, length, is_ok, OnOk, OnErr, IsSome, All, ⊤}
 use Rattle.shm_base.specs.declared.paging.PageRef.{PageRef}
 use Rattle.shm_base.specs.declared.paging.Span.{Span}
@@ -16,11 +16,11 @@ use Rattle.shm_fault.specs.Counting.{raised, one_if, CountsOn, hand_after}
 use Rattle.shm_fault.specs.Placing.{places, after_access, with_dirty, Stops, NoneDirtied, AreDirtied}
 use Rattle.shm_fault.specs.Sound.{IsStoreSound}
 
--- each span names the frame that its page is in
+-- each span names the frame of its page
 abbrev pub NameFrames : StoreView → List Span → Type 0
 NameFrames s ps = All (λ (p : Span). p.frame ≡ frame_of s p.seg (page_of p)) ps
 
--- the same of one span, by the page that it lies in
+-- the same for one span, by its page
 abbrev pub NamesFrame : StoreView → Span → Type 0
 NamesFrame s p = p.frame ≡ frame_by s (ref_of p)
 
@@ -28,7 +28,7 @@ NamesFrame s p = p.frame ≡ frame_by s (ref_of p)
 abbrev pub IsUntouched : Touched → Type 0
 IsUntouched u = (u.moved.items ≡ []) × (u.ins ≡ 0) × (u.outs ≡ 0)
 
--- what a visit to a page leaves, whose frame was known where it had one
+-- the result of a visit to a page; if the page was resident, its frame was known
 pub record Visited
     (r : PageRef) (pinned known : Option ℕ) (s t : StoreView) (u v : Touched) (ok : Bool) : Type 0 where
   pub visits : Visits r pinned s t
@@ -41,7 +41,7 @@ pub record Visited
   pub quiet : IsSome known → (ok ≡ true) × (v ≡ u) × (t.segs ≡ s.segs) × (t.swap ≡ s.swap)
   pub cause : ok ≡ false → had_cause s.swap t.swap ≡ true
 
--- the page of a span is in the frame, whose referenced bit is set
+-- the page of a span is in this frame, whose referenced bit is set
 pub record IsIn (t : StoreView) (p : Span) (f : ℕ) : Type 0 where
   pub at : frame_by t (ref_of p) ≡ Some f
   pub bit : referenced_at t f ≡ true
@@ -52,14 +52,13 @@ AreIn t [] here = ⊤
 AreIn t (p ∷ []) here = IsIn t p here.first
 AreIn t (p ∷ q ∷ ps) here = IsIn t p here.first × IsIn t q here.second
 
--- The hand stays where the pages of spans were in frames. For one span it is where the visit to its page
--- leaves it.
+-- The hand stays if the pages of all spans were resident. For one span, it moves as the visit to its page moves it.
 pub record Turns (ps : List Span) (s t : StoreView) : Type 0 where
   pub still : All (IsResident s) ps → t.hand ≡ s.hand
   pub one : (p : Span) → ps ≡ p ∷ [] → t.hand ≡ hand_after s (frame_by s (ref_of p)) None
 
--- What paging for spans leaves, done or not. A pager is asked for no more than the pages need: one read for each
--- page that was in a slot, one write for each page that had to go. The caller's counts and the store's have each.
+-- The effects of paging for spans, whether it succeeds or not. At most as many pages are read, and at most as many written, as
+-- the spans have pages. On success each page that was only in a slot was read. The caller's counts and the store's have each.
 pub record Paged (ps : List Span) (s t : StoreView) (u : Touched) (ok : Bool) : Type 0 where
   pub moves : MovesLead u.moved.items s t
   pub few : length u.moved.items ≤ 4
@@ -78,17 +77,17 @@ pub record Brings (ps : List Span) (s t : StoreView) (u : Touched) (ok : Bool) :
   pub kept : KeepsLocked s t
   pub paged : Paged ps s t u ok
 
--- what was counted and named, also by an access that failed
+-- the counts and moves of an access, also of one that failed
 abbrev pub touched_of : Result Touched PagerFailed → Touched
 touched_of (Ok u) = u
 touched_of (Err e) = e.touched
 
--- the answer of an access that counted and named in a place of its caller's
+-- the answer of an access that wrote its counts and moves to `u`
 abbrev pub answer_of : {A E : Type 0} → Touched → Result A E → Result Touched PagerFailed
 answer_of u (Ok a) = Ok u
 answer_of u (Err e) = Err (record { touched = u })
 
--- what an access leaves, besides bytes
+-- the effects of an access, other than on bytes
 pub record Accessed (ps : List Span) (s t : StoreView) (result : Result Touched PagerFailed) : Type 0 where
   pub paged : Paged ps s t (touched_of result) (is_ok result)
   pub resident : OnOk result (All (IsReferenced t) ps)
@@ -109,7 +108,7 @@ pub record Reads
   pub stopped : OnErr result (Stops ps (places s) (places t))
   pub places : OnOk result (places t ≡ after_access ps (places s))
 
--- bytes of spans replaced, so that the segments are as `after` says; where a pager failed they are as before
+-- the bytes of spans were replaced, so that the segments are `after`; if a pager failed, no byte changed
 pub record Writes
     {A E : Type 0} (ps : List Span) (s t : StoreView) (after : List Held)
     (result : Result A E) (answer : Result Touched PagerFailed) : Type 0 where

@@ -1,4 +1,4 @@
--- No identifier stands twice among the segments that are held.
+-- All held segments have different identifiers.
 use Rattle.std.specs.Prelude.{◌≡◌, false, List, [], ◌∷◌, ⊤}
 use Rattle.shm_fault.specs.Held.{Held, is_held}
 

@@ -1,4 +1,4 @@
--- A page that is taken out of its frame and its slot.
+-- A page that loses its frame and its slot.
 use Rattle.std.specs.Prelude.{ℕ, ◌≡◌, ◌≢◌, ◌<◌, List, Option, Some, None, length, set, MatchOption}
 use Rattle.shm_base.specs.declared.paging.PageRef.{PageRef}
 use Rattle.shm_base.specs.declared.paging.Slot.{Slot}
@@ -13,12 +13,12 @@ use Rattle.shm_fault.specs.Goes.{outlines}
 use Rattle.shm_fault.specs.Counting.{AtRest}
 use Rattle.shm_fault.specs.Placing.{places, after_forget, after_forgets, without_segment}
 
--- the frames with one of them made free
+-- the frames, with one of them made free
 abbrev pub emptied : List Frame → Option ℕ → List Frame
 emptied frames None = frames
 emptied frames (Some f) = set frames f (record no_frame { bytes = (frame_at frames f).bytes })
 
--- the slot was given back, where there is one
+-- the slot was returned, if there is one
 abbrev pub Given : SwapView → Option Slot → SwapView → Type 0
 Given before slot after =
     MatchOption slot (after ≡ before) (λ k. after ≡ without_slot before k (page_in after k.area k.slot))
@@ -29,11 +29,11 @@ FrameThere frames frame = (f : ℕ) → frame ≡ Some f → f < length frames
 abbrev pub SlotThere : SwapView → Option Slot → Type 0
 SlotThere swap slot = (k : Slot) → slot ≡ Some k → HasSlot swap k.area k.slot
 
--- no page of the segment is anywhere
+-- no page of the segment has a frame or a slot
 abbrev pub IsBlank : ℕ → StoreView → Type 0
 IsBlank seg s = (page : ℕ) → rec_by s.segs (record { seg = seg; page = page }) ≡ no_page
 
--- frames and slots have the same pages, but for those of a segment
+-- except for pages of this segment, frames have the same owners
 abbrev pub SameInFrames : ℕ → List Frame → List Frame → Type 0
 SameInFrames seg before after =
     (f : ℕ) → disowned seg (frame_at after f).owner ≡ disowned seg (frame_at before f).owner
@@ -42,7 +42,7 @@ abbrev pub SameInSlots : ℕ → SwapView → SwapView → Type 0
 SameInSlots seg before after =
     (k : Slot) → disowned seg (owner_of after k.area k.slot) ≡ disowned seg (owner_of before k.area k.slot)
 
--- they have no page of the segment, and the others as before
+-- no frame has a page of the segment, and the other frames have the same owners
 abbrev pub LeavesFrames : ℕ → List Frame → List Frame → Type 0
 LeavesFrames seg before after = (f : ℕ) → (frame_at after f).owner ≡ disowned seg (frame_at before f).owner
 
@@ -50,7 +50,7 @@ abbrev pub LeavesSlots : ℕ → SwapView → SwapView → Type 0
 LeavesSlots seg before after =
     (area slot : ℕ) → owner_of after area slot ≡ disowned seg (owner_of before area slot)
 
--- the first pages of a segment are nowhere, and all else is as it was
+-- the first pages of a segment have neither frame nor slot, and nothing else changed
 pub record Dropped (seg n : ℕ) (s t : StoreView) : Type 0 where
   pub shape : outlines t.segs ≡ outlines s.segs
   pub bytes : without (held t) seg ≡ without (held s) seg
@@ -64,7 +64,7 @@ pub record Dropped (seg n : ℕ) (s t : StoreView) : Type 0 where
   pub nothing : IsBlank seg s → t ≡ s
   pub placed : places t ≡ after_forgets seg n (places s)
 
--- one page is nowhere from now on
+-- one page has neither frame nor slot any more
 pub record Forgets (page : PageRef) (s t : StoreView) : Type 0 where
   pub segs : t.segs ≡ with_rec s.segs page no_page
   pub held : without (held t) page.seg ≡ without (held s) page.seg
@@ -76,7 +76,7 @@ pub record Forgets (page : PageRef) (s t : StoreView) : Type 0 where
   pub placed : places t ≡ after_forget page (places s)
   pub nowhere : rec_by s.segs page ≡ no_page → t ≡ s
 
--- a segment was dropped: nothing has a page of it, and the other segments are as they were
+-- a segment was dropped: no frame or slot has a page of it, and the other segments are unchanged
 pub record Drops (seg : ℕ) (s t : StoreView) : Type 0 where
   pub held : held t ≡ without (held s) seg
   pub frames : LeavesFrames seg s.frames t.frames

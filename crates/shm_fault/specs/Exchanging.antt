@@ -1,4 +1,4 @@
--- What an exchange of the bytes of spans leaves: others in their place, or those that were there.
+-- The effects of an exchange of the bytes of spans.
 use Rattle.std.specs.Prelude.{ℕ, ◌≡◌, Bool, true, false, if◌then◌else◌, List, Result, OnOk, OnErr}
 use Rattle.shm_base.specs.Exchange.{same_bytes}
 use Rattle.shm_base.specs.declared.paging.Span.{Span}
@@ -13,13 +13,12 @@ use Rattle.shm_fault.specs.Store.{StoreView, held}
 abbrev pub holds : List Held → List Span → List ℕ → Bool
 holds hs ps expected = same_bytes (read_from hs ps) expected
 
--- the frames of the spans are dirty if they were written, and else as they were
+-- the frames of the spans are dirty if the bytes were written; otherwise no frame became dirty
 abbrev pub DirtiedIf : Bool → List Span → StoreView → StoreView → Type 0
 DirtiedIf true ps s t = AreDirtied ps s t
 DirtiedIf false ps s t = NoneDirtied s.frames t.frames
 
--- the bytes that were there were read, and replaced if `writes` says so; where a pager failed nothing was read, and they
--- are as before
+-- the old bytes were read, and replaced if `writes`; if a pager failed, nothing was read or replaced
 pub record Swaps
     {A E : Type 0} (writes : Bool) (ps : List Span) (bytes before after : List ℕ) (s t : StoreView)
     (result : Result A E) (answer : Result Touched PagerFailed) : Type 0 where

@@ -1,4 +1,4 @@
--- What a flush round does.
+-- The effects of a flush round.
 use Rattle.std.specs.Prelude.{ℕ, ◌≡◌, ◌+◌, Bool, false, not, ◌&&◌, List, length, filter, take, count_by, min, Contains}
 use Rattle.std.specs.List.{range_with_len}
 use Rattle.shm_base.specs.declared.paging.PageRef.{PageRef}
@@ -17,7 +17,7 @@ may_flush s f =
     let frame = frame_at s.frames f in
     frame.dirty && owner_passes (λ (r : PageRef). not (holds_locked (held s) r.seg)) frame.owner
 
--- the dirty frames of segments that are not locked, by rising number
+-- the dirty frames of segments that are not locked, in order
 abbrev pub dirty_list : StoreView → List ℕ
 dirty_list s = filter (may_flush s) (range_with_len 0 (length s.frames))
 
@@ -36,9 +36,9 @@ pub record IsFlushed (before after : StoreView) (n : ℕ) (report : FlushReport)
   pub others : (f : ℕ) → (Contains (chosen before n) f → ⊥)
       → frame_at after.frames f ≡ frame_at before.frames f
   pub counted : some_spent after.swap ≡ false → total after.swap ≡ total before.swap + report.failed
-  -- what was written is counted, nothing is read, and the hand stays
+  -- the pages that were written are counted, none is read, and the hand stays
   pub written_out : after.outs ≡ raised before.outs report.written
   pub read_in : after.ins ≡ before.ins
   pub hand : after.hand ≡ before.hand
-  -- each was written to the slot of its page, or the write failed; no other place changed
+  -- each chosen page was written to its slot, or the write failed; nothing else was placed or moved
   pub places : places after ≡ after_flush (dirty_after after) (chosen before n) (places before)

@@ -1,4 +1,4 @@
--- Segments as lists of bytes, and what loads and stores over spans of pages do to them.
+-- Segments as lists of bytes, and the effects of loads and stores on them.
 use Rattle.std.specs.Prelude.{ℕ, ◌≡◌, ◌≤◌, ◌+◌, ◌*◌, ◌/◌, Bool, true, false, ◌==◌, not, if◌then◌else◌, List, [], ◌∷◌, ◌++◌, Option, Some, None, length, map, filter, take, drop, replicate, is_some, sum_by}
 use Rattle.std.specs.List.{flat_map}
 use Rattle.shm_base.specs.declared.paging.Span.{Span}
@@ -19,7 +19,7 @@ abbrev pub held_bytes : Option Held → List ℕ
 held_bytes None = []
 held_bytes (Some g) = g.bytes
 
--- the bytes of a segment, none where it is not held
+-- the bytes of a segment; none if it is not held
 abbrev pub bytes_of : List Held → ℕ → List ℕ
 bytes_of hs id = held_bytes (find_held hs id)
 
@@ -30,7 +30,7 @@ abbrev pub held_lock : Option Held → Bool
 held_lock None = false
 held_lock (Some g) = g.locked
 
--- whether a segment is held and locked
+-- the segment is held and locked
 abbrev pub holds_locked : List Held → ℕ → Bool
 holds_locked hs id = held_lock (find_held hs id)
 
@@ -48,22 +48,22 @@ pages_if_locked g = if g.locked then held_pages g else 0
 abbrev pub locked_pages_in_store : List Held → ℕ
 locked_pages_in_store hs = sum_by pages_if_locked hs
 
--- one more segment, of zeros
+-- the segments, with a new one of zeros
 abbrev pub with_zeros : List Held → ℕ → ℕ → List Held
 with_zeros hs id pages = hs ++ record { id = id; locked = false; bytes = replicate (PAGE_SIZE * pages) 0 } ∷ []
 
--- all segments but one
+-- all segments except one
 abbrev pub without : List Held → ℕ → List Held
 without hs id = filter (λ (g : Held). not (g.id == id)) hs
 
 abbrev pub lock_changed : ℕ → Bool → Held → Held
 lock_changed id locked g = if g.id == id then record g { locked = locked } else g
 
--- one segment's lock set
+-- the segments, with one segment's lock set or cleared
 abbrev pub with_lock : List Held → ℕ → Bool → List Held
 with_lock hs id locked = map (lock_changed id locked) hs
 
--- a span lies in one page of a segment that is held
+-- a span is within one page of a segment that is held
 abbrev pub FitsPage : List Held → Span → Type 0
 FitsPage hs p = (is_held hs p.seg ≡ true) × (p.at + p.len ≤ length (bytes_of hs p.seg)) × InPage p
 
@@ -74,14 +74,14 @@ span_bytes hs p = take p.len (drop p.at (bytes_of hs p.seg))
 abbrev pub read_from : List Held → List Span → List ℕ
 read_from hs ps = flat_map (span_bytes hs) ps
 
--- bytes with some of them replaced, from `at` on
+-- the bytes, where others replace those from `at` on
 abbrev pub paste : List ℕ → ℕ → List ℕ → List ℕ
 paste bytes at new = take at bytes ++ new ++ drop (at + length new) bytes
 
 abbrev pub pasted : ℕ → ℕ → List ℕ → Held → Held
 pasted id at new g = if g.id == id then record g { bytes = paste g.bytes at new } else g
 
--- the segments with the bytes of the spans replaced, in order
+-- the segments, where new bytes replace those of the spans, in order
 abbrev pub written : List Held → List Span → List ℕ → List Held
 written hs [] new = hs
 written hs (p ∷ ps) new = written (map (pasted p.seg p.at (take p.len new)) hs) ps (drop p.len new)

@@ -1,4 +1,4 @@
--- A slot that its page leaves.
+-- Moving a page out of its slot.
 use Rattle.std.specs.Prelude.{ℕ, ◌≡◌, ◌≢◌, ◌+◌, ◌<◌, ◌≤◌, true, [], Some, None, Result, IfOk, IfErr, OnOk, OnErr, length, set}
 use Rattle.shm_base.specs.declared.paging.PageRef.{PageRef}
 use Rattle.shm_base.specs.declared.paging.Slot.{Slot}
@@ -13,7 +13,7 @@ use Rattle.shm_fault.specs.Counting.{AtRest}
 use Rattle.shm_fault.specs.Sound.{IsStoreSound}
 use Rattle.shm_fault.specs.Steps.{LockedPagesStay}
 
--- another area has a free slot, for a page of this one
+-- some other area has a free slot for a page of this one
 abbrev pub HasFreeOutside : SwapView → ℕ → Type 0
 HasFreeOutside swap area =
     used_slots swap + length (area_at swap area).pages < swap_slots swap + used_in (area_at swap area)
@@ -22,15 +22,14 @@ HasFreeOutside swap area =
 abbrev pub FitOutside : StoreView → ℕ → Type 0
 FitOutside s area = pages_in_store (held s) + length (area_at s.swap area).pages ≤ swap_slots s.swap
 
--- no slot has another owner, and each that is owned holds what it held
+-- all slots have the same owners, and those that are owned hold the same pages
 pub record SameOwned (before after : SwapView) : Type 0 where
   pub has : (k : Slot) → HasSlot before k.area k.slot → HasSlot after k.area k.slot
   pub owners : (k : Slot) → owner_of after k.area k.slot ≡ owner_of before k.area k.slot
   pub pages : (k : Slot) (q : PageRef) → owner_of before k.area k.slot ≡ Some q
       → page_in after k.area k.slot ≡ page_in before k.area k.slot
 
--- a page has the least free slot of the lowest-numbered other area that had one, with what its old slot
--- held, which is free
+-- a page has the first free slot of the other areas, with the bytes that its old slot held; the old slot is free
 pub record IsRelocated (page : PageRef) (from to : Slot) (before after : SwapView) : Type 0 where
   pub first : IsFirstFree before (Some from.area) to
   pub has : (k : Slot) → HasSlot before k.area k.slot → HasSlot after k.area k.slot
@@ -40,7 +39,7 @@ pub record IsRelocated (page : PageRef) (from to : Slot) (before after : SwapVie
   pub owners : (k : Slot) → k ≢ from → k ≢ to → owner_of after k.area k.slot ≡ owner_of before k.area k.slot
   pub pages : (k : Slot) → k ≢ from → k ≢ to → page_in after k.area k.slot ≡ page_in before k.area k.slot
 
--- what moving a page from its slot to another area leaves; where a pager failed, all slots are as they were
+-- the effects of moving a page from its slot to another area; if a pager failed, all slots are unchanged
 pub record Relocates
     (page : PageRef) (from : Slot) (before after : SwapView) (result : Result Slot PagerFault) : Type 0 where
   pub ok : IfOk result (λ to. IsRelocated page from to before after)
@@ -54,13 +53,13 @@ pub record Relocates
   pub same_sizes : sizes after ≡ sizes before
   pub sound : IsSwap after
 
--- the slot is free, and those of its area that were free are so still
+-- the slot is free, and the free slots of its area are still free
 pub record IsCleared (k : Slot) (before after : SwapView) : Type 0 where
   pub free : owner_of after k.area k.slot ≡ None
   pub rest : (slot : ℕ) → owner_of before k.area slot ≡ None → owner_of after k.area slot ≡ None
 
--- An area is turned off once its pages have moved, by rising slot number. Where a pager failed the area stays,
--- with the pages that had not moved yet. No byte of a segment changes, and no page enters or leaves a frame.
+-- The area is turned off after its pages have moved, in order of their slots. If a pager failed the area stays, with the pages
+-- that had not moved yet. No byte of a segment changes, and no page enters or leaves a frame.
 pub record MovesOff {A : Type 0} (area : ℕ) (s t : StoreView) (result : Result A PagerFailed) : Type 0 where
   pub held : held t ≡ held s
   pub gone : OnOk result (sizes t.swap ≡ set (sizes s.swap) area None)

@@ -1,4 +1,4 @@
--- What the steps of a fault leave, done or not.
+-- The effects of the steps of a page fault, whether they succeed or not.
 use Rattle.std.specs.Prelude.{ℕ, ◌≡◌, ◌<◌, ◌≤◌, ◌+◌, List, set, ◌&&◌, Bool, true, false, not, Option, Some, None, Result, MatchResult, IfOk, OnOk, OnErr, is_ok, is_some, length}
 use Rattle.shm_base.specs.declared.paging.PageRef.{PageRef}
 use Rattle.shm_base.specs.declared.paging.Slot.{Slot}
@@ -15,7 +15,7 @@ use Rattle.shm_fault.specs.Goes.{Goes, Alike, unlocked, StaysAway, Visits, Moves
 use Rattle.shm_fault.specs.Counting.{raised, one_if, CountsOn, victim_by, turned, hand_for_frame}
 use Rattle.shm_fault.specs.Placing.{places, after_page_out, after_clean, after_turn, after_eviction, after_room, frame_for, settled, vacated, victim_in, with_bit, StopsAtWrite}
 
--- A frame has what is in a slot, or zeros. Where a pager failed nobody knows what it has.
+-- A frame got the bytes of a slot, or zeros. If a pager failed its bytes are unknown.
 pub record FillsFrom
     {A E : Type 0} (frame : ℕ) (from : Option Slot) (before after : List Frame) (old new : SwapView)
     (result : Result A E) : Type 0 where
@@ -29,7 +29,7 @@ pub record FillsFrom
   pub sizes : sizes new ≡ sizes old
   pub sound : IsSwap old → IsSwap new
 
--- The clock named the frame whose page has to go. Referenced bits may be clear now, but not that of the pinned frame.
+-- The clock chose the frame of its victim. It may have cleared referenced bits, but not that of the pinned frame.
 pub record NamesVictim (pinned : Option ℕ) (s t : StoreView) (frame : ℕ) : Type 0 where
   pub there : frame < length s.frames
   pub may : may_go (unlocked s.segs) pinned s.frames frame ≡ true
@@ -42,7 +42,7 @@ pub record NamesVictim (pinned : Option ℕ) (s t : StoreView) (frame : ℕ) : T
   pub chosen : frame ≡ victim_in pinned (places s)
   pub goes : Goes s t
 
--- a page left its frame, which was clean, and its slot or none stays its own
+-- a page left its frame, which was clean, and keeps its slot if it has one
 pub record Leaves (frame : ℕ) (s t : StoreView) (it : PageRef) : Type 0 where
   pub page : (frame_at s.frames frame).owner ≡ Some it
   pub was : (rec_by s.segs it).frame ≡ Some frame
@@ -53,7 +53,7 @@ pub record Leaves (frame : ℕ) (s t : StoreView) (it : PageRef) : Type 0 where
   pub goes : Goes s t
   pub sound : IsStoreSound t
 
--- a free frame has a page's bytes, from its slot or zeros; where the read failed it is free still
+-- a free frame got a page's bytes, from its slot or zeros; if the read failed it is still free
 pub record Loads
     {A E : Type 0} (frame : ℕ) (from : Option Slot) (s t : StoreView) (result : Result A E) : Type 0 where
   pub bytes : OnOk result ((frame_at t.frames frame).bytes ≡ slot_bytes s.swap from)
@@ -66,7 +66,7 @@ pub record Loads
   pub visits : (page : PageRef) (pinned : Option ℕ) → Visits page pinned s t
   pub cause : OnErr result (had_cause s.swap t.swap ≡ true)
 
--- a dirty frame was written to the slot that its page has; where that failed it is dirty still
+-- a dirty frame was written to its page's slot; if that failed it is still dirty
 pub record WritesBack {A E : Type 0} (frame : ℕ) (s t : StoreView) (result : Result A E) : Type 0 where
   pub frames : t.frames ≡ marked s.frames frame (not (is_ok result))
   pub rest : t ≡ record s { frames = t.frames; swap = t.swap; outs = t.outs }
@@ -77,7 +77,7 @@ pub record WritesBack {A E : Type 0} (frame : ℕ) (s t : StoreView) (result : R
   pub placed : places t ≡ with_bit frame (not (is_ok result)) (places s)
   pub sound : IsStoreSound t
 
--- a dirty frame was written to the slot of its page
+-- a dirty frame was written to a slot for its page; if that failed it is still dirty
 pub record PagesOut {A E : Type 0} (frame : ℕ) (s t : StoreView) (result : Result A E) : Type 0 where
   pub frames : t.frames ≡ marked s.frames frame (not (is_ok result))
   pub rest : OnlyWrites s t
@@ -90,7 +90,7 @@ pub record PagesOut {A E : Type 0} (frame : ℕ) (s t : StoreView) (result : Res
   pub placed : places t ≡ after_page_out frame (is_ok result) (places s)
   pub sound : IsStoreSound t
 
--- a frame was written if it was dirty
+-- a frame was written if it was dirty, or that write failed
 pub record Cleans {E : Type 0} (frame : ℕ) (s t : StoreView) (result : Result Bool E) : Type 0 where
   pub ok : OnOk result (t.frames ≡ marked s.frames frame false)
   pub err : OnErr result (t.frames ≡ s.frames)
@@ -105,7 +105,7 @@ pub record Cleans {E : Type 0} (frame : ℕ) (s t : StoreView) (result : Result 
   pub goes : Goes s t
   pub cause : OnErr result (had_cause s.swap t.swap ≡ true)
 
--- the page that had to go left its frame
+-- the victim's page left its frame, or its write failed
 pub record Evicts
     {E : Type 0} (pinned : Option ℕ) (s t : StoreView) (result : Result Evicted E) : Type 0 where
   pub visits : (r : PageRef) → Visits r pinned s t
@@ -120,7 +120,7 @@ pub record Evicts
   pub stopped : OnErr result (StopsAtWrite pinned (places s) (places t))
   pub cause : OnErr result (had_cause s.swap t.swap ≡ true)
 
--- a frame is free
+-- a frame is free now, or the write of the victim's page failed
 pub record MakesRoom
     {E : Type 0} (pinned : Option ℕ) (s t : StoreView) (u v : Touched) (result : Result ℕ E) : Type 0 where
   pub free : IfOk result (IsFreeFrame t.frames)
@@ -136,7 +136,7 @@ pub record MakesRoom
   pub stopped : OnErr result (StopsAtWrite pinned (places s) (places t))
   pub cause : OnErr result (had_cause s.swap t.swap ≡ true)
 
--- a page came into a free frame
+-- a page came into a free frame, or its read failed
 pub record ComesIn
     {A E : Type 0} (frame : ℕ) (page : PageRef) (s t : StoreView) (u v : Touched)
     (result : Result A E) : Type 0 where

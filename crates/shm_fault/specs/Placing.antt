@@ -1,4 +1,4 @@
--- Where pages are and which bits are set, without their bytes, and what each step of paging makes of that.
+-- Where pages are and which bits are set, without the bytes, and how each step of paging changes that.
 use Rattle.std.specs.Prelude.{ℕ, zero, suc, ◌≡◌, ◌≢◌, ⊤, ◌<◌, ◌⊎◌, Bool, true, false, not, ◌||◌, if◌then◌else◌, List, [], ◌∷◌, map, set, get_or, length, sum_by, Option, Some, None, is_some, is_none, nat_eq, unwrap_or, position}
 use Rattle.shm_base.specs.declared.paging.PageRef.{PageRef}
 use Rattle.shm_base.specs.declared.paging.Slot.{Slot}
@@ -38,8 +38,7 @@ abbrev pub is_left_out : Option ℕ → ℕ → Bool
 is_left_out None area = false
 is_left_out (Some other) area = nat_eq other area
 
--- the least free slot of the lowest-numbered area that has one; areas are numbered from `area` on, and one may be
--- left out
+-- the least free slot of the first area that has one; areas are numbered from `area` on, and one may be left out
 abbrev pub free_from : ℕ → Option ℕ → List (List (Option PageRef)) → Option Slot
 free_from area left_out [] = None
 free_from area left_out (owners ∷ rest) =
@@ -50,14 +49,14 @@ free_from area left_out (owners ∷ rest) =
 unfoldable pub free_slot : Option ℕ → List (List (Option PageRef)) → Option Slot
 free_slot left_out slots = free_from 0 left_out slots
 
--- the owner of one slot, and the same set
+-- the owner of one slot, and the slots with this owner for one of them
 abbrev pub owner_in : List (List (Option PageRef)) → Slot → Option PageRef
 owner_in slots k = get_or (get_or slots k.area []) k.slot None
 
 abbrev pub own_slot : List (List (Option PageRef)) → Slot → Option PageRef → List (List (Option PageRef))
 own_slot slots k owner = set slots k.area (set (get_or slots k.area []) k.slot owner)
 
--- the page in a frame has a slot: its own, or a free one
+-- the page gets this slot, if it is given one
 abbrev pub takes : PageRef → Option Slot → Places → Places
 takes r None s = s
 takes r (Some k) s =
@@ -80,23 +79,23 @@ slotted f s = slotted_for (frame_at s.frames f).owner s
 abbrev pub with_bit : ℕ → Bool → Places → Places
 with_bit f dirty s = record s { frames = set s.frames f (record (frame_at s.frames f) { dirty = dirty }) }
 
--- a dirty frame's page was written to its slot, the least free one of the lowest-numbered area where it has none;
--- or that failed: the page keeps the slot, and its frame stays dirty
+-- a dirty frame's page was written to its slot, or to the first free one if it had none; or that failed: the page keeps the slot,
+-- and its frame stays dirty
 unfoldable pub after_page_out : ℕ → Bool → Places → Places
 after_page_out f ok s = with_bit f (not ok) (slotted f s)
 
--- the frame whose page has to go, by the clock
+-- the frame of the clock's victim
 abbrev pub victim_in : Option ℕ → Places → ℕ
 victim_in pinned s = victim_of s.frames (candidates (unlocked s.segs) pinned s.frames s.hand)
 
--- the clock's hand turned: the bits that it passed are clear, and it is at the number after the victim
+-- the clock turned: the bits that it passed are clear, and the hand is at the number after the victim
 unfoldable pub after_turn : Option ℕ → Places → Places
 after_turn pinned s = record s {
   frames = unset_all s.frames (passed_by s.frames (candidates (unlocked s.segs) pinned s.frames s.hand));
   hand = next (length s.frames) (victim_in pinned s);
 }
 
--- a page left its frame, and keeps its slot or none
+-- a page left its frame, and keeps its slot if it has one
 abbrev pub vacated_for : ℕ → Option PageRef → Places → Places
 vacated_for f None s = s
 vacated_for f (Some r) s = record s {
@@ -107,22 +106,22 @@ vacated_for f (Some r) s = record s {
 unfoldable pub vacated : ℕ → Places → Places
 vacated f s = vacated_for f (frame_at s.frames f).owner s
 
--- a dirty frame's page was written; a clean one is not
+-- a dirty frame's page was written; a clean one's was not
 unfoldable pub after_clean : ℕ → Places → Places
 after_clean f s = if (frame_at s.frames f).dirty then after_page_out f true s else s
 
--- the page that had to go went
+-- the victim's page was evicted
 unfoldable pub after_eviction : Option ℕ → Places → Places
 after_eviction pinned s = let f = victim_in pinned s in vacated f (after_clean f (after_turn pinned s))
 
--- a frame is free: the one of least number, else the one of the page that had to go
+-- a frame is free: the first free one, else that of the victim
 unfoldable pub after_room : Option ℕ → Places → Places
 after_room pinned s = if is_some (position is_free s.frames) then s else after_eviction pinned s
 
 unfoldable pub frame_for : Option ℕ → Places → ℕ
 frame_for pinned s = unwrap_or (position is_free s.frames) (victim_in pinned s)
 
--- a page came into a free frame, which is clean, with its referenced bit set; it keeps its slot or none
+-- a page came into a free frame, which is clean, with its referenced bit set; the page keeps its slot if it has one
 unfoldable pub settled : PageRef → ℕ → Places → Places
 settled r f s = record s {
   segs = with_rec s.segs r (record { frame = Some f; slot = (rec_by s.segs r).slot });
@@ -133,7 +132,7 @@ settled r f s = record s {
 unfoldable pub referenced : ℕ → Places → Places
 referenced f s = record s { frames = set s.frames f (record (frame_at s.frames f) { referenced = true }) }
 
--- a page was visited that was in a frame, or came into one
+-- a page was visited in its frame, or came into one
 abbrev pub visited_in : PageRef → Option ℕ → Option ℕ → Places → Places
 visited_in r (Some f) pinned s = referenced f s
 visited_in r None pinned s = settled r (frame_for pinned s) (after_room pinned s)
@@ -141,7 +140,7 @@ visited_in r None pinned s = settled r (frame_for pinned s) (after_room pinned s
 unfoldable pub after_visit : PageRef → Option ℕ → Places → Places
 after_visit r pinned s = visited_in r (rec_by s.segs r).frame pinned s
 
--- the pages of at most two spans came in, the first page first, which is pinned while the second comes in
+-- the pages of at most two spans came in; the first is pinned while the second comes in
 unfoldable pub after_access : List Span → Places → Places
 after_access [] s = s
 after_access (p ∷ []) s = after_visit (ref_of p) None s
@@ -158,13 +157,13 @@ unfoldable pub with_dirty : List Span → Places → Places
 with_dirty [] s = s
 with_dirty (p ∷ ps) s = with_dirty ps (dirtied (rec_by s.segs (ref_of p)).frame s)
 
--- the write of the dirty page that had to go failed
+-- the write of the victim's dirty page failed
 pub record StopsAtWrite (pinned : Option ℕ) (s t : Places) : Type 0 where
   pub full : is_some (position is_free s.frames) ≡ false
   pub dirty : (frame_at s.frames (victim_in pinned s)).dirty ≡ true
   pub places : t ≡ after_page_out (victim_in pinned s) false (after_turn pinned s)
 
--- the read of a page that has a slot failed, once there was a free frame
+-- the read of a page from its slot failed, after a frame was free
 pub record StopsAtRead (r : PageRef) (pinned : Option ℕ) (s t : Places) : Type 0 where
   pub slot : is_some (rec_by s.segs r).slot ≡ true
   pub places : t ≡ after_room pinned s
@@ -174,7 +173,7 @@ pub record StopsAt (r : PageRef) (pinned : Option ℕ) (s t : Places) : Type 0 w
   pub away : (rec_by s.segs r).frame ≡ None
   pub how : StopsAtWrite pinned s t ⊎ StopsAtRead r pinned s t
 
--- a pager failed for the first page, or for the second once the first was in
+-- a pager failed for the first page; or for the second, after the first had come in
 unfoldable pub Stops : List Span → Places → Places → Type 0
 Stops [] s t = ⊥
 Stops (p ∷ []) s t = StopsAt (ref_of p) None s t
@@ -182,12 +181,12 @@ Stops (p ∷ q ∷ ps) s t =
     let first = after_visit (ref_of p) None s in
     StopsAt (ref_of p) None s t ⊎ StopsAt (ref_of q) (rec_by first.segs (ref_of p)).frame first t
 
--- frames were written one after another; those whose write failed stay dirty
+-- frames were written in order; those whose write failed stay dirty
 unfoldable pub after_flush : (ℕ → Bool) → List ℕ → Places → Places
 after_flush failed [] s = s
 after_flush failed (f ∷ fs) s = after_flush failed fs (after_page_out f (not (failed f)) s)
 
--- the page in a slot that is taken away is in a frame, and is dirty; or it has a free slot of another area
+-- the page of a slot that is taken away: if it is in a frame, it is dirty now; else it has a free slot of another area
 abbrev pub moves_page : Slot → PageRef → Option ℕ → Option Slot → Places → Places
 moves_page k r (Some f) to s = record s {
   segs = with_rec s.segs r (record { frame = Some f; slot = None });
@@ -207,29 +206,29 @@ moves_owner k (Some r) s = moves_page k r (rec_by s.segs r).frame (free_slot (So
 unfoldable pub after_move : Slot → Places → Places
 after_move k s = moves_owner k (owner_in s.slots k) s
 
--- the pages in the first slots of an area have moved, by rising slot number
+-- the pages in the first slots of an area have moved, in order of their slots
 unfoldable pub after_moves : ℕ → ℕ → Places → Places
 after_moves area zero s = s
 after_moves area (suc n) s = after_move (record { area = area; slot = n }) (after_moves area n s)
 
--- no slot of the area is left
+-- the area has no slots any more
 unfoldable pub without_area : ℕ → Places → Places
 without_area area s = record s { slots = set s.slots area [] }
 
--- a pager failed for the page in a slot, which is not resident; it stays where it is
+-- a pager failed for the page in a slot, which is not resident; the page stays there
 pub record StopsAtMove (k : Slot) (s t : Places) : Type 0 where
   pub page : PageRef
   pub owner : owner_in s.slots k ≡ Some page
   pub away : (rec_by s.segs page).frame ≡ None
   pub places : t ≡ s
 
--- that is so of one slot of an area; the pages in the slots below it have moved, and no other
+-- the same for one slot of an area; the pages in the slots below it have moved, and no other
 pub record StopsMoving (area : ℕ) (s t : Places) : Type 0 where
   pub slot : ℕ
   pub there : slot < length (get_or s.slots area [])
   pub stopped : StopsAtMove (record { area = area; slot = slot }) (after_moves area slot s) t
 
--- a frame is free and a slot is, where there is one
+-- a frame and a slot are free, if they are given
 abbrev pub frame_freed : Option ℕ → List Frame → List Frame
 frame_freed None frames = frames
 frame_freed (Some f) frames = set frames f no_frame
@@ -238,7 +237,7 @@ abbrev pub slot_freed : Option Slot → List (List (Option PageRef)) → List (L
 slot_freed None slots = slots
 slot_freed (Some k) slots = own_slot slots k None
 
--- a page is nowhere, and what it had is free
+-- a page has neither frame nor slot, and those that it had are free
 unfoldable pub after_forget : PageRef → Places → Places
 after_forget r s = record s {
   segs = with_rec s.segs r no_page;
@@ -246,16 +245,16 @@ after_forget r s = record s {
   slots = slot_freed (rec_by s.segs r).slot s.slots;
 }
 
--- that is so of the first pages of a segment
+-- the same for the first pages of a segment
 unfoldable pub after_forgets : ℕ → ℕ → Places → Places
 after_forgets seg zero s = s
 after_forgets seg (suc n) s = after_forget (record { seg = seg; page = n }) (after_forgets seg n s)
 
--- the segment is not there
+-- the segment is gone
 unfoldable pub without_segment : ℕ → Places → Places
 without_segment seg s = record s { segs = but seg s.segs }
 
--- the counts are of the frames that have a page, of those that are dirty, and of the slots that have a page
+-- the counts are right: frames that have a page, dirty frames, and slots that have a page
 pub record IsTallyOf (s : Places) (tally : PageTally) : Type 0 where
   pub resident : tally.resident ≡ resident_of s.frames
   pub dirty : tally.dirty ≡ dirty_of s.frames

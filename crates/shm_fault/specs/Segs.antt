@@ -9,13 +9,13 @@ pub record SegRec : Type 0 where
   pub locked : Bool
   pub pages : List PageRec
 
--- what a page table shows: how many were made before it, whether its segment is locked, and where the pages are
+-- a page table: how many were made before it, whether its segment is locked, and where the pages are
 pub record TableView : Type 0 where
   pub number : ℕ
   pub locked : Bool
   pub pages : List PageRec
 
--- a page that is nowhere: all its bytes are zero
+-- a page without frame and slot: all its bytes are zero
 abbrev pub no_page : PageRec
 no_page = record { frame = None; slot = None }
 
@@ -26,7 +26,7 @@ abbrev pub find_seg : List SegRec → ℕ → Option SegRec
 find_seg [] id = None
 find_seg (g ∷ gs) id = if g.id == id then Some g else find_seg gs id
 
--- no segment stands twice
+-- all segments have different identifiers
 abbrev pub AreApart : List SegRec → Type 0
 AreApart [] = Unit {0}
 AreApart (g ∷ gs) = (find_seg gs g.id ≡ None) × AreApart gs
@@ -35,7 +35,7 @@ abbrev pub rec_in : Option SegRec → ℕ → PageRec
 rec_in None page = no_page
 rec_in (Some g) page = rec_at g.pages page
 
--- where a page is, nowhere if it is not there
+-- where a page is; nowhere if the segment has no such page
 abbrev pub rec_by : List SegRec → PageRef → PageRec
 rec_by gs r = rec_in (find_seg gs r.seg) r.page
 
@@ -47,7 +47,7 @@ page_count_in (Some g) = length g.pages
 abbrev pub count_by_id : List SegRec → ℕ → ℕ
 count_by_id gs id = page_count_in (find_seg gs id)
 
--- the page is there
+-- the segment has this page
 abbrev pub HasPage : List SegRec → PageRef → Type 0
 HasPage gs r = r.page < count_by_id gs r.seg
 
@@ -58,26 +58,26 @@ lock_in (Some g) = g.locked
 abbrev pub locked_by : List SegRec → ℕ → Bool
 locked_by gs id = lock_in (find_seg gs id)
 
--- the pages of a segment from this one on are nowhere
+-- the pages of a segment from `first` on have neither frame nor slot
 abbrev pub NowhereFrom : ℕ → ℕ → List SegRec → Type 0
 NowhereFrom first id gs = (page : ℕ) → first ≤ page → rec_by gs (record { seg = id; page = page }) ≡ no_page
 
--- where one page is, set
+-- the segment, with another place for one page
 abbrev pub seg_with : PageRef → PageRec → SegRec → SegRec
 seg_with r p g = if g.id == r.seg then record g { pages = set g.pages r.page p } else g
 
 abbrev pub with_rec : List SegRec → PageRef → PageRec → List SegRec
 with_rec gs r p = map (seg_with r p) gs
 
--- all segments but one
+-- all segments except one
 abbrev pub but : ℕ → List SegRec → List SegRec
 but id gs = filter (λ (g : SegRec). not (g.id == id)) gs
 
--- one segment's lock set
+-- the segment, with its lock set or cleared
 abbrev pub with_seg_lock : ℕ → Bool → SegRec → SegRec
 with_seg_lock id locked g = if g.id == id then record g { locked = locked } else g
 
--- a segment whose pages are nowhere
+-- a segment whose pages have neither frame nor slot
 abbrev pub new_seg : ℕ → ℕ → SegRec
 new_seg id pages = record { id = id; locked = false; pages = replicate pages no_page }
 

@@ -1,4 +1,4 @@
--- The facts that are true of every page store.
+-- The invariant of every page store.
 use Rattle.std.specs.Prelude.{ℕ, ◌≡◌, ◌<◌, ◌≤◌, ◌+◌, false, Some, None, length, sum_by}
 use Rattle.shm_base.specs.declared.paging.PageRef.{PageRef}
 use Rattle.shm_base.specs.declared.paging.Slot.{Slot}
@@ -9,7 +9,7 @@ use Rattle.shm_fault.specs.Store.{StoreView, slot_bytes, page_bytes, resident, d
 use Rattle.shm_base.specs.declared.bounds.TheConstants.{MOST_FRAMES}
 use Rattle.shm_base.specs.declared.paging.TheConstants.{PAGE_SIZE}
 
--- a page and its frame, and a page and its slot, name one another, and a clean page is what is stored of it
+-- a page and its frame name each other, so do a page and its slot, and a clean page equals its stored bytes
 pub record IsTied (s : StoreView) (r : PageRef) : Type 0 where
   pub frame_owned : (f : ℕ) → (rec_by s.segs r).frame ≡ Some f
       → (f < length s.frames) × ((frame_at s.frames f).owner ≡ Some r)
@@ -21,7 +21,7 @@ pub record IsTied (s : StoreView) (r : PageRef) : Type 0 where
       → (frame_at s.frames f).bytes ≡ slot_bytes s.swap (rec_by s.segs r).slot
   pub whole : length (page_bytes s.frames s.swap (rec_by s.segs r)) ≡ PAGE_SIZE
 
--- that is so of every page, and frames and slots have no other owners
+-- the same for every page, and frames and slots have no other owners
 pub record Tied (s : StoreView) : Type 0 where
   pub pages : (r : PageRef) → HasPage s.segs r → IsTied s r
   pub owners : (f : ℕ) (r : PageRef) → (frame_at s.frames f).owner ≡ Some r → HasPage s.segs r

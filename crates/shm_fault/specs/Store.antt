@@ -1,4 +1,4 @@
--- What contracts see of the page store: where each page of each segment is, and what its bytes are.
+-- What contracts see of the page store: where each page of each segment is, and its bytes.
 use Rattle.std.specs.Prelude.{ℕ, ◌≡◌, ◌+◌, Bool, true, false, not, ◌==◌, ◌&&◌, if◌then◌else◌, List, [], ◌∷◌, Option, Some, None, map, is_some, sum_by, count_by, set, length, ◌<◌}
 use Rattle.std.specs.List.{flat_map, list_any}
 use Rattle.shm_base.specs.declared.paging.PageRef.{PageRef}
@@ -20,12 +20,12 @@ pub record StoreView : Type 0 where
   pub ins : ℕ
   pub outs : ℕ
 
--- the bytes that a page has outside its frame: its slot's, zeros where it has none
+-- the bytes of a page in its slot; zeros if it has none
 abbrev pub slot_bytes : SwapView → Option Slot → List ℕ
 slot_bytes swap None = zero_page
 slot_bytes swap (Some k) = page_in swap k.area k.slot
 
--- the bytes of a page: its frame's where it is resident
+-- the bytes of a page: those in its frame if it is resident
 abbrev pub bytes_by : List Frame → SwapView → Option ℕ → Option Slot → List ℕ
 bytes_by frames swap None slot = slot_bytes swap slot
 bytes_by frames swap (Some f) slot = (frame_at frames f).bytes
@@ -45,11 +45,11 @@ held s = map (held_by s.frames s.swap) s.segs
 abbrev pub rec_of : StoreView → ℕ → ℕ → PageRec
 rec_of s seg page = rec_by s.segs (record { seg = seg; page = page })
 
--- the residency: the frame of a page that is resident
+-- the residency: the frame of a page, if it is resident
 unfoldable pub frame_of : StoreView → ℕ → ℕ → Option ℕ
 frame_of s seg page = (rec_of s seg page).frame
 
--- no page comes into a frame, leaves it or changes it
+-- no page moves into, out of or between frames
 abbrev pub Still : StoreView → StoreView → Type 0
 Still s t = (seg page : ℕ) → frame_of t seg page ≡ frame_of s seg page
 
@@ -63,7 +63,7 @@ abbrev pub bit_of : List Frame → Option ℕ → Bool
 bit_of frames None = false
 bit_of frames (Some f) = (frame_at frames f).referenced
 
--- the page of the span is resident with its referenced bit set
+-- the span's page is resident, and its referenced bit is set
 abbrev pub IsReferenced : StoreView → Span → Type 0
 IsReferenced s p = bit_of s.frames (frame_of s p.seg (page_of p)) ≡ true
 
@@ -80,7 +80,7 @@ dirty_in frames (Some f) = (frame_at frames f).dirty
 abbrev pub is_dirty_page : List Frame → PageRec → Bool
 is_dirty_page frames p = dirty_in frames p.frame
 
--- counts over the pages as they are
+-- how many pages are resident, counted over the segments
 abbrev pub resident : StoreView → ℕ
 resident s = sum_by (λ (g : SegRec). count_by has_frame g.pages) s.segs
 
@@ -93,7 +93,7 @@ used s = sum_by (λ (g : SegRec). count_by has_slot g.pages) s.segs
 abbrev pub is_swapped : PageRec → Bool
 is_swapped p = not (is_some p.frame) && is_some p.slot
 
--- how many pages are in a slot and in no frame, of a segment and of all
+-- how many pages are in a slot and in no frame: of a segment, and of all segments
 abbrev pub swapped_pages : SegRec → ℕ
 swapped_pages g = count_by is_swapped g.pages
 
@@ -103,11 +103,11 @@ swapped s = sum_by swapped_pages s.segs
 abbrev pub is_page : PageRef → ℕ → ℕ → Bool
 is_page r seg page = (r.seg == seg) && (r.page == page)
 
--- the spans lie in one page
+-- the spans are in one page
 abbrev pub same_page : Span → Span → Bool
 same_page p q = is_page (ref_of p) q.seg (page_of q)
 
--- how many pages the spans name; two may lie in one page
+-- how many pages the spans have; two spans may be in one page
 abbrev pub pages_among : List Span → ℕ
 pages_among [] = 0
 pages_among (p ∷ ps) = (if list_any (same_page p) ps then 0 else 1) + pages_among ps
@@ -119,7 +119,7 @@ swapped_among s (p ∷ ps) =
     (if is_swapped (rec_of s p.seg (page_of p)) && not (list_any (same_page p) ps) then 1 else 0)
     + swapped_among s ps
 
--- the frames with one of them marked as dirty or clean
+-- the frames, with one of them marked as dirty or clean
 abbrev pub marked : List Frame → ℕ → Bool → List Frame
 marked frames f dirty = set frames f (record (frame_at frames f) { dirty = dirty })
 
@@ -127,12 +127,12 @@ marked frames f dirty = set frames f (record (frame_at frames f) { dirty = dirty
 abbrev pub IsFreeFrame : List Frame → ℕ → Type 0
 IsFreeFrame frames f = (f < length frames) × ((frame_at frames f).owner ≡ None)
 
--- a store as it is made
+-- a new store
 abbrev pub fresh_store : List Frame → SwapView → StoreView
 fresh_store frames swap =
     record { segs = []; frames = frames; hand = 0; swap = swap; ins = 0; outs = 0 }
 
--- the owner, none where it is a page of the segment
+-- the owner; none if it is a page of the segment
 abbrev pub disowned : ℕ → Option PageRef → Option PageRef
 disowned seg None = None
 disowned seg (Some r) = if r.seg == seg then None else Some r

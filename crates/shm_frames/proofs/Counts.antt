@@ -1,4 +1,4 @@
--- What is counted of the table.
+-- The counts of the table.
 use Rattle.std.proofs.Common.{◌≡◌, ◌≢◌, ℕ, zero, suc, ◌+◌, ◌-◌, ◌<◌, ◌≤◌, Bool, true, false, cond, List, [], ◌∷◌, length, get_or, set, None, Some, is_some, refl, sym, ap, ◌∙◌, add-one, arith, rules, length-set}
 use Rattle.std.proofs.lemmas.Grind.{common_steps}
 use Rattle.std.specs.Prelude.{count_by}
@@ -12,7 +12,7 @@ use Rattle.shm_frames.proofs.Shown.{count-padded}
 use Rattle.shm_frames.specs.declared.frames.FrameState.{FrameState}
 use Rattle.shm_frames.specs.Table.{free_entry, state_at, has_owner, has_no_owner, has_changed, UsedBelow, IsFrameTable}
 
--- where one test passes only if the other does, it passes no more often
+-- a test that implies another passes no more often
 count_by-le : {X : Type 0} (p q : X → Bool) (d : X) (xs : List X) → ((i : ℕ) → i < length xs → p (get_or xs i d) ≡ true → q (get_or xs i d) ≡ true) → count_by p xs ≤ count_by q xs
 count_by-le p q d [] both = omega arith
 count_by-le p q d (x ∷ xs) both =
@@ -40,7 +40,7 @@ worth : (b : Bool) → cond b 1 0 ≡ from_bool b
 worth true = refl
 worth false = refl
 
--- what is kept after an edit of one entry, of which `was` is what stood there
+-- the invariant after an edit of one entry, which was `was`
 module _ {table : List FrameState} {first owned changed i : ℕ} {was : FrameState} (k : IsFrameTable table first owned changed) (there : i < length table) (at : was ≡ state_at table i) where
   owned-set : (x : FrameState) → count_by has_owner (set table i x) + from_bool (has_owner was) ≡ owned + from_bool (has_owner x)
   owned-set x = rw (← worth (has_owner was), ← worth (has_owner x), at, k.resident) (sum_by-set (λ y. cond (has_owner y) 1 0) table i x free_entry there)
@@ -48,14 +48,14 @@ module _ {table : List FrameState} {first owned changed i : ℕ} {was : FrameSta
   changed-set : (x : FrameState) → count_by has_changed (set table i x) + from_bool was.dirty ≡ changed + from_bool x.dirty
   changed-set x = rw (← worth was.dirty, ← worth x.dirty, at, k.dirty) (sum_by-set (λ y. cond (has_changed y) 1 0) table i x free_entry there)
 
-  -- it was counted where it was owned, and where it was dirty
+  -- it was counted if it was owned, and if it was dirty
   pub owned-there : from_bool (has_owner was) ≤ owned
   owned-there = let e : count_by has_owner (set table i free_entry) + from_bool (has_owner was) ≡ owned + 0 = owned-set free_entry in omega arith
 
   pub changed-there : from_bool was.dirty ≤ changed
   changed-there = let e : count_by has_changed (set table i free_entry) + from_bool was.dirty ≡ changed + 0 = changed-set free_entry in omega arith
 
-  -- there is room for one more where it was not counted
+  -- there is room for one more if it was not counted
   pub owned-more : was.owner ≡ None → owned + 1 ≤ length table
   owned-more free =
       grind (arith, common_steps, has_owner was, count_by-le-length has_owner (set table i (record was { owner = Some (record { seg = 0; page = 0 }) })))
@@ -112,7 +112,7 @@ all-counted p d (x ∷ xs) e i l =
     by (suc j) lt true h few sum rest = rest (omega arith) j (omega arith)
     by j lt false h few sum rest = absurd (omega arith)
 
--- where as many are owned as were used, none of those is free
+-- if as many are owned as were used, none of these is free
 pub none-free : (table : List FrameState) (owned : ℕ) → owned ≡ count_by has_owner table → owned ≡ length table → UsedBelow table (length table)
 none-free table owned resident e i l = rw (all-counted has_owner free_entry table (sym resident ∙ e) i l) refl
 

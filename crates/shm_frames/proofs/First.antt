@@ -9,7 +9,7 @@ use Rattle.shm_frames.specs.Frame.{Frame, no_frame, is_free, OwnedBelow, IsLeast
 use Rattle.std.proofs.lemmas.Bool.Decides.{nat_tests}
 
 module _ {X : Type 0} (p : X → Bool) (xs : List X) (d : X) where
-  -- it passes here, and at no place before
+  -- it passes at this place, and at none before
   pub position_is : (i : ℕ) → i < length xs → p (get_or xs i d) ≡ true → ((k : ℕ) → k < i → p (get_or xs k d) ≡ false) → position p xs ≡ Some i
   position_is i there here before = grind (arith, common_steps, position_or_len_is, nat_tests)
 
@@ -19,7 +19,7 @@ module _ {X : Type 0} (p : X → Bool) (xs : List X) (d : X) where
       let e : position_or_len p xs ≡ length xs = position_or_len_is p xs (length xs) d (omega arith) fails (λ l. absurd (omega arith)) in
       rw e (grind (arith, nat_tests))
 
-  -- before the first, and everywhere where there is none, it fails
+  -- it fails before the first place; everywhere, if there is none
   pub before-position : (o : Option ℕ) → position p xs ≡ o → (k : ℕ) → k < unwrap_or o (length xs) → p (get_or xs k d) ≡ false
   before-position None e k l = grind (arith, fails_before_first)
   before-position (Some i) e k l = (position-Some p xs i d e).2 k l

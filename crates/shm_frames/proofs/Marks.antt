@@ -15,7 +15,7 @@ use Rattle.shm_frames.proofs.Shown.{AreFramesShown, frame-shown, length-shown}
 pub marked-reach : (table : List FrameState) (marks : List Bool) (n : ℕ) → AreMarked table marks → AreMarked (padded table n free_entry) marks
 marked-reach table marks n m i dirty = m i (sym (ap (λ (e : FrameState). e.dirty) (get_or-padded table n i free_entry)) ∙ dirty)
 
--- an entry changes that does not become dirty
+-- an entry changes, and does not become dirty
 pub marked-set : (table : List FrameState) (marks : List Bool) (i : ℕ) (x : FrameState) → (x.dirty ≡ true → (state_at table i).dirty ≡ true) → AreMarked table marks → AreMarked (set table i x) marks
 marked-set table marks i x keeps m j dirty = grind (arith, common_steps, keeps, m j)
 
@@ -39,7 +39,7 @@ clean-block table marks i m off = by (state_at table i).dirty refl
     by false e = refl
     by true e = absurd (true≢false (sym (m i e) ∙ off))
 
--- the mark of a block of clean frames is taken away
+-- the mark of a block of clean frames is removed
 pub marked-less : (table : List FrameState) (marks : List Bool) (block : ℕ) → ((i : ℕ) → i / 64 ≡ block → (state_at table i).dirty ≡ false) → AreMarked table marks → AreMarked table (set marks block false)
 marked-less table marks block clean m i dirty =
     elim (cases_eq (i / 64) block) [
@@ -47,7 +47,7 @@ marked-less table marks block clean m i dirty =
       | inr ne ↦ get_or-set_other marks block (i / 64) false false ne ∙ m i dirty
     ]
 
--- what is found of the entries is so of the frames
+-- what is found for the entries holds for the frames
 module _ {table : List FrameState} {pages : List (List ℕ)} {count : ℕ} {frames : List Frame} (s : AreFramesShown table pages count frames) (from : ℕ) where
   same : (i : ℕ) → (frame_at frames i).dirty ≡ (state_at table i).dirty
   same i = ap (λ (f : Frame). f.dirty) (frame-shown s i)

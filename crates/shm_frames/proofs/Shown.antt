@@ -1,4 +1,4 @@
--- A table with the bytes beside it, and the frames that it shows.
+-- A table with the frames' bytes, and the frames that it shows.
 use Rattle.std.proofs.Common.{◌≡◌, ℕ, zero, suc, ◌+◌, ◌-◌, ◌<◌, ◌≤◌, Bool, true, false, cond, List, [], ◌∷◌, length, get_or, set, replicate, Some, None, is_some, true≢false, length-set, refl, sym, ap, ◌∙◌, inl, inr, arith}
 use Rattle.std.proofs.lemmas.Grind.{common_steps}
 use Rattle.std.specs.Prelude.{count_by}
@@ -49,7 +49,7 @@ paste-frames_of (y ∷ table) [] i w = refl
 paste-frames_of (y ∷ table) (b ∷ pages) zero w = refl
 paste-frames_of (y ∷ table) (b ∷ pages) (suc i) w = ap (λ fs. frame_shown y b ∷ fs) (paste-frames_of table pages i w)
 
--- a test of frames that looks at the entry alone counts entries
+-- a test of frames that uses only the entry counts entries
 count-frames_of : (p : Frame → Bool) (q : FrameState → Bool) → ((x : FrameState) (b : List ℕ) → p (frame_shown x b) ≡ q x) → (table : List FrameState) (pages : List (List ℕ)) → length pages ≡ length table → count_by p (frames_of table pages) ≡ count_by q table
 count-frames_of p q same [] pages e = refl
 count-frames_of p q same (x ∷ table) [] e = absurd (omega arith)
@@ -59,7 +59,7 @@ count-frames_of p q same (x ∷ table) (b ∷ pages) e = grind (arith, common_st
 pub used-set : {table : List FrameState} {pages : List (List ℕ)} {count : ℕ} → AreUsed table pages count → (i : ℕ) (x : FrameState) → AreUsed (set table i x) pages count
 used-set {table = table} used i x = record { beside = used.beside ∙ sym (length-set table i x); within = rw (length-set table i x) used.within; few = used.few }
 
--- what has an owner has an entry
+-- an owned frame has an entry
 pub entry-there : (table : List FrameState) (i : ℕ) → is_some (state_at table i).owner ≡ true → i < length table
 entry-there table i owned =
     elim (cases_lt i (length table)) [
@@ -67,7 +67,7 @@ entry-there table i owned =
       | inr past ↦ let none : is_some (state_at table i).owner ≡ false = ap (λ (e : FrameState). is_some e.owner) (get_or_past table i free_entry past) in absurd (true≢false (sym owned ∙ none))
     ]
 
--- entries that do not pass count for nothing
+-- padding with entries that do not pass changes no count
 pub count-padded : (q : FrameState → Bool) (table : List FrameState) (n : ℕ) → q free_entry ≡ false → count_by q (padded table n free_entry) ≡ count_by q table
 count-padded q table n e = rw (sum_by-append (λ x. cond (q x) 1 0) table (replicate (n - length table) free_entry), sum_by-replicate (λ x. cond (q x) 1 0) (n - length table) free_entry, e) (omega arith)
 
@@ -104,14 +104,14 @@ module _ {table : List FrameState} {pages : List (List ℕ)} {count : ℕ} {fram
   pub entry-is : (i : ℕ) (x : FrameState) → i < length table → x ≡ get_or table i x → x ≡ state_at table i
   entry-is i x there read = get_or_read table i x there read free_entry
 
-  -- what an edit of an entry makes of the frames
+  -- an edit of an entry, as an edit of the frames
   pub edit-shown : (i : ℕ) (x : FrameState) (f : FrameState → FrameState) (g : Frame → Frame) → ((y : FrameState) (b : List ℕ) → frame_shown (f y) b ≡ g (frame_shown y b)) → i < length table → x ≡ state_at table i → all_frames (set table i (f x)) pages count ≡ set frames i (g (frame_at frames i))
   edit-shown i x f g same there at =
       rw (set-padded table count i (f x) free_entry there) (set-frames_of entries bytes i (f x))
       ∙ ap (λ fs. set fs i (frame_shown (f x) (get_or bytes i []))) s.is
       ∙ ap (λ y. set frames i y) (same x (get_or bytes i []) ∙ ap g (ap (λ y. frame_shown y (get_or bytes i [])) at ∙ sym (frame-shown i)))
 
-  -- what is read of an entry
+  -- a field that is read of an entry
   pub entry-read : (i : ℕ) (x : FrameState) → x ≡ state_at table i → frame_at frames i ≡ frame_shown x (frame_at frames i).bytes
   entry-read i x at = rw (at, frame-shown i) refl
 
@@ -144,7 +144,7 @@ module _ {table : List FrameState} {pages : List (List ℕ)} {count : ℕ} {fram
   pub none-shown : (n : ℕ) → count ≤ n → UsedBelow table n → position is_free frames ≡ None
   none-shown n past used = position-none is_free frames no_frame (λ k l. owned-shown n used k (omega (arith, past, length-shown)))
 
-  -- the frames are as before where more of them have entries
+  -- the frames are unchanged if more of them have entries
   pub reach-shown : (i : ℕ) → i < count → AreFramesShown (padded table (i + 1) free_entry) (padded pages (i + 1) zero_page) count frames
   reach-shown i there = record {
     used = record {

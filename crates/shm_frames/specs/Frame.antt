@@ -2,14 +2,14 @@
 use Rattle.std.specs.Prelude.{◌≡◌, ℕ, ◌<◌, ◌≤◌, Bool, true, false, Option, None, Some, is_none, is_some, List, [], length, get_or, count_by}
 use Rattle.shm_base.specs.declared.paging.PageRef.{PageRef}
 
--- a frame: whose it is, its bytes, and its two bits
+-- a frame: its owner, its bytes, and its two bits
 pub record Frame : Type 0 where
   pub owner : Option PageRef
   pub bytes : List ℕ
   pub referenced : Bool
   pub dirty : Bool
 
--- what is said to stand where there is no frame: a free one of no bytes
+-- the value beyond the last frame: a free frame with no bytes
 abbrev pub no_frame : Frame
 no_frame = record { owner = None; bytes = []; referenced = false; dirty = false }
 
@@ -33,15 +33,15 @@ resident_of frames = count_by is_owned frames
 abbrev pub dirty_of : List Frame → ℕ
 dirty_of frames = count_by is_dirty frames
 
--- the frame is nobody's, and its bits are clear
+-- the frame has no owner, and its bits are clear
 abbrev pub IsFrameBlank : List Frame → ℕ → Type 0
 IsFrameBlank frames i = frame_at frames i ≡ record no_frame { bytes = (frame_at frames i).bytes }
 
--- frames that nobody owns have clear bits
+-- frames without an owner have clear bits
 abbrev pub FreeAreClear : List Frame → Type 0
 FreeAreClear frames = (i : ℕ) → (frame_at frames i).owner ≡ None → IsFrameBlank frames i
 
--- each frame below is owned
+-- each frame below n has an owner
 abbrev pub OwnedBelow : List Frame → ℕ → Type 0
 OwnedBelow frames n = (i : ℕ) → i < n → is_free (frame_at frames i) ≡ false
 
@@ -51,13 +51,13 @@ pub record IsLeastFree (frames : List Frame) (i : ℕ) : Type 0 where
   pub free : (frame_at frames i).owner ≡ None
   pub least : OwnedBelow frames i
 
--- the frame is a dirty one, not below `from`
+-- the frame is dirty, and not below `from`
 pub record IsDirtyFrom (frames : List Frame) (from i : ℕ) : Type 0 where
   pub there : i < length frames
   pub past : from ≤ i
   pub dirty : (frame_at frames i).dirty ≡ true
 
--- the frames from one on are clean, up to the one that is found or to the last
+-- the frames from `from` on are clean, up to the one that was found, or all of them
 abbrev pub AreCleanUpTo : List Frame → ℕ → Option ℕ → Type 0
 AreCleanUpTo frames from None = (i : ℕ) → from ≤ i → (frame_at frames i).dirty ≡ false
 AreCleanUpTo frames from (Some n) = (i : ℕ) → from ≤ i → i < n → (frame_at frames i).dirty ≡ false

@@ -1,4 +1,4 @@
--- The entries of the table and the bytes beside them, seen as frames, and what the table keeps of them.
+-- The entries of the table and the bytes of the frames, which contracts see as frames; and the table's invariant.
 use Rattle.std.specs.Prelude.{◌≡◌, ℕ, ◌+◌, ◌/◌, ◌<◌, ◌≤◌, ◌^◌, Bool, true, false, Option, None, Some, is_none, is_some, List, [], ◌∷◌, length, get_or, count_by}
 use Rattle.shm_frames.specs.declared.frames.FrameState.{FrameState}
 use Rattle.shm_pager.specs.Padded.{padded}
@@ -8,7 +8,7 @@ use Rattle.shm_frames.specs.Frame.{Frame}
 abbrev pub frame_shown : FrameState → List ℕ → Frame
 frame_shown e bytes = record { owner = e.owner; bytes = bytes; referenced = e.referenced; dirty = e.dirty }
 
--- the frames of a table, each with the bytes that lie at its number
+-- the frames of a table, each with the bytes at its index
 abbrev pub frames_of : List FrameState → List (List ℕ) → List Frame
 frames_of [] pages = []
 frames_of (e ∷ es) [] = []
@@ -17,11 +17,11 @@ frames_of (e ∷ es) (bytes ∷ pages) = frame_shown e bytes ∷ frames_of es pa
 abbrev pub free_entry : FrameState
 free_entry = record { owner = None; referenced = false; dirty = false }
 
--- the frames that were used, and after them the others, each free and zeros
+-- the frames that were ever used, and then the others, each free and zeros
 abbrev pub all_frames : List FrameState → List (List ℕ) → ℕ → List Frame
 all_frames table pages count = frames_of (padded table count free_entry) (padded pages count zero_page)
 
--- each frame that was used has an entry and bytes
+-- each frame that was ever used has an entry and bytes
 pub record AreUsed (table : List FrameState) (pages : List (List ℕ)) (count : ℕ) : Type 0 where
   pub beside : length pages ≡ length table
   pub within : length table ≤ count
@@ -39,11 +39,11 @@ has_no_owner e = is_none e.owner
 abbrev pub has_changed : FrameState → Bool
 has_changed e = e.dirty
 
--- no entry below is free
+-- no entry below n is free
 abbrev pub UsedBelow : List FrameState → ℕ → Type 0
 UsedBelow table n = (i : ℕ) → i < n → has_no_owner (state_at table i) ≡ false
 
--- what is kept beside the table
+-- the counts and the bound that the table keeps are right
 pub record IsFrameTable (table : List FrameState) (first_free owned changed : ℕ) : Type 0 where
   pub bound : first_free ≤ length table
   pub used : UsedBelow table first_free
@@ -51,16 +51,16 @@ pub record IsFrameTable (table : List FrameState) (first_free owned changed : �
   pub dirty : changed ≡ count_by has_changed table
   pub clear : (i : ℕ) → (state_at table i).owner ≡ None → state_at table i ≡ free_entry
 
--- where an entry is dirty, its block of 64 is marked
+-- if an entry is dirty, its block of 64 is marked
 abbrev pub AreMarked : List FrameState → List Bool → Type 0
 AreMarked table marks = (i : ℕ) → (state_at table i).dirty ≡ true → get_or marks (i / 64) false ≡ true
 
--- each block has a mark or room for one
+-- each block has a mark, or room for one
 pub record HasMarks (count marks capacity : ℕ) : Type 0 where
   pub few : marks ≤ count / 64 + 1
   pub room : count / 64 < capacity
 
--- the entries from one on are clean, up to the one that is found or to the last
+-- the entries from `first` on are clean, up to the one that was found, or up to `last`
 abbrev pub CleanFrom : List FrameState → ℕ → ℕ → Option ℕ → Type 0
 CleanFrom table first last None = (i : ℕ) → first ≤ i → i < last → (state_at table i).dirty ≡ false
 CleanFrom table first last (Some n) = (i : ℕ) → first ≤ i → i < n → (state_at table i).dirty ≡ false

@@ -1,11 +1,10 @@
 //! The frames, their owners and their bits.
 //!
-//! A table has an entry for each frame, and the bytes of the frames lie apart from it, so that a walk
-//! over owners and bits reads no page. Entries and bytes are made when a frame is first used: memory that was
-//! reserved for other frames is not touched. The table keeps a bound below which no frame is free, and
-//! counts the frames that are owned and those that are dirty. It marks each block of 64 frames in which one may be
-//! dirty, so that a search for dirty frames passes the other blocks. A frame that is free has both bits clear; what
-//! its bytes are is nobody's concern.
+//! A table has an entry for each frame. The bytes of the frames are kept apart from it, so a walk over owners
+//! and bits reads no page. Entries and bytes are made when a frame is first used; memory that is reserved for
+//! other frames is not touched. The table keeps a bound below which no frame is free, and counts owned and
+//! dirty frames. It marks each block of 64 frames in which one may be dirty, so a search for dirty frames
+//! skips the other blocks. A free frame has both bits clear, and arbitrary bytes.
 ghost use Rattle.std.specs.Prelude.{◌≡◌, ℕ, ◌+◌, ◌-◌, ◌/◌, ◌<◌, ◌≤◌, ◌^◌, [], ◌∷◌, ◌++◌, length, get_or, set, position, count_by, vec_capacity, None, Some, IfOk, IfSome, IsSome, MatchOption, true, false};
 ghost use Rattle.std.specs.Borrow.{sem};
 ghost use Rattle.shm_pager.specs.Padded.{padded};
@@ -17,7 +16,7 @@ use shm_pager::zeros;
 use std::alloc::{AllocError, Global};
 use std::marker::Model;
 
-/// What the table has of a frame.
+/// The owner and the bits of a frame.
 #[derive(Clone, Copy)]
 struct FrameState {
     owner: Option<PageRef>,
@@ -25,9 +24,9 @@ struct FrameState {
     dirty: bool,
 }
 
-/// The frames of a machine. They are seen as a list, each with its owner, its bytes and its two bits.
+/// The frames of a machine. Contracts see a list of them, each with its owner, its bytes and its two bits.
 pub struct Frames {
-    // The frames that were ever used, a beginning of all frames. The others are free, and zeros.
+    // The first frames: all those that were ever used. The others are free, and zeros.
     table: Vec<FrameState>,
     pages: Vec<[u8; PAGE_BYTES]>,
     count: u32,
@@ -36,7 +35,7 @@ pub struct Frames {
     // How many frames are owned, and how many are dirty.
     resident: u32,
     dirty: u32,
-    // Whether a frame of each block may be dirty. The blocks after these have none.
+    // Whether a frame of each block may be dirty. Blocks after these have no dirty frame.
     marks: Vec<bool>,
 }
 
@@ -79,12 +78,12 @@ impl FrameState {
     };
 }
 
-// How many frames have one mark.
+// How many frames share one mark.
 const BLOCK: usize = 64;
 
 ghost use Rattle.shm_frames.specs.Table.{free_entry, state_at, has_owner, UsedBelow, AreMarked, CleanFrom};
 
-// What the table has of a frame. One that was never used is free.
+// The table's entry of a frame. A frame that was never used is free.
 fn state_of(table: &Vec<FrameState>, frame: FrameNo) -> FrameState
     ensures { result ≡ state_at table.now.items frame }
 {
@@ -107,7 +106,8 @@ fn page_at(pages: &Vec<[u8; PAGE_BYTES]>, frame: FrameNo) -> &[u8; PAGE_BYTES]
     }
 }
 
-// One more frame is used, and zeros. The page that it puts down is on no other call's stack.
+// One more frame is used, and zeros. Kept out of line, so that other calls do not pay for a page on their
+// stack.
 #[inline(never)]
 fn push_blank(table: &mut Vec<FrameState>, pages: &mut Vec<[u8; PAGE_BYTES]>)
     requires entry { length table.old.items < vec_capacity table.old }
@@ -121,8 +121,7 @@ fn push_blank(table: &mut Vec<FrameState>, pages: &mut Vec<[u8; PAGE_BYTES]>)
     pages.push_reserved(zeros());
 }
 
-// Puts the frames up to this one into the table. Kept out of line, so that a frame that is there costs one
-// comparison.
+// Extends the table up to this frame. Kept out of line, so that a frame in the table costs one comparison.
 #[inline(never)]
 fn extend(table: &mut Vec<FrameState>, pages: &mut Vec<[u8; PAGE_BYTES]>, frame: FrameNo)
     requires new { length table.old.items ≤ frame }
@@ -139,7 +138,7 @@ fn extend(table: &mut Vec<FrameState>, pages: &mut Vec<[u8; PAGE_BYTES]>, frame:
     }
 }
 
-// Has the frames up to this one in the table.
+// Extends the table up to this frame, if it is not in it.
 #[inline(always)]
 fn reach(table: &mut Vec<FrameState>, pages: &mut Vec<[u8; PAGE_BYTES]>, frame: FrameNo)
     requires beside { length pages.old.items ≡ length table.old.items }
@@ -155,8 +154,7 @@ fn reach(table: &mut Vec<FrameState>, pages: &mut Vec<[u8; PAGE_BYTES]>, frame: 
     }
 }
 
-// The least frame that is free: one of the table, or else the first that was never used. No frame below `first`
-// is free.
+// The first free frame: one of the table, else the first that was never used. No frame below `first` is free.
 fn least_free(table: &Vec<FrameState>, first: FrameNo, resident: u32) -> FrameNo
     requires few { length table.now.items < 2 ^ 32 }
     requires used { UsedBelow table.now.items first }
@@ -190,7 +188,7 @@ fn mark(marks: &mut Vec<bool>, frame: FrameNo)
     marks[block] = true;
 }
 
-// The least dirty frame of those from `first` up to `last`.
+// The first dirty frame from `first` up to `last`.
 fn dirty_between(table: &Vec<FrameState>, first: usize, last: usize) -> Option<FrameNo>
     requires { length table.now.items < 2 ^ 32 }
     ensures some { IfSome result (λ f. (first ≤ f) × ((state_at table.now.items f).dirty ≡ true)) }
@@ -204,7 +202,7 @@ fn dirty_between(table: &Vec<FrameState>, first: usize, last: usize) -> Option<F
     None
 }
 
-// The least dirty frame from one on. Blocks in which no frame is dirty are no longer marked.
+// The first dirty frame from one on. Removes the marks of blocks in which no frame is dirty.
 fn dirty_from(table: &Vec<FrameState>, marks: &mut Vec<bool>, from: FrameNo) -> Option<FrameNo>
     requires few { length table.now.items < 2 ^ 32 }
     requires blocks { length marks.old.items ≤ 2 ^ 32 }
@@ -231,7 +229,7 @@ fn dirty_from(table: &Vec<FrameState>, marks: &mut Vec<bool>, from: FrameNo) -> 
     None
 }
 
-// The items once more, with room for `room` of them.
+// A copy of the items, with room for `room` of them.
 fn copied<T: Copy>(items: &Vec<T>, room: u32) -> Result<Vec<T>, AllocError>
     ensures items { IfOk result (λ copy. copy.items ≡ items.now.items) }
     ensures room { IfOk result (λ copy. room ≤ vec_capacity copy) }
@@ -246,7 +244,8 @@ impl Frames {
     ghost use Rattle.shm_frames.specs.Lends.{lends_bytes};
     ghost use Rattle.shm_base.specs.declared.paging.TheConstants.{PAGE_BYTES};
 
-    /// This many free frames. Memory for all of them is reserved here, once and for all, and none of it is touched.
+    /// This many free frames. Reserves the memory for all of them, and touches none of it. HostMemory: the
+    /// host refused memory.
     pub fn new(alloc: Global, count: u32) -> Result<Frames, HostMemory>
         ensures size { IfOk result (λ frames. length frames ≡ count) }
         ensures free { IfOk result (λ frames. (i : ℕ) → IsFrameBlank frames i) }
@@ -262,8 +261,8 @@ impl Frames {
         })
     }
 
-    /// The same frames once more. Memory for all of them is reserved, as [`Frames::new`] does, and that of frames
-    /// that were never used is not touched.
+    /// A copy of the frames. Reserves the memory for all of them, as [`Frames::new`] does, and does not touch
+    /// that of frames that were never used. HostMemory: the host refused memory.
     pub fn try_clone(&self) -> Result<Frames, HostMemory>
         ensures { IfOk result (λ copy. copy ≡ self.now) }
     {
@@ -278,7 +277,7 @@ impl Frames {
         })
     }
 
-    /// How many frames there are.
+    /// The number of frames.
     pub fn count(&self) -> u32
         ensures size { result ≡ length self.now }
         ensures clear { FreeAreClear self.now }
@@ -302,8 +301,8 @@ impl Frames {
         u64::from(self.dirty)
     }
 
-    /// The free frame of least number, or none where each frame is owned. Frames stay as they are:
-    /// what changes is where the next search begins.
+    /// The first free frame; none if each frame is owned. The frames do not change, only the place where the
+    /// next search begins.
     pub fn free_frame(&mut self) -> Option<FrameNo>
         ensures value { result ≡ position is_free self.old }
         ensures least { MatchOption result (OwnedBelow self.old (length self.old)) (IsLeastFree self.old) }
@@ -317,7 +316,7 @@ impl Frames {
         Some(least)
     }
 
-    /// Whose a frame is, or none where it is free.
+    /// The owner of a frame; none if it is free.
     pub fn owner(&self, frame: FrameNo) -> Option<PageRef>
         requires { frame < length self.now }
         ensures { result ≡ (frame_at self.now frame).owner }
@@ -334,7 +333,7 @@ impl Frames {
         self.owner(frame).unwrap()
     }
 
-    /// Gives a free frame to a page. Its bytes stay, which the caller may have put there before, and
+    /// Gives a free frame to a page. The frame keeps its bytes, which the caller may have written before, and
     /// its bits are clear.
     pub fn fill(&mut self, frame: FrameNo, owner: PageRef)
         requires there { frame < length self.old }
@@ -350,7 +349,7 @@ impl Frames {
         }
     }
 
-    /// Makes a frame free, with both bits clear. Its bytes stay.
+    /// Makes a frame free, with both bits clear. It keeps its bytes.
     pub fn empty(&mut self, frame: FrameNo)
         requires { frame < length self.old }
         ensures { self.new ≡ set self.old frame (record no_frame { bytes = (frame_at self.old frame).bytes }) }
@@ -372,12 +371,12 @@ impl Frames {
         ensures whole { length result.now ≡ PAGE_BYTES }
     {
         let page = page_at(&self.pages, frame);
-        // What is read has a proof know its length.
+        // Reading a byte tells the proof the length.
         let _first = page[0];
         page
     }
 
-    /// The bytes of a frame, to be written. A page that comes in is read straight into a free frame.
+    /// The bytes of a frame, to write them. A page that comes in is read straight into a free frame.
     pub fn bytes_mut(&mut self, frame: FrameNo) -> &mut [u8; PAGE_BYTES]
         requires { frame < length self.old }
         ensures* writes_back { sem 𝓛 (lends_bytes self.entry frame result) }
@@ -387,7 +386,7 @@ impl Frames {
         &mut self.pages[frame as usize]
     }
 
-    /// Has the bytes of a frame be zeros. One that was never used is written once, and not twice.
+    /// Fills a frame with zeros. A frame that was never used is written once, not twice.
     pub fn clear(&mut self, frame: FrameNo)
         requires { frame < length self.old }
         ensures { self.new ≡ set self.old frame (record (frame_at self.old frame) { bytes = zero_page }) }
@@ -399,7 +398,7 @@ impl Frames {
         self.pages[frame as usize] = zeros();
     }
 
-    /// The referenced bit of a frame. Each look at one is counted.
+    /// The referenced bit of a frame. Each look is counted.
     pub fn referenced(&self, frame: FrameNo, looks: &mut Looks) -> bool
         requires there { frame < length self.now }
         requires countable { looks.old < 2 ^ 64 - 1 }
@@ -420,7 +419,7 @@ impl Frames {
         entry.referenced = referenced;
     }
 
-    /// The dirty bit of a frame: its bytes were changed since they last came from or went to a slot.
+    /// The dirty bit of a frame: its bytes changed since they were last read from a slot or written to one.
     pub fn is_dirty(&self, frame: FrameNo) -> bool
         requires { frame < length self.now }
         ensures { result ≡ (frame_at self.now frame).dirty }
@@ -443,8 +442,8 @@ impl Frames {
         }
     }
 
-    /// The least dirty frame from one on, or none. Frames stay as they are: what changes is where the next search
-    /// looks. It passes blocks of 64 frames of which none is dirty.
+    /// The first dirty frame from one on; none if there is none. The frames do not change, only the blocks
+    /// that the next search skips: those of 64 frames without a dirty one.
     pub fn next_dirty(&mut self, from: FrameNo) -> Option<FrameNo>
         ensures some { IfSome result (IsDirtyFrom self.old from) }
         ensures least { AreCleanUpTo self.old from result }

@@ -1,8 +1,8 @@
-//! Frames: the room for the pages of a machine that are in memory. A frame is free or owned by one
-//! page, and has a referenced and a dirty bit.
+//! Frames: the places for the pages of a machine that are in memory. A frame is free or owned by one page,
+//! and has a referenced and a dirty bit.
 //!
-//! All room is reserved when the frames are made, and touched when a frame is first used; no later call takes
-//! memory.
+//! All memory is reserved when the frames are made, and touched when a frame is first used. No later call
+//! takes memory.
 #![tactic(auto)]
 
 mod frames;

@@ -1,10 +1,10 @@
-//! The count of the looks at referenced bits.
+//! The count of looks at referenced bits.
 ghost use Rattle.std.specs.Prelude.{◌≡◌, ◌+◌, ◌-◌, ◌^◌, ◌<◌};
 
 use std::marker::Model;
 
-/// How often a referenced bit was looked at. Only [`Frames::referenced`](crate::Frames::referenced)
-/// reads such a bit, and it counts here. It is seen as a number.
+/// How often a referenced bit was read. Only [`Frames::referenced`](crate::Frames::referenced) reads such a
+/// bit, and it counts here. Contracts see a number.
 #[derive(Debug, Default, Drop)]
 pub struct Looks {
     count: u64,
@@ -19,21 +19,21 @@ impl Model for Looks {
 }
 
 impl Looks {
-    /// No look yet.
+    /// A count of 0.
     pub fn new() -> Looks
         ensures { result ≡ 0 }
     {
         Looks { count: 0 }
     }
 
-    /// How many looks there were.
+    /// The number of looks.
     pub fn count(&self) -> u64
         ensures { result ≡ self.now }
     {
         self.count
     }
 
-    // One look more.
+    // Counts one more look.
     pub(crate) fn add(&mut self)
         requires { self.old < 2 ^ 64 - 1 }
         ensures { self.new ≡ self.old + 1 }

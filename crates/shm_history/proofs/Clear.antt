@@ -6,7 +6,7 @@ use Rattle.shm_base.specs.State.{Machine}
 use Rattle.shm_base.specs.History.{is_failure, IsStep, IsMove}
 use Rattle.shm_history.specs.WorldState.{failures_in}
 
--- a move that is no failure is a step
+-- a move that is not a failure is a step
 pub clear_step : (s : Machine) (n : ℕ) (e : Event) (t : Machine) → is_failure e.call e.reply ≡ false → IsMove s n e t → IsStep s n e t
 clear_step s n e t clear (inl m) = m
 clear_step s n e t clear (inr x) = absurd (true≢false (sym x.failure ∙ clear))

@@ -24,7 +24,7 @@ run_more all i step w u v within is h one =
     let more : take (i + 1) all ≡ take i all ++ step ∷ [] = take_more all i step within ∙ ap (λ (s : Step). take i all ++ s ∷ []) (sym is) in
     rw more (run_then (take i all) step w u v h one)
 
--- a step records its calls behind the older events
+-- a step records its calls after the older events
 step_events : (step : Step) (w v : WorldState) → IsRun w step v → (more : List Event) × (v.events ≡ w.events ++ more) × (calls_of more ≡ calls_in step)
 step_events (steps.Call pid call) w v h = (event pid call h.0 ∷ [], h.1.recorded, refl)
 step_events (Flush pages) w v h = ([], ap (λ (x : WorldState). x.events) h.1.rest ∙ sym (append-nil w.events), refl)

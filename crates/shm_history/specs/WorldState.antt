@@ -30,11 +30,11 @@ pub record WorldState : Type 0 where
 abbrev pub event : ℕ → Call → Reply → Event
 event pid call reply = record { pid = pid; call = call; reply = reply }
 
--- how many calls were answered by the name of a pager's failure
+-- how many replies report a pager's failure
 abbrev pub failures_in : List Event → ℕ
 failures_in events = count_by (λ (e : Event). is_failure e.call e.reply) events
 
--- where no area was ever spent they are at most the failures that were counted
+-- if no area was ever spent, the replies report no more failures than were counted
 unfoldable pub AreCounted : List Event → SwapView → Type 0
 AreCounted events swap = swap.never_spent ≡ true → failures_in events ≤ total swap
 
@@ -42,7 +42,7 @@ AreCounted events swap = swap.never_spent ≡ true → failures_in events ≤ to
 abbrev pub calls_of : List Event → List (ℕ × Call)
 calls_of events = map (λ (e : Event). (e.pid, e.call)) events
 
--- a flush round is no call
+-- the calls of a step; a flush round has none
 abbrev pub calls_in : Step → List (ℕ × Call)
 calls_in (steps.Call pid call) = (pid, call) ∷ []
 calls_in (Flush n) = []
@@ -50,7 +50,7 @@ calls_in (Flush n) = []
 abbrev pub step_calls : List Step → List (ℕ × Call)
 step_calls steps = flat_map calls_in steps
 
--- a call is recorded with its reply, and is a move of the machine
+-- the call is recorded with its reply, and is a move of the machine
 pub record IsCalled (before : WorldState) (pid : ℕ) (call : Call) (reply : Reply) (after : WorldState) : Type 0 where
   pub recorded : after.events ≡ before.events ++ event pid call reply ∷ []
   pub move_of : IsMove before.machine (length before.events + 1) (event pid call reply) after.machine
@@ -60,28 +60,29 @@ pub record IsCalled (before : WorldState) (pid : ℕ) (call : Call) (reply : Rep
   pub opening : after.opening ≡ before.opening
   pub room : before.room ≤ after.room + 1
 
--- a flush round changes the memory alone
+-- a flush round changes only the memory
 pub record IsRound (before : WorldState) (pages : ℕ) (report : FlushReport) (after : WorldState) : Type 0 where
   pub flushed : IsFlushed before.memory after.memory pages report
   pub keeps : KeepsOn before.memory after.memory
   pub rest : after ≡ record before { memory = after.memory }
 
--- what one step does
+-- the world after one step
 abbrev pub IsRun : WorldState → Step → WorldState → Type 0
 IsRun before (steps.Call pid call) after = (reply : Reply) × IsCalled before pid call reply after
 IsRun before (Flush pages) after = (report : FlushReport) × IsRound before pages report after
 
--- the steps lead from one world to the other, each from where the one before it led
+-- the steps lead from one world to the other
 abbrev pub RunTo : WorldState → List Step → WorldState → Type 0
 RunTo before [] after = after ≡ before
 RunTo before (one ∷ more) after = (next : WorldState) × IsRun before one next × RunTo next more after
 
--- a step that may find no memory: a call, and where room is left one that takes memory and that the flat machine does not refuse
+-- the host may refuse memory for this step: a call; with room left, one that takes memory and that the flat machine does not
+-- refuse
 abbrev pub MayStop : WorldState → Step → Type 0
 MayStop w (steps.Call pid call) = 0 < w.room → (TakesNoMemory call → ⊥) × (is_refusal (step w.machine (length w.events + 1) pid call).reply ≡ false)
 MayStop w (Flush pages) = ⊥
 
--- the steps before one that may stop were run; after them nothing changed but the room, which did not shrink
+-- the steps before one that may stop were run; afterwards only the room changed, and it did not shrink
 abbrev pub StopsIn : WorldState → List Step → WorldState → Type 0
 StopsIn before steps after =
     (done : List Step)
@@ -94,7 +95,7 @@ StopsIn before steps after =
     × (after ≡ record last { room = after.room })
     × (last.room ≤ after.room)
 
--- a step that asks for no memory where room is left
+-- a step that takes no memory if room is left
 abbrev pub StepTakesNone : Step → Type 0
 StepTakesNone (steps.Call pid call) = TakesNoMemory call
 StepTakesNone (Flush pages) = Unit {0}

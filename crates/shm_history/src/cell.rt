@@ -21,7 +21,7 @@ pub struct SeatView {
     pub seen: Reading,
 }
 
-/// The rule of the cell, and what the keeper's seat knows first.
+/// The protocol of the cell, and what the keeper's seat knows first.
 pub struct Gauged;
 
 impl Protocol<[u64; 4], SeatView> for Gauged {
@@ -32,7 +32,7 @@ impl Protocol<[u64; 4], SeatView> for Gauged {
     ghost first = { keeping zeros };
 }
 
-/// A reader's load: the seat then knows the words.
+/// A reader's load. Afterwards its seat knows the words.
 pub struct Loads;
 
 impl Outcome<[u64; 4], SeatView> for Loads {
@@ -41,7 +41,7 @@ impl Outcome<[u64; 4], SeatView> for Loads {
     ghost then = { IsLoad };
 }
 
-/// The keeper's store: the seat then knows the words that it stored.
+/// The keeper's store. Afterwards its seat knows the words that it stored.
 pub struct Stores;
 
 impl Outcome<[u64; 4], SeatView> for Stores {

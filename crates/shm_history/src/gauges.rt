@@ -1,6 +1,6 @@
-//! A gauge shows counts without the world's lock; only its keeper stores them. Gauge, keeper and readers' seats
-//! share one cell. A reading has all four counts that the keeper stored at one moment, and the events of a seat's
-//! readings never decrease. A reading may be of any age.
+//! A gauge shows counts without the world's lock, and only its keeper stores them. Gauge, keeper and readers'
+//! seats share one cell. A reading has all four counts that the keeper stored at one moment. The events of a
+//! seat's readings never decrease. A reading may be of any age.
 ghost use Rattle.std.specs.Prelude.{◌≡◌, ◌≤◌, IfOk};
 ghost use Rattle.std.specs.Arc.{arc_value};
 ghost use Rattle.crossbeam_utils.specs.Seq.{cell_view};
@@ -12,8 +12,8 @@ use std::alloc::Global;
 use std::marker::Model;
 use std::sync::{Arc, Wait};
 
-/// Shows the counts that its keeper stored last. It is shared by reference. In contracts its value is the name of
-/// its cell.
+/// Shows the counts that its keeper stored last. It is shared by reference. Contracts see the name of its
+/// cell.
 pub struct Gauge {
     cell: Arc<Cell, Global>,
 }
@@ -34,7 +34,7 @@ impl Model for Gauge {
     ghost view = { λ g. (arc_value g.cell).table.shared.table_id };
 }
 
-/// The only seat that stores. In contracts its value is the name of its cell and the counts that it stored last.
+/// The only seat that stores. Contracts see the name of its cell, and the counts that it stored last.
 pub struct Keeper {
     cell: Arc<Cell, Global>,
     pass: SeatPass,
@@ -67,7 +67,7 @@ impl Model for Keeper {
         × (cell_view k.pass ≡ keeping k.last) };
 }
 
-/// A reader's seat. In contracts its value is the name of its cell and its last reading.
+/// A reader's seat. Contracts see the name of its cell, and its last reading.
 pub struct ReaderSeat {
     pass: SeatPass,
 }
@@ -92,8 +92,8 @@ impl Model for ReaderSeat {
 }
 
 impl Gauge {
-    /// The counts that the keeper stored last, or since this call began. The events are at least those of the
-    /// seat's earlier readings; the other counts may be lower.
+    /// The counts that the keeper stored last, before or during this call. The events are at least those of
+    /// the seat's earlier readings; the other counts may be lower.
     pub fn read<R: Wait>(&self, rt: &R, seat: &mut ReaderSeat) -> Reading
         requires { seat.old.cell ≡ self.now }
         ensures seen { result ≡ seat.new.numbers }
@@ -112,7 +112,7 @@ impl Gauge {
 }
 
 impl Keeper {
-    /// A gauge with a new cell, whose counts are zeros, and its keeper.
+    /// A gauge with a new cell of zeros, and its keeper. HostMemory: the host refused memory.
     pub(crate) fn new(alloc: Global) -> Result<(Gauge, Keeper), HostMemory>
         ensures cell { IfOk result (λ g. g.1.cell ≡ g.0) }
         ensures numbers { IfOk result (λ g. g.1.numbers ≡ zeros) }

@@ -13,8 +13,8 @@ use std::alloc::Global;
 use std::sync::Wait;
 use thiserror::Error;
 
-/// Why a world has no gauge. `Limits`: its limits are larger than the profile's (over 4096 frames, or over 65536
-/// pages in SHMALL). `HostMemory`: out of memory.
+/// Why a world has no gauge. `Limits`: its limits are larger than the profile's (over 4096 frames, or over
+/// 65536 pages in SHMALL). `HostMemory`: the host refused memory.
 #[derive(Clone, Copy, Debug, PartialEq, Eq, Error)]
 pub enum GaugeRefused {
     #[error("a gauge has at most 4096 frames and 65536 pages")]
@@ -43,8 +43,8 @@ impl<P: Pager> World<P> {
         })
     }
 
-    /// Stores the world's counts for the readers of the keeper's gauge. It does nothing and answers false if the
-    /// keeper has already stored more events than this world has, or if this world can have no gauge.
+    /// Stores the world's counts for the readers of the keeper's gauge. Does nothing and returns false if the
+    /// keeper has stored more events than this world has, or if this world can have no gauge.
     pub fn publish<R: Wait>(&self, rt: &R, keeper: &mut Keeper) -> bool
         ensures cell { keeper.new.cell ≡ keeper.old.cell }
         ensures stored { IsTrue result → keeper.new.numbers ≡ reading_of (tally_of self.now) }
@@ -64,8 +64,8 @@ impl<P: Pager> World<P> {
     }
 }
 
-/// A gauge of a world, its keeper, which has stored the world's counts, and a reader's seat, which knows them. Only
-/// worlds of the profile's size have one: see [`GaugeRefused`].
+/// A gauge of a world; its keeper, which has stored the world's counts; and a reader's seat, which knows
+/// them. See [`GaugeRefused`] for the errors.
 pub fn gauge<R: Wait, P: Pager>(
     rt: &R,
     alloc: Global,

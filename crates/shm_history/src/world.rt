@@ -1,7 +1,7 @@
 //! A system with the history of its calls.
 //!
-//! The invariant of the type: the history is legal on the flat machine from the opening, and leads to the machine
-//! that the system shows. A call and its reply are recorded together or not at all.
+//! The invariant of the type: the history is legal on the flat machine from the opening, and leads to the
+//! machine that the system shows. A call and its reply are recorded together or not at all.
 ghost use Rattle.std.specs.Prelude.{◌≡◌, ◌+◌, ◌-◌, ◌<◌, ◌≤◌, [], ◌++◌, length, drop, vec_len, vec_capacity, IfOk, OnOk, OnErr, IsOk, All, true, false};
 ghost use Rattle.shm_base.specs.History.{IsHistory, is_refusal};
 ghost use Rattle.shm_base.specs.Step.{step};
@@ -95,7 +95,7 @@ impl<P: Pager> World<P> {
         self.system.opening()
     }
 
-    /// The system of this world, for reading: its machine and its memory.
+    /// The system of this world, to read its machine and its memory.
     pub fn system(&self) -> &System<P>
         ensures opening { result.now.opening ≡ self.now.opening }
         ensures machine { result.now.machine ≡ self.now.machine }
@@ -104,35 +104,36 @@ impl<P: Pager> World<P> {
         &self.system
     }
 
-    /// The calls so far with their replies. They are legal and lead to the machine, and the memory shows that machine
-    /// exactly. If no area was ever spent, at most as many replies name a pager's failure as failures were counted.
+    /// The calls so far with their replies. They are legal and lead to the machine, and the memory shows that
+    /// machine exactly. If no area was ever spent, at most as many replies name a pager's failure as failures
+    /// were counted.
     pub fn history(&self) -> &[Event]
         ensures events { result.now ≡ self.now.events }
         ensures legal { IsHistory self.now.opening self.now.events self.now.machine }
         ensures counted { AreCounted self.now.events self.now.memory.swap }
         ensures exact { IsExactly self.now.machine self.now.memory }
     {
-        // The memory of the system is exact.
+        // Calling this tells the proof that the memory is exact.
         let _ = self.system.store();
         self.history.as_slice()
     }
 
-    /// The segment at an index of the table as stat shows it, without a permission check. None exactly if no segment
-    /// has the index.
+    /// The segment at an index of the table, as `stat` shows it, without a permission test. None if the index
+    /// has no segment.
     pub fn segment(&self, index: u32) -> Option<(ShmId, ShmidDs)>
         ensures { result ≡ segment_at self.now.machine index }
     {
         self.system.segment(index)
     }
 
-    /// How many calls can be recorded before memory is requested.
+    /// How many calls can be recorded before the history needs memory.
     pub fn room(&self) -> usize
         ensures { result ≡ self.now.room }
     {
         self.history.capacity() - self.history.len()
     }
 
-    /// Makes room for this many calls.
+    /// Makes room for this many calls. HostMemory: the host refused memory.
     pub fn reserve(&mut self, count: usize) -> Result<(), HostMemory>
         ensures ok { OnOk result (count ≤ self.new.room) }
         ensures grows { self.old.room ≤ self.new.room }
@@ -142,9 +143,9 @@ impl<P: Pager> World<P> {
         Ok(())
     }
 
-    /// Makes one call and records it with its reply. If memory is out, nothing is recorded and nothing changes except
-    /// the room. With room left, that happens only at calls that take memory and that the flat machine does not
-    /// refuse.
+    /// Makes one call and records it with its reply. HostMemory: the host refused memory; nothing is
+    /// recorded, and nothing changed except the room. With room left, that occurs only for calls that take
+    /// memory and that the flat machine does not refuse.
     pub fn call(&mut self, pid: u32, call: &Call) -> Result<Reply, HostMemory>
         ensures called { IfOk result (λ r. IsCalled self.old pid call.now r self.new) }
         ensures err { OnErr result (self.new ≡ record self.old { room = self.new.room }) }
@@ -155,9 +156,9 @@ impl<P: Pager> World<P> {
         ensures room { OnErr result (self.old.room ≤ self.new.room) }
     {
         make_room(&mut self.history)?;
-        // The memory of the system is exact before the call, too.
+        // Calling this tells the proof that the memory is exact before the call too.
         let _ = self.system.store();
-        // The reply goes straight into the event.
+        // The reply is written straight into the event.
         let place = self.history.len();
         self.history.push_reserved(Event {
             pid,
@@ -172,8 +173,8 @@ impl<P: Pager> World<P> {
         Ok(self.history[place].reply)
     }
 
-    /// A flush round: writes the first `pages` dirty frames of segments that are not locked out to their slots. It is
-    /// not an event, and changes only the memory.
+    /// A flush round: writes the first `pages` dirty frames of segments that are not locked to their slots.
+    /// It is not an event, and changes only the memory.
     pub fn flush(&mut self, pages: u64) -> FlushReport
         ensures rest { self.new ≡ record self.old { memory = self.new.memory } }
         ensures flushed { IsFlushed self.old.memory self.new.memory pages result }
@@ -182,7 +183,7 @@ impl<P: Pager> World<P> {
         self.system.flush(pages)
     }
 
-    /// The current counts of the machine and of its pagers' work, within their bounds.
+    /// The present counts of the machine and of its pagers' work.
     pub fn tally(&self) -> Tally
         ensures counts { result ≡ tally_of self.now }
         ensures counted { AreCountsOf P.failed self.now.memory.swap }
@@ -191,8 +192,8 @@ impl<P: Pager> World<P> {
         self.system.tally()
     }
 
-    // One step. If memory is out, nothing changes except the room, which does not shrink; that happens only at a step
-    // that may take memory.
+    // One step. HostMemory: the host refused memory for a step that may take some; nothing changed except the
+    // room, which does not shrink.
     fn run_step(&mut self, step: &Step) -> Result<(), HostMemory>
         ensures ran { OnOk result (IsRun self.old step.now self.new) }
         ensures stopped { OnErr result (self.new ≡ record self.old { room = self.new.room }) }
@@ -210,9 +211,9 @@ impl<P: Pager> World<P> {
         Ok(())
     }
 
-    /// Runs the steps in order. It stops at the first step that is out of memory, and keeps the steps before it. Each
-    /// recorded call takes room for at most one event, and nothing else takes room. With room for every call, and if
-    /// no call takes memory, it runs all steps.
+    /// Runs the steps in order. HostMemory: stops at the first step for which the host refuses memory, and
+    /// keeps the steps before it. Only a recorded call takes room, for one event. If there is room for every
+    /// call and no call takes memory, all steps run.
     pub fn run_steps(&mut self, steps: &[Step]) -> Result<(), HostMemory>
         ensures steps { OnOk result (RunTo self.old steps.now self.new) }
         ensures stopped { OnErr result (StopsIn self.old steps.now self.new) }

@@ -13,7 +13,7 @@ module _ {T : Type 0} (make : ℕ → Row T → Segment) where
   length-flat i [] = refl
   length-flat i (e ∷ es) = ap suc (length-flat (i + 1) es)
 
-  -- what stands at an index
+  -- the entry at an index
   pub at-flat : (i k : ℕ) (t : List (Entry T)) → k < length t → slice_get (flat_from make i t) k ≡ Some (flat_entry make (i + k) (entry_at t k))
   at-flat i k [] l = absurd (omega arith)
   at-flat i zero (e ∷ es) l = ap (λ n. Some (flat_entry make n e)) (omega arith)
@@ -68,7 +68,7 @@ module _ {T : Type 0} (make : ℕ → Row T → Segment) where
       → flat.look_entry i q (Some (flat_entry make i e)) ≡ flat_answer make i id (row_key e.row) (look_entry q e)
   look_parts i q id e own = grind (arith, common_steps)
 
-  -- what is live, removed or never issued is so for both
+  -- a live identifier is live for both, and so are a removed and an invalid one
   pub look-flat : (t : List (Entry T)) (id : ℤ) → flat.look (flat_table make t) id ≡ flat_look make t id (look t id)
   look-flat t (negsuc n) = refl
   look-flat t (pos n) = grind (arith, common_steps, look-entry, at-table, look_parts, past-flat, at_past)
@@ -101,12 +101,12 @@ module _ {T : Type 0} (make : ℕ → Row T → Segment) where
   pub find_key-absent : ShowsKeys make → (t : List (Entry T)) (key : ℕ) → (key ≢ 0 → flat.find_key (flat_table make t) key ≡ flat.Invalid) → find_key t key ≡ None
   find_key-absent shows t key none = grind (arith, common_steps, index_from shows 0 key t)
 
-  -- a key that is found leads where its row's identifier does
+  -- the row that a key finds is the one that its identifier finds
   pub find_key-look : ShowsKeys make → (t : List (Entry T)) (key : ℕ) (id : ℤ) → key ≢ 0 → find_key t key ≡ Some (index_of id) → IsOk (look t id)
       → flat.find_key (flat_table make t) key ≡ flat.look (flat_table make t) id
   find_key-look shows t key id live found ok = grind (arith, common_steps, live_at, live_number, find_key-flat, look-flat)
 
-  -- ROWS THAT COME, CHANGE AND GO
+  -- ROWS THAT ARE ADDED, CHANGED AND DESTROYED
 
   pub with_segment-flat : (t : List (Entry T)) (i key : ℕ) (v : T) → i ≤ length t
       → flat.with_segment (flat_table make t) i (make (identifier i (entry_at t i).destroyed) (record { key = key; value = v })) ≡ flat_table make (with_row t i key v)
@@ -123,7 +123,7 @@ module _ {T : Type 0} (make : ℕ → Row T → Segment) where
   segment_count-flat i [] = refl
   segment_count-flat i (e ∷ es) = grind (arith, common_steps, sum_by-cons, segment_count-flat (i + 1) es)
 
-  -- one row is shown changed by f
+  -- one row changes as f changes its segment
   pub change-flat : (t : List (Entry T)) (id : ℕ) (f : Segment → Segment) (r s : Row T) → id % 32768 < length t → (entry_at t (id % 32768)).row ≡ Some r
       → f (make (identifier (id % 32768) (entry_at t (id % 32768)).destroyed) r) ≡ make (identifier (id % 32768) (entry_at t (id % 32768)).destroyed) s
       → flat_segments.change (flat_table make t) id f ≡ flat_table make (set t (id % 32768) (record (entry_at t (id % 32768)) { row = Some s }))
@@ -133,11 +133,11 @@ module _ {T : Type 0} (make : ℕ → Row T → Segment) where
       (ap (λ (x : Segment). slice_set (flat_table make t) i (record { destroyed = (entry_at t i).destroyed; segment = Some x })) same
       ∙ set-table i t (record (entry_at t i) { row = Some s }))
 
-  -- the flat machine looks at the index in an identifier alone
+  -- of an identifier the flat machine uses only the index
   pub change-index : (table : List FlatEntry) (id : ℕ) (f : Segment → Segment) → flat_segments.change table (id % 32768) f ≡ flat_segments.change table id f
   change-index table id f = grind (arith, common_steps)
 
--- two ways of showing rows that agree on those of a table
+-- two functions that show the rows of a table alike
 module _ {T : Type 0} (make made : ℕ → Row T → Segment) where
   same_row : (id : ℕ) (r : Option (Row T)) → ((x : Row T) → r ≡ Some x → make id x ≡ made id x) → option_map (make id) r ≡ option_map (made id) r
   same_row id None same = refl

@@ -8,7 +8,7 @@ module _ {T : Type 0} where
   abbrev pub UsedBelow : ℕ → List (Entry T) → Type 0
   UsedBelow first t = (i : ℕ) → i < first → IsFree (entry_at t i) → ⊥
 
-  -- an index below which none is free lies in the table
+  -- an index below which none is free is within the table
   pub used_within : (t : List (Entry T)) (first : ℕ) → UsedBelow first t → first ≤ length t
   used_within t first used = let past = used (length t) in grind (arith, common_steps, at_past)
 
@@ -22,7 +22,7 @@ module _ {T : Type 0} where
       let one : n + 1 ≡ suc n = omega arith in
       grind (arith, common_steps, flat.free_from, drop, skip t n)
 
-  -- what a search from n on finds in a list
+  -- what a search from n finds in a list
   pub record FreeAt (n j : ℕ) (t : List (Entry T)) : Type 0 where
     pub place : ℕ
     pub at : n + place ≡ j
@@ -32,7 +32,7 @@ module _ {T : Type 0} where
     pub small : place ≡ length t → j < 32768
     pub used : UsedBelow place t
 
-  -- the search stops at an entry whose index is free, or goes on
+  -- the search stops at an entry whose index is free, and continues at any other
   step : (n : ℕ) (e : Entry T) (es : List (Entry T)) → ((e.row ≡ None) × (e.destroyed < 65536) × (flat.free_from n (map blank_entry (e ∷ es)) ≡ Some n)) ⊎ ((IsFree e → ⊥) × (flat.free_from n (map blank_entry (e ∷ es)) ≡ flat.free_from (n + 1) (map blank_entry es)))
   step n e es = grind (arith, common_steps)
 

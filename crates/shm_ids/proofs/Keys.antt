@@ -2,7 +2,7 @@
 use Rattle.shm_ids.proofs.Names.{rules, ◌≡◌, ◌≢◌, ◌⊎◌, ℕ, zero, suc, ◌+◌, nat_eq, not, ◌&&◌, List, [], ◌∷◌, Option, Some, None, if◌then◌else◌, refl, sym, ap, ◌∙◌, inl, inr, arith, cases_eq, common_steps, IndexMap, get, Entry, key_at, row_key, map, blank_entry, index_found, find_key, Keyed}
 use Rattle.shm_base.specs.Identifier as flat
 
--- what a key put into the map, or taken out of it, leaves
+-- the map after a key was added or removed
 put-answer : (key q i j : ℕ) (before after : Option ℕ) → after ≡ (if not (nat_eq key 0) && nat_eq key q then Some i else before) → after ≡ Some j
     → ((key ≡ q) × (q ≢ 0) × (i ≡ j)) ⊎ (before ≡ Some j)
 put-answer key q i j before after put got = grind (arith, common_steps)
@@ -41,7 +41,7 @@ module _ {T : Type 0} where
           let found = key_from-at 0 i key t n there.0 alone in
           grind (arith, common_steps)
 
-  -- one row gets another key where it had none
+  -- a row without a key gets one
   pub Keyed-put : {S : Type 0} (t u : List (Entry T)) (keys after : IndexMap ℕ ℕ S) (i key : ℕ)
       → Keyed t keys → find_key t key ≡ None → key_at t i ≡ 0 → key_at u i ≡ key → ((j : ℕ) → j ≢ i → key_at u j ≡ key_at t j)
       → ((q : ℕ) → get nat_eq after q ≡ (if not (nat_eq key 0) && nat_eq key q then Some i else get nat_eq keys q))

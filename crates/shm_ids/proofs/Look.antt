@@ -1,4 +1,4 @@
--- What a live identifier has.
+-- What is found under a live identifier.
 use Rattle.shm_ids.proofs.Names.{◌≡◌, ℕ, ◌∙◌, ◌/◌, ◌%◌, ◌<◌, ℤ, pos, negsuc, nat_eq, List, length, Option, Some, None, Ok, IsOk, refl, sym, arith, true≢false, common_steps, slice_get-map, unwrap_or, unwrap_or-slice_get, slice_get, blank_entry, option_map, unused, looked, Entry, Row, IndexMap, get, entry_at, key_at, look, look_entry, look_row, index_of, identifier, id_at, natural_of, NumbersView, Sound}
 use Rattle.shm_base.specs.Identifier as flat
 use Rattle.shm_ids.proofs.Entries.{at_past}
@@ -24,7 +24,7 @@ module _ {T : Type 0} where
   looked-shown : (at : ℕ → Entry T) (i q : ℕ) (o : Option (Entry T)) → unwrap_or o unused ≡ at i → looked at (flat.look_entry i q (option_map blank_entry o)) ≡ look_entry q (at i)
   looked-shown at i q o here = grind (arith, common_steps)
 
-  -- a look at an identifier is one at what stands at its index
+  -- looking up an identifier is looking at the entry of its index
   pub look-entry : (t : List (Entry T)) (n : ℕ) → look t (pos n) ≡ look_entry (n / 32768) (entry_at t (n % 32768))
   look-entry t n = rw slice_get-map (looked-shown (entry_at t) (n % 32768) (n / 32768) (slice_get t (n % 32768)) (unwrap_or-slice_get t (n % 32768) unused))
 
@@ -34,7 +34,7 @@ module _ {T : Type 0} where
       let e = live_entry (n / 32768) (entry_at t (n % 32768)) (rw look-entry at ok) in
       record { within = grind (arith, common_steps, at_past); row = e.0; there = e.1; looked = look-entry t n ∙ e.2 }
 
-  -- what is found under the identifier that an index has now
+  -- what is found under the present identifier of an index
   pub look-id_at : (t : List (Entry T)) (i : ℕ) → i < 32768 → look t (id_at t i) ≡ look_row (entry_at t i).row
   look-id_at t i small = grind (arith, common_steps, look-entry)
 
@@ -42,12 +42,12 @@ module _ {T : Type 0} where
   pub look-found : {S : Type 0} (t : List (Entry T)) (n : NumbersView) (key i : ℕ) (keys : IndexMap ℕ ℕ S) → Sound t n keys → get nat_eq keys key ≡ Some i → IsOk (look t (id_at t i))
   look-found t n key i keys s got = grind (arith, common_steps, look-id_at)
 
-  -- a live identifier is that of its index
+  -- a live identifier is the present one of its index
   pub live_number : (t : List (Entry T)) (id : ℤ) → IsOk (look t id) → identifier (index_of id) (entry_at t (index_of id)).destroyed ≡ natural_of id
   live_number t (negsuc n) ok = absurd (true≢false (sym ok))
   live_number t (pos n) ok = grind (arith, common_steps, look-entry)
 
-  -- what stands at the index of a live identifier
+  -- the entry of a live identifier
   pub record LiveRow (t : List (Entry T)) (n : ℕ) (v : T) : Type 0 where
     pub within : n % 32768 < length t
     pub there : (entry_at t (n % 32768)).row ≡ Some (record { key = key_at t (n % 32768); value = v })

@@ -6,13 +6,13 @@ use Rattle.shm_ids.proofs.Keys.{Keyed-put, Keyed-drop}
 use Rattle.shm_ids.proofs.Rest.{few_entries}
 use Rattle.shm_ids.proofs.Look.{identifier-mod}
 
--- the same numbers are taken, and no room went
+-- the same numbers are taken, and there is no less room
 pub record SameIndexes (v w : NumbersView) : Type 0 where
   pub taken : (n : ℕ) → is_taken w n ≡ is_taken v n
   pub room : v.room ≤ w.room
 
 module _ {T : Type 0} where
-  -- the map may be another one that answers the same
+  -- another map with the same answers will do
   pub Keyed-same : {S : Type 0} (t : List (Entry T)) (keys after : IndexMap ℕ ℕ S) → Keyed t keys → ((q : ℕ) → get nat_eq after q ≡ get nat_eq keys q) → Keyed t after
   Keyed-same t keys after k same = record { found = λ key i h. k.found key i (sym (same key) ∙ h); live = λ i n. same (key_at t i) ∙ k.live i n }
 
@@ -23,7 +23,7 @@ module _ {T : Type 0} where
   Sound-same t u v w keys after s indexes e same =
       rw e (record { identifiers = s.identifiers; known = known-same t v w s.known indexes; keyed = Keyed-same t keys after s.keyed same })
 
-  -- what an insert may use of the index that it finds
+  -- what an insert needs to know of the index that it uses
   pub record Fresh (t : List (Entry T)) (i : ℕ) : Type 0 where
     pub within : i ≤ length t
     pub small : i < 32768
@@ -36,7 +36,7 @@ module _ {T : Type 0} where
       let at : f.place ≡ i = omega (arith, f.at) in
       grind (arith, common_steps)
 
-  -- the identifier that the next row gets, and the index in it
+  -- the identifier of the next row, and its index
   pub record Next (t : List (Entry T)) (id : ℤ) (i : ℕ) : Type 0 where
     pub found : free_index t ≡ Some i
     pub is : id ≡ id_at t i
@@ -84,7 +84,7 @@ module _ {T : Type 0} where
       room : length (with_row t i key v) ≤ w.room
       room = let before = s.known.room in let some = f.within in grind (arith, common_steps, before, some, within, more)
 
-  -- a change of an entry, which perhaps takes its key
+  -- a change of an entry, which may remove its key
   pub Sound-drop : {S : Type 0} (t : List (Entry T)) (n w : NumbersView) (i key : ℕ) (e : Entry T) (keys after : IndexMap ℕ ℕ S)
       → Sound t n keys → i < length t → key_at t i ≡ key → row_key e.row ≡ 0 → e.destroyed + rows_in e.row ≤ 65536
       → TakenAs n w i (is_open e) → n.room ≤ w.room

@@ -1,4 +1,4 @@
--- A table of segments, as the flat machine shows it.
+-- The table, as the flat machine shows it.
 use Rattle.std.specs.Prelude.{◌≡◌, ℕ, ◌+◌, ℤ, pos, negsuc, List, [], ◌∷◌, Option, Some, None, option_map, Result, Ok, Err}
 use Rattle.shm_base.specs.State.{Segment, Entry as FlatEntry}
 use Rattle.shm_base.specs.Identifier as flat
@@ -8,7 +8,7 @@ use Rattle.shm_ids.specs.declared.table.LookRefused.{LookRefused}
 use Rattle.shm_ids.specs.declared.table.LookRefused.TheVariants.{Removed, Invalid}
 use Rattle.shm_ids.specs.Table.{identifier, key_at, index_of}
 
--- the number that an identifier is
+-- an identifier as a natural number
 abbrev pub natural_of : ℤ → ℕ
 natural_of (pos n) = n
 natural_of (negsuc n) = 0
@@ -26,17 +26,17 @@ module _ {T : Type 0} (make : ℕ → Row T → Segment) where
   abbrev pub flat_table : List (Entry T) → List FlatEntry
   flat_table t = flat_from 0 t
 
-  -- what the flat machine says of an index, an identifier and a key, by what the table answers
+  -- the flat machine's answer about an index, an identifier and a key, by the table's answer
   abbrev pub flat_answer : ℕ → ℕ → ℕ → Result T LookRefused → flat.Look
   flat_answer i id key (Ok v) = flat.Found i (make id (record { key = key; value = v }))
   flat_answer i id key (Err Removed) = flat.Removed
   flat_answer i id key (Err Invalid) = flat.Invalid
 
-  -- what it says of an identifier
+  -- the flat machine's answer about an identifier
   abbrev pub flat_look : List (Entry T) → ℤ → Result T LookRefused → flat.Look
   flat_look t id r = flat_answer (index_of id) (natural_of id) (key_at t (index_of id)) r
 
-  -- what it says of a key, by the index that the table answers and the entries that stand there
+  -- the flat machine's answer about a key, by the index that the table answers and the entry there
   abbrev pub flat_found : (ℕ → Entry T) → Option ℕ → flat.Look
   flat_found at None = flat.Invalid
   flat_found at (Some i) = flat.look_segment i (option_map (make (identifier i (at i).destroyed)) (at i).row)

@@ -1,4 +1,4 @@
--- What an entry ends as, where a `&mut` to its value is returned.
+-- The final value of an entry whose value is lent as `&mut`.
 use Rattle.std.specs.Borrow.{Lends, Fml, RattleType, MutBor}
 use Rattle.shm_ids.specs.declared.table.Entry.{Entry}
 use Rattle.shm_ids.specs.Table.{row_with_value}

@@ -8,7 +8,7 @@ use crate::table::{Entry, IdTable, Row};
 use shm_base::{HostMemory, Numbers, SEQUENCES};
 use std::alloc::{AllocError, Global};
 
-// A row once more, none where there is none.
+// A copy of a row, if there is one.
 fn copied_row<T: Copy>(row: &Option<Row<T>>) -> Option<Row<T>>
     ensures { result ≡ row.now }
 {
@@ -21,7 +21,7 @@ fn copied_row<T: Copy>(row: &Option<Row<T>>) -> Option<Row<T>>
     }
 }
 
-// The entries once more.
+// A copy of the entries.
 fn copied_entries<T: Copy>(entries: &Vec<Entry<T>>) -> Result<Vec<Entry<T>>, AllocError>
     ensures { IfOk result (λ copy. copy.items ≡ entries.now.items) }
 {
@@ -35,7 +35,7 @@ fn copied_entries<T: Copy>(entries: &Vec<Entry<T>>) -> Result<Vec<Entry<T>>, All
     Ok(copy)
 }
 
-// Numbers of which those below `count` are taken.
+// The numbers below `count` are taken.
 fn taken_below(alloc: Global, count: u32) -> Result<Numbers, AllocError>
     ensures taken { IfOk result (λ numbers. (i : ℕ) → is_taken numbers i ≡ nat_lt i count) }
     ensures room { IfOk result (λ numbers. count ≤ numbers.room) }
@@ -48,7 +48,7 @@ fn taken_below(alloc: Global, count: u32) -> Result<Numbers, AllocError>
     Ok(numbers)
 }
 
-// Gives back the indexes that are free: no row holds them, and they are not worn out.
+// Returns the free indexes: those without a row that are not worn out.
 fn give_open<T>(indexes: &mut Numbers, entries: &Vec<Entry<T>>)
     requires few { length entries.now.items ≤ 32768 }
     requires taken { (i : ℕ) → is_taken indexes.old i ≡ nat_lt i (length entries.now.items) }
@@ -64,7 +64,7 @@ fn give_open<T>(indexes: &mut Numbers, entries: &Vec<Entry<T>>)
 }
 
 impl<T: Copy> IdTable<T> {
-    /// The same table once more.
+    /// A copy of the table. HostMemory: the host refused memory.
     pub fn try_clone(&self) -> Result<IdTable<T>, HostMemory>
         ensures { IfOk result (λ copy. copy ≡ self.now) }
     {

@@ -1,5 +1,5 @@
-//! Identifiers of shared memory segments, and the keys under which they are found: a table that
-//! gives each row an identifier that was never given before.
+//! Identifiers of shared memory segments, and the keys that find them: a table that gives each row an
+//! identifier that no row had before.
 #![tactic(auto)]
 
 mod copying;

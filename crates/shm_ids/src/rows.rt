@@ -1,11 +1,12 @@
-//! The rows of a table, by rising index.
+//! The rows of a table, in order of their indexes.
 ghost use Rattle.std.specs.Iterator.{YieldsFirstBy, item_count};
 
 use crate::table::{Entry, id_of};
 use shm_base::ShmId;
 use std::marker::Model;
 
-/// The identifiers, keys and values of a table, seen as the list of those that are left.
+/// An iterator over the identifiers, keys and values of a table. Contracts see the list of those that are
+/// left.
 #[derive(Drop)]
 pub struct Rows<'a, T> {
     pub(crate) entries: &'a [Entry<T>],

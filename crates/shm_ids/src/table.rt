@@ -1,14 +1,13 @@
 //! A table from identifiers to rows of a key and a value.
 //!
-//! An identifier is `index + 32768 * sequence`: the index is below 32768, and the sequence, below
-//! 65536, is the number of rows destroyed earlier at that index. So no identifier comes twice, and
-//! an index wears out with its 65536th destruction. (This profile; Linux, ipc/util.c, lets sequences
-//! come again.)
+//! An identifier is `index + 32768 * sequence`. The index is below 32768. The sequence, below 65536, is the
+//! number of rows that were destroyed at that index before. So no identifier is used twice, and an index
+//! wears out with its 65536th destruction. (This profile; Linux, ipc/util.c, reuses sequences.)
 //!
-//! An identifier is not stored: it is the place of an entry and the count of what was destroyed
-//! there. The entries are the indexes that were ever used, and the table grows by one at its end.
-//! It keeps which indexes are held or worn out, the number of its rows, and the index of each live key other
-//! than 0.
+//! An identifier is not stored: it follows from the place of an entry and its count of destroyed rows. The
+//! entries are the indexes that were ever used, and the table grows by one at its end. It also keeps the
+//! indexes that have a row or are worn out, the number of its rows, and the index of each live key other than
+//! 0.
 ghost use Rattle.std.specs.Prelude.{◌≡◌, ℕ, ◌+◌, ◌*◌, ◌<◌, ◌≤◌, ◌%◌, ◌==◌, pos, [], length, Option, Some, None, option_map, IfOk, IfErr, OnOk, IsOk, Ok, Err, IfSome, IsSome};
 ghost use Rattle.std.specs.Borrow.{sem};
 
@@ -19,8 +18,8 @@ use std::alloc::{AllocError, AllocFailed, Global};
 use std::marker::Model;
 use thiserror::Error;
 
-/// Why nothing stands under an identifier: its row was destroyed (shmctl(2) has EIDRM), or it was never
-/// issued (EINVAL).
+/// Why an identifier has no row. `Removed`: its row was destroyed (EIDRM in shmctl(2)). `Invalid`: it was
+/// never issued (EINVAL).
 #[derive(Clone, Copy, Debug, PartialEq, Eq, Error)]
 pub enum LookRefused {
     #[error("the identifier was removed")]
@@ -29,14 +28,14 @@ pub enum LookRefused {
     Invalid,
 }
 
-/// A key and the value under it. The key is 0 where the row cannot be found by one.
+/// A key and a value. The key is 0 if no key finds the row.
 #[derive(Drop)]
 pub struct Row<T> {
     pub key: u32,
     pub value: T,
 }
 
-/// What one index has: how many rows were destroyed there, and the row that holds it.
+/// One index: how many rows were destroyed there, and the row that it has now.
 pub struct Entry<T> {
     pub destroyed: u32,
     pub row: Option<Row<T>>,
@@ -51,14 +50,14 @@ impl<T: Drop> Drop for Entry<T> {
     }
 }
 
-/// Rows under identifiers. It is seen as the list of its entries.
+/// Rows by identifier. Contracts see the list of the entries.
 pub struct IdTable<T> {
     pub(crate) entries: Vec<Entry<T>>,
-    // The indexes that a row holds or that are worn out are taken.
+    // An index is taken while it has a row, and once it is worn out.
     pub(crate) indexes: Numbers,
     // How many entries have a row.
     pub(crate) rows: usize,
-    // The index of each live key but 0.
+    // The index of each live key other than 0.
     pub(crate) keys: IndexMap<u32, u32>,
 }
 
@@ -141,7 +140,7 @@ fn put_row<T: Drop>(entries: &mut Vec<Entry<T>>, index: usize, key: u32, value: 
     }
 }
 
-// Notes the index of a key, but not of 0.
+// Notes the index of a key other than 0.
 fn put_key(keys: &mut IndexMap<u32, u32>, key: u32, index: usize)
     requires room { key ≢ 0 → 0 < spare keys.old }
     requires small { index < 32768 }
@@ -154,7 +153,7 @@ fn put_key(keys: &mut IndexMap<u32, u32>, key: u32, index: usize)
     }
 }
 
-// Forgets a key, but not 0.
+// Forgets a key other than 0.
 fn drop_key(keys: &mut IndexMap<u32, u32>, key: u32)
     ensures { (q : ℕ) → get nat_eq keys.new q ≡
         (if not (nat_eq key 0) && nat_eq key q then None else get nat_eq keys.old q) }
@@ -174,21 +173,21 @@ fn sequence_at<T>(entries: &Vec<Entry<T>>, index: usize) -> u32
     }
 }
 
-// The index in an identifier, as the place of an entry.
+// The place of the entry to which an identifier belongs.
 fn index_in(id: ShmId) -> usize
     ensures { result ≡ index_of id }
 {
     index_of(id) as usize
 }
 
-// The index in a live row's number, as the place of an entry.
+// The place of the entry to which a live row's number belongs.
 fn place_of(number: u32) -> usize
     ensures { result ≡ number % 32768 }
 {
     (number % INDEXES) as usize
 }
 
-// Sets the key at an index to 0, and returns the one that was there.
+// Sets the key at an index to 0, and returns the old one.
 fn clear_key<T>(entries: &mut Vec<Entry<T>>, index: usize) -> u32
     requires { index < length entries.old.items }
     ensures items { entries.new.items ≡ with_key entries.old.items index 0 }
@@ -205,7 +204,7 @@ fn clear_key<T>(entries: &mut Vec<Entry<T>>, index: usize) -> u32
     }
 }
 
-// Takes the row out of an index, and counts it.
+// Takes the row out of an index, and counts its destruction.
 fn take_row<T>(entries: &mut Vec<Entry<T>>, index: usize) -> Row<T>
     requires within { index < length entries.old.items }
     requires row { IsSome (entry_at entries.old.items index).row }
@@ -218,7 +217,7 @@ fn take_row<T>(entries: &mut Vec<Entry<T>>, index: usize) -> Row<T>
     entry.row.take().unwrap()
 }
 
-// Gives an index back at which this number of rows was destroyed, unless it is worn out.
+// Returns an index, at which this many rows were destroyed, unless it is worn out.
 fn give_back(indexes: &mut Numbers, index: u32, destroyed: u32)
     requires { is_taken indexes.old index ≡ true }
     ensures given { TakenAs indexes.old indexes.new index (nat_lt destroyed 65536) }
@@ -246,7 +245,7 @@ impl<T> Entry<T> {
         }
     }
 
-    // The row as it is listed at an index: identifier, key and value.
+    // The row at an index, as a listing shows it: identifier, key and value.
     fn listed(&self, index: usize) -> Option<(ShmId, u32, &T)>
         requires index { index < 32768 }
         requires wear { self.now.destroyed + rows_in self.now.row ≤ 65536 }
@@ -278,7 +277,7 @@ impl<T: Drop> IdTable<T> {
     ghost use Rattle.shm_ids.specs.Rows.{rows_from, row_listed};
     ghost use Rattle.shm_ids.specs.Table.{row_count};
 
-    /// An empty table, which allocates nothing until the first insert.
+    /// An empty table. It allocates nothing until the first insert.
     pub fn new(alloc: Global) -> IdTable<T>
         ensures { result ≡ [] }
     {
@@ -297,7 +296,7 @@ impl<T: Drop> IdTable<T> {
         self.rows as u64
     }
 
-    /// How many indexes were ever used. None of 32768 and more is.
+    /// How many indexes were ever used: at most 32768, the lowest ones.
     pub fn indexes(&self) -> u32
         ensures value { result ≡ length self.now }
         ensures few { result ≤ 32768 }
@@ -305,8 +304,8 @@ impl<T: Drop> IdTable<T> {
         self.entries.len() as u32
     }
 
-    /// The identifier that the next row gets: that of the least index that no row holds and that is not worn
-    /// out. None where there is no such index.
+    /// The identifier of the next row: that of the least index that has no row and is not worn out. None if
+    /// there is no such index.
     pub fn next_id(&self) -> Option<ShmId>
         ensures value { result ≡ option_map (id_at self.now) (free_index self.now) }
         ensures index { IfSome result (λ id. free_index self.now ≡ Some (index_of id)) }
@@ -318,8 +317,9 @@ impl<T: Drop> IdTable<T> {
         Some(id_of(index as usize, sequence_at(&self.entries, index as usize)))
     }
 
-    /// Puts a row under the next identifier. A key of 0 is none. If the host refuses memory, the value comes back
-    /// and nothing has changed. A row without a key, at an index that was used before, takes no memory.
+    /// Puts a row under the next identifier. Key 0 means that no key finds it. AllocFailed: the host refused
+    /// memory, nothing changed, and the caller gets the value back. A row without a key takes no memory at an
+    /// index that was used before.
     pub fn insert_at(&mut self, id: ShmId, key: u32, value: T) -> Result<(), AllocFailed<T>>
         requires next { option_map (id_at self.old) (free_index self.old) ≡ Some id }
         requires absent { find_key self.old key ≡ None }
@@ -343,7 +343,7 @@ impl<T: Drop> IdTable<T> {
         Ok(())
     }
 
-    /// The identifier of the live row with a key; none is found under 0.
+    /// The identifier of the live row with a key. Key 0 finds none.
     pub fn find_key(&self, key: u32) -> Option<ShmId>
         ensures value { result ≡ option_map (id_at self.now) (find_key self.now key) }
         ensures zero { key ≡ 0 → result ≡ None }
@@ -354,7 +354,7 @@ impl<T: Drop> IdTable<T> {
         Some(id_of(index, self.entries[index].destroyed))
     }
 
-    /// The rows by rising index: identifier, key and value.
+    /// The rows in order of their indexes: identifier, key and value.
     pub fn rows(&self) -> Rows<'_, T>
         ensures { result ≡ rows_from 0 self.now }
     {
@@ -374,8 +374,8 @@ impl<T: Drop> IdTable<T> {
         }
     }
 
-    /// The row under an identifier, with its key: `Removed` where it was destroyed, `Invalid` where the identifier
-    /// was never issued.
+    /// The row of an identifier. `Removed`: the row was destroyed. `Invalid`: the identifier was never
+    /// issued.
     pub fn row_of(&self, id: ShmId) -> Result<&Row<T>, LookRefused>
         ensures ok { IfOk result (λ r. look self.now id ≡ Ok r.now.value) }
         ensures key { IfOk result (λ r. r.now.key ≡ key_at self.now (index_of id)) }
@@ -390,7 +390,7 @@ impl<T: Drop> IdTable<T> {
         }
     }
 
-    /// The value under an identifier, refused as `row_of` refuses.
+    /// The value of an identifier, with the errors of `row_of`.
     pub fn look(&self, id: ShmId) -> Result<&T, LookRefused>
         ensures ok { IfOk result (λ v. look self.now id ≡ Ok v.now) }
         ensures err { IfErr result (λ e. look self.now id ≡ Err e) }
@@ -398,7 +398,7 @@ impl<T: Drop> IdTable<T> {
         Ok(&self.row_of(id)?.value)
     }
 
-    /// The value of a live row, to be changed.
+    /// The value of a live row, to change it.
     pub fn value_mut(&mut self, number: u32) -> &mut T
         requires live { IsOk (look self.old (pos number)) }
         ensures* lends { sem 𝓛 (lends_at T.row self.entry (number % 32768) result) }
@@ -407,7 +407,7 @@ impl<T: Drop> IdTable<T> {
         self.entries[place_of(number)].value_mut()
     }
 
-    /// Makes a live row's key 0, so that it is found no more.
+    /// Sets a live row's key to 0, so that no key finds it any more.
     pub fn hide_key(&mut self, number: u32)
         requires live { IsOk (look self.old (pos number)) }
         ensures { self.new ≡ with_key self.old (number % 32768) 0 }
@@ -416,7 +416,7 @@ impl<T: Drop> IdTable<T> {
         drop_key(&mut self.keys, key);
     }
 
-    /// Destroys a live row and hands its value out. Its identifier never comes again. Takes no memory.
+    /// Destroys a live row and returns its value. Its identifier is never used again. Takes no memory.
     pub fn destroy(&mut self, number: u32) -> T
         requires live { IsOk (look self.old (pos number)) }
         ensures value { look self.old (pos number) ≡ Ok result }

@@ -18,7 +18,7 @@ lies-in (p ∷ ps) a q found =
           record { piece = l.piece; is = (suc l.is.0, omega (arith, l.is.1), l.is.2); covered = l.covered; spot = l.spot }
     ]
 
--- there are as many
+-- the number of bytes is the same
 pub places-length : (ps : List Piece) (a n : ℕ) (qs : List Place) → places ps a n ≡ Some qs → length qs ≡ n
 places-length ps a zero qs found = let same : [] ≡ qs = cc found in ap length (sym same)
 places-length ps a (suc n) qs found = grind (arith, places-length ps (a + 1) n)

@@ -1,7 +1,7 @@
 -- A history is legal where each reply is the step's, or a pager's failure in its place.
 use Rattle.shm_laws.proofs.Names.{◌≡◌, ℕ, ◌+◌, Bool, true, false, if◌then◌else◌, List, [], ◌∷◌, refl, arith, common_steps, Event, Machine, Opening, start_of, Outcome, step, is_refusal, is_failure, LeadsFrom, IsLegal}
 
--- a failure stands in place of a reply that refuses nothing, and another reply is the step's
+-- a failure replaces a reply that is not a refusal; any other reply is the step's
 abbrev fits : Bool → Outcome → Event → Type 0
 fits true o e = is_refusal o.reply ≡ false
 fits false o e = o.reply ≡ e.reply

@@ -20,7 +20,7 @@ kind-move s n e t bare =
 abbrev pub IsShort : List Entry → Type 0
 IsShort t = (i : ℕ) → 32768 ≤ i → slice_get t i ≡ None
 
--- what is marked has a piece, who is not born has none, and from index 32768 on none was ever used
+-- a marked segment has a piece, a process that is not born has none, and no index from 32768 on was ever used
 pub record IsMachineSound (s : Machine) : Type 0 where
   pub orphans : (i : ℕ) → i < 32768 → orphan s.runners s.table i ≡ false
   pub short : IsShort s.table
@@ -34,7 +34,7 @@ names (Some n) id = n == id
 abbrev pub key_after : Bool → Segment → ℕ
 key_after b x = if b then 0 else x.key
 
--- an index whose segment, if it holds one, is swept as it is now, which is as it was but for a mark
+-- an index whose segment, if it has one, is swept; the segment is unchanged except for a mark
 record Goes (over : List ℕ → List ℕ) (i : ℕ) (rs : List Runner) (b : Bool) (before after : Option Entry) : Type 0 where
   turn : Segment → Segment
   same : (x : Segment) → IsSame x (turn x)
@@ -43,7 +43,7 @@ record Goes (over : List ℕ → List ℕ) (i : ℕ) (rs : List Runner) (b : Boo
   bytes : (x : Segment) → (turn x).bytes ≡ over x.bytes
   at : after ≡ option_map (swept_entry i rs) (option_map (with_entry turn) before)
 
--- a segment that stood
+-- a segment that existed
 pub record Stays (over : List ℕ → List ℕ) (i : ℕ) (rs : List Runner) (b : Bool) (d : ℕ) (x : Segment) (after : Option Entry) : Type 0 where
   pub now : Segment
   pub same : IsSame x now
@@ -75,7 +75,7 @@ still-empty i rs f d o empty = grind arith
 pub holds-empty : (d e : ℕ) (x : Segment) (o : Option Entry) → o ≡ holds d x → IsEmpty e o → ⊥
 holds-empty d e x o is empty = grind arith
 
--- what is swept is no orphan
+-- a swept segment has pieces or no mark
 swept-sound : (i : ℕ) (rs : List Runner) (o : Option Entry) → orphan_in i rs (option_map (swept_entry i rs) o) ≡ false
 swept-sound i rs o = grind arith
 
@@ -87,7 +87,7 @@ module _ (over : ℕ → List ℕ → List ℕ) (like : Segment → Type 0) (r :
   fate-still : Turned (over i) s.table t.table i → ((id : ℕ) → attach_count s.runners id ≤ attach_count t.runners id) → Fate false
   fate-still u grows = grind (arith, common_steps)
 
-  -- it is swept, as it is after a change of what stands there
+  -- it is swept, after a change of its entry
   fate-turned : (b : Bool) (f : Segment → Segment) (middle : List Entry) → IsIdle over → ((x : Segment) → IsSame x (f x)) → ((x : Segment) → (f x).dest ≡ (b || x.dest)) → ((x : Segment) → (f x).key ≡ key_after b x)
       → ((x : Segment) → (f x).bytes ≡ x.bytes) → slice_get middle i ≡ option_map (with_entry f) (slice_get s.table i) → t.table ≡ swept t.runners middle → Fate b
   fate-turned b f middle none same dest key bytes changed table =
@@ -148,7 +148,7 @@ module _ (over : ℕ → List ℕ → List ℕ) (like : Segment → Type 0) (r :
   fate : (d : ℕ) → destroyed_at s.table i ≡ d → Kind over like s r reply t → Fate (names r (identifier i d))
   fate d count h2 = grind (arith, fate-still, fate-swept, fate-made, fate-removed)
 
-  -- a segment that stood
+  -- a segment that existed
   pub stays : (d : ℕ) (x : Segment) → Kind over like s r reply t → slice_get s.table i ≡ holds d x → Stays (over i) i t.runners (names r (identifier i d)) d x (slice_get t.table i)
   stays d x k is = by (fate d (ap destroyed_in is) k)
     where

@@ -1,4 +1,4 @@
--- Each piece lies within a segment that stands.
+-- Each piece is within a segment that exists.
 use Rattle.shm_laws.proofs.Names.{◌≡◌, ℕ, ◌+◌, ◌*◌, ◌%◌, ◌≤◌, true, length, get_or, Option, Some, None, refl, arith, common_steps, none-some, All-contains, Contains-get_or, Event, Segment, Piece, Runner, Machine, Opening, start_of, Place, covers, place_by, place, attach_count, Caller, caller_of, IsMove, Stands, HasPiece, EachPiece, pieces_of_caller}
 use Rattle.shm_laws.proofs.Fates.{kind-move}
 use Rattle.shm_laws.proofs.Accessing.{lies-in}
@@ -35,7 +35,7 @@ AllFit s = EachPiece (λ pid p. Fits s p) s
 fits-given : (s : Machine) (e : Event) (pid : ℕ) (p : Piece) → AllFit s → IsPieceGiven s e pid p → Fits s p
 fits-given s e pid p all h2 = grind (arith, each-has)
 
--- what fitted, and stands on, fits
+-- a piece that fitted fits if its segment still exists
 fits-on : (s : Machine) (e : Event) (t : Machine) (p : Piece) (y : Segment) → Fits s p → Stands t p.seg y → Before s e p.seg y → Fits t p
 fits-on s e t p y old stands h3 = grind (arith, common_steps, one-segment, over-length)
 

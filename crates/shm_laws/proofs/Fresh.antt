@@ -1,8 +1,8 @@
--- Where a new segment goes: to an index that holds none.
+-- A new segment gets an index without a segment.
 use Rattle.shm_laws.proofs.Names.{◌≡◌, ◌≢◌, ◌⊎◌, ℕ, suc, ◌+◌, ◌/◌, ◌%◌, ◌<◌, pos, Invalid, look, none-some, ◌&&◌, true, nat_lt, is_none, List, [], ◌∷◌, length, Option, Some, None, slice_get, refl, sym, ap, ◌∙◌, inl, inr, arith, length-append, common_steps, cases_Bool, cases_eq, slice_get_past, Segment, Entry, free_from, free_index, destroyed_at, with_segment, get-set_same, get-set_other}
 use Rattle.std.proofs.lemmas.Option.{gets}
 
--- an entry with no segment, or the place behind the last
+-- an entry without a segment, or the index after the last
 abbrev pub IsEmpty : ℕ → Option Entry → Type 0
 IsEmpty d o = (o ≡ Some (record { destroyed = d; segment = None })) ⊎ ((o ≡ None) × (d ≡ 0))
 
@@ -58,7 +58,7 @@ made-at t i x free = by f.end (cases_eq i (length t))
     by (inr e) (inl k) = made-end t i x k
     by (inr e) (inr apart) = made-within t i e.0 x apart (rw place at e.1)
 
--- an index that was never used is taken below 32768 alone
+-- an index that was never used is taken only below 32768
 pub free-small : (t : List Entry) (i : ℕ) → free_index t ≡ Some i → slice_get t i ≡ None → i < 32768
 free-small t i free none = by f.end
   where

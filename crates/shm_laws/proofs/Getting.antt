@@ -1,4 +1,4 @@
--- What a shmget answers: the segment that has its key, with the permission that it asks for, or a new one where none has it.
+-- The reply of a shmget: the segment that has its key, with the permission that it asks for; or a new one if none has the key.
 use Rattle.shm_laws.proofs.Names.{◌≡◌, ◌≢◌, ◌⊎◌, ℕ, zero, suc, ◌+◌, ◌/◌, ◌%◌, ◌<◌, ◌==◌, ℤ, pos, true, false, not, nat_lt, nat_le, within, List, [], ◌∷◌, Option, Some, None, slice_get, refl, sym, ap, subst, ◌∙◌, inl, inr, arith, common_steps, true≢false, not-false, none-some, cases_Bool, cases_lt, Errno, GetFlags, Call, Shmget, Reply, Id, Event, Segment, Entry, Machine, Look, Found, Removed, Invalid, grants, wish_of, pages_of, identifier, destroyed_in, destroyed_at, free_index, with_segment, look_segment, has_key, key_from, find_key, reserved, segment_count, slots, Caller, Outcome, caller_of, acts, gives, refuses, new_segment, creates, creates_at, shmget, wants_creation, wants_no_other, is_refusal, IsMove, Stands, HasKey, IsCreated, creates_small, huge_errno}
 use Rattle.shm_base.specs.Step.{gets}
 use Rattle.shm_laws.proofs.Fresh.{made-at, never}

@@ -1,4 +1,4 @@
--- Each piece goes back to a shmat that was granted, and each move keeps out who has no permission.
+-- Each piece descends from a shmat that had permission, and each move keeps out whoever has none.
 use Rattle.shm_laws.proofs.Names.{new_piece, ◌≡◌, ◌⊎◌, ℕ, ◌+◌, ◌*◌, ◌%◌, ◌<◌, ℤ, Bool, true, false, not, List, [], ◌∷◌, ◌++◌, length, get_or, Option, Some, None, slice_get, slice_set, refl, sym, ap, subst, ◌∙◌, inl, inr, arith, true≢false, All, Contains, none-some, slice_get_within, get_or_from_slice_get, All-nil, All-append, All-filter, All-map, All-weaker, All-contains, Contains-get_or, flat_map-cons, common_steps, Call, Load, Store, Xadd, Done, Event, Place, covers, places, writable_places, Segment, Piece, Live, Runner, Machine, Opening, start_of, runner_at_start, pages_in, look, meets, part_below, part_above, parts, cut, inserted, Caller, Outcome, caller_of, acts, pieces_with, is_rdonly, controls, load, store, xadd, is_refusal, IsMove, IsHistory, all-cons, all-head, all-tail, all-slice_set, HasPiece, EachPiece, IsPart, IsGranted, IsInherited, GoesBack, Granted, Kept, Inherited, Reach, StaysInside, controlled, OwnerAsks, KeepsOut, KeepsCredentials, MayAsk, NoWayIn, ShmidDs, pos, negsuc, stat, wish_of, grants, not-false, Look, Found, Removed, Invalid, Stands, IsCreated, Swapoff, swapoff, IsUserZero, ◌==◌, Set, Rmid, Lock, Unlock, sets, removes, locks, unlocks}
 use Rattle.shm_laws.proofs.Accessing.{lies-in, place-of, writable-at, writable-parts}
 use Rattle.shm_laws.proofs.Handing.{CallerAt, caller-at, IsAligned, Attaches, Leaves, Forks, Hands, hands-acts}
@@ -280,7 +280,7 @@ module _ (s : Machine) (n pid : ℕ) (c : Caller) (live : caller_of s pid ≡ So
   takes-acts : (call : Call) (area : ℕ) → call ≡ Swapoff area → (acts s n c call).reply ≡ Done → IsUserZero s pid
   takes-acts call area asked done = takes area (ap (λ a. (acts s n c a).reply) (sym asked) ∙ done)
 
--- all of it but what shmget answers
+-- all of it except the reply of a shmget
 record Keeps (s : Machine) (e : Event) : Type 0 where
   inside : StaysInside s e
   owner : (id : ℤ) → controlled e.call ≡ Some id → e.reply ≡ Done → OwnerAsks s e.pid id
@@ -298,7 +298,7 @@ keeps s n e t =
       swapoff = λ area asked done. absurd (true≢false (sym no ∙ ap is_refusal done));
     })
 
--- who gets a segment that stood had what the mode asks for
+-- a process that gets an existing segment had the permissions that the mode asks for
 got-granted : (s : Machine) (pid key mode id : ℕ) (t : Machine) (x : Segment) → Stands s id x → GetsBy s pid key mode (pos id) t → MayAsk s pid id (wish_of s.limits.rules mode)
 got-granted s pid key mode id t x stood g = by g.either
   where

@@ -130,7 +130,7 @@ module _ (s : Machine) (n : ℕ) (c : Caller) where
   rests : (call : Call) (o : Outcome) → hands_pieces call ≡ false → o.state.runners ≡ s.runners → Hands s c call o
   rests call o why same = inl (record { why = inl why; runners = same })
 
-  -- of a call that asks for a segment that stands, and has the permission
+  -- of a call that asks for a segment that exists, and has the permission
   module _ (call : Call) (seg at : ℕ) (flags : AtFlags) (x : Segment) (asked : call ≡ Shmat (pos seg) at flags) (there : Stands s seg x) (permitted : grants c.cred x.perm (at_wish s flags) ≡ true) where
     hands-attaches : (base : ℕ) → (All IsAligned c.pieces → base % 4096 ≡ 0) → IsInside base (base + 4096 * pages_in x) → (is_remap flags ≡ false → occupied c.pieces base (base + 4096 * pages_in x) ≡ false)
         → Hands s c call (attaches s n c seg x flags base)

@@ -23,7 +23,7 @@ each_moment holds law same chain step n s (e ∷ es) t now h =
     let kept : law s t = chain s h.0 t one.1 more.0 in
     (kept, (kept, (h.0, h.1, more.1)))
 
--- what holds of a history and the machine that it led to goes on to hold
+-- what holds for a history and the machine at its end continues to hold
 abbrev pub GoesOn : Opening → (List Event → Machine → Type 0) → Type 0
 GoesOn o holds =
     (before : List Event) (s : Machine) (e : Event) (t : Machine) → IsHistory o before s → holds before s → IsMove s (length before + 1) e t → holds (before ++ e ∷ []) t
@@ -48,7 +48,7 @@ module _ (o : Opening) (holds : List Event → Machine → Type 0) (step : GoesO
 pub held_always : (holds : Machine → Type 0) (law : Machine → Event → Machine → Type 0) → Keeps holds law → (o : Opening) → holds (start_of o) → (events before : List Event) (s : Machine) → IsMoment o events before s → holds s
 held_always holds law step o first events before s m = at_all_times o (λ _ u. holds u) (λ before s e t h now m. (step s (length before + 1) e t now m).0) first events before s m
 
--- what began as more began as less, and so did what kept it up
+-- weaker conditions follow from stronger ones
 pub since-map : (o : Opening) (a b : Machine → Event → Type 0) (f g : Machine → Event → Type 0) → ((s : Machine) (e : Event) → a s e → b s e) → ((s : Machine) (e : Event) → f s e → g s e)
     → (before : List Event) → Since o a f before → Since o b g before
 since-map o a b f g begins keeps _ (Began before s e h x) = Began before s e h (begins s e x)

@@ -34,7 +34,7 @@ module _ (hidden : ℕ → Bool) (s : Machine) (n : ℕ) (c : Caller) where
   both : (b d : Bool) (o p x y : Outcome) → b ≡ d → o ≡ out hidden x → p ≡ out hidden y → (if b then o else p) ≡ out hidden (if d then x else y)
   both b d o p x y same h k = grind (arith, common_steps)
 
-  -- a test that refuses, or goes on
+  -- a test that refuses, or continues
   tests : (e : Errno) (b d : Bool) (p y : Outcome) → b ≡ d → p ≡ out hidden y → (if b then refuses B e else p) ≡ out hidden (if d then refuses s e else y)
   tests e b d p y same k = both b d (refuses B e) p (refuses s e) y same refl k
 
@@ -222,7 +222,7 @@ spot-hidden hidden s pid b fit each a q found =
     let own : identifier (q.seg % 32768) (destroyed_at s.table (q.seg % 32768)) ≡ q.seg = omega (arith, count) in
     ap hidden (own ∙ seg) ∙ each f.piece f.has
 
--- and so it is in a machine that differs in what is hidden
+-- and the same in a machine that differs in the hidden bytes
 other-hidden : (hidden : ℕ → Bool) (s other : Machine) (pid : ℕ) (b : Bool) → DifferIn hidden s other
     → ((a : ℕ) (q : Place) → place (pieces_of_caller (caller_of s pid)) a ≡ Some q → hidden (identifier (q.seg % 32768) (destroyed_at s.table (q.seg % 32768))) ≡ b)
     → (a : ℕ) (q : Place) → place (pieces_of_caller (caller_of other pid)) a ≡ Some q → hidden (identifier (q.seg % 32768) (destroyed_at other.table (q.seg % 32768))) ≡ b

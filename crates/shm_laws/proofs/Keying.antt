@@ -31,7 +31,7 @@ module _ (s : Machine) (e : Event) (id : ℕ) where
       by true h = absurd (named (sym is ∙ old.key ∙ ap (λ b. key_after b old.segment) h))
       by false h = inl (record { segment = old.segment; stands = old.stood; keyed = ap (λ b. key_after b old.segment) (sym h) ∙ sym old.key ∙ is })
 
-  -- what is marked has no key
+  -- a marked segment has no key
   unkeyed : (y : Segment) → KeysAreApart s → y.dest ≡ true → Before s e id y → y.key ≡ 0
   unkeyed y apart dest (inr new) = absurd (cc (sym dest ∙ new.dest))
   unkeyed y apart dest (inl old) = by (names (removed e.call e.reply) id) refl

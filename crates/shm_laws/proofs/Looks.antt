@@ -1,4 +1,4 @@
--- What a look finds, and what stands at the index.
+-- What a lookup finds, and the entry at the index.
 use Rattle.shm_laws.proofs.Names.{◌≡◌, ℕ, ◌/◌, ◌%◌, ◌<◌, pos, List, Option, Some, None, slice_get, refl, arith, common_steps, Segment, Entry, Look, Found, Removed, look_entry, look, identifier, destroyed_at}
 
 abbrev pub holds : ℕ → Segment → Option Entry
@@ -14,21 +14,21 @@ entry-found k q i x o h = grind (arith, common_steps)
 pub found-own : (t : List Entry) (m i : ℕ) (x : Segment) → look t (pos m) ≡ Found i x → (i ≡ m % 32768) × (identifier i (destroyed_at t i) ≡ m)
 found-own t m i x is = grind (arith, common_steps)
 
--- what stands under an identifier
+-- the segment of an identifier
 pub stands-at : (t : List Entry) (id : ℕ) (x : Segment) → look t (pos id) ≡ Found (id % 32768) x → slice_get t (id % 32768) ≡ holds (id / 32768) x
 stands-at t id x h = (entry-found (id % 32768) (id / 32768) (id % 32768) x (slice_get t (id % 32768)) h).1
 
 pub at-stands : (t : List Entry) (id : ℕ) (x : Segment) → slice_get t (id % 32768) ≡ holds (id / 32768) x → look t (pos id) ≡ Found (id % 32768) x
 at-stands t id x is = grind (arith, common_steps)
 
--- and what is gone
+-- and a destroyed one
 pub at-gone : (t : List Entry) (id d : ℕ) (o : Option Segment) → slice_get t (id % 32768) ≡ Some (record { destroyed = d; segment = o }) → id / 32768 < d → look t (pos id) ≡ Removed
 at-gone t id d o is lt = grind (arith, common_steps)
 
 pub not-both : (l : Look) (i : ℕ) (x : Segment) → l ≡ Removed → l ≡ Found i x → ⊥
 not-both l i x gone found = cc
 
--- an identifier that is gone
+-- an identifier of a destroyed segment
 pub record GoneAt (q : ℕ) (o : Option Entry) : Type 0 where
   pub destroyed : ℕ
   pub segment : Option Segment

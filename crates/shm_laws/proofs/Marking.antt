@@ -21,7 +21,7 @@ keeps-marks s n e t sound m id mark = mark-stays s t e sound (kind-move s n e t 
 names-removed : (e : Event) (id : ℕ) → names (removed e.call e.reply) id ≡ true → IsRemoval e id
 names-removed e id h = grind (arith, common_steps)
 
--- what is marked was marked before, or is removed now
+-- a marked segment was marked before, or is removed now
 marked-before : (s : Machine) (n : ℕ) (e : Event) (t : Machine) → IsMachineSound s → IsMove s n e t → (id : ℕ) → IsMarked t id → IsMarked s id ⊎ IsRemoval e id
 marked-before s n e t sound m id mark = by (came-from s t e sound (kind-move s n e t sound.bare m) id mark.segment mark.stands)
   where

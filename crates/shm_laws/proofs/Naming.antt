@@ -12,7 +12,7 @@ use Rattle.shm_laws.proofs.Removing.{sound-start, stands-or-gone}
 
 -- ONE MOVE
 
--- a segment that stood: so its bytes became what they are
+-- a segment that existed, whose bytes became the present ones
 pub record Stood (s : Machine) (e : Event) (id : ℕ) (y : Segment) : Type 0 where
   pub segment : Segment
   pub stood : Stands s id segment
@@ -57,7 +57,7 @@ module _ (s t : Machine) (e : Event) (sound : IsMachineSound s) (k : Moved s e t
   unswept : (d : ℕ) (y z : Segment) → Some (swept_at (id % 32768) t.runners d (Some z)) ≡ holds (id / 32768) y → (d ≡ id / 32768) × (z ≡ y)
   unswept d y z now = grind (arith, common_steps)
 
-  -- a segment that stood
+  -- a segment that existed
   was-swept : (d : ℕ) (x y : Segment) → slice_get s.table (id % 32768) ≡ holds d x → (q : Stays (overlay s e (id % 32768)) (id % 32768) t.runners (names (removed e.call e.reply) (identifier (id % 32768) d)) d x (slice_get t.table (id % 32768)))
       → slice_get t.table (id % 32768) ≡ holds (id / 32768) y → Before s e id y
   was-swept d x y is q at =
@@ -101,7 +101,7 @@ module _ (s t : Machine) (e : Event) (sound : IsMachineSound s) (k : Moved s e t
   was-before y at None is = was-empty y at 0 None is (inr (refl, refl))
   was-before y at (Some x) is = was-entry y at x.destroyed x.segment is
 
-  -- what stands stood before, with bytes that became these, or was made
+  -- a segment that exists existed before, with bytes that became these, or was made
   pub came-from : (y : Segment) → Stands t id y → Before s e id y
   came-from y stands = was-before y (stands-at t.table id y stands) (slice_get s.table (id % 32768)) refl
 

@@ -1,4 +1,4 @@
--- What a piece names stands.
+-- A segment with a piece exists.
 use Rattle.shm_laws.proofs.Names.{new_piece, ◌≡◌, ◌⊎◌, ℕ, suc, zero, ◌+◌, ◌*◌, ◌≤◌, not, List, [], ◌∷◌, map, Some, slice_get, slice_set, refl, ap, subst, inl, inr, arith, common_steps, cases_eq, filter, sum_by-cons, Call, Event, Process, Segment, Piece, Live, Runner, Machine, Opening, start_of, runner_at_start, pages_in, cut, pieces_of, attach_count, Caller, Outcome, caller_of, acts, is_rdonly, pieces_with, IsMove, IsHistory, one_more, pieces_of-inserted, pieces_of-cut_cons, pieces_of-filter, sum-set, Stands, IsDue, PiecesNameWhatStands, GivesPieces, CountsPieces, PiecesAreOfSegments}
 use Rattle.shm_laws.proofs.Refusing.{by-move}
 use Rattle.shm_laws.proofs.Counting.{counts-move}
@@ -43,7 +43,7 @@ module _ (s : Machine) (c : Caller) (mine : (id : ℕ) → attach_count s.runner
   stays : First s s.runners
   stays id none = inl none
 
-  -- the process at a place gets pieces of no segments but some that stand
+  -- the process at an index gets pieces only of some segments that exist
   set-first : (i : ℕ) (r : Runner) → ((id : ℕ) → attach_count s.runners id ≡ 0 → (pieces_of id r.pieces ≡ 0) ⊎ ((x : Segment) × Stands s id x)) → First s (slice_set s.runners i r)
   set-first i r own id none = grind (arith, common_steps, count-set, arith)
 
@@ -100,7 +100,7 @@ pieces-after s t e sound k all first id some =
           | inr gone ↦ absurd (not_due x stood (just s t e sound k id x stood gone))
         ]
 
--- what is sound and has pieces of what stands
+-- a sound state with pieces of existing segments
 pub record IsWhole (s : Machine) : Type 0 where
   pub sound : IsMachineSound s
   pub pieces : PiecesNameWhatStands s

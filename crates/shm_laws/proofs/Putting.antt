@@ -56,7 +56,7 @@ byte-after i at b (p ∷ qs) (v ∷ vs) bytes h = by (byte-after i at b qs vs (b
     by (inr m) (inl s) = inl (hit-first i at b p v qs vs s (byte-here i at b p v bytes s m.1) m.0)
     by (inr m) (inr other) = inr (miss-more i at p v qs vs other m.0, byte-there i at b p v bytes other m.1)
 
--- there stay as many
+-- the number stays the same
 byte-length : (i : ℕ) (p : Place) (v : ℕ) (bytes : List ℕ) → length (byte_in i p v bytes) ≡ length bytes
 byte-length i p v bytes = grind (arith, length-slice_set)
 

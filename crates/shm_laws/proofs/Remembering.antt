@@ -183,7 +183,7 @@ module _ (o : Opening) (before : List Event) (s : Machine) (n pid : ℕ) (now : 
           let there = (writable-parts (places c.pieces a 8) qs found).0 in
           (loaded s.table qs, sym same, recall-places o before s pid a 8 qs now (ap (λ h. places (pieces_of_caller h) a 8) is ∙ there))
 
--- the reply of a move that is no failure
+-- the reply of a move that is not a failure
 reply-of : (s : Machine) (n : ℕ) (e : Event) (t : Machine) → is_refusal e.reply ≡ false → IsMove s n e t → (step s n e.pid e.call).reply ≡ e.reply
 reply-of s n e t clear h2 = grind (arith, common_steps, failure-refusal)
 

@@ -1,4 +1,4 @@
--- Each move destroys what is due, and what is marked has a piece.
+-- Each move destroys exactly what is due, and a marked segment has a piece.
 use Rattle.shm_laws.proofs.Names.{◌≡◌, ◌≤◌, ◌⊎◌, ℕ, suc, zero, ◌+◌, ◌/◌, ◌%◌, ◌==◌, ◌&&◌, ◌||◌, ◌≢◌, pos, Bool, true, false, List, [], ◌∷◌, map, Some, None, slice_get, refl, sym, ap, ◌∙◌, inl, inr, arith, eq-eqb, ne_eqb, cases_eq, common_steps, or_right, none-some, Process, Event, Segment, Runner, Machine, Opening, start_of, runner_at_start, identifier, attach_count, caller_of, IsMove, Stands, IsGone, IsSame, MarkedHavePieces, IsDue, DestroysWhatIsDue, IsMarked, IsRemoval, HasKey}
 use Rattle.shm_laws.proofs.Looks.{stands-at, at-stands, at-gone, not-both}
 use Rattle.shm_laws.proofs.Stepping.{Bare, overlay, made_by, Moved, removed}
@@ -53,11 +53,11 @@ module _ (s t : Machine) (e : Event) (sound : IsMachineSound s) (k : Moved s e t
   pub must : IsDue s e t id x → IsGone t id
   must h1 = grind (arith, common_steps, own, goes-now, goes-by, same-runners, or_right)
 
-  -- what stood stands on as the same segment, or is gone
+  -- a segment that existed still exists as the same segment, or is destroyed
   pub stands-or-gone : ((y : Segment) × Stands t id y × IsSame x y) ⊎ IsGone t id
   stands-or-gone = grind (arith, common_steps, inl, inr, goes-now, after, stands-on)
 
-  -- what is marked now is marked, or gone
+  -- a marked segment is still marked, or destroyed
   marks : after.now.dest ≡ true → IsMarked t id ⊎ IsGone t id
   marks dest = by goes refl
     where
@@ -65,7 +65,7 @@ module _ (s t : Machine) (e : Event) (sound : IsMachineSound s) (k : Moved s e t
       by true h = inr (goes-now h)
       by false h = inl (record { segment = after.now; stands = stands-on h; dest = dest })
 
-  -- what a granted rmid names is marked, or gone
+  -- the segment of a successful rmid is marked, or destroyed
   pub removal : removed e.call e.reply ≡ Some id → ((1 ≤ attach_count s.runners id) × IsMarked t id) ⊎ ((attach_count s.runners id ≡ 0) × IsGone t id)
   removal r = by (cases_eq (attach_count s.runners id) 0)
     where
@@ -79,7 +79,7 @@ module _ (s t : Machine) (e : Event) (sound : IsMachineSound s) (k : Moved s e t
       by (inl none) = inr (none, goes-now (goes-by dest (same ∙ none)))
       by (inr some) = inl (omega (arith, some), record { segment = after.now; stands = stands-on (rw (dest, own, same) (ne_eqb _ 0 some)); dest = dest })
 
-  -- a key stays, or the segment is marked, or gone
+  -- a key stays, or the segment is marked, or destroyed
   pub key-stays : (key : ℕ) → x.key ≡ key → HasKey t id key ⊎ (IsMarked t id ⊎ IsGone t id)
   key-stays key is = by goes (names (removed e.call e.reply) (identifier (id % 32768) (id / 32768))) refl refl
     where

@@ -7,11 +7,11 @@ use Rattle.shm_laws.proofs.Fates.{IsMachineSound, sound-after, kind-move}
 use Rattle.shm_laws.proofs.Removing.{sound-start}
 use Rattle.shm_laws.proofs.Naming.{Before, came-from}
 
--- so many pages of bytes
+-- the bytes of this many pages
 fills-new : (x : Segment) → 1 ≤ x.size → length x.bytes ≡ 4096 * pages_of x.size → FillsPages x
 fills-new x some pages = record { some = some; whole = omega (arith, pages); enough = omega (arith, pages); least = omega (arith, pages) }
 
--- as large, and of as many bytes
+-- of the same size, and with as many bytes
 fills-on : (x y : Segment) → FillsPages x → y.size ≡ x.size → length y.bytes ≡ length x.bytes → FillsPages y
 fills-on x y f size long =
     record {
@@ -35,7 +35,7 @@ fills-before s e id y all (inr new) = by (caller_of s e.pid) new.made
     by None none = absurd none
     by (Some c) made = fills-new y made.some made.pages
 
--- what stood before and stands is as large
+-- a segment that existed before and still exists has the same size
 size-before : (s : Machine) (e : Event) (id : ℕ) (x y : Segment) → Stands s id x → Before s e id y → y.size ≡ x.size
 size-before s e id x y stood (inl old) = let one : old.segment ≡ x = cc in old.same.size ∙ ap (λ (w : Segment). w.size) one
 size-before s e id x y stood (inr new) = absurd (cc (sym new.makes.0 ∙ stood))

@@ -22,7 +22,7 @@ unborn-bare child i rs found bare =
 
 -- THE KINDS
 
--- no segment comes or goes, and none loses a piece; the bytes at each index become these
+-- no segment is made or destroyed, and none loses a piece; the bytes at each index become these
 pub record StillTo (over : ℕ → List ℕ → List ℕ) (s t : Machine) : Type 0 where
   pub turned : (i : ℕ) → Turned (over i) s.table t.table i
   pub grows : (id : ℕ) → attach_count s.runners id ≤ attach_count t.runners id
@@ -76,7 +76,7 @@ idle i bytes = bytes
 abbrev pub IsIdle : (ℕ → List ℕ → List ℕ) → Type 0
 IsIdle over = (i : ℕ) (bytes : List ℕ) → over i bytes ≡ bytes
 
--- so the bytes change, and so a segment is that is made
+-- so the bytes change, and so does a segment that is made
 abbrev pub Kind : (ℕ → List ℕ → List ℕ) → (Segment → Type 0) → Machine → Option ℕ → Reply → Machine → Type 0
 Kind over like s r reply t = ((r ≡ None) × (StillTo over s t ⊎ (IsIdle over × (SweepTo s t ⊎ MakeTo like s reply t)))) ⊎ (IsIdle over × RemovesBy s r t)
 
@@ -96,7 +96,7 @@ overlay s e = over_put (pieces_of_caller (caller_of s e.pid)) (put e.call e.repl
 abbrev pub IsFree : List Entry → ℕ → Type 0
 IsFree t key = (i : ℕ) (x : Segment) → find_key t key ≡ Found i x → ⊥
 
--- what is made by a call, and by whom: with the key that the call names, which no segment had, and so many pages of bytes
+-- the segment that a call makes: with the key of the call, which no segment had, and the bytes of its pages
 pub record MadeBy (t : List Entry) (c : Caller) (call : Call) (y : Segment) : Type 0 where
   pub mode : ℕ
   pub flags : GetFlags

@@ -18,7 +18,7 @@ alike_refl x = record { key = refl; dest = refl }
 pub alike_trans : (x y z : Segment) → IsAlike x y → IsAlike y z → IsAlike x z
 alike_trans x y z a b = record { key = b.key ∙ a.key; dest = b.dest ∙ a.dest }
 
--- what stands at an index is changed so, and its bytes become these
+-- the entry at an index is changed in this way, and its bytes become these
 pub record Turned (over : List ℕ → List ℕ) (t u : List Entry) (i : ℕ) : Type 0 where
   pub turn : Segment → Segment
   pub same : (x : Segment) → IsSame x (turn x)

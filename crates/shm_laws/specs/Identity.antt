@@ -9,14 +9,14 @@ use Rattle.shm_base.specs.Identifier.{Invalid, look}
 use Rattle.shm_base.specs.Step.{Caller, caller_of}
 use Rattle.shm_laws.specs.Standing.{Stands, IsGone, EachMove, EachMoment, Always, Since}
 
--- the same segment: as large, made by the same process and the same user
+-- the same segment: of the same size, and made by the same process of the same user
 pub record IsSame (x y : Segment) : Type 0 where
   pub size : y.size ≡ x.size
   pub cpid : y.cpid ≡ x.cpid
   pub cuid : y.perm.cuid ≡ x.perm.cuid
   pub cgid : y.perm.cgid ≡ x.perm.cgid
 
--- what an identifier names at one time it names later, until that is destroyed; from then on it is removed
+-- an identifier keeps its segment until the segment is destroyed, and is removed from then on
 pub record KeepsNames (s later : Machine) : Type 0 where
   pub stands :
       (id : ℕ) (x : Segment) → Stands s id x
@@ -48,14 +48,14 @@ pub record IsMadeBy (s : Machine) (e : Event) (id : ℕ) (y : Segment) : Type 0 
 abbrev pub StandsAs : Machine → ℕ → Segment → Type 0
 StandsAs s id y = (x : Segment) × Stands s id x × IsSame x y
 
--- each segment that exists was created by one of these events, and has existed since
+-- each segment that exists was made by one of these events, and has existed since
 unfoldable pub AreMade : Opening → List Event → Machine → Type 0
 AreMade o before s =
     (id : ℕ) (y : Segment) → Stands s id y
     → Since o (λ u e. IsMadeBy u e id y) (λ u e. StandsAs u id y) before
 
--- THE LAW. From each moment of the history to its end identifiers keep their segments, and a new segment gets
--- an identifier that was never issued before; and at each moment each segment was created so
+-- THE LAW. From each moment of the history to its end identifiers keep their segments; a new segment gets an identifier that was
+-- never issued before; and at each moment each segment was made by an event
 pub record NamesOneSegment (o : Opening) (events : List Event) (end : Machine) : Type 0 where
   pub kept : EachMoment KeepsNames o events end
   pub new : EachMove NamesAnew o events end

@@ -1,4 +1,4 @@
--- Keys: a key leads to one segment.
+-- Keys: a key finds at most one segment.
 use Rattle.std.specs.Prelude.{◌≡◌, ◌≢◌, ◌⊎◌, ℕ, ℤ, pos, List}
 use Rattle.shm_base.specs.declared.flags.GetFlags.{GetFlags}
 use Rattle.shm_base.specs.declared.call.Call.TheVariants.{Shmget}
@@ -31,7 +31,7 @@ pub record IsCreated (s : Machine) (key id : ℕ) (t : Machine) : Type 0 where
   pub never : look s.table (pos id) ≡ Invalid
   pub has : HasKey t id key
 
--- the segment that a shmget answers has the key that it names: it was found, or it was created
+-- the segment that a shmget answers has the key of the call: it was found, or it was created
 abbrev pub FindsByKey : Machine → Event → Machine → Type 0
 FindsByKey s e t =
     (key size mode : ℕ) (flags : GetFlags) (answer : ℤ) → e.call ≡ Shmget key size mode flags

@@ -20,8 +20,7 @@ use Rattle.shm_base.specs.History.{is_refusal, IsHistory}
 use Rattle.shm_laws.specs.Standing.{Stands, HasPiece, EachPiece, EachMove, Always}
 use Rattle.shm_base.specs.declared.paging.TheConstants.{PAGE_SIZE}
 
--- p is a part of q: at each of its addresses it has the same page as q, and it is as writable as q, and may
--- become so equally
+-- p is a part of q: at each of its addresses it has the same page, and both allow the same writes and the same protections
 pub record IsPart (p q : Piece) : Type 0 where
   pub seg : p.seg ≡ q.seg
   pub writable : p.writable ≡ q.writable
@@ -56,9 +55,8 @@ pub record IsInherited (s : Machine) (e : Event) (pid : ℕ) (p : Piece) : Type 
   pub reply : e.reply ≡ Done
   pub parent : HasPiece s e.pid p
 
--- A process that has a piece after these events: the last event granted it; or the process had it before, or
--- a piece that it is a part of; or the process was born of one that had it. A piece from before has an origin
--- of the same kind
+-- Where a piece comes from, after these events: the last event granted it; or the process had it, or a piece that it is a part
+-- of, before; or the process was born of one that had it. A piece from before has an origin of the same kind
 pub data GoesBack (o : Opening) : List Event → ℕ → Piece → Type 0 where
   Granted :
       (before : List Event) (s : Machine) (e : Event) (pid : ℕ) (p : Piece) → IsHistory o before s
@@ -82,7 +80,7 @@ reach (Store addr bytes) = Some (record { from = addr; len = length bytes; write
 reach (Xadd addr add) = Some (record { from = addr; len = 8; writes = true })
 reach _ = None
 
--- if it was not refused, each of them is in a piece of the process, for a write in a writable one
+-- an access that was not refused touches only bytes in pieces of the process; a write, only bytes in writable ones
 abbrev pub StaysInside : Machine → Event → Type 0
 StaysInside s e =
     is_refusal e.reply ≡ false → (r : Reach) → reach e.call ≡ Some r → (k : ℕ) → k < r.len
@@ -97,7 +95,7 @@ controlled (Lock id) = Some id
 controlled (Unlock id) = Some id
 controlled _ = None
 
--- its owner, its creator, or user 0
+-- the user is the owner, the creator, or user 0
 abbrev pub IsOwner : Cred → Perm → Type 0
 IsOwner cred perm = (cred.uid ≡ 0) ⊎ ((cred.uid ≡ perm.uid) ⊎ (cred.uid ≡ perm.cuid))
 
@@ -118,7 +116,7 @@ pub record MayAsk (s : Machine) (pid id : ℕ) (want : Want) : Type 0 where
   pub stands : Stands s id segment
   pub permitted : grants caller.cred segment.perm want ≡ true
 
--- the process is user 0's
+-- the process belongs to user 0
 abbrev pub IsUserZero : Machine → ℕ → Type 0
 IsUserZero s pid = (caller : Caller) × (caller_of s pid ≡ Some caller) × (caller.cred.uid ≡ 0)
 
@@ -146,8 +144,7 @@ pub record IsBornWith (s : Machine) (e : Event) (unborn : Runner) (cred : Cred) 
   pub live : caller_of s e.pid ≡ Some parent
   pub inherits : cred ≡ parent.cred
 
--- a process that is live after an event was there before it with the same credentials, or is born with
--- them
+-- a process that is live after an event had the same credentials before it, or is born with them
 abbrev pub KeepsCredentials : Machine → Event → Machine → Type 0
 KeepsCredentials s e t =
     (k : ℕ) (now : Runner) (cred : Cred) → slice_get t.runners k ≡ Some now → now.life ≡ Live cred

@@ -65,7 +65,7 @@ pub record CountsPieces (s : Machine) (e : Event) (t : Machine) : Type 0 where
       (hands_pieces e.call ≡ false) ⊎ (is_refusal e.reply ≡ true) → (k : ℕ)
       → attach_count t.runners k ≡ attach_count s.runners k
 
--- THE LAW. Each event keeps this, and it holds at the end; and each event counts so
+-- THE LAW. Each event gives and counts pieces as above, and at the end every segment with a piece exists
 pub record PiecesAreOfSegments (o : Opening) (events : List Event) (end : Machine) : Type 0 where
   pub moves : EachMove GivesPieces o events end
   pub pieces : PiecesNameWhatStands end

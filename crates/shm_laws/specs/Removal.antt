@@ -28,7 +28,7 @@ pub record LosesLastPiece (s t : Machine) (id : ℕ) (x : Segment) : Type 0 wher
 abbrev pub IsDue : Machine → Event → Machine → ℕ → Segment → Type 0
 IsDue s e t id x = IsRemovedBare s e id ⊎ LosesLastPiece s t id x
 
--- an event destroys the segments that are due, and no others
+-- an event destroys exactly the segments that are due
 pub record DestroysWhatIsDue (s : Machine) (e : Event) (t : Machine) : Type 0 where
   pub just : (id : ℕ) (x : Segment) → Stands s id x → IsGone t id → IsDue s e t id x
   pub must : (id : ℕ) (x : Segment) → Stands s id x → IsDue s e t id x → IsGone t id
@@ -62,9 +62,8 @@ abbrev pub AreRemoved : Opening → List Event → Machine → Type 0
 AreRemoved o before s =
     (id : ℕ) → IsMarked s id → Since o (λ u e. IsRemoval e id) (λ u e. IsMarked u id) before
 
--- THE LAW. Each event destroys what is due; after each event, and at the end, a marked segment that exists
--- has a piece; a successful rmid marks or destroys, nothing else marks a segment, and a mark remains until
--- the segment is destroyed
+-- THE LAW. Each event destroys exactly what is due; after each event, and at the end, a marked segment that exists has a piece; a
+-- successful rmid marks or destroys, nothing else marks a segment, and a mark remains until the segment is destroyed
 pub record GoesWhenItMust (o : Opening) (events : List Event) (end : Machine) : Type 0 where
   pub moves : EachMove DestroysWhatIsDue o events end
   pub marked : MarkedHavePieces end

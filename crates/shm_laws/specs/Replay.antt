@@ -8,11 +8,11 @@ use Rattle.shm_base.specs.State.{Machine, Opening}
 use Rattle.shm_base.specs.History.{is_failure, IsHistory}
 use Rattle.shm_history.specs.WorldState.{calls_of, failures_in}
 
--- instead of a call at which a pager failed, its process accesses no byte and gets none
+-- a call at which a pager failed is replaced by one that accesses no byte
 abbrev pub undone : Event → Event
 undone e = if is_failure e.call e.reply then record { pid = e.pid; call = Load 0 0; reply = Bytes [] } else e
 
--- the history in which each failed call only took its place and did nothing
+-- the history, with each failed call replaced by one that only takes its place
 abbrev pub without_failures : List Event → List Event
 without_failures events = map undone events
 

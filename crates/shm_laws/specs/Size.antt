@@ -5,7 +5,7 @@ use Rattle.shm_base.specs.State.{Segment, Machine, Opening}
 use Rattle.shm_laws.specs.Standing.{Stands, EachMove, Always}
 use Rattle.shm_base.specs.declared.paging.TheConstants.{PAGE_SIZE}
 
--- it has a size, and the fewest whole pages of bytes that hold it
+-- a segment has a size, and the fewest whole pages that hold it
 pub record FillsPages (x : Segment) : Type 0 where
   pub some : 1 ≤ x.size
   pub whole : length x.bytes % PAGE_SIZE ≡ 0

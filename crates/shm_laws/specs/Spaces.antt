@@ -1,4 +1,4 @@
--- Address spaces: the pieces of a process do not overlap, stay within the addresses, and are few.
+-- Address spaces: the pieces of a process do not overlap, are within the addresses, and are not too many.
 use Rattle.std.specs.Prelude.{◌≡◌, ◌≤◌, ℕ, ◌%◌, true, List, length, Some, slice_get, All}
 use Rattle.shm_base.specs.declared.call.Event.{Event}
 use Rattle.shm_base.specs.State.{Piece, Runner, Machine, Opening}
@@ -7,13 +7,13 @@ use Rattle.shm_base.specs.Space.{lowest_address, end_address}
 use Rattle.shm_laws.specs.Standing.{Always}
 use Rattle.shm_base.specs.declared.paging.TheConstants.{PAGE_SIZE}
 
--- no address lies in two of them
+-- no address is in two pieces
 abbrev pub LieApart : List Piece → Type 0
 LieApart ps =
     (address j k : ℕ) (p q : Piece) → slice_get ps j ≡ Some p → slice_get ps k ≡ Some q
     → covers p address ≡ true → covers q address ≡ true → j ≡ k
 
--- it has whole pages, at least one, within the lowest and the last address
+-- the piece has whole pages, at least one, from the lowest address to the last
 pub record LiesInside (p : Piece) : Type 0 where
   pub page : p.base % PAGE_SIZE ≡ 0
   pub some : 1 ≤ p.pages

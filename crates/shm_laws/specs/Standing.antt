@@ -25,8 +25,8 @@ pub record HasPiece (s : Machine) (pid : ℕ) (p : Piece) : Type 0 where
 abbrev pub EachPiece : (ℕ → Piece → Type 0) → Machine → Type 0
 EachPiece law s = All (λ (r : Runner). All (law r.pid) r.pieces) s.runners
 
--- the events, the first at place n, lead from s to t, and this holds of each event, from the state before it
--- to the one after it
+-- the events, of which the first is at place n, lead from s to t; the law holds for each, from the state before it to the state
+-- after it
 abbrev pub MovesBy : (Machine → Event → Machine → Type 0) → ℕ → Machine → List Event → Machine → Type 0
 MovesBy law n s [] t = t ≡ s
 MovesBy law n s (e ∷ es) t = (u : Machine) × IsMove s n e u × law s e u × MovesBy law (n + 1) u es t
@@ -35,13 +35,12 @@ MovesBy law n s (e ∷ es) t = (u : Machine) × IsMove s n e u × law s e u × M
 abbrev pub EachMove : (Machine → Event → Machine → Type 0) → Opening → List Event → Machine → Type 0
 EachMove law o events end = MovesBy law 1 (start_of o) events end
 
--- the events, the first at place n, lead from s to t, and this holds of s, of each machine on the way, and of
--- the last one
+-- the events, of which the first is at place n, lead from s to t; the law holds for s, for each machine on the way, and for t
 abbrev pub MomentsBy : (Machine → Machine → Type 0) → ℕ → Machine → List Event → Machine → Type 0
 MomentsBy law n s [] t = law s t × (t ≡ s)
 MomentsBy law n s (e ∷ es) t = law s t × ((u : Machine) × IsMove s n e u × MomentsBy law (n + 1) u es t)
 
--- the same for each moment of a whole history and its end
+-- the same for each moment of a whole history
 abbrev pub EachMoment : (Machine → Machine → Type 0) → Opening → List Event → Machine → Type 0
 EachMoment law o events end = MomentsBy law 1 (start_of o) events end
 
@@ -51,7 +50,7 @@ pub record IsMoment (o : Opening) (events before : List Event) (s : Machine) : T
   pub whole : before ++ after ≡ events
   pub leads : IsHistory o before s
 
--- at each moment of a whole history this holds of the events before and of the machine
+-- the law holds at each moment of a whole history, for the events before it and the machine
 abbrev pub Always : (List Event → Machine → Type 0) → Opening → List Event → Type 0
 Always law o events = (before : List Event) (s : Machine) → IsMoment o events before s → law before s
 
@@ -63,13 +62,13 @@ pub record IsTurn
   pub leads : IsHistory o before s
   pub move : IsMove s (length before + 1) e t
 
--- at each step of a whole history this holds of the events before and of the event
+-- the law holds at each step of a whole history, for the events before it and the event
 abbrev pub EachTurn : (List Event → Machine → Event → Machine → Type 0) → Opening → List Event → Type 0
 EachTurn law o events =
     (before : List Event) (s : Machine) (e : Event) (t : Machine) → IsTurn o events before s e t
     → law before s e t
 
--- one of these events began it, and each later one kept it
+-- one of these events began something, and each later one kept it
 pub data Since (o : Opening) (begins keeps : Machine → Event → Type 0) : List Event → Type 0 where
   Began :
       (before : List Event) (s : Machine) (e : Event) → IsHistory o before s → begins s e

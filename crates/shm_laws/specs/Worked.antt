@@ -37,7 +37,7 @@ opening =
       processes = process 1 100 100 ∷ process 2 100 100 ∷ [];
     }
 
--- REPLAY: a store that a pager failed, and a load that shows it
+-- REPLAY: a pager fails a store, and a load shows that nothing was stored
 
 abbrev pub a_store_fails : List Event
 a_store_fails =
@@ -68,7 +68,7 @@ two_go =
     ∷ does 1 (shmget 0 4096 (mode 6 0 0) 0) (id 32768)
     ∷ []
 
--- the machine after this many of its events
+-- the machine after the events
 abbrev pub ends_from : ℕ → Machine → List Event → Machine
 ends_from n s [] = s
 ends_from n s (e ∷ es) = ends_from (n + 1) (step s n e.pid e.call).state es
@@ -154,9 +154,9 @@ two_write =
     ∷ does 1 (Load 0x40000ff8 9) (Bytes (0 ∷ 1 ∷ 0 ∷ 0 ∷ 0 ∷ 0 ∷ 1 ∷ 9 ∷ 3 ∷ []))
     ∷ []
 
--- it is legal; the third byte of the first store is byte 0 of segment 1, and the byte of the second is the
--- first store's second; the byte there is its last writer's, the load shows what the xadd wrote before it,
--- and a byte that nobody wrote is 0
+-- it is legal; the third byte of the first store is byte 0 of segment 1, and the byte of the second store replaces the first
+-- store's second byte; that byte is its last writer's, the load shows what the xadd wrote before it, and a byte that nobody wrote
+-- is 0
 abbrev pub WritingWorked : Type 0
 WritingWorked =
     IsLegal opening two_write
@@ -168,8 +168,7 @@ WritingWorked =
     × (slice_get (bytes_at (after opening two_write 9).table 1) 0 ≡ Some 3)
     × (slice_get (bytes_at (after opening two_write 9).table 1) 1 ≡ Some 0)
 
--- ISOLATION: process 2 stores one byte or another into its own segment and reads it back; process 1 has a
--- piece of another
+-- ISOLATION: process 2 stores one of two bytes into its own segment and reads it back; process 1 has a piece of another segment
 
 abbrev pub stores_own : ℕ → List Event
 stores_own byte =
@@ -193,8 +192,8 @@ IsolationWorked =
     × DifferIn (λ id. id == 1) (after opening (stores_own 5) 8) (after opening (stores_own 6) 8)
     × (own_part 1 (stores_own 5) ≡ own_part 1 (stores_own 6))
 
--- KEYS AND SIZE: process 2 finds a segment by its key and attaches it; when it is marked the key names no
--- segment, and a shmget that may create makes another
+-- KEYS AND SIZE: process 2 finds a segment by its key and attaches it; after the segment is marked the key finds nothing, and a
+-- shmget that may create makes another
 
 abbrev pub one_key : List Event
 one_key =

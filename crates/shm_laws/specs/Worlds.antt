@@ -1,12 +1,12 @@
--- What holds of every world.
+-- The guarantees of every world.
 use Rattle.std.specs.Prelude.{ℕ}
 use Rattle.shm_base.specs.History.{IsHistory}
 use Rattle.shm_life.specs.MachineView.{IsExactly}
 use Rattle.shm_history.specs.WorldState.{WorldState, AreCounted}
 use Rattle.shm_laws.specs.Lawful.{IsLawful}
 
--- the history of a world is legal and keeps all laws, its memory shows the machine at its end exactly, and
--- the failures that it names were counted
+-- a world's history is legal and keeps all laws; its memory shows the machine exactly; and the failures in the history were
+-- counted
 pub record IsWorldSound (w : WorldState) : Type 0 where
   pub legal : IsHistory w.opening w.events w.machine
   pub counted : AreCounted w.events w.memory.swap

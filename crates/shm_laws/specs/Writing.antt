@@ -1,4 +1,4 @@
--- The last writer: a byte has the value that the last event wrote, or 0 if none wrote since its creation.
+-- The last writer: a byte has the value of the last event that wrote it, or 0 if none has since the segment was made.
 use Rattle.std.specs.Prelude.{◌≡◌, ◌<◌, ◌⊎◌, ℕ, ◌+◌, ◌%◌, ◌^◌, pos, Bool, List, length, Option, Some, None, slice_get}
 use Rattle.std.specs.Int.{w64, to_le_bytes, from_le_bytes}
 use Rattle.shm_base.specs.declared.call.Call.{Call}
@@ -33,7 +33,7 @@ IsByte s pid addr id at =
     (w : Bool)
     × (place (pieces_of_caller (caller_of s pid)) addr ≡ Some (record { seg = id; at = at; writable = w }))
 
--- the event writes b there, and nothing later to the same place
+-- the event writes b to this byte, and writes no other value to it later
 pub record Writes (s : Machine) (e : Event) (id at b : ℕ) : Type 0 where
   pub what : Put
   pub puts : put e.call e.reply ≡ Some what
@@ -42,31 +42,31 @@ pub record Writes (s : Machine) (e : Event) (id at b : ℕ) : Type 0 where
   pub here : IsByte s e.pid (what.from + k) id at
   pub last : (j : ℕ) → k < j → j < length what.bytes → IsByte s e.pid (what.from + j) id at → ⊥
 
--- the event writes nothing there
+-- the event does not write this byte
 abbrev pub Spares : Machine → Event → ℕ → ℕ → Type 0
 Spares s e id at =
     (what : Put) → put e.call e.reply ≡ Some what → (k : ℕ) → k < length what.bytes
     → IsByte s e.pid (what.from + k) id at → ⊥
 
--- the event created the segment: its identifier was never issued before, and is the answer
+-- the event made the segment: its identifier was never issued before, and is the reply
 abbrev pub Makes : Machine → Event → ℕ → Type 0
 Makes s e id = (look s.table (pos id) ≡ Invalid) × (e.reply ≡ Id (pos id))
 
 -- WHO WROTE IT LAST
 
--- after these events byte `at` of the segment is b: an event wrote b there, and no later one wrote there; or
--- b is 0, and no event wrote there since the one that created the segment
+-- after these events byte `at` of the segment is b: an event wrote b to it, and no later one wrote it; or b is 0, and no event
+-- wrote it since the segment was made
 abbrev pub IsLast : Opening → List Event → ℕ → ℕ → ℕ → Type 0
 IsLast o before id at b =
     Since o (λ s e. Writes s e id at b) (λ s e. Spares s e id at) before
     ⊎ ((b ≡ 0) × Since o (λ s e. Makes s e id) (λ s e. Spares s e id at) before)
 
--- this holds of each byte of each segment that exists
+-- this holds for each byte of each segment that exists
 abbrev pub Remembers : Opening → List Event → Machine → Type 0
 Remembers o before s =
     (id at b : ℕ) (x : Segment) → Stands s id x → slice_get x.bytes at ≡ Some b → IsLast o before id at b
 
--- as many bytes, and each is the last one written at its address
+-- there are `len` bytes, and each is the last one written at its address
 pub record AreLast
     (o : Opening) (before : List Event) (s : Machine) (pid addr len : ℕ) (bytes : List ℕ) : Type 0 where
   pub long : length bytes ≡ len
@@ -74,7 +74,7 @@ pub record AreLast
       (k b : ℕ) → slice_get bytes k ≡ Some b
       → (id : ℕ) × (at : ℕ) × IsByte s pid (addr + k) id at × IsLast o before id at b
 
--- a load answers the bytes that were written last, and an xadd their number
+-- a load answers the bytes that were written last, and an xadd the number in them
 pub record Recalls (o : Opening) (before : List Event) (s : Machine) (e : Event) (t : Machine) : Type 0 where
   pub load :
       (addr len : ℕ) (bytes : List ℕ) → e.call ≡ Load addr len → e.reply ≡ Bytes bytes
@@ -83,7 +83,7 @@ pub record Recalls (o : Opening) (before : List Event) (s : Machine) (e : Event)
       (addr add old : ℕ) → e.call ≡ Xadd addr add → e.reply ≡ Number old
       → (bytes : List ℕ) × (old ≡ from_le_bytes w64 bytes) × AreLast o before s e.pid addr 8 bytes
 
--- THE LAW. At each moment each byte is that of its last writer, and so is each byte that an event answers
+-- THE LAW. At each moment each byte is its last writer's, and so is each byte that an event answers
 pub record HasLastWriters (o : Opening) (events : List Event) (end : Machine) : Type 0 where
   pub bytes : Always (Remembers o) o events
   pub replies : EachTurn (Recalls o) o events

@@ -6,8 +6,8 @@ use shm_history::World;
 use shm_pager::Pager;
 
 #[tactic(auto, using(crate::proofs::Isolating::is_isolated))]
-/// The history of the world. A process's replies never depend on the bytes of segments of which it has no piece: with
-/// other bytes there, each call would have the same reply.
+/// The history of the world. A process's replies never depend on the bytes of segments that it has not
+/// attached: with other bytes in these, each call would have the same reply.
 pub fn isolated<P: Pager>(world: &World<P>) -> &[Event]
     ensures law { IsIsolated world.now.opening result.now world.now.machine }
     ensures events { result.now ≡ world.now.events }

@@ -8,7 +8,7 @@ use shm_base::Event;
 use shm_history::World;
 use shm_pager::Pager;
 
-/// The history of the world. All laws hold of it, and everything that `World::history` says.
+/// The history of the world. All laws hold for it, and so does all that `World::history` says.
 pub fn lawful<P: Pager>(world: &World<P>) -> &[Event]
     ensures laws { IsLawful world.now.opening result.now world.now.machine }
     ensures events { result.now ≡ world.now.events }

@@ -1,5 +1,5 @@
-//! Laws of whole histories, in the words of those who rely on the machine. Each function shows that its law holds of the
-//! given world.
+//! Laws of whole histories, for programs that rely on the machine. The contract of each function says that
+//! its law holds for the given world.
 #![tactic(auto)]
 
 mod identity;

@@ -1,6 +1,6 @@
 ghost use Rattle.shm_laws.specs.Worked as worked;
 
-/// Worked histories: they are legal, and the laws say of them what is written there. They are proved by computing them.
+/// The worked histories are legal, and have the properties that their rows name, by computation.
 fn worked_histories()
     ensures replay { worked.ReplayWorked }
     ensures removal { worked.RemovalWorked }

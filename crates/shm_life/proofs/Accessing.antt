@@ -1,4 +1,4 @@
--- What is told of an access that was done, and of one at which a pager failed.
+-- The replies to an access that succeeded, and to one at which a pager failed.
 use Rattle.shm_life.proofs.Names.{◌≡◌, ◌∙◌, ℕ, Bool, true, false, List, [], ◌∷◌, length, Some, refl, sym, ap, arith, common_steps, OnOk, OnErr, none-some, Span, Place, Piece, Outcome, gives, Bytes, Machine, KeepsMemory, IsCaller, pieces_at, pieces_by, wanted_in, span_places, load-wanted, store-wanted, loaded}
 use Rattle.std.specs.Prelude.{Result, Ok, Err, IfOk, IfErr}
 use Rattle.shm_base.specs.Access.{stored, writable_places}

@@ -1,4 +1,4 @@
--- The flat machine's shmat, by where its piece goes.
+-- The flat machine's shmat, by the place of its piece.
 use Rattle.shm_life.proofs.Names.{nat_tests, ◌≡◌, ℕ, ℤ, ◌+◌, ◌-◌, ◌*◌, ◌%◌, ◌<◌, ◌≤◌, ◌==◌, if◌then◌else◌, true, false, List, length, Some, None, refl, arith, lt-ltb, le-ltb, Bounds, segment_seen, AtFlags, Segment, Piece, Machine, pages_of, Look, Invalid, Removed, look, identifier, destroyed_at, grants, choose, cut, at_wish, shmat, attaches, attaches_chosen, attaches_fixed, attaches_found, OnErr, fixed, length-inserted, IsFound, look_of, misplaced, gap_found, if_few, base_for, placed_at, placed_found, placed, placed_outcome}
 use Rattle.std.proofs.Common.{Option, Result, Ok, Err}
 use Rattle.shm_base.specs.Rules.{pieces_errno}
@@ -48,7 +48,7 @@ module _ (s : Machine) (n : ℕ) (c : Caller) (flags : AtFlags) where
   pub shmat-placed : (id : ℤ) (addr : ℕ) → shmat s n c id addr flags ≡ placed_outcome s n c flags (placed s c id addr flags)
   shmat-placed id addr = grind (arith, nat_tests, found-outcome addr (look s.table id))
 
--- behind the tests it is where the pages go
+-- after the tests, it is where the pages are placed
 pub placed-found : (s : Machine) (c : Caller) (id : ℤ) (addr : ℕ) (flags : AtFlags) (f : Live) → IsFound s.table f → misplaced s addr flags ≡ false
     → look s.table id ≡ look_of s.table f → grants c.cred f.head.perm (at_wish s flags) ≡ true
     → placed s c id addr flags ≡ placed_at f.seg (pages_of f.head.size) (base_for s c (segment_seen s.table f) flags addr)

@@ -96,7 +96,7 @@ unlock-few t f most found few = let sum = relocked-sum t f found None in omega (
 
 -- MARKED
 
--- what is marked may be without pieces
+-- marked segments may be without pieces
 pub marked-well : (limits : Bounds) (t : List Entry) (rs : List Runner) (ts : List Translation) (m : StoreView) (f : Found) → IsFound t f → IsWell limits t rs ts m → IsWellBut (f.seg ∷ []) limits (change t f.seg marked) rs ts m
 marked-well limits t rs ts m f found w =
     let same = change-pages marked (λ s. refl) t f.seg in

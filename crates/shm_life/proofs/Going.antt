@@ -25,7 +25,7 @@ pub record Goes (limits : Bounds) (t : List Entry) (after : List Runner) (lost :
   pub live : All (IsLive t) lost
   pub kept : IsTableSoundBut lost limits t after
 
--- so all is well but for these
+-- so everything is sound except for these
 pub well-gone : {lost : List ℕ} (limits : Bounds) (t u : List Entry) (rs after : List Runner) (ts us : List Translation) (m : StoreView) → IsWell limits t rs ts m → Goes limits u after lost → AreTrue us m
     → IsWellBut lost limits u after us m
 well-gone limits t u rs after ts us m w goes all = record { kept = goes.kept; frames = w.frames; room = w.room; translated = all }

@@ -1,4 +1,4 @@
--- The names that the proofs cite, from below and from the words of this crate.
+-- The names that the proofs use: those of the crates below, and of the specs of this crate.
 pub use Rattle.std.proofs.Common.{Bool, List, None, Some, [], ap, arith, drop, eq-eqb, false, filter, get_or, if◌then◌else◌, inl, inr, is_none, length, nat_lt, ne_eqb, not, of_z, pos, refl, replicate, rules, subst, suc, sym, take, to_z, true, w32, zero, ℕ, ℤ, ◌%◌, ◌&&◌, ◌*◌, ◌++◌, ◌+◌, ◌-◌, ◌/◌, ◌<◌, ◌==◌, ◌∙◌, ◌∷◌, ◌≡◌, ◌≢◌, ◌≤◌, ◌⊎◌}
 pub use Rattle.std.proofs.Math.Seq.{drop-cons}
 pub use Rattle.std.proofs.lemmas.Bool.{cases_Bool, cases_eq, cases_lt, le-ltb, lt-ltb}

@@ -44,13 +44,13 @@ pub is_open : {X : Type 0} (limits : Bounds) (size : X → ℕ) (pagers : List X
     → start_error limits (map size pagers) ps ≡ None → IsOpen limits.most_processes size pagers ps
 is_open limits size pagers ps processes slots is = grind (arith, common_steps, pids-apart, all-sizes)
 
--- the areas as they are handed in have the pagers' sizes
+-- the areas, when they are passed in, have the pagers' sizes
 pub sizes-new : {X : Type 0} (content : X → List (List ℕ)) (failed : X → ℕ) (pagers : List X)
     → sizes (new_swap (map (λ p. fresh (pager_seen content failed p)) pagers)) ≡ map (λ n. Some n) (map (λ p. length (content p)) pagers)
 sizes-new content failed [] = refl
 sizes-new content failed (p ∷ ps) = ap (λ (l : List (Option ℕ)). Some (length (content p)) ∷ l) (sizes-new content failed ps)
 
--- nobody owns a slot of theirs
+-- none of their slots is owned
 abbrev nobody : Option PageRef
 nobody = None
 

@@ -110,7 +110,7 @@ admitted-apart most p a b (Err e) joined refused err k = subst (λ (v : SpacesVi
 far : (rs : List Runner) (a b : ℕ) (d : Runner) → AllPairs Apart rs → a ≢ b → a < length rs → b < length rs → (get_or rs a d).pid ≢ (get_or rs b d).pid
 far rs a b d k other la lb = grind (arith, k)
 
--- which process stands at a place once the last one has taken the place of another
+-- the process at an index, after the last one took the index of another
 record IsFrom (rs ss : List Runner) (i a : ℕ) (d : Runner) : Type 0 where
   from : ℕ
   within : from < length rs
@@ -140,7 +140,7 @@ module _ (rs : List Runner) (i : ℕ) (x : Runner) (there : i < length rs) where
             record { from = a; within = omega (arith, lt); same = stays ∙ get_or-set_other rs i a end d other; own = λ _. refl; last = λ is. absurd (other is) }
       ]
 
-  -- two places hold what stood at two places before
+  -- two indexes have the elements that were at two indexes before
   two : (a b : ℕ) (d : Runner) → a < b → b < n → (p : IsFrom rs (swap_remove rs i x) i a d) → (q : IsFrom rs (swap_remove rs i x) i b d) → p.from ≢ q.from
   two a b d lt l p q e = elim (cases_eq a i) [
     | inl is ↦

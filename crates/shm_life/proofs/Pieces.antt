@@ -66,6 +66,6 @@ fit-table t u rs more fit = λ k d lt. λ i e li. more k d i e lt li (fit k d lt
 pub piece-same : (t u : List Entry) (p : Piece) → ((id : ℕ) → is_some (live u id) ≡ is_some (live t id)) → ((id : ℕ) → pages_at u id ≡ pages_at t id) → PieceFits t p → PieceFits u p
 piece-same t u p there pages h = (there p.seg ∙ h.0, λ j lt. ap (λ n. nat_lt (p.first_page + j) n) (pages p.seg) ∙ h.1 j lt)
 
--- a table in which the same segments are live with as many pages
+-- a table in which the same segments are live, with the same numbers of pages
 pub fit-same : (t u : List Entry) (rs : List Runner) → SamePages t u → PiecesFit t rs → PiecesFit u rs
 fit-same t u rs same fit = fit-table t u rs (λ k d i e lt li h. piece-same t u (get_or (get_or rs k d).pieces i e) same.there same.pages h) fit

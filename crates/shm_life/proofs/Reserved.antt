@@ -7,7 +7,7 @@ use Rattle.shm_fault.specs.Held.{held_pages, pages_in_store}
 use Rattle.shm_fault.specs.Segs as segs
 use Rattle.shm_fault.specs.Store.{held}
 
--- no identifier stands twice in the memory
+-- all identifiers in the memory are different
 
 found : (m : StoreView) (gs : List SegRec) (id : ℕ) → is_held (map (held_by m.frames m.swap) gs) id ≡ is_some (find_seg gs id)
 found m [] id = refl
@@ -27,11 +27,11 @@ apart-held m apart = apart-all m m.segs apart
 abbrev NoMore : List Held → List Entry → Type 0
 NoMore hs t = (id : ℕ) (g : Held) → find_held hs id ≡ Some g → held_pages g ≤ pages_at t id
 
--- the table without what stands at an identifier's index
+-- the table without the entry at an identifier's index
 abbrev emptied : List Entry → ℕ → List Entry
 emptied t id = slice_set t (id % 32768) (record { destroyed = id / 32768; segment = None })
 
--- where a segment is live, the table without it has so many pages less, and the others stay
+-- if a segment is live, the table without it has its pages less, and the other entries are unchanged
 pub record Emptied (t u : List Entry) (id n : ℕ) : Type 0 where
   pub fewer : reserved u + n ≤ reserved t
   pub others : (other : ℕ) → other ≢ id → pages_at t other ≤ pages_at u other
@@ -62,7 +62,7 @@ abbrev pages_found : Option Held → ℕ
 pages_found None = 0
 pages_found (Some g) = held_pages g
 
--- each segment of the table is held with as many pages; the table's first index is n
+-- each segment of the table is held with the same number of pages; the table's first index is n
 abbrev NoLess : ℕ → List Held → List Entry → Type 0
 NoLess n hs t = (k : ℕ) (e : Entry) → slice_get t k ≡ Some e → pages_held e.segment ≤ pages_found (find_held hs (identifier (n + k) e.destroyed))
 
@@ -94,7 +94,7 @@ module _ (t : List Entry) (m : StoreView) (sound : IsStoreSound m) (shows : Show
   more : NoMore (held m) t
   more id g is = grind arith
 
-  -- the slots that are used are no more than the pages of all segments
+  -- no more slots are used than all segments have pages
   pub few-used : used m ≤ reserved t
   few-used = grind (arith, pages_in_store-is, no-more, apart-held)
 
@@ -102,6 +102,6 @@ module _ (t : List Entry) (m : StoreView) (sound : IsStoreSound m) (shows : Show
     less : NoLess 0 (held m) t
     less k e is = grind (arith, slice_get_within)
 
-    -- the pages of all segments are no more than the slots
+    -- all segments have no more pages than there are slots
     pub few-reserved : reserved t ≤ swap_slots m.swap
     few-reserved = grind (arith, pages_in_store-is m sound, no-less 0 t (held m) (omega (arith, few)) less)

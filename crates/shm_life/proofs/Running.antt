@@ -48,7 +48,7 @@ unlock_keeps a b seg is still = record {
   frames = ap (λ (m : StoreView). length m.frames) is;
 }
 
--- an answer that is no refusal
+-- an answer that is not a refusal
 pub granted : (o : Outcome) (reply : Reply) (locks : Bool) (s t : MachineView) → o ≡ record { reply = reply; state = t.flat } → is_refusal reply ≡ false → KeepsMemory s.memory t.memory → Answered o false locks reply s t
 granted o reply locks s t step none keeps = record { step = λ _. step; failed = λ e. absurd (true≢false (sym e)); keeps = keeps_on s.memory t.memory keeps; locked = λ _. keeps.locks; still = λ r _. absurd (true≢false (sym r ∙ none)) }
 
@@ -56,7 +56,7 @@ granted o reply locks s t step none keeps = record { step = λ _. step; failed =
 pub locking : (o : Outcome) (reply : Reply) (s t : MachineView) → o ≡ record { reply = reply; state = t.flat } → is_refusal reply ≡ false → KeepsOn s.memory t.memory → Answered o false true reply s t
 locking o reply s t step none keeps = record { step = λ _. step; failed = λ e. absurd (true≢false (sym e)); keeps = keeps; locked = λ e. absurd (true≢false e); still = λ r _. absurd (true≢false (sym r ∙ none)) }
 
--- an answer that leaves all as it was
+-- an answer that changes nothing
 pub answered_as : (o : Outcome) (reply : Reply) (locks : Bool) (s : MachineView) → o ≡ record { reply = reply; state = s.flat } → Answered o false locks reply s s
 answered_as o reply locks s step = record { step = λ _. step; failed = λ e. absurd (true≢false (sym e)); keeps = keeps_refl s.memory; locked = λ _ seg is. is; still = λ _ _. refl }
 
@@ -96,7 +96,7 @@ exchanged s pid caller addr expected bytes reply t same is served = rw (← same
 pub true_still : (ts : List Translation) (a b : StoreView) → ((s page : ℕ) → frame_of b s page ≡ frame_of a s page) → AreTrue ts a → AreTrue ts b
 true_still ts a b still all = λ k d lt. all k d lt ∙ sym (still (get_or ts k d).seg (get_or ts k d).page)
 
--- some segments of a list were looked at, and those left without pieces destroyed
+-- some segments of a list were tested, and those without pieces destroyed
 pub record SweptTo (rs : List Runner) (ts : List Translation) (table₀ table : List Entry) (m₀ m : StoreView) : Type 0 where
   pub sweeps : Sweeps rs table₀ table
   pub keeps : KeepsMemory m₀ m

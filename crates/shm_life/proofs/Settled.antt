@@ -9,7 +9,7 @@ use Rattle.shm_life.proofs.Pieces.{RunnerFits, all-cons, all-head, all-tail, all
 pub orphans-same : (ids : List ℕ) (rs : List Runner) (t u : List Entry) → ((qs : List Runner) (i : ℕ) → orphan qs u i ≡ orphan qs t i) → ((i : ℕ) → identifier_at u i ≡ identifier_at t i) → OrphansAmong ids rs t → OrphansAmong ids rs u
 orphans-same ids rs t u left own among = λ i h. ap (is_among ids) (own i) ∙ among i (sym (left rs i) ∙ h)
 
--- where no piece goes
+-- no piece is removed
 pub settled-table : {lost : List ℕ} (limits : Bounds) (t u : List Entry) (rs : List Runner) → IsTableSoundBut lost limits t rs → SameTable t u → IsTableSoundBut lost limits u rs
 settled-table {lost} limits t u rs k same =
     kept-by limits t u rs rs k (omega (arith, same.same.size)) (omega (arith, same.same.reserved)) (omega (arith, k.locked, same.locked)) (fit-same t u rs same.same k.pieces) (orphans-same lost rs t u same.left same.same.ids k.orphans) k.processes

@@ -1,4 +1,4 @@
--- One segment destroyed in a sweep, or left where it is no orphan.
+-- One segment is destroyed in a sweep, or stays if it has pieces or no mark.
 use Rattle.shm_life.proofs.Names.{common_steps, ◌≡◌, ◌≢◌, ℕ, ◌+◌, ◌/◌, ◌%◌, ◌<◌, ◌≤◌, ◌==◌, ◌&&◌, Bool, true, false, List, ◌∷◌, length, get_or, Some, None, refl, arith, cases_eq, slice_get_past, get_or-le-sum_by, Segment, Piece, Entry, Runner, identifier, attach_count, pages_held, pages_locked, pieces_of, pieces_of-there, live, destroyed, is_orphan, orphan, identifier_at, get-set_same, get-set_other, length-slice_set, sum-set, PieceFits, OrphansAmong, Sweeps, nat_tests}
 use Rattle.std.proofs.Common.{slice_get}
 use Rattle.std.specs.Prelude.{is_some}
@@ -13,7 +13,7 @@ orphan-index rs t i few h = grind (arith, nat_tests, slice_get_past t i, few, h)
 own_left : (rs : List Runner) (t : List Entry) (seg i : ℕ) → i < 32768 → orphan rs t i ≡ true → identifier_at t i ≡ seg → is_orphan rs seg (live t seg) ≡ true
 own_left rs t seg i small h own = grind (arith, nat_tests, small, h, own)
 
--- a segment that is no orphan need not be among them
+-- a segment that has pieces or no mark need not be among them
 pub fewer-left : (rs : List Runner) (t : List Entry) (seg : ℕ) (rest : List ℕ) → length t ≤ 32768 → is_orphan rs seg (live t seg) ≡ false → OrphansAmong (seg ∷ rest) rs t → OrphansAmong rest rs t
 fewer-left rs t seg rest few none among = λ i h. grind (arith, nat_tests, own_left rs t seg i, orphan-index rs t i few h, none, among i h, h)
 

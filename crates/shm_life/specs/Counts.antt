@@ -1,4 +1,4 @@
--- What the counts of a machine are.
+-- The counts of a machine.
 use Rattle.std.specs.Prelude.{ℕ, ◌≡◌, ◌-◌, ◌^◌, min}
 use Rattle.shm_base.specs.State.{Machine}
 use Rattle.shm_base.specs.Segments.{segment_count}
@@ -9,7 +9,7 @@ use Rattle.shm_slots.specs.Cause.{total}
 use Rattle.shm_fault.specs.Store.{StoreView}
 use Rattle.shm_fault.specs.Store as store
 
--- those of the calls, of the flat machine and of its memory
+-- the counts of the calls, of the flat machine and of its memory
 pub record Counts (calls : ℕ) (m : Machine) (memory : StoreView) (t : Tally) : Type 0 where
   pub events : t.events ≡ calls
   pub segments : t.segments ≡ segment_count m.table

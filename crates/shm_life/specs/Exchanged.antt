@@ -1,4 +1,4 @@
--- What an exchange leaves of a system: as an addition does, but no history has it.
+-- A system after an exchange: as after an addition, but the exchange is in no history.
 use Rattle.std.specs.Prelude.{ℕ, ◌≡◌, ◌<◌, ◌+◌, false, List, Option, Some, None}
 use Rattle.shm_base.specs.declared.call.Reply.{Reply}
 use Rattle.shm_base.specs.Exchange.{exchanges_of, compares_of}
@@ -7,11 +7,11 @@ use Rattle.shm_base.specs.Step.{Caller, Outcome, caller_of}
 use Rattle.shm_life.specs.MachineView.{MachineView, Answered, names_failure}
 use Rattle.shm_life.specs.SystemState.{SystemState, most_calls}
 
--- the flat machine of a system, and its memory
+-- a system's flat machine, and its memory
 abbrev pub seen : SystemState → MachineView
 seen s = record { flat = s.machine; memory = s.memory }
 
--- an exchange, or, where bytes are expected, a compare and exchange
+-- an exchange; or a compare and exchange, if bytes are expected
 abbrev pub swaps_of : Machine → ℕ → Option (List ℕ) → List ℕ → Option Caller → Outcome
 swaps_of s addr None bytes c = exchanges_of s addr bytes c
 swaps_of s addr (Some expected) bytes c = compares_of s addr expected bytes c
@@ -19,11 +19,11 @@ swaps_of s addr (Some expected) bytes c = compares_of s addr expected bytes c
 abbrev pub swaps : Machine → ℕ → ℕ → Option (List ℕ) → List ℕ → Outcome
 swaps s pid addr expected bytes = swaps_of s addr expected bytes (caller_of s pid)
 
--- where the flat machine has this outcome: that reply and that state, or a pager's failure in their place
+-- the reply and state are those of this outcome; or a pager failed, and the reply says so
 abbrev pub IsExchange : Outcome → Reply → MachineView → MachineView → Type 0
 IsExchange o reply s t = Answered o (names_failure reply) false reply s t
 
--- it is counted as a call
+-- the exchange is counted as a call
 abbrev pub counted : SystemState → MachineView → SystemState
 counted s t = record s { calls = s.calls + 1; only_calls = false; machine = t.flat; memory = t.memory }
 

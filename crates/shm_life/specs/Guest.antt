@@ -1,5 +1,4 @@
--- What a host does to a system between calls: processes that it admits and dismisses, credentials that it
--- sets.
+-- What a host does to a system between calls: it admits and dismisses processes, and sets credentials.
 use Rattle.std.specs.Prelude.{ℕ, ◌≡◌, true, false, Result, OnOk, OnErr, is_ok, is_some}
 use Rattle.shm_base.specs.declared.call.Process.{Process}
 use Rattle.shm_base.specs.declared.errno.Errno.{Errno}
@@ -10,8 +9,8 @@ use Rattle.shm_base.specs.State.{Machine}
 use Rattle.shm_base.specs.Guest.{admits, dismisses, recredits, standing, left_by}
 use Rattle.shm_life.specs.SystemState.{SystemState}
 
--- the machine is what the change leaves, or all is as it was where that is refused. It is no call: the
--- memory, the opening and the clock stay, and the system is no more one that only calls changed
+-- the machine is changed, or everything is unchanged if that is refused. It is not a call: memory, opening and clock are
+-- unchanged, and the system counts as changed by other than calls
 pub record IsChanged
     {T E : Type 0} (before : SystemState) (change : Result Machine E) (result : Result T E)
     (after : SystemState) : Type 0 where
@@ -29,7 +28,7 @@ Dismissed before pid result after = IsChanged before (dismisses before.machine p
 abbrev pub Recredited : SystemState → ℕ → Cred → Result (Unit {0}) Errno → SystemState → Type 0
 Recredited before pid cred result after = IsChanged before (recredits before.machine pid cred) result after
 
--- memory was out where a process would have joined under a pid that no process has: nothing changed
+-- the host refused memory for a process whose pid no process has: nothing changed
 pub record IsNotAdmitted (before : SystemState) (process : Process) (after : SystemState) : Type 0 where
   pub granted : is_ok (admits before.machine process) ≡ true
   pub new : is_some (standing process.pid before.machine.runners) ≡ false

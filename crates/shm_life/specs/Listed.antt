@@ -1,4 +1,4 @@
--- The segment at an index, as stat shows it, and what else ipcs(1) asks.
+-- The segment at an index, as `stat` shows it, and the other things that ipcs(1) asks.
 use Rattle.std.specs.Prelude.{ℕ, ℤ, pos, ◌≡◌, ◌<◌, ◌⊎◌, true, false, not, is_some, if◌then◌else◌, List, Option, Some, None, Result, Ok, Err, slice_get}
 use Rattle.shm_base.specs.declared.call.ShmidDs.{ShmidDs}
 use Rattle.shm_base.specs.declared.errno.Errno.{Errno}
@@ -21,16 +21,16 @@ abbrev pub listed_entry : Machine → ℕ → Option Entry → Option (ℤ × Sh
 listed_entry s i None = None
 listed_entry s i (Some e) = listed_segment s (identifier i e.destroyed) e.segment
 
--- its identifier, and what stat shows of it; none where no segment holds the index
+-- the segment's identifier, and what `stat` shows of it; none if the index has no segment
 abbrev pub segment_at : Machine → ℕ → Option (ℤ × ShmidDs)
 segment_at s i = listed_entry s i (slice_get s.table i)
 
--- the highest index that a segment holds, 0 where there is none
+-- the highest index that has a segment; 0 if there is none
 pub record IsHighest (table : List Entry) (index : ℕ) : Type 0 where
   pub there : (index ≡ 0) ⊎ (is_some (segment_in (slice_get table index)) ≡ true)
   pub above : (i : ℕ) → index < i → segment_in (slice_get table i) ≡ None
 
--- sums over all segments, of which some pages were never touched and lie nowhere
+-- sums over all segments; pages that were never touched are neither resident nor swapped
 pub record Sums (m : Machine) (memory : StoreView) (info : ShmInfo) : Type 0 where
   pub used_ids : info.used_ids ≡ segment_count m.table
   pub pages : info.pages ≡ reserved m.table
@@ -51,6 +51,6 @@ abbrev pub stat_for : Machine → ℕ → Option Caller → Result (ℤ × Shmid
 stat_for s i None = Err Esrch
 stat_for s i (Some c) = stat_entry s c i (slice_get s.table i)
 
--- the segment at an index for a process, which needs read permission
+-- the segment at an index for a process that needs read permission
 abbrev pub stat_at : Machine → ℕ → ℕ → Result (ℤ × ShmidDs) Errno
 stat_at s pid i = stat_for s i (caller_of s pid)

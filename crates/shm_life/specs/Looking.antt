@@ -1,4 +1,4 @@
--- How a look at an identifier that finds no segment is refused, and a lock of one that is found.
+-- The error for an identifier without a segment, and the refusals of a lock.
 use Rattle.std.specs.Prelude.{not, ◌&&◌, if◌then◌else◌, List, Option, Some, None}
 use Rattle.shm_base.specs.declared.errno.Errno.{Errno}
 use Rattle.shm_base.specs.declared.errno.Errno.TheVariants.{Eperm, Enomem, Einval}

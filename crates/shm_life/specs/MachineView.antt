@@ -1,4 +1,4 @@
--- What contracts see of a machine: the flat machine, and the memory that its bytes lie in.
+-- What contracts see of a machine: the flat machine, and the store that has its bytes.
 use Rattle.std.specs.Prelude.{ℕ, ◌≡◌, ◌≤◌, Bool, true, false, length, Result, Ok, Err}
 use Rattle.shm_base.specs.declared.call.Call.{Call}
 use Rattle.shm_base.specs.declared.call.Call.TheVariants.{Lock}
@@ -27,13 +27,12 @@ pub record MachineView : Type 0 where
   pub flat : Machine
   pub memory : StoreView
 
--- what every call and every flush keeps of the memory: pages of locked segments stay resident, and counts
--- of failures never fall
+-- what every call and every flush keeps: pages of locked segments stay resident, and counts of failures never fall
 pub record KeepsOn (before after : StoreView) : Type 0 where
   pub kept : LockedPagesStay before after
   pub goes_on : GoesOn before.swap after.swap
 
--- what is locked afterwards was locked before
+-- every segment that is locked afterwards was locked before
 abbrev pub LocksNothing : StoreView → StoreView → Type 0
 LocksNothing before after =
     (seg : ℕ) → holds_locked (held after) seg ≡ true → holds_locked (held before) seg ≡ true
@@ -42,23 +41,23 @@ abbrev pub is_lock : Call → Bool
 is_lock (Lock id) = true
 is_lock _ = false
 
--- the refusals that name a pager's failure
+-- the refusals that report a pager's failure
 abbrev pub names_failure : Reply → Bool
 names_failure (Refused Sigbus) = true
 names_failure (Refused Eio) = true
 names_failure _ = false
 
--- every other refusal leaves the memory as it was: no page moves, no bit changes, no count rises
+-- every other refusal leaves the memory unchanged: no page moves, no bit changes, no count rises
 abbrev pub StillIfRefused : Reply → StoreView → StoreView → Type 0
 StillIfRefused reply before after = is_refusal reply ≡ true → names_failure reply ≡ false → after ≡ before
 
--- a pager failed where the flat machine refuses nothing, and its state stays
+-- a pager failed in a call that the flat machine does not refuse, and the flat machine is unchanged
 pub record IsFailed (o : Outcome) (s t : MachineView) : Type 0 where
   pub instead : is_refusal o.reply ≡ false
   pub unchanged : t.flat ≡ s.flat
   pub cause : had_cause s.memory.swap t.memory.swap ≡ true
 
--- the reply to a call that was answered so
+-- the reply to a call that gave this result
 abbrev pub replied : {T : Type 0} → (T → Reply) → Result T Errno → Reply
 replied reply (Ok t) = reply t
 replied reply (Err errno) = Refused errno
@@ -66,13 +65,12 @@ replied reply (Err errno) = Refused errno
 abbrev pub done : Unit {0} → Reply
 done _ = Done
 
--- the same where the reply was put in a place of its own
+-- the reply to a call that wrote its reply elsewhere
 abbrev pub reply_in : Reply → Result (Unit {0}) Errno → Reply
 reply_in reply result = replied (λ _. reply) result
 
--- What an answer leaves where the flat machine has this outcome: that reply and that state, or, where the
--- reply names a pager's failure, the state as it was. The memory keeps on, every other refusal leaves it as
--- it was, and no call but a lock locks a segment
+-- The machine after a call to which the flat machine gives this outcome: that reply and that state; or, if the reply reports a
+-- pager's failure, the old state. Every other refusal leaves the memory unchanged, and only a lock locks a segment
 pub record Answered (o : Outcome) (names locks : Bool) (reply : Reply) (s t : MachineView) : Type 0 where
   pub step : names ≡ false → o ≡ record { reply = reply; state = t.flat }
   pub failed : names ≡ true → IsFailed o s t
@@ -80,27 +78,27 @@ pub record Answered (o : Outcome) (names locks : Bool) (reply : Reply) (s t : Ma
   pub locked : locks ≡ false → LocksNothing s.memory t.memory
   pub still : StillIfRefused reply s.memory t.memory
 
--- what an answer to a call leaves
+-- the machine after an answer to a call
 abbrev pub AnsweredTo : Outcome → Call → Reply → MachineView → MachineView → Type 0
 AnsweredTo o call reply s t = Answered o (is_failure call reply) (is_lock call) reply s t
 
--- what serving a caller's call at place n leaves
+-- the machine after it served a caller's call at place n
 abbrev pub Served : MachineView → ℕ → Caller → Call → Reply → MachineView → Type 0
 Served s n caller call reply t =
     AnsweredTo (acts s.flat n (caller_seen caller s.flat.runners) call) call reply s t
 
--- what a process's call at place n leaves, whether it is live or not
+-- the machine after a process's call at place n, whether the process is live or not
 abbrev pub AnsweredBy : MachineView → ℕ → ℕ → Call → Reply → MachineView → Type 0
 AnsweredBy s n pid call reply t = AnsweredTo (step s.flat n pid call) call reply s t
 
--- no memory was left for a call that the flat machine does not refuse, and nothing changed
+-- the host refused memory for a call that the flat machine does not refuse, and nothing changed
 pub record IsWithoutMemory (o : Outcome) (s t : MachineView) : Type 0 where
   pub unchanged : t ≡ s
   pub instead : is_refusal o.reply ≡ false
 
--- The memory shows the flat machine and is sound, and no count is out of its bound: the slots that are used
--- are no more than the pages of all segments, these no more than the slots that are there, nor than the
--- limit. There are as many processes as there may be, no two with one pid
+-- The memory is sound and shows the flat machine, and all counts are within their bounds: the used slots are no more than the
+-- pages of all segments, and these no more than the slots of the active areas, nor than the limit. There are at most as many
+-- processes as the limit says, and no two have one pid
 pub record IsExactly (m : Machine) (memory : StoreView) : Type 0 where
   pub sound : IsStoreSound memory
   pub shows : ShowsTable m.table memory

@@ -1,4 +1,4 @@
--- What unmapping and protecting a range leave of a system.
+-- A system after an unmap or a protect.
 use Rattle.std.specs.Prelude.{ℕ, ◌≡◌, ◌<◌, Bool, false, Result, OnOk, OnErr}
 use Rattle.shm_base.specs.declared.errno.Errno.{Errno}
 use Rattle.shm_base.specs.Guest.{left_by}
@@ -7,8 +7,8 @@ use Rattle.shm_attach.specs.Mapping.{refusal_in}
 use Rattle.shm_life.specs.MachineView.{KeepsOn, LocksNothing}
 use Rattle.shm_life.specs.SystemState.{SystemState, time_of, most_calls}
 
--- the machine is what the unmap leaves, or all is as it was where that is refused. It is no call. Pages of
--- destroyed segments go; else no page moves, and no bit changes
+-- the machine is changed by the unmap, or everything is unchanged if that is refused. It is not a call. Pages of locked segments
+-- stay resident, and no segment becomes locked
 pub record Unmapped
     (before : SystemState) (pid addr len : ℕ) (result : Result (Unit {0}) Errno) (after : SystemState)
     : Type 0 where
@@ -21,7 +21,7 @@ pub record Unmapped
   pub keeps : KeepsOn before.memory after.memory
   pub locked : LocksNothing before.memory after.memory
 
--- the machine is what the protection leaves, also where it was refused on its way
+-- the machine is changed by the protect, up to the refusal if there is one
 pub record IsProtected
     (before : SystemState) (pid addr len : ℕ) (w : Bool) (result : Result (Unit {0}) Errno)
     (after : SystemState) : Type 0 where

@@ -1,4 +1,4 @@
--- Which segments may be left without pieces, and what destroying those leaves.
+-- The segments that may be left without pieces, and the table after they are destroyed.
 use Rattle.std.specs.Prelude.{◌≡◌, ◌≤◌, ◌==◌, ℕ, Bool, true, List, length}
 use Rattle.std.specs.List.{list_any}
 use Rattle.shm_base.specs.State.{Entry, Runner}
@@ -9,7 +9,7 @@ use Rattle.shm_life.specs.Tied.{PiecesFit}
 abbrev pub is_among : List ℕ → ℕ → Bool
 is_among ids id = list_any (λ x. x == id) ids
 
--- all such segments are among these
+-- all marked segments without pieces are among these
 abbrev pub OrphansAmong : List ℕ → List Runner → List Entry → Type 0
 OrphansAmong ids rs table = (i : ℕ) → orphan rs table i ≡ true → is_among ids (identifier_at table i) ≡ true
 

@@ -1,4 +1,4 @@
--- Where shmat puts a new piece: its refusals in their order.
+-- Where shmat places a new piece, and its refusals in their order.
 use Rattle.std.specs.Prelude.{ℕ, ℤ, ◌+◌, ◌-◌, ◌*◌, ◌%◌, ◌==◌, nat_lt, not, if◌then◌else◌, List, length, Option, Some, None, Result, Ok, Err}
 use Rattle.shm_base.specs.declared.errno.Errno.{Errno}
 use Rattle.shm_base.specs.declared.errno.Errno.TheVariants.{Einval, Eacces, Enomem}
@@ -18,7 +18,7 @@ abbrev pub gap_found : Option ℕ → Result ℕ Errno
 gap_found None = Err Enomem
 gap_found (Some base) = Ok base
 
--- no process has more pieces than the most
+-- the process would have no more pieces than the limit
 abbrev pub if_few : Bounds → List Piece → ℕ → Result ℕ Errno → Result ℕ Errno
 if_few limits ps pages (Err e) = Err e
 if_few limits ps pages (Ok base) =
@@ -26,7 +26,7 @@ if_few limits ps pages (Ok base) =
     then Err (pieces_errno limits.rules)
     else Ok base
 
--- a base from which so many pages lie within the addresses
+-- a base from which this many pages are within the addresses
 abbrev pub within_addresses : Machine → Caller → ℕ → ℕ → Result ℕ Errno
 within_addresses s c base pages =
     if not (inside base pages) then Err (outside_errno s c (base + PAGE_SIZE * pages)) else Ok base
@@ -38,7 +38,7 @@ fixed s c x flags base =
     if is_full s c then Err Enomem else
     within_addresses s c base (pages_in x)
 
--- where the segment's pages would go: where the system chooses, or at the address, rounded down
+-- where the segment's pages would be attached: where the system chooses, or at the address, rounded down
 abbrev pub wished : Machine → Caller → Segment → AtFlags → ℕ → Result ℕ Errno
 wished s c x flags addr =
     if addr == 0 then gap_found (choose c.pieces (pages_in x)) else

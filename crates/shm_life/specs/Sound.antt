@@ -1,5 +1,5 @@
--- What always holds between a machine's limits, its segments and its pieces. Within a call the segments among
--- `lost` may be marked and without pieces.
+-- The invariant of a machine's limits, segments and pieces. Within a call the segments in `lost` may be marked and have no
+-- pieces.
 use Rattle.std.specs.Prelude.{ℕ, ◌≡◌, ◌≢◌, ◌≤◌, ◌+◌, List, [], length, AllPairs}
 use Rattle.shm_base.specs.Bounds.{Bounds, lockable}
 use Rattle.shm_base.specs.State.{Entry, Runner}
@@ -11,7 +11,7 @@ use Rattle.shm_life.specs.Tied.{PiecesFit}
 use Rattle.shm_life.specs.Orphans.{OrphansAmong}
 use Rattle.shm_base.specs.declared.bounds.TheConstants.{INDEXES, MOST_FRAMES, MOST_SHMALL}
 
--- as many processes as there may be, no two with one pid
+-- there are at most as many processes as allowed, and no two have one pid
 pub record AreProcesses (most : ℕ) (rs : List Runner) : Type 0 where
   pub few : length rs ≤ most
   pub apart : AllPairs (λ (p q : Runner). p.pid ≢ q.pid) rs
@@ -27,8 +27,8 @@ pub record IsTableSoundBut
   pub orphans : OrphansAmong lost rs table
   pub processes : AreProcesses limits.most_processes rs
 
--- so it is, there are as many frames as the limits say, two more than may be locked, and each page of each
--- piece is where its translation says
+-- the same; and there are as many frames as the limits say, two more than may be locked, and each translation is true of the
+-- memory
 pub record IsWellBut
     (lost : List ℕ) (limits : Bounds) (table : List Entry) (rs : List Runner) (ts : List Translation)
     (memory : StoreView) : Type 0 where
@@ -37,14 +37,14 @@ pub record IsWellBut
   pub room : lockable limits + 2 ≤ limits.frames
   pub translated : AreTrue ts memory
 
--- between calls no segment that is marked is left without pieces
+-- between calls every marked segment has pieces
 abbrev pub IsTableSound : Bounds → List Entry → List Runner → Type 0
 IsTableSound limits table rs = IsTableSoundBut [] limits table rs
 
 abbrev pub IsWell : Bounds → List Entry → List Runner → List Translation → StoreView → Type 0
 IsWell limits table rs ts memory = IsWellBut [] limits table rs ts memory
 
--- whatever the limits: if only those lost were left without pieces before, none is afterwards
+-- for any limits: if only the segments in `lost` could be marked without pieces before, none is afterwards
 abbrev pub MakesWell : List ℕ → SpacesView → SegmentsView → SegmentsView → Type 0
 MakesWell lost spaces before after =
     (limits : Bounds)

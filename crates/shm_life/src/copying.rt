@@ -1,4 +1,4 @@
-//! A snapshot: a machine once more, as it is at this moment.
+//! Snapshots: copies of a machine in its present state.
 ghost use Rattle.std.specs.Prelude.{◌≡◌, IfOk};
 
 use crate::kernel::Kernel;
@@ -31,10 +31,10 @@ impl<P: ClonePager> Kernel<P> {
 }
 
 impl<P: ClonePager> System<P> {
-    /// A snapshot: another system with the same state, frames, slots and counts, whose swap areas have the
-    /// same pages and the same reads and writes still to fail. Each goes on without the other. The copy
-    /// reserves the memory that this one has reserved, so that the same calls take none. Out of memory leaves
-    /// nothing behind.
+    /// A snapshot: another system with the same state, frames, slots and counts. Its swap areas have the same
+    /// pages, and the same of their reads and writes will fail. Afterwards the two are independent. The copy
+    /// reserves all memory that this system has reserved, so the same calls take no memory. HostMemory: the
+    /// host refused memory, and nothing is left over.
     pub fn try_clone(&self) -> Result<System<P>, HostMemory>
         ensures { IfOk result (λ copy. copy ≡ self.now) }
     {

@@ -1,5 +1,5 @@
-//! Exchanges and compares with exchange: a guest's locked instructions, as the addition is one. None of them
-//! is a call of the script language.
+//! Exchanges, and compares with exchange: locked instructions of a guest, as the addition is one. Neither is
+//! a call of the script language.
 ghost use Rattle.std.specs.Prelude.{◌≡◌, ◌<◌, ◌≤◌, Some, length, option_copied, OnErr};
 ghost use Rattle.shm_base.specs.Exchange.{compares, exchanges};
 ghost use Rattle.shm_base.specs.declared.call.Reply.TheVariants.{Bytes};
@@ -18,7 +18,7 @@ use shm_pager::Pager;
 
 impl<P: Pager> Kernel<P> {
     #[tactic(auto, using(crate::proofs::Running::kept_refl))]
-    // Where bytes are expected, the others are put in their place only if they are those.
+    // If bytes are expected, replaces the present ones only if they equal those.
     fn exchange(
         &mut self,
         caller: &Caller,
@@ -43,7 +43,7 @@ impl<P: Pager> Kernel<P> {
         let exchanged = self
             .segments
             .exchange(spans.as_slice(), expected, bytes, before, &mut touched);
-        // Where a pager failed pages may have moved before.
+        // If a pager failed, pages may have moved before.
         self.spaces.note(touched.moved.as_slice());
         if exchanged.is_err() {
             return Err(Errno::Sigbus);
@@ -75,10 +75,14 @@ impl<P: Pager> Kernel<P> {
 }
 
 impl<P: Pager> System<P> {
-    /// Puts 1 to 4,096 bytes in the place of others, which `before` shows then, in one step (xchg). Esrch
-    /// where the process is not live, Sigsegv where an address has no piece, or one that is read-only, Sigbus
-    /// where a pager failed; then no byte has changed, nor has `before`. The system counts from then on as
-    /// changed by other than calls.
+    /// Replaces 1 to 4,096 bytes in one step (xchg); `before` gets the old ones. From then on the system
+    /// counts as changed by other than calls.
+    ///
+    /// - Esrch: the process is not live.
+    /// - Sigsegv: an address has no piece, or a read-only one.
+    /// - Sigbus: a pager failed.
+    ///
+    /// If it is refused, neither a byte nor `before` changed.
     pub fn exchange(
         &mut self,
         pid: u32,
@@ -99,8 +103,8 @@ impl<P: Pager> System<P> {
         exchanged
     }
 
-    /// As [`System::exchange`], but the bytes are replaced only if they are the expected ones (cmpxchg).
-    /// `before` shows those that were there in both cases, so that the caller knows which it was.
+    /// As [`System::exchange`], but replaces the bytes only if they equal the expected ones (cmpxchg).
+    /// `before` gets the old ones in both cases, so the caller knows which it was.
     pub fn compare_exchange(
         &mut self,
         pid: u32,

@@ -1,4 +1,5 @@
-//! exec and exit: all pieces of a process go. What either takes of the stack no other call has.
+//! exec and exit remove all pieces of a process. Kept out of line, so that other calls do not pay for their
+//! stack frames.
 ghost use Rattle.shm_base.specs.declared.call.Call.TheVariants as call;
 ghost use Rattle.shm_base.specs.declared.call.Reply.TheVariants.{Done};
 ghost use Rattle.shm_attach.specs.Spaces.{IsCaller};

@@ -1,4 +1,4 @@
-//! The refusals of an address that the caller of shmat gives.
+//! The refusals of an address that shmat is given.
 ghost use Rattle.std.specs.Prelude.{◌≡◌, ◌*◌, ◌+◌, ◌%◌, ◌≤◌, nat_lt, true, IfOk};
 ghost use Rattle.shm_base.specs.Rules as flat_rules;
 ghost use Rattle.shm_base.specs.Space.{end_address};
@@ -19,7 +19,7 @@ use shm_base::{AtFlags, END_ADDRESS, Errno, LOWEST_ADDRESS, PAGE_SIZE, Rules};
 use shm_pager::Pager;
 use shm_segments::Found;
 
-/// The refusal of too many pieces.
+/// The refusal of too many pieces: Emfile, or Enomem under `Rules::PIECES_ARE_ENOMEM`.
 pub(crate) fn pieces_errno(rules: Rules) -> Errno
     ensures { result ≡ flat_rules.pieces_errno rules }
 {
@@ -40,7 +40,7 @@ fn end_errno(rules: Rules) -> Errno
     }
 }
 
-// Whether a range of this many pages ends beyond the last address.
+// Whether a range of this many pages ends above the last address.
 fn is_beyond(base: u64, pages: u32) -> bool
     requires { pages ≤ MOST_SHMALL }
     ensures { result ≡ nat_lt end_address (base + PAGE_SIZE * pages) }
@@ -67,7 +67,7 @@ impl<P: Pager> Kernel<P> {
             || self.spaces.space(caller).is_occupied(base, found.pages())
     }
 
-    // Whether nothing more is attached, not even by a remap.
+    // Whether the process can attach nothing more, not even by a remap.
     fn is_full(&self, caller: &Caller) -> bool
         requires { IsCaller caller.now self.now.flat.runners }
         ensures { result ≡ flat.is_full self.now.flat (caller_seen caller.now self.now.flat.runners) }
@@ -86,7 +86,7 @@ impl<P: Pager> Kernel<P> {
         }
     }
 
-    // The base, if this many pages from it lie within the addresses; else why its end or its beginning is
+    // The base, if this many pages from it are within the addresses; else why its end or its beginning is
     // refused.
     fn inside(&self, caller: &Caller, base: u64, pages: u32) -> Result<u64, Errno>
         requires { pages ≤ MOST_SHMALL }
@@ -103,10 +103,11 @@ impl<P: Pager> Kernel<P> {
         Ok(base)
     }
 
-    /// A base that the caller gives, or its refusal. Einval where the range meets a piece that SHM_REMAP does
-    /// not put away, or reaches 2^64; Enomem where the process is full; and where it does not lie within the
-    /// addresses, 0x10000 up to 0x7ffffffff000, the refusals of its end and of its beginning, which are
-    /// Einval in the profile.
+    /// A base that the caller gives, if shmat may attach there.
+    ///
+    /// - Einval: the range meets a piece without SHM_REMAP, or reaches 2^64.
+    /// - Enomem: the process can attach nothing more, under `Rules::PIECES_ARE_ENOMEM`.
+    /// - Einval: the range is not within 0x10000 to 0x7ffffffff000; rules replace this by Enomem or Eperm.
     pub(crate) fn fixed(
         &self,
         caller: &Caller,

@@ -16,7 +16,7 @@ use shm_base::{Errno, Rules};
 use shm_pager::Pager;
 use shm_segments::Segments;
 
-// Sets the time and the pid of an attach in the segment of each of these pieces.
+// Sets the time and the last pid of an attach for the segment of each of these pieces.
 fn note_pieces<P: Pager>(segments: &mut Segments<P>, pieces: &[Piece], time: u64, pid: u32)
     requires { All (IsLive segments.old.table) (segments_in pieces.now) }
     ensures { let table = attach_all time pid segments.old.table (segments_in pieces.now) in
@@ -27,7 +27,7 @@ fn note_pieces<P: Pager>(segments: &mut Segments<P>, pieces: &[Piece], time: u64
     }
 }
 
-// The same, where a child that inherits the pieces attaches them anew.
+// The same, if the child's pieces count as attached anew.
 fn note_inherited<P: Pager>(
     segments: &mut Segments<P>,
     rules: Rules,
@@ -47,9 +47,9 @@ fn note_inherited<P: Pager>(
 
 impl<P: Pager> Kernel<P> {
     #[tactic(auto, using(crate::proofs::Running::kept_refl))]
-    /// A child that was declared is born, with the caller's credentials and pieces (fork(2)). Eagain where
-    /// the process is no such child. Under `Rules::FORK_MARKS` each segment that the child inherits gets an
-    /// attach time, and the caller as last pid.
+    /// A declared child is born, with the caller's credentials and pieces (fork(2)). Eagain: the process is
+    /// not such a child. Under `Rules::FORK_MARKS` each segment that the child inherits gets an attach time,
+    /// and the caller as last pid.
     pub(crate) fn fork(&mut self, time: u64, caller: &Caller, child: u32) -> Result<(), Errno>
         requires { IsCaller caller.now self.old.flat.runners }
         ensures { Served self.old time caller.now (call.Fork child) (replied done result) self.new }

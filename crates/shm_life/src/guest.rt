@@ -1,5 +1,5 @@
-//! What a machine's host does between calls: it admits and dismisses processes, sets the credentials of a
-//! live one, and gives the time. None of it is a call, and none moves a page.
+//! Changes that a machine's host makes between calls: it admits and dismisses processes, sets the credentials
+//! of a live one, and gives the time. These are not calls, and move no page.
 ghost use Rattle.std.specs.Prelude.{◌≡◌, Option, true, false, IfOk, OnErr, IsOk, is_ok, is_some};
 ghost use Rattle.shm_base.specs.Guest.{admits, dismisses, recredits, standing, left_by};
 ghost use Rattle.shm_life.specs.Guest.{Admitted, Dismissed, Recredited, IsNotAdmitted};
@@ -45,9 +45,10 @@ impl<P: Pager> Kernel<P> {
 }
 
 impl<P: Pager> System<P> {
-    /// A process joins: live with its credentials, or a child to be forked (fork(2)). It is refused as
-    /// [`AdmitRefusal`] says. An ended process with its pid gives its place and its room to it; else the
-    /// machine takes room for all pieces that it may have, and out of memory changes nothing.
+    /// A process joins: live with its credentials, or as a child to be forked (fork(2)). If an ended process
+    /// has its pid, the new one takes its place and its memory. Otherwise the machine takes memory for all
+    /// pieces that the process may have. Errors: the refusals of [`AdmitRefusal`]; or the host refused
+    /// memory, and nothing changed.
     pub fn admit(
         &mut self,
         alloc: Global,
@@ -63,8 +64,8 @@ impl<P: Pager> System<P> {
         Ok(Ok(()))
     }
 
-    /// A process that ended leaves, or a child that is not born: its pid may come back, and its room is free.
-    /// The last process takes its place.
+    /// A process that ended, or a child that is not born yet, leaves. Its pid can be used again, and its
+    /// memory is returned. The last process takes its place.
     pub fn dismiss(&mut self, pid: u32) -> Result<(), DismissRefusal>
         ensures { Dismissed self.old pid result self.new }
     {
@@ -73,8 +74,8 @@ impl<P: Pager> System<P> {
         Ok(())
     }
 
-    /// A live process has other credentials from now on (setuid(2), setgid(2), exec of a set-user-ID
-    /// program). Its pieces stay, and later tests use the new ones. Esrch where the process is not live.
+    /// Gives a live process other credentials (setuid(2), setgid(2), exec of a set-user-ID program). Its
+    /// pieces stay; later permission tests use the new ones. Esrch: the process is not live.
     pub fn set_cred(&mut self, pid: u32, cred: Cred) -> Result<(), Errno>
         ensures { Recredited self.old pid cred result self.new }
     {
@@ -83,8 +84,8 @@ impl<P: Pager> System<P> {
         Ok(())
     }
 
-    /// The time that calls set from now on, until another is given. With none it is again the place of each
-    /// call.
+    /// Sets the time that calls note from now on, until another is given. With none it is again each call's
+    /// place in the history.
     pub fn set_time(&mut self, time: Option<u64>)
         ensures { self.new ≡ record self.old { clock = time; only_calls = false } }
     {

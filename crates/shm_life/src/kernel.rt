@@ -1,4 +1,4 @@
-//! The machine: one call of a process is one step of the flat machine.
+//! The machine: a process's call is one step of the flat machine.
 ghost use Rattle.std.specs.Prelude.{IfOk, OnOk, OnErr, IsOk};
 ghost use Rattle.shm_base.specs.Step.{acts, step};
 ghost use Rattle.shm_attach.specs.Spaces.{IsCaller, caller_seen};
@@ -76,7 +76,7 @@ impl<P: Pager> Kernel<P> {
         Ok(())
     }
 
-    // Serves a caller's call. The reply is put into its place, or the answer is why the call is refused.
+    // Serves a caller's call: writes the reply to `reply`, or returns why the call is refused.
     #[inline(always)]
     fn serve(
         &mut self,

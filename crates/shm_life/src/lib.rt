@@ -1,4 +1,4 @@
-//! The machine behind the calls: each call of a process is one step of the flat machine.
+//! The machine that serves the calls: each call of a process is one step of the flat machine.
 #![tactic(auto)]
 
 mod access;

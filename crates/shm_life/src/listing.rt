@@ -1,5 +1,6 @@
-//! What ipcs(1) asks of a system: the highest index that a segment holds, sums over all segments, and the
-//! segment at an index as a process may see it; and where a page-in failed. None of it changes anything.
+//! What ipcs(1) asks of a system: the highest index with a segment, sums over all segments, and the segment
+//! at an index as a process may see it. Also the address at which a page-in failed. Nothing here changes the
+//! system.
 ghost use Rattle.std.specs.Prelude.{◌≡◌, ℕ};
 ghost use Rattle.shm_attach.specs.Failing.{first_absent};
 ghost use Rattle.shm_attach.specs.Spans.{pieces_by};
@@ -10,21 +11,21 @@ use crate::system::System;
 use shm_base::{Errno, ShmId, ShmidDs, Want, grants};
 use shm_pager::Pager;
 
-/// Sums over all segments (SHM_INFO of shmctl(2)). Pages have 4,096 bytes each.
+/// Sums over all segments (SHM_INFO of shmctl(2)). A page has 4,096 bytes.
 #[derive(Clone, Copy, Debug, PartialEq, Eq)]
 pub struct ShmInfo {
-    /// How many segments exist, those marked for removal among them.
+    /// How many segments exist, including those marked for removal.
     pub used_ids: u64,
     /// The pages of all segments (shm_tot).
     pub pages: u64,
-    /// Those that are in frames (shm_rss).
+    /// Those in frames (shm_rss).
     pub resident: u64,
-    /// Those that are in slots alone (shm_swp).
+    /// Those in slots only (shm_swp).
     pub swapped: u64,
 }
 
 impl<P: Pager> System<P> {
-    /// The highest index that a segment holds, 0 where there is none: what shmctl(2) returns for IPC_INFO and
+    /// The highest index that has a segment; 0 if there is none. shmctl(2) returns it for IPC_INFO and
     /// SHM_INFO.
     pub fn highest_index(&self) -> u32
         ensures { IsHighest self.now.machine.table result }
@@ -39,7 +40,7 @@ impl<P: Pager> System<P> {
         0
     }
 
-    /// Sums over all segments (SHM_INFO). The limits that IPC_INFO shows are [`System::limits`].
+    /// Sums over all segments (SHM_INFO). [`System::limits`] has the limits that IPC_INFO shows.
     pub fn info(&self) -> ShmInfo
         ensures { Sums self.now.machine self.now.memory result }
     {
@@ -52,9 +53,11 @@ impl<P: Pager> System<P> {
         }
     }
 
-    /// The segment at an index as a process may see it (SHM_STAT). Esrch where the process is not live;
-    /// Einval where no segment holds the index; Eacces without read permission. Without that test it is
-    /// [`System::segment`] (SHM_STAT_ANY).
+    /// The segment at an index, as a process may see it (SHM_STAT).
+    ///
+    /// - Esrch: the process is not live.
+    /// - Einval: the index has no segment.
+    /// - Eacces: the process has no read permission. [`System::segment`] does not test that (SHM_STAT_ANY).
     pub fn stat_at(&self, pid: u32, index: u32) -> Result<(ShmId, ShmidDs), Errno>
         ensures { result ≡ stat_at self.now.machine pid index }
     {
@@ -71,8 +74,8 @@ impl<P: Pager> System<P> {
         Ok((found.id, self.kernel.shown(&found)))
     }
 
-    /// The first address of an access of a process whose page is in no frame, if all addresses below it have
-    /// pieces: the one that a Sigbus is about, asked right after it.
+    /// The first address of a process's access whose page is in no frame, if all addresses below it are in
+    /// pieces. Right after a Sigbus, this is the address that it is about.
     pub fn absent_at(&self, pid: u32, addr: u64, len: u64) -> Option<u64>
         ensures { let pieces = pieces_by pid self.now.machine.runners in
             result ≡ first_absent (frame_of self.now.memory) pieces addr len }

@@ -1,5 +1,5 @@
-//! What processes do to attached memory beside the calls: they unmap ranges (munmap(2)) and protect them
-//! (mprotect(2)). None of it is a call, and none moves a page.
+//! What processes do to attached memory without calls: they unmap ranges (munmap(2)) and protect them
+//! (mprotect(2)). No page moves.
 ghost use Rattle.std.specs.Prelude.{◌≡◌, ◌<◌, OnErr};
 ghost use Rattle.shm_base.specs.Guest.{left_by};
 ghost use Rattle.shm_base.specs.Mapping.{unmaps, protects, unmapped_to};
@@ -14,7 +14,8 @@ use crate::system::System;
 use shm_base::{END_ADDRESS, Errno, PAGE_SIZE};
 use shm_pager::Pager;
 
-/// Where a range ends that is to be unmapped.
+/// The end of a range that is to be unmapped. Einval: the address is within a page, the length is 0, or the
+/// range ends above the addresses.
 fn unmapped_to(addr: u64, len: u64) -> Result<u64, Errno>
     ensures { result ≡ unmapped_to addr len }
 {
@@ -78,13 +79,17 @@ impl<P: Pager> Kernel<P> {
 }
 
 impl<P: Pager> System<P> {
-    /// A range of a live process is unmapped (munmap(2)), at the time of the next call. The length is rounded
-    /// up to whole pages. Pieces in the range go, and those that reach beyond it are cut: each segment that
-    /// lost pages has another detach time and last pid, and a marked one goes with its last piece. What is
-    /// left of a cut piece gets an attach time too under `Rules::REST_IS_ATTACHED`. Where nothing is attached
-    /// nothing changes. Esrch where the process is not live; Einval for an address within a page, a length of
-    /// 0, or a range that reaches beyond the addresses; Enomem where the process would have more pieces than
-    /// it may. Then nothing changes.
+    /// Unmaps a range of a live process (munmap(2)), at the time of the next call. The length is rounded up
+    /// to whole pages. Pieces in the range are removed, and those that reach beyond it are cut. Each segment
+    /// that lost pages gets a detach time and a last pid, and a marked one is destroyed with its last piece.
+    /// Under `Rules::REST_IS_ATTACHED` the segments of cut pieces also get an attach time. A range without
+    /// pieces changes nothing.
+    ///
+    /// - Esrch: the process is not live.
+    /// - Einval: the address is within a page, the length is 0, or the range ends above the addresses.
+    /// - Enomem: the process would have more pieces than it may.
+    ///
+    /// If it is refused, nothing changed.
     pub fn unmap(&mut self, pid: u32, addr: u64, len: u64) -> Result<(), Errno>
         requires room { self.old.calls < most_calls }
         ensures { Unmapped self.old pid addr len result self.new }
@@ -95,16 +100,22 @@ impl<P: Pager> System<P> {
         Ok(())
     }
 
-    /// A range of a live process becomes writable, or read-only (mprotect(2)). The length is rounded up to
-    /// whole pages. A part of a piece with another protection is a piece of its own, and counts as one,
-    /// unless it joins a neighbour of the same attach that has this protection; whole pieces stay apart, and
-    /// a piece that has the protection already stays whole. No time is set, unless the rest is attached
-    /// (`Rules::REST_IS_ATTACHED`): then each segment that has a piece more gets the time of the next call as
-    /// attach time, and another last pid. The system counts from then on as changed by other than calls,
-    /// whether it was refused or not. Esrch where the process is not live; Einval for an address within a
-    /// page; Enomem at the first page without a piece, for a range that passes 2^64, and where the process
-    /// would have more pieces than it may; Eacces where a piece is to be written whose attach may not. What
-    /// lies below the refusal has been changed.
+    /// Makes a range of a live process writable or read-only (mprotect(2)). The length is rounded up to whole
+    /// pages.
+    ///
+    /// A part of a piece with another protection is a piece of its own, unless it joins a neighbour of the
+    /// same attach that has this protection. Whole pieces never join, and a piece that has the protection
+    /// already is not split. No time is set, except under `Rules::REST_IS_ATTACHED`: each segment with one
+    /// more piece then gets the time of the next call as its attach time, and a last pid. From then on the
+    /// system counts as changed by other than calls, also if this is refused.
+    ///
+    /// - Esrch: the process is not live.
+    /// - Einval: the address is within a page.
+    /// - Enomem: a page has no piece, the range passes 2^64, or the process would have more pieces than it
+    ///   may.
+    /// - Eacces: a piece would become writable whose attach had no write permission.
+    ///
+    /// Everything below the page that is refused has been changed.
     pub fn protect(&mut self, pid: u32, addr: u64, len: u64, writable: bool) -> Result<(), Errno>
         requires room { self.old.calls < most_calls }
         ensures { IsProtected self.old pid addr len writable result self.new }

@@ -1,4 +1,4 @@
-//! shmat: a segment is attached.
+//! shmat attaches a segment.
 ghost use Rattle.std.specs.Prelude.{◌≡◌, ◌+◌, ◌*◌, ◌==◌, ◌≤◌, ◌&&◌, ◌||◌, nat_lt, length, IfOk, OnErr};
 ghost use Rattle.shm_base.specs.Rules.{low_is_eperm};
 ghost use Rattle.shm_base.specs.Space.{cut};
@@ -22,7 +22,7 @@ use shm_attach::Caller;
 use shm_base::{AtFlags, Errno, HostMemory, PAGE_SIZE, Rules, ShmId, Want, grants};
 use shm_pager::Pager;
 
-/// Where a new piece goes: its segment, that segment's pages, and its base.
+/// Where the new piece is placed: its segment, the segment's number of pages, and the base.
 #[derive(Clone, Copy)]
 pub(crate) struct Placed {
     seg: u32,
@@ -31,8 +31,8 @@ pub(crate) struct Placed {
 }
 
 impl<P: Pager> Kernel<P> {
-    // Whether a null address comes with SHM_REMAP, or another is unaligned without SHM_RND (shmop(2)). Under
-    // `Rules::LOW_IS_EPERM` an address that is rounded to 0 is null too.
+    // Whether SHM_REMAP is given with a null address, or an address is unaligned without SHM_RND (shmop(2)).
+    // Under `Rules::LOW_IS_EPERM` an address that rounds to 0 is null too.
     fn is_misplaced(&self, addr: u64, flags: AtFlags) -> bool
         ensures { result ≡ misplaced self.now.flat addr flags }
     {
@@ -42,7 +42,7 @@ impl<P: Pager> Kernel<P> {
         addr % PAGE_SIZE != 0 && !flags.contains(AtFlags::RND)
     }
 
-    // Whether nothing is put in another's place at the address, as it is null.
+    // Whether the address is null, so that a remap there is refused.
     fn is_null(&self, addr: u64, flags: AtFlags) -> bool
         ensures { let rounds_to_0 = flat.is_rnd flags && nat_lt addr PAGE_SIZE in
             result ≡ ((addr == 0) || low_is_eperm self.now.flat.limits.rules && rounds_to_0) }
@@ -53,8 +53,8 @@ impl<P: Pager> Kernel<P> {
                 && addr < PAGE_SIZE
     }
 
-    // What an attach asks for: reading, and writing without SHM_RDONLY; execution with SHM_EXEC, under
-    // `Rules::EXEC_IS_ASKED` alone.
+    // The permissions that an attach asks for: reading; writing without SHM_RDONLY; and execution with
+    // SHM_EXEC under `Rules::EXEC_IS_ASKED`.
     fn wish_at(&self, flags: AtFlags) -> Want
         ensures { result ≡ flat.at_wish self.now.flat flags }
     {
@@ -66,11 +66,15 @@ impl<P: Pager> Kernel<P> {
         }
     }
 
-    /// The refusals of shmat in their order, and where the new piece goes (shmop(2); the order is this
-    /// profile's). Einval where a null address comes with SHM_REMAP or another is unaligned without SHM_RND;
-    /// Einval or Eidrm for the identifier; Eacces; Einval where the range leaves the addresses, or is
-    /// occupied without SHM_REMAP; Enomem where no gap is left for a null address; Emfile for more pieces
-    /// than the most.
+    /// Tests the refusals of shmat in their order, and returns where the new piece is placed (shmop(2); the
+    /// order is this profile's):
+    ///
+    /// - Einval: SHM_REMAP with a null address, or an unaligned address without SHM_RND.
+    /// - Einval, Eidrm: the identifier was never issued, or its segment was destroyed.
+    /// - Eacces: the process has no permission.
+    /// - Einval: the range is not within the addresses, or is occupied without SHM_REMAP.
+    /// - Enomem: the address is null, and no gap is large enough.
+    /// - Emfile: the process would have too many pieces.
     fn place_for(
         &self,
         caller: &Caller,
@@ -111,8 +115,8 @@ impl<P: Pager> Kernel<P> {
     }
 
     #[tactic(auto, using(crate::proofs::Running::kept_refl))]
-    /// Attaches a segment. Segments whose pieces are replaced are detached, and those marked that lose their
-    /// last piece are destroyed after the new piece stands.
+    /// Attaches a segment. Segments whose pieces are replaced are detached. Marked ones that lose their last
+    /// piece are destroyed after the new piece is in.
     pub(crate) fn shmat(
         &mut self,
         time: u64,

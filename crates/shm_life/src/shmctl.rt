@@ -43,7 +43,7 @@ fn status_of(found: &Found) -> Status
 }
 
 impl<P: Pager> Kernel<P> {
-    /// A segment as stat shows it.
+    /// A segment as `stat` shows it.
     pub(crate) fn shown(&self, found: &Found) -> ShmidDs
         requires { IsFound self.now.flat.table found.now }
         ensures { let segment = segment_seen self.now.flat.table found.now in
@@ -63,8 +63,8 @@ impl<P: Pager> Kernel<P> {
         }
     }
 
-    /// The segment under an identifier that a process names: Eidrm where it was destroyed, or Einval under
-    /// `Rules::REMOVED_IS_INVALID`; Einval where the identifier was never issued (shmctl(2)).
+    /// The segment of an identifier that a process names (shmctl(2)). Eidrm: it was destroyed; Einval instead
+    /// under `Rules::REMOVED_IS_INVALID`. Einval: the identifier was never issued.
     pub(crate) fn look(&self, id: ShmId) -> Result<Found, Errno>
         ensures found { IfOk result (IsFound self.now.flat.table) }
         ensures ok { IfOk result (λ f. flat_ids.look self.now.flat.table id ≡ look_of self.now.flat.table f) }
@@ -79,7 +79,7 @@ impl<P: Pager> Kernel<P> {
         }
     }
 
-    /// Shows a segment (IPC_STAT): Einval or Eidrm for the identifier, Eacces without read permission.
+    /// Shows a segment (IPC_STAT). Einval, Eidrm: as `look`. Eacces: the process has no read permission.
     pub(crate) fn stat(&self, caller: &Caller, id: ShmId) -> Result<ShmidDs, Errno>
         ensures { (n : ℕ) → Served self.now n caller.now (call.Stat id) (replied Stat result) self.now }
     {
@@ -95,7 +95,7 @@ impl<P: Pager> Kernel<P> {
         Ok(self.shown(&found))
     }
 
-    // The segment that a caller controls: Einval or Eidrm for the identifier, Eperm if it is another's.
+    // The segment that a caller controls. Einval, Eidrm: as `look`. Eperm: the caller does not own it.
     fn controlled(&self, caller: &Caller, id: ShmId) -> Result<Found, Errno>
         ensures found { IfOk result (IsFound self.now.flat.table) }
         ensures ok { let s = self.now.flat in
@@ -114,7 +114,7 @@ impl<P: Pager> Kernel<P> {
         Ok(found)
     }
 
-    // Whether no segment is given to these.
+    // Whether a segment can't be given to this user or group.
     fn is_no_owner(&self, uid: u32, gid: u32) -> bool
         ensures { result ≡ flat.is_no_owner self.now.flat uid gid }
     {
@@ -122,7 +122,7 @@ impl<P: Pager> Kernel<P> {
     }
 
     #[tactic(auto, using(crate::proofs::Running::kept_refl))]
-    /// Gives a segment another owner and other permission bits (IPC_SET). Under `Rules::NO_LAST_USER` Einval
+    /// Gives a segment another owner and other permission bits (IPC_SET). Under `Rules::NO_LAST_USER`, Einval
     /// for user or group 2^32 - 1.
     pub(crate) fn set(
         &mut self,
@@ -144,7 +144,7 @@ impl<P: Pager> Kernel<P> {
     }
 
     #[tactic(auto, using(crate::proofs::Running::kept_refl))]
-    /// Destroys a segment without pieces, and marks one that has some (IPC_RMID).
+    /// Destroys a segment without pieces, and marks one that has pieces for removal (IPC_RMID).
     pub(crate) fn rmid(&mut self, caller: &Caller, id: ShmId) -> Result<(), Errno>
         ensures { (n : ℕ) → Served self.old n caller.now (call.Rmid id) (replied done result) self.new }
     {
@@ -161,7 +161,7 @@ impl<P: Pager> Kernel<P> {
         self.limits.rules().contains(Rules::LOCKS_BY_USER) && cred.uid != 0
     }
 
-    // Whether the user, or all together, would have locked too many pages.
+    // Whether the user, or all users together, would have locked too many pages.
     fn passes_limit(&self, cred: &Cred, found: &Found) -> bool
         requires { IsFound self.now.flat.table found.now }
         ensures { let limits = self.now.flat.limits in
@@ -193,9 +193,10 @@ impl<P: Pager> Kernel<P> {
     }
 
     #[tactic(auto, using(crate::proofs::Running::kept_refl))]
-    /// Locks a segment's pages (SHM_LOCK): Enomem where those of all locked segments would exceed MEMLOCK.
-    /// Under `Rules::LOCKS_BY_USER` MEMLOCK is a limit of each user but 0: Eperm where it is 0, Enomem where
-    /// those that the caller's user locked would exceed it, or where fewer than two frames would stay free.
+    /// Locks a segment's pages (SHM_LOCK). Enomem: all locked segments would have more than MEMLOCK pages.
+    ///
+    /// Under `Rules::LOCKS_BY_USER` MEMLOCK limits each user but 0. Eperm: MEMLOCK is 0. Enomem: the caller's
+    /// user would have locked more than MEMLOCK pages, or fewer than two frames would be left.
     pub(crate) fn lock(&mut self, caller: &Caller, id: ShmId) -> Result<(), Errno>
         ensures { (n : ℕ) → Served self.old n caller.now (call.Lock id) (replied done result) self.new }
     {

@@ -1,4 +1,4 @@
-//! shmdt: the pieces that are left of an attach go.
+//! shmdt removes what is left of an attach.
 ghost use Rattle.shm_base.specs.declared.call.Call.TheVariants as call;
 ghost use Rattle.shm_attach.specs.Spaces.{IsCaller};
 ghost use Rattle.shm_life.specs.MachineView.{Served, replied, done};
@@ -11,9 +11,9 @@ use shm_pager::Pager;
 
 impl<P: Pager> Kernel<P> {
     #[tactic(auto, using(crate::proofs::Running::kept_refl))]
-    /// Detaches the pieces that are left of an attach (shmop(2)): among the pieces whose segment would begin
-    /// at the address the lowest names the segment, and all pieces of that segment with this origin go (the
-    /// origin is this profile's). Einval where there is none.
+    /// Detaches what is left of an attach (shmop(2)). The lowest piece with this origin names the segment,
+    /// and all pieces of that segment with this origin are removed (the origin is this profile's). Einval: no
+    /// piece has this origin.
     pub(crate) fn shmdt(&mut self, time: u64, caller: &Caller, addr: u64) -> Result<(), Errno>
         requires { IsCaller caller.now self.old.flat.runners }
         ensures { Served self.old time caller.now (call.Shmdt addr) (replied done result) self.new }

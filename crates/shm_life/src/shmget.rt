@@ -1,4 +1,4 @@
-//! shmget: an existing segment by its key, or a new one.
+//! shmget finds a segment by its key, or makes a new one.
 ghost use Rattle.std.specs.Prelude.{◌≡◌, ◌≢◌, ◌≤◌, ◌+◌, ℕ, false, [], None, IfOk, OnErr};
 ghost use Rattle.shm_base.specs.Segments.{reserved};
 ghost use Rattle.shm_base.specs.State.{pages_of};
@@ -21,8 +21,8 @@ use shm_base::{Errno, GetFlags, HostMemory, MODES, Perm, Rules, ShmId, Want, gra
 use shm_pager::Pager;
 use shm_segments::{Found, Head};
 
-/// What the nine bits of a shmget on an existing segment ask for: reading if any read bit is among them,
-/// writing if any write bit is; execution if any execute bit is, under `Rules::EXECUTE_IS_ASKED` alone.
+/// The permissions that the nine bits of a shmget of a found key ask for: reading if any read bit is set,
+/// writing if any write bit is, and execution if any execute bit is, under `Rules::EXECUTE_IS_ASKED`.
 fn wish_of(rules: Rules, mode: u16) -> Want
     ensures { result ≡ permission.wish_of rules mode }
 {
@@ -34,8 +34,8 @@ fn wish_of(rules: Rules, mode: u16) -> Want
     }
 }
 
-/// The head of a new segment, whatever its key and the caller's pieces: its owner and creator is the caller;
-/// its last times are 0, and its creation is now.
+/// The head of a new segment: the caller is its owner and creator, its attach and detach times are 0, and its
+/// change time is now. It depends neither on the key nor on the caller's pieces.
 fn new_head(time: u64, caller: &Caller, size: u64, mode: u16) -> Head
     ensures { result ≡ head_of (flat.new_segment time (caller_seen caller.now []) 0 size mode) }
 {
@@ -59,7 +59,8 @@ fn new_head(time: u64, caller: &Caller, size: u64, mode: u16) -> Head
     }
 }
 
-// An existing segment. Eexist where it was to be new, Einval where it is too small, Eacces.
+// The segment that was found. Eexist: IPC_CREAT and IPC_EXCL are set. Einval: it is too small. Eacces: the
+// caller has no permission.
 fn get(
     rules: Rules,
     caller: &Caller,
@@ -86,7 +87,7 @@ fn get(
 
 impl<P: Pager> Kernel<P> {
     #[tactic(auto, using(crate::proofs::Running::kept_refl))]
-    /// The segment with a key, or a new one where the key is IPC_PRIVATE (0), or where no segment has it and
+    /// The segment with a key; or a new one, if the key is IPC_PRIVATE (0), or if no segment has it and
     /// IPC_CREAT is set (shmget(2)).
     pub(crate) fn shmget(
         &mut self,
@@ -116,8 +117,8 @@ impl<P: Pager> Kernel<P> {
     }
 
     #[tactic(auto, using(crate::proofs::Running::kept_refl))]
-    // A new segment. Einval where the size is 0 or above SHMMAX; Enospc where SHMALL is reached; the refusal
-    // of huge pages; and then those of `create_small`.
+    // A new segment. Einval: the size is 0 or above SHMMAX. Enospc: SHMALL is reached. Then the refusal of
+    // huge pages, and those of `create_small`.
     fn create(
         &mut self,
         time: u64,
@@ -147,8 +148,8 @@ impl<P: Pager> Kernel<P> {
         self.create_small(time, caller, key, size, mode)
     }
 
-    // Why a segment of huge pages is not made, under `Rules::HUGE_IS_REFUSED`: Eperm for all but user 0 and
-    // group 0; and Enomem, as there are no huge pages, unless none is reserved.
+    // Why a segment of huge pages is not made, under `Rules::HUGE_IS_REFUSED`. Eperm: neither user 0 nor
+    // group 0. Enomem: there are no huge pages to reserve.
     fn huge_errno(&self, caller: &Caller, flags: GetFlags) -> Option<Errno>
         ensures { let seen = caller_seen caller.now self.now.flat.runners in
             result ≡ flat.huge_errno self.now.flat seen flags }
@@ -169,8 +170,8 @@ impl<P: Pager> Kernel<P> {
     }
 
     #[tactic(auto, using(crate::proofs::Running::kept_refl))]
-    // A new segment whose pages SHMALL allows. Enospc where SHMMNI is reached or no identifier is left;
-    // Enomem where the swap areas could not take all pages.
+    // A new segment whose pages SHMALL allows. Enospc: SHMMNI is reached, or no identifier is left. Enomem:
+    // the swap areas could not take all pages.
     fn create_small(
         &mut self,
         time: u64,

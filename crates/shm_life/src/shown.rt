@@ -1,4 +1,4 @@
-//! What a system lends to whoever looks at it: its memory, and the pieces of its processes.
+//! What a system lends to be read: its memory, and the pieces of its processes.
 ghost use Rattle.std.specs.Prelude.{◌≡◌};
 ghost use Rattle.shm_life.specs.MachineView.{IsExactly};
 
@@ -8,7 +8,7 @@ use shm_fault::PageStore;
 use shm_pager::Pager;
 
 impl<P: Pager> System<P> {
-    /// The pages of the segments, over frames and swap areas. They show the machine exactly, at all times.
+    /// The pages of the segments in frames and swap areas. They always show the machine exactly.
     pub fn store(&self) -> &PageStore<P>
         ensures value { result.now ≡ self.now.memory }
         ensures exact { IsExactly self.now.machine self.now.memory }

@@ -1,4 +1,4 @@
-//! What a system starts from, and why a start is refused.
+//! What a system starts with, and why a start is refused.
 ghost use Rattle.std.specs.Prelude.{◌≡◌, ℕ, [], length, map, IfOk};
 ghost use Rattle.std.specs.Fn.{FnReturnsAt};
 ghost use Rattle.shm_base.specs.Bounds.{within};
@@ -10,10 +10,13 @@ use std::alloc::{AllocError, Global};
 use std::collections::HashSet;
 use thiserror::Error;
 
-/// Why a system did not start: the first of these that holds, in this order (this project's profile).
-/// `Areas`: there are not 1 to 8 swap areas. `AreaSize`: an area has no slot, or more than the limits allow
-/// (65536 in the profile). `Processes`: there are more than the limits allow (64 in the profile). `Pid`: a
-/// pid is 0, above 2147483647, or is there twice. `HostMemory`: the host refused memory.
+/// Why a system did not start (this project's profile). The first that applies is returned:
+///
+/// - `Areas`: there are not 1 to 8 swap areas.
+/// - `AreaSize`: an area has no slot, or more than the limits allow (65536 in the profile).
+/// - `Processes`: there are more than the limits allow (64 in the profile).
+/// - `Pid`: a pid is 0, above 2147483647, or used twice.
+/// - `HostMemory`: the host refused memory.
 #[derive(Clone, Copy, Debug, PartialEq, Eq, Error)]
 pub enum StartError {
     #[error("not 1 to 8 swap areas")]
@@ -29,7 +32,7 @@ pub enum StartError {
 }
 
 impl StartError {
-    /// The number by which the error goes in a message, from 1.
+    /// The error's number in messages, from 1.
     pub fn number(self) -> u8
         ensures { result ≡ error_number self }
     {
@@ -50,8 +53,8 @@ fn is_area_size(limits: &Limits, slots: u32) -> bool
     slots >= 1 && slots <= limits.most_slots()
 }
 
-/// The first start error of swap areas that holds, where `slots` gives an area's slots: `Areas` where there
-/// are not 1 to 8, else `AreaSize` where one has no slot, or more than the most. It takes no memory.
+/// The first start error of swap areas; `slots` gives an area's number of slots. Takes no memory. `Areas`:
+/// there are not 1 to 8. `AreaSize`: one has no slot, or more than the limits allow.
 pub fn first_area_error<A, F: Fn(&A) -> u32>(
     limits: &Limits,
     areas: &[A],
@@ -78,7 +81,7 @@ fn is_pid(pid: u32) -> bool
     pid >= 1 && pid <= LAST_PID
 }
 
-// Whether each pid is in its range, and none stands twice: each is compared with each.
+// Whether each pid is in its range, and none is used twice. Compares each with each.
 fn are_compared_pids_sound(processes: &[Process]) -> bool
     ensures { result ≡ are_pids processes.now }
 {
@@ -90,7 +93,7 @@ fn are_compared_pids_sound(processes: &[Process]) -> bool
     true
 }
 
-// The same by a set of the pids, from the last one on.
+// The same, by a set of the pids.
 fn are_listed_pids_sound(alloc: Global, processes: &[Process]) -> Result<bool, AllocError>
     ensures { IfOk result (λ sound. sound ≡ are_pids processes.now) }
 {
@@ -109,8 +112,8 @@ fn are_listed_pids_sound(alloc: Global, processes: &[Process]) -> Result<bool, A
     Ok(true)
 }
 
-// Whether each pid is in its range, and none stands twice. Up to the profile's number they are compared, and
-// more of them where the host has no memory for a set.
+// Whether each pid is in its range, and none is used twice. Compares them if there are no more than in the
+// profile, or if the host has no memory for a set.
 fn are_pids_sound(alloc: Global, processes: &[Process]) -> bool
     ensures { result ≡ are_pids processes.now }
 {
@@ -123,7 +126,7 @@ fn are_pids_sound(alloc: Global, processes: &[Process]) -> bool
     }
 }
 
-/// The first start error that holds, out of memory aside. It takes no memory for as many processes as the
+/// The first start error other than out of memory. Takes no memory for at most as many processes as the
 /// profile has.
 pub(crate) fn first_error<P: Pager>(
     alloc: Global,

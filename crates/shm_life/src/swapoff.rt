@@ -1,4 +1,4 @@
-//! swapoff: a swap area is taken away.
+//! swapoff takes a swap area away.
 ghost use Rattle.std.specs.Prelude.{ℕ};
 ghost use Rattle.shm_base.specs.declared.call.Call.TheVariants as call;
 ghost use Rattle.shm_life.specs.MachineView.{Served, replied, done};
@@ -10,9 +10,12 @@ use shm_pager::Pager;
 
 impl<P: Pager> Kernel<P> {
     #[tactic(auto, using(crate::proofs::Running::kept_refl))]
-    /// Takes a swap area away (swapoff(2)). Eperm for every user but 0; Einval where there is no such area,
-    /// or no more; Enomem where the others have fewer slots than all segments have pages; Eio where a pager
-    /// failed, and then the area stays.
+    /// Takes a swap area away (swapoff(2)).
+    ///
+    /// - Eperm: the user is not 0.
+    /// - Einval: there is no such area, or it is gone.
+    /// - Enomem: the other areas have fewer slots than all segments have pages.
+    /// - Eio: a pager failed; the area stays.
     pub(crate) fn swapoff(&mut self, caller: &Caller, area: u32) -> Result<(), Errno>
         ensures { (n : ℕ) → Served self.old n caller.now (call.Swapoff area) (replied done result) self.new }
     {

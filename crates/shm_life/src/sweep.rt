@@ -1,4 +1,5 @@
-//! What pieces that went leave behind: times and pids, and segments that go with their last piece.
+//! What follows when pieces are removed: times and pids are noted, and marked segments are destroyed with
+//! their last piece.
 ghost use Rattle.std.specs.Prelude.{◌≡◌, ◌≢◌, true, ◌≤◌, ◌==◌, ◌&&◌, if◌then◌else◌, ℕ, List, ◌∷◌, length, All};
 ghost use Rattle.shm_base.specs.Rules.{rest_is_attached};
 ghost use Rattle.shm_base.specs.declared.bounds.TheConstants.{INDEXES};
@@ -16,7 +17,7 @@ use shm_base::Rules;
 use shm_pager::Pager;
 use shm_segments::{Found, Segments};
 
-// Sets the time and the pid of a detach in each of these segments.
+// Sets the time and the last pid of a detach for each of these segments.
 fn note_detached<P: Pager>(segments: &mut Segments<P>, lost: &[u32], time: u64, pid: u32)
     requires { All (IsLive segments.old.table) lost.now }
     ensures { segments.new ≡ record segments.old { table = detach_all time pid segments.old.table lost.now } }
@@ -26,8 +27,7 @@ fn note_detached<P: Pager>(segments: &mut Segments<P>, lost: &[u32], time: u64, 
     }
 }
 
-/// Sets the time and the pid of an attach in each of these segments, which are attached anew, where that is a
-/// rule.
+/// Sets the time and the last pid of an attach for each of these segments, if a rule attaches them anew.
 pub(crate) fn attach_rests<P: Pager>(
     segments: &mut Segments<P>,
     rules: Rules,
@@ -45,7 +45,7 @@ pub(crate) fn attach_rests<P: Pager>(
     }
 }
 
-// Sets the time and the pid of an attach in each of these segments.
+// Sets the time and the last pid of an attach for each of these segments.
 fn note_attached<P: Pager>(segments: &mut Segments<P>, ids: &[u32], time: u64, pid: u32)
     requires { All (IsLive segments.old.table) ids.now }
     ensures { segments.new ≡ record segments.old { table = attach_all time pid segments.old.table ids.now } }
@@ -55,7 +55,7 @@ fn note_attached<P: Pager>(segments: &mut Segments<P>, ids: &[u32], time: u64, p
     }
 }
 
-// Whether a segment is marked and no piece names it.
+// Whether a segment is marked and has no pieces.
 fn is_orphan(spaces: &Spaces, found: &Found) -> bool
     ensures value { result ≡ (found.now.head.dest && (attach_count spaces.now.runners found.now.seg == 0)) }
     ensures unnamed { result ≡ true
@@ -64,7 +64,7 @@ fn is_orphan(spaces: &Spaces, found: &Found) -> bool
     found.head.dest && spaces.count(found.seg) == 0
 }
 
-// Destroys a segment if it is marked and no piece names it.
+// Destroys a segment if it is marked and has no pieces.
 fn sweep_one<P: Pager>(segments: &mut Segments<P>, spaces: &Spaces, seg: u32)
     requires { length segments.old.table ≤ INDEXES }
     ensures sweeps { Sweeps spaces.now.runners segments.old.table segments.new.table }
@@ -83,7 +83,7 @@ fn sweep_one<P: Pager>(segments: &mut Segments<P>, spaces: &Spaces, seg: u32)
     }
 }
 
-/// Destroys those of these segments that are marked and that no piece names. No other segment is such.
+/// Destroys those of these segments that are marked and have no pieces. All such segments are among them.
 pub(crate) fn sweep<P: Pager>(segments: &mut Segments<P>, spaces: &Spaces, lost: &[u32])
     requires few { length segments.old.table ≤ INDEXES }
     requires orphans { OrphansAmong lost.now spaces.now.runners segments.old.table }
@@ -97,8 +97,8 @@ pub(crate) fn sweep<P: Pager>(segments: &mut Segments<P>, spaces: &Spaces, lost:
     }
 }
 
-/// What is to be done where pieces of these segments went, whatever the cause: the time and the pid of a
-/// detach are noted, and those that are marked and lost their last piece are destroyed.
+/// Finishes a change that removed pieces of these segments: notes time and last pid of a detach, and destroys
+/// those that are marked and lost their last piece.
 pub(crate) fn after_detach<P: Pager>(
     segments: &mut Segments<P>,
     spaces: &Spaces,

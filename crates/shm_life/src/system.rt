@@ -1,4 +1,4 @@
-//! A machine with its swap areas, how it began, and how many calls it answered.
+//! A machine with its swap areas, its opening, and its count of calls.
 ghost use Rattle.std.specs.Prelude.{◌≡◌, ◌<◌, length, map, IfOk, IfErr, OnOk, OnErr, None};
 ghost use Rattle.shm_life.specs.Start.{start_error, IsFirstError};
 ghost use Rattle.shm_slots.specs.View.{fresh, AreCountsOf};
@@ -19,7 +19,7 @@ use shm_slots::Swap;
 use std::alloc::{AllocError, Global};
 use std::marker::Model;
 
-/// What a machine starts from: its limits, the slot counts of its swap areas, and its processes.
+/// What a machine starts with: its limits, the slot counts of its swap areas, and its processes.
 pub struct Opening {
     pub limits: Limits,
     pub areas: Vec<u32>,
@@ -44,14 +44,14 @@ impl Model for Opening {
     ghost view = { λ o. record { limits = o.limits; areas = o.areas.items; processes = o.processes.items } };
 }
 
-/// A machine over swap areas. It is seen as how it opened, how many calls it answered, and the flat machine;
-/// before the first call that is as the opening says, unless its host changed it.
+/// A machine over swap areas. Contracts see its opening, its count of calls, and the flat machine. Before the
+/// first call the flat machine is what the opening says, unless the host changed it.
 pub struct System<P: Pager> {
     pub(crate) opening: Opening,
     pub(crate) calls: u64,
-    // The time that calls set, where the host gave one.
+    // The time that calls note, if the host gave one.
     pub(crate) clock: Option<u64>,
-    // Whether nothing but calls and flushes changed the machine, and no time was given.
+    // Whether only calls and flushes changed the machine, and the host gave no time.
     pub(crate) only_calls: bool,
     pub(crate) kernel: Kernel<P>,
 }
@@ -100,9 +100,9 @@ fn sizes_of<P: Pager>(alloc: Global, pagers: &[P]) -> Result<Vec<u32>, AllocErro
 }
 
 impl<P: Pager> System<P> {
-    /// A machine as it opens, with the areas' slot counts from the pagers. Nothing is read or written yet:
-    /// the pagers' pages and counts are as they were handed in. It refuses by the first start error that
-    /// holds, and the pagers are dropped then.
+    /// Opens a machine; the pagers give the slot counts of the areas. Reads and writes nothing: pages and
+    /// counts of the pagers are those that were passed in. Refused with the first start error that applies;
+    /// the pagers are dropped then.
     pub fn start(
         alloc: Global,
         limits: Limits,
@@ -139,7 +139,7 @@ impl<P: Pager> System<P> {
             let areas = map (λ p. fresh (pager_seen P.content P.failed p)) pagers.items in
             IfOk result (λ s. IsStarted limits sizes areas processes.now s) }
     {
-        // What is read has a proof know its range.
+        // Reading the limits tells the proof their ranges.
         let (_, _) = (limits.shmall(), limits.lockable());
         let (_, _) = (limits.most_processes(), limits.most_slots());
         let opening = Opening {
@@ -161,7 +161,7 @@ impl<P: Pager> System<P> {
         })
     }
 
-    /// How many calls got a reply.
+    /// The number of calls that got a reply.
     pub fn calls(&self) -> u64
         ensures { result ≡ self.now.calls }
     {
@@ -175,7 +175,7 @@ impl<P: Pager> System<P> {
         self.kernel.limits
     }
 
-    /// What the machine started from.
+    /// What the machine started with.
     pub fn opening(&self) -> &Opening
         ensures { result.now ≡ self.now.opening }
     {
@@ -194,10 +194,10 @@ impl<P: Pager> System<P> {
         }
     }
 
-    /// One call of a process, at the time that its host gave, else at its place among the calls. Where memory
-    /// is out, nothing changes and the call is not counted; that comes only at a call that takes memory, and
-    /// where the flat machine refuses nothing. Where a pager fails the reply says so in place of the flat
-    /// machine's, and nothing else changes.
+    /// One call of a process, at the host's time or else at its place among the calls. If a pager fails, the
+    /// reply names the failure in place of the flat machine's reply, and the flat machine does not change.
+    /// HostMemory: the host refused memory; nothing changed, and the call is not counted. It occurs only for
+    /// a call that takes memory and that the flat machine does not refuse.
     pub fn call(&mut self, pid: u32, call: &Call) -> Result<Reply, HostMemory>
         requires room { self.old.calls < most_calls }
         ensures ok { IfOk result (λ r. Replied self.old pid call.now r self.new) }
@@ -209,8 +209,8 @@ impl<P: Pager> System<P> {
     }
 
     #[tactic(auto, using(crate::proofs::Running::kept_refl))]
-    /// As [`System::call`], with the reply put where the caller wants it, which is unknown where memory is
-    /// out. A reply has 88 bytes, and each hand that takes it would clear and copy them.
+    /// As [`System::call`], but writes the reply to `reply`, which is unknown after HostMemory. A reply has
+    /// 88 bytes, which every function that returns it would clear and copy.
     #[inline(always)]
     pub fn call_into(&mut self, pid: u32, call: &Call, reply: &mut Reply) -> Result<(), HostMemory>
         requires room { self.old.calls < most_calls }
@@ -223,8 +223,8 @@ impl<P: Pager> System<P> {
         Ok(())
     }
 
-    /// Writes the first `n` dirty frames of segments that are not locked out to their slots. The flat
-    /// machine knows nothing of it.
+    /// Writes the first `n` dirty frames of segments that are not locked to their slots. The flat machine
+    /// does not change.
     pub fn flush(&mut self, n: u64) -> FlushReport
         ensures rest { self.new ≡ record self.old { memory = self.new.memory } }
         ensures flushed { IsFlushed self.old.memory self.new.memory n result }
@@ -233,7 +233,7 @@ impl<P: Pager> System<P> {
         self.kernel.segments.flush(n)
     }
 
-    /// The counts of the machine as they are, and of what its pagers did. They keep their bounds.
+    /// The present counts of the machine, and what its pagers did.
     pub fn tally(&self) -> Tally
         ensures counts { Counts self.now.calls self.now.machine self.now.memory result }
         ensures counted { AreCountsOf P.failed self.now.memory.swap }
@@ -257,15 +257,15 @@ impl<P: Pager> System<P> {
         }
     }
 
-    /// How many indexes of the table were ever used.
+    /// The number of indexes of the table that were ever used.
     pub fn indexes(&self) -> u32
         ensures { result ≡ length self.now.machine.table }
     {
         self.kernel.segments.indexes()
     }
 
-    /// The segment at an index of the table as stat shows it, with no permission test. None only where no
-    /// segment holds the index.
+    /// The segment at an index of the table, as `stat` shows it, without a permission test. None if the index
+    /// has no segment.
     pub fn segment(&self, index: u32) -> Option<(ShmId, ShmidDs)>
         ensures { result ≡ segment_at self.now.machine index }
     {

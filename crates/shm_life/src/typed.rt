@@ -1,5 +1,5 @@
-//! Accesses without a call's record: the bytes go straight between the frames and the caller's buffer. Each
-//! is the step of the call, and is counted as one.
+//! Accesses without a call's record: bytes go straight between the frames and the caller's buffer. Each is
+//! the step of the call, and is counted as one.
 ghost use Rattle.std.specs.Prelude.{◌≡◌, ◌<◌, ◌≤◌, ℕ, false, length, OnErr};
 ghost use Rattle.shm_base.specs.History.{is_failure};
 ghost use Rattle.shm_base.specs.Step.{step};
@@ -55,8 +55,13 @@ impl<P: Pager> Kernel<P> {
 }
 
 impl<P: Pager> System<P> {
-    /// A load of a process straight into a buffer of 1 to 4,096 bytes. Esrch where the process is not live,
-    /// Sigsegv where an address has no piece, Sigbus where a pager failed; the buffer is as it was then.
+    /// A load of a process straight into a buffer of 1 to 4,096 bytes.
+    ///
+    /// - Esrch: the process is not live.
+    /// - Sigsegv: an address has no piece.
+    /// - Sigbus: a pager failed.
+    ///
+    /// If it is refused, the buffer is unchanged.
     #[inline(always)]
     pub fn load_into(&mut self, pid: u32, addr: u64, out: &mut [u8]) -> Result<(), Errno>
         requires room { self.old.calls < most_calls }
@@ -70,9 +75,13 @@ impl<P: Pager> System<P> {
         loaded
     }
 
-    /// A store of a process of 1 to 4,096 bytes. Esrch where the process is not live, Sigsegv where an
-    /// address has no piece, or one that is read-only, Sigbus where a pager failed, and then no byte has
-    /// changed.
+    /// A store of a process of 1 to 4,096 bytes.
+    ///
+    /// - Esrch: the process is not live.
+    /// - Sigsegv: an address has no piece, or a read-only one.
+    /// - Sigbus: a pager failed.
+    ///
+    /// If it is refused, no byte changed.
     #[inline(always)]
     pub fn store_from(&mut self, pid: u32, addr: u64, bytes: &[u8]) -> Result<(), Errno>
         requires room { self.old.calls < most_calls }
@@ -84,8 +93,8 @@ impl<P: Pager> System<P> {
         stored
     }
 
-    /// An addition of a process to eight little-endian bytes modulo 2^64. It answers the number that stood
-    /// there, and is refused as a store is.
+    /// An addition of a process to eight little-endian bytes, modulo 2^64. Returns the old number. Refused as
+    /// a store is.
     #[inline(always)]
     pub fn add_to(&mut self, pid: u32, addr: u64, add: u64) -> Result<u64, Errno>
         requires room { self.old.calls < most_calls }

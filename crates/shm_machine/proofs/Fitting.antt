@@ -1,4 +1,4 @@
--- A reply that is no refusal is of its call's kind.
+-- A reply that is not a refusal is of its call's kind.
 use Rattle.std.proofs.Common.{◌≡◌, ℕ, zero, suc, ◌+◌, ◌-◌, ◌%◌, ℤ, Bool, true, false, if◌then◌else◌, List, length, Option, Some, None, refl, true≢false, arith}
 use Rattle.std.proofs.lemmas.Grind.{common_steps}
 use Rattle.shm_base.specs.declared.flags.GetFlags.{GetFlags}
@@ -26,7 +26,7 @@ use Rattle.shm_machine.specs.Answered.{fits}
 record Fine (call : Call) (o : Outcome) : Type 0 where
   fit : is_refusal o.reply ≡ false → fits call o.reply ≡ true
 
--- both fit, or the one that is refused is no matter
+-- if both outcomes fit, so does the chosen one
 pick : (call : Call) (b : Bool) (o p : Outcome) → Fine call o → Fine call p → Fine call (if b then o else p)
 pick call true o p h k = h
 pick call false o p h k = k

@@ -51,7 +51,7 @@ read_more s n k pid a m l xs ys first second =
     let all = places-more r.caller.pieces a m l r.named q.named r.found (grind (arith, r.is, q.is, q.found)) in
     rw (r.is, all, map-append (byte_at s.table) r.named q.named, r.bytes) (grind (arith, q.bytes, r.bytes))
 
--- whatever its place in the history
+-- at any place of the history
 load-any : (s : Machine) (n k pid a m : ℕ) (bs : List ℕ) → (step s n pid (Load a m)).reply ≡ Bytes bs → (step s k pid (Load a m)).reply ≡ Bytes bs
 load-any s n k pid a m bs h = grind (arith, common_steps, has-read)
 
@@ -95,7 +95,7 @@ Stores s n pid a bs t = step s n pid (Store a bs) ≡ record { reply = Done; sta
 store-by : (s : Machine) (n pid a : ℕ) (bs : List ℕ) (t : Machine) → Stores s n pid a bs t → HasStored s pid a bs t
 store-by s n pid a bs t h = grind (arith, common_steps)
 
--- whatever its place in the history
+-- at any place of the history
 store-any : (s t : Machine) (n k pid a : ℕ) (bs : List ℕ) → Stores s n pid a bs t → Stores s k pid a bs t
 store-any s t n k pid a bs h = grind (arith, common_steps, store-by)
 
@@ -127,7 +127,7 @@ locked-trans a b c p q = record {
 
 -- ONE CALL MORE
 
--- a call goes on at the beginning of a page, but for the first
+-- every call but the first begins at a page boundary
 abbrev IsNext : ℕ → ℕ → Type 0
 IsNext addr done = 0 < done → (addr + done) % 4096 ≡ 0
 

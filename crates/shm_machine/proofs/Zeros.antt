@@ -2,7 +2,7 @@
 use Rattle.std.proofs.Common.{◌≡◌, ℕ, ◌+◌, ◌≤◌, ◌∙◌, List, ◌++◌, length, take, replicate, ap, sym}
 use Rattle.std.proofs.lemmas.List.{length-replicate, replicate-append-replicate, take-replicate}
 
--- a list of zeros, with the first of a page of zeros behind it
+-- a list of zeros, followed by the first bytes of a page of zeros
 module _ (old new page : List ℕ) (size more : ℕ) (zeros : old ≡ replicate (length old) 0) (whole : page ≡ replicate size 0) (few : more ≤ size) (is : new ≡ old ++ take more page) where
   all : new ≡ replicate (length old + more) 0
   all =

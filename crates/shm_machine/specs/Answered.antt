@@ -1,4 +1,4 @@
--- What a call answers and leaves, for every call at once.
+-- The answer to a call and the machine afterwards, for all calls at once.
 use Rattle.std.specs.Prelude.{ℕ, ◌≡◌, ◌==◌, Bool, true, false, length, Result, Ok, Err}
 use Rattle.shm_base.specs.declared.call.Call.{Call}
 use Rattle.shm_base.specs.declared.call.Call.TheVariants.{Shmget, Shmat, Shmdt, Stat, Set, Rmid, Lock, Unlock, Load, Store, Xadd, Fork, Exec, Exit, Swapoff}
@@ -12,14 +12,14 @@ use Rattle.shm_life.specs.SystemState.{SystemState, most_calls, Replied, IsOutOf
 use Rattle.shm_machine.specs.declared.refusal.Refusal.{Refusal}
 use Rattle.shm_machine.specs.declared.refusal.Refusal.TheVariants.{Refused, HostMemory, Spent}
 
--- what a call answers, and what it leaves of a machine; memory is wanted only where the flat machine refuses nothing
+-- the result of a call and the machine afterwards; the host's memory matters only if the flat machine refuses nothing
 abbrev pub Answered : SystemState → ℕ → Call → Result Reply Refusal → SystemState → Type 0
 Answered before pid call (Ok reply) after = Replied before pid call reply after
 Answered before pid call (Err (Refused errno)) after = Replied before pid call (replies.Refused errno) after
 Answered before pid call (Err HostMemory) after = IsOutOfMemory before pid call after
 Answered before pid call (Err Spent) after = (before.calls ≡ most_calls) × (after ≡ before)
 
--- whether a reply that is no refusal is of the call's kind
+-- a reply that is not a refusal is of the call's kind
 abbrev pub fits : Call → Reply → Bool
 fits (Shmget key size mode flags) (Id id) = true
 fits (Shmat id addr flags) (Addr at) = true
@@ -38,16 +38,16 @@ fits Exit Done = true
 fits (Swapoff area) Done = true
 fits _ _ = false
 
--- the reply that an answer was taken from, where there is one
+-- the reply from which a result was taken, if there is one
 abbrev pub as_reply : {A : Type 0} → (A → Reply) → Result A Refusal → Result Reply Refusal
 as_reply reply_of (Ok a) = Ok (reply_of a)
 as_reply reply_of (Err refusal) = Err refusal
 
--- a call that has no more to tell
+-- the reply of a call without a value
 abbrev pub done : {A : Type 0} → A → Reply
 done _ = Done
 
--- a flush round: the memory alone changes
+-- a flush round changes only the memory
 pub record Flushed (before : SystemState) (pages : ℕ) (report : FlushReport) (after : SystemState) : Type 0 where
   pub rest : after ≡ record before { memory = after.memory }
   pub flushed : IsFlushed before.memory after.memory pages report

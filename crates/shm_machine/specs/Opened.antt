@@ -1,4 +1,4 @@
--- What a machine is opened from, and what it is then.
+-- What a machine is opened with, and its state then.
 use Rattle.std.specs.Prelude.{ℕ, ◌==◌, ◌&&◌, Bool, true, false, not, List, map, filter}
 use Rattle.shm_base.specs.Bounds.{Bounds}
 use Rattle.shm_base.specs.declared.call.Process.{Process}
@@ -19,7 +19,7 @@ abbrev pub same_flag : Bool → Bool → Bool
 same_flag true b = b
 same_flag false b = not b
 
--- whether a failure is of the reads, or of the writes, of a side of an area
+-- the failure is one of this side's reads or writes
 abbrev pub is_at : ℕ → Side → Bool → Failure → Bool
 is_at area side is_write f = (f.area == area) && same_side f.side side && same_flag f.is_write is_write
 
@@ -30,6 +30,6 @@ calls_at area side is_write failures = map (λ (f : Failure). f.call) (filter (i
 abbrev pub sizes_of : List AreaConfig → List ℕ
 sizes_of areas = map (λ (a : AreaConfig). a.slots) areas
 
--- as it starts, the areas with zeros in each slot and no failure counted
+-- the machine at its start: areas of zeros, with no failure counted
 abbrev pub IsOpened : Bounds → List AreaConfig → List Process → SystemState → Type 0
 IsOpened limits areas processes s = IsStarted limits (sizes_of areas) (map (λ (a : AreaConfig). fresh (blank a.slots)) areas) processes s

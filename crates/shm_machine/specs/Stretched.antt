@@ -1,4 +1,4 @@
--- Loads and stores of any length, as calls that each end with their page, from the first on.
+-- Loads and stores of any length: sequences of calls, each of which ends with its page.
 use Rattle.std.specs.Prelude.{ℕ, zero, suc, ◌≡◌, ◌+◌, ◌-◌, ◌/◌, ◌%◌, ◌^◌, ◌<◌, ◌≤◌, ◌⊎◌, min, List, length, take, drop, replicate, Err, MatchOption, Option, Some, None}
 use Rattle.shm_base.specs.declared.call.Call.{Call}
 use Rattle.shm_base.specs.declared.call.Call.TheVariants.{Load, Store}
@@ -15,16 +15,16 @@ use Rattle.shm_machine.specs.declared.refusal.Refusal.TheVariants.{Refused}
 use Rattle.shm_machine.specs.declared.stretch.Progress.{Progress}
 use Rattle.shm_machine.specs.Answered.{Answered}
 
--- how many calls so many bytes from an address on take: one for each page of addresses
+-- how many calls an access of n bytes at an address makes: one for each page
 abbrev pub calls_for : ℕ → ℕ → ℕ
 calls_for addr zero = 0
 calls_for addr (suc n) = (addr % PAGE_SIZE + suc n + (PAGE_SIZE - 1)) / PAGE_SIZE
 
--- how many bytes the next call takes of so many
+-- how many of n bytes the next call takes
 abbrev pub next_len : ℕ → ℕ → ℕ
 next_len addr n = min n (PAGE_SIZE - addr % PAGE_SIZE)
 
--- so many bytes were done, by as many calls as they take, and no count of failures fell
+-- this many bytes were done, by one call for each page, and no count of failures fell
 pub record Reached (before : SystemState) (addr bytes : ℕ) (stood : SystemState) : Type 0 where
   pub calls : stood.calls ≡ before.calls + calls_for addr bytes
   pub opening : stood.opening ≡ before.opening
@@ -32,20 +32,20 @@ pub record Reached (before : SystemState) (addr bytes : ℕ) (stood : SystemStat
   pub only_calls : stood.only_calls ≡ before.only_calls
   pub goes_on : GoesOn before.memory.swap stood.memory.swap
 
--- a call at an address was not done; at one past 64 bits there is none to be asked, and no piece either
+-- the call at an address was refused; at 2^64 or above no call is made, since no piece is there
 abbrev pub StoppedAt : SystemState → ℕ → ℕ → Call → Refusal → SystemState → Type 0
 StoppedAt stood pid addr call refusal after =
     ((addr < 2 ^ 64) × Answered stood pid call (Err refusal) after)
     ⊎ ((2 ^ 64 ≤ addr) × (refusal ≡ Refused Sigsegv) × (after ≡ stood))
 
--- all was done, or the next call was not
+-- everything was done, or the next call was refused
 abbrev pub EndedAt : SystemState → ℕ → ℕ → ℕ → (ℕ → Call) → Progress → SystemState → Type 0
 EndedAt stood pid addr size next p after =
     MatchOption p.stopped ((p.done ≡ size) × (after ≡ stood))
     (λ refusal. (p.done < size) × StoppedAt stood pid (addr + p.done) (next (next_len (addr + p.done) (size - p.done))) refusal after)
 
--- the bytes that were read are those of one load of the flat machine; the others stay. Pages of locked segments stay
--- resident, whether all was read or not, and nothing becomes locked
+-- the bytes that were read are those of one load of the flat machine, and the rest of the buffer is unchanged; pages of locked
+-- segments stay resident, and no segment becomes locked
 pub record ReadTo (before : SystemState) (pid addr : ℕ) (old : List ℕ) (p : Progress) (new : List ℕ) (after : SystemState) : Type 0 where
   pub within : p.done ≤ length old
   pub rest : drop p.done new ≡ drop p.done old
@@ -57,8 +57,8 @@ pub record ReadTo (before : SystemState) (pid addr : ℕ) (old : List ℕ) (p : 
   pub kept : LockedPagesStay before.memory after.memory
   pub locks : LocksNothing before.memory after.memory
 
--- the bytes that were written are there as by one store of the flat machine. Pages of locked segments stay resident,
--- whether all was written or not, and nothing becomes locked
+-- the bytes that were written are those of one store of the flat machine; pages of locked segments stay resident, and no segment
+-- becomes locked
 pub record WrittenTo (before : SystemState) (pid addr : ℕ) (bytes : List ℕ) (p : Progress) (after : SystemState) : Type 0 where
   pub within : p.done ≤ length bytes
   pub stood : SystemState
@@ -74,7 +74,7 @@ abbrev pub stop_of : Option Refusal → Option Refusal → Option Refusal
 stop_of (Some refusal) load = Some refusal
 stop_of None load = load
 
--- a copy: all bytes that can be read were read first, and then as many of them written as can be
+-- a copy: one read of all bytes that can be read, and then one write of as many of them as can be written
 pub record CopiedTo (before : SystemState) (from to : ℕ × ℕ) (size : ℕ) (p : Progress) (after : SystemState) : Type 0 where
   pub load : Progress
   pub bytes : List ℕ

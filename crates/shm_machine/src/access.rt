@@ -1,4 +1,5 @@
-//! Loads, stores, additions and exchanges: the bytes go straight between the memory and the caller's buffer.
+//! Loads, stores, additions and exchanges: the bytes go straight between the machine's memory and the
+//! caller's buffer.
 ghost use Rattle.std.specs.Prelude.{◌≡◌, ◌≤◌, length, OnErr};
 ghost use Rattle.shm_base.specs.Exchange.{compares, exchanges};
 ghost use Rattle.shm_base.specs.declared.call.Call.TheVariants as call;
@@ -11,8 +12,8 @@ use crate::machine::Machine;
 use crate::refusal::Refusal;
 
 impl Machine {
-    /// Reads 1 to 4,096 bytes of attached memory into the buffer, in one step: as [`Machine::load`], without a copy on the
-    /// way. Where it is refused, the buffer is as it was.
+    /// Reads 1 to 4,096 bytes of attached memory into the buffer in one step. As [`Machine::load`], but
+    /// without another copy. If it is refused, the buffer is unchanged.
     #[inline(always)]
     pub fn load_into(&mut self, pid: u32, addr: u64, bytes: &mut [u8]) -> Result<(), Refusal>
         requires size { (1 ≤ length bytes.old) × (length bytes.old ≤ PAGE_SIZE) }
@@ -29,7 +30,7 @@ impl Machine {
             .map_err(Refusal::Refused)
     }
 
-    /// Replaces 1 to 4,096 bytes of attached memory, in one step.
+    /// Replaces 1 to 4,096 bytes of attached memory in one step.
     #[inline(always)]
     pub fn store(&mut self, pid: u32, addr: u64, bytes: &[u8]) -> Result<(), Refusal>
         requires size { (1 ≤ length bytes.now) × (length bytes.now ≤ PAGE_SIZE) }
@@ -44,7 +45,7 @@ impl Machine {
             .map_err(Refusal::Refused)
     }
 
-    /// Adds to eight little-endian bytes of attached memory modulo 2^64, and answers the number that stood there.
+    /// Adds to eight little-endian bytes of attached memory, modulo 2^64, and returns the old number.
     #[inline(always)]
     pub fn add(&mut self, pid: u32, addr: u64, add: u64) -> Result<u64, Refusal>
         ensures { Answered self.old.system pid (call.Xadd addr add) (as_reply reply.Number result) self.new.system }
@@ -55,8 +56,8 @@ impl Machine {
         self.system.add_to(pid, addr, add).map_err(Refusal::Refused)
     }
 
-    /// Puts 1 to 4,096 bytes in the place of others, which `before` shows then, in one step (xchg). Where it is refused,
-    /// as a store is, `before` is as it was.
+    /// Replaces 1 to 4,096 bytes in one step (xchg); `before` gets the old ones. Refused as a store is; then
+    /// `before` is unchanged.
     pub fn exchange(
         &mut self,
         pid: u32,
@@ -78,8 +79,8 @@ impl Machine {
             .map_err(Refusal::Refused)
     }
 
-    /// As [`Machine::exchange`], but the bytes are replaced only if they are the expected ones (cmpxchg). `before` shows
-    /// those that were there in both cases.
+    /// As [`Machine::exchange`], but replaces the bytes only if they equal the expected ones (cmpxchg).
+    /// `before` gets the old ones in both cases.
     pub fn compare_exchange(
         &mut self,
         pid: u32,

@@ -1,4 +1,4 @@
-//! The calls that tell something.
+//! The calls that return a value.
 ghost use Rattle.std.specs.Prelude.{◌≡◌, length, IfOk};
 ghost use Rattle.shm_base.specs.declared.call.Call.TheVariants as call;
 ghost use Rattle.shm_base.specs.declared.call.Reply.TheVariants as reply;
@@ -58,7 +58,7 @@ impl Machine {
         Ok(Chunk::from_array(bytes, len))
     }
 
-    /// shmctl(2), IPC_STAT: what the segment shows.
+    /// shmctl(2), IPC_STAT: shows the segment.
     pub fn stat(&mut self, pid: u32, id: ShmId) -> Result<ShmidDs, Refusal>
         ensures { Answered self.old.system pid (call.Stat id) (as_reply (λ s. reply.Stat s) result) self.new.system }
     {

@@ -7,7 +7,7 @@ use crate::stretch::Progress;
 use shm_base::HostMemory;
 use std::alloc::{AllocError, Global};
 
-// A buffer is filled with these, a part at a time.
+// Zeros, with which a buffer is filled part by part.
 const ZEROS: [u8; 1024] = [0; 1024];
 
 // A buffer of zeros.
@@ -24,9 +24,10 @@ fn zeros(alloc: Global, len: usize) -> Result<Vec<u8>, AllocError>
 }
 
 impl Machine {
-    /// Copies attached memory of one process to that of another, or of the same one. It is one load of all bytes that can be
-    /// read, and then one store of them, so the ranges may overlap. If both stop early, the answer names what stopped the
-    /// store. The bytes wait in a buffer between the two. If there is no memory for it, nothing is read.
+    /// Copies attached memory of one process to that of another, or of the same one. It makes one load of all
+    /// bytes that can be read, and then one store of them, so the ranges may overlap. If both stop early, the
+    /// result names what stopped the store. A buffer holds the bytes between the two. HostMemory: the host
+    /// refused memory for it, and nothing was read.
     pub fn copy(
         &mut self,
         alloc: Global,

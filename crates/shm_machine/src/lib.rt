@@ -1,5 +1,5 @@
-//! A machine as one type without parameters: swap areas of three kinds behind one pager, and methods for the calls.
-//! No history is kept: a machine answers calls in memory that does not grow with their number.
+//! A machine as one type without parameters: swap areas of three kinds, and methods for the calls. It keeps
+//! no history, so its memory does not grow with the number of calls.
 #![tactic(auto)]
 
 mod access;

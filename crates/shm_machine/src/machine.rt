@@ -14,8 +14,8 @@ use shm_life::{StartError, System, first_area_error};
 use shm_pager::AreaPager;
 use std::alloc::Global;
 
-/// A machine over swap areas of the kinds that there are. What is counted and listed of it, flushing, and what its host
-/// changes (processes, credentials, the time) are its system's.
+/// A machine over swap areas of any kind. Its `system` has the counts, the listings, the flush rounds, and
+/// the changes by its host: processes, credentials and the time.
 pub struct Machine {
     pub system: System<AreaPager>,
 }
@@ -26,7 +26,7 @@ impl Drop for Machine {
     }
 }
 
-// The error of a refusal.
+// The error of a refusal, if the reply is one.
 fn refused(reply: &Reply) -> Option<Errno>
     ensures { MatchOption result (is_refusal reply.now ≡ false) (λ e. reply.now ≡ replies.Refused e) }
 {
@@ -37,9 +37,9 @@ fn refused(reply: &Reply) -> Option<Errno>
 }
 
 impl Machine {
-    /// A machine as it opens, with zeros in each slot of its areas, whose listed calls will fail. It is refused by the
-    /// first start error that holds, or out of memory; no memory is taken for areas that are refused. A
-    /// failure of an area or a side that is not there counts for nothing.
+    /// Opens a machine with zeros in each slot of its areas, whose listed reads and writes will fail. A
+    /// failure of an area or a side that does not exist has no effect. Refused with the first start error
+    /// that applies, or with `HostMemory`. Takes no memory for areas that are refused.
     pub fn open(
         alloc: Global,
         limits: Limits,
@@ -63,8 +63,8 @@ impl Machine {
         }
     }
 
-    /// A snapshot: another machine with the same state and memory, whose areas fail at the same calls. Each goes on without
-    /// the other.
+    /// A snapshot: another machine with the same state and memory, whose areas fail at the same calls.
+    /// Afterwards the two are independent. HostMemory: the host refused memory.
     pub fn try_clone(&self) -> Result<Machine, HostMemory>
         ensures { IfOk result (λ copy. copy.system ≡ self.now.system) }
     {
@@ -73,7 +73,7 @@ impl Machine {
         })
     }
 
-    // A call, with the refusals told apart from the other replies.
+    // Makes a call, and separates the refusals from the other replies.
     pub(crate) fn answer(&mut self, pid: u32, call: &Call) -> Result<Reply, Refusal>
         ensures answered { Answered self.old.system pid call.now result self.new.system }
         ensures fits { IfOk result (λ r. fits call.now r ≡ true) }
@@ -90,8 +90,8 @@ impl Machine {
         }
     }
 
-    /// One of the calls that have nothing to tell but that they were done: shmdt(2), the changes of shmctl(2), a
-    /// store, fork, exec, exit, and swapoff(2).
+    /// Makes one of the calls whose reply has no value: shmdt(2), the changes of shmctl(2), a store, fork,
+    /// exec, exit, and swapoff(2).
     pub fn perform(&mut self, pid: u32, call: &Call) -> Result<(), Refusal>
         requires { fits call.now replies.Done ≡ true }
         ensures { Answered self.old.system pid call.now (as_reply done result) self.new.system }

@@ -1,4 +1,4 @@
-//! From what a machine is opened.
+//! What a machine is opened with.
 ghost use Rattle.std.specs.Prelude.{◌≡◌, ◌==◌, ◌≤◌, IfOk, map, length, true, false};
 ghost use Rattle.shm_pager.specs.Pages.{pager_seen};
 ghost use Rattle.shm_pager.specs.Areas.{blank, area_pages, failed_in, IsOfKind};
@@ -8,14 +8,14 @@ use shm_base::HostMemory;
 use shm_pager::{AreaKind, AreaPager, Failing};
 use std::alloc::Global;
 
-/// A swap area: its kind, and how many slots it has. Each side of a mirror has as many.
+/// A swap area: its kind and its number of slots. Each side of a mirror has as many.
 #[derive(Clone, Copy, Debug, PartialEq, Eq)]
 pub struct AreaConfig {
     pub kind: AreaKind,
     pub slots: u32,
 }
 
-/// A side of an area. An area that is no mirror has the left side alone.
+/// A side of an area. Only a mirror has a right side.
 #[derive(Clone, Copy, Debug, PartialEq, Eq)]
 pub enum Side {
     Left,
@@ -33,7 +33,7 @@ pub struct Failure {
 }
 
 impl Failure {
-    // Whether it is of the reads, or of the writes, of this side.
+    // Whether the failure is one of this side's reads or writes.
     fn is_at(&self, area: u32, side: Side, is_write: bool) -> bool
         ensures { result ≡ is_at area side is_write self.now }
     {
@@ -41,7 +41,7 @@ impl Failure {
     }
 }
 
-// The places of the reads, or of the writes, of a side that fail.
+// The failing reads, or the failing writes, of a side.
 fn calls_at(
     alloc: Global,
     failures: &[Failure],
@@ -90,7 +90,7 @@ fn pager_for(
     AreaPager::new(alloc, area.kind, area.slots, left, right)
 }
 
-/// The areas, in their order.
+/// The areas in order.
 pub(crate) fn pagers_for(
     alloc: Global,
     areas: &[AreaConfig],

@@ -1,4 +1,4 @@
-//! Reads and writes of any length: calls that each end with their page, from the first on.
+//! Reads and writes of any length: a sequence of calls, each of which ends with its page.
 ghost use Rattle.std.specs.Prelude.{◌≡◌, ◌+◌, ◌^◌, ◌≤◌, length, MatchResult, OnErr};
 ghost use Rattle.shm_base.specs.declared.call.Call.TheVariants as call;
 ghost use Rattle.shm_base.specs.declared.call.Reply.TheVariants as reply;
@@ -10,14 +10,14 @@ use crate::machine::Machine;
 use crate::refusal::Refusal;
 use shm_base::{Errno, PAGE_SIZE};
 
-/// How far an access came: how many bytes were done, and by what it was stopped where that is not all.
+/// How far an access came: how many bytes were done, and what stopped it if these are not all.
 #[derive(Clone, Copy, Debug, PartialEq, Eq)]
 pub struct Progress {
     pub done: usize,
     pub stopped: Option<Refusal>,
 }
 
-// Where a stretch goes on after the bytes that were done. An address past 64 bits has no piece.
+// The address after the bytes that were done. Sigsegv: it is 2^64 or more, where no piece can be.
 fn next_address(addr: u64, done: usize) -> Result<u64, Refusal>
     ensures { MatchResult result (λ a. a ≡ addr + done) (λ e. (2 ^ 64 ≤ addr + done) × (e ≡ Refusal.Refused Errno.Sigsegv)) }
 {
@@ -25,7 +25,7 @@ fn next_address(addr: u64, done: usize) -> Result<u64, Refusal>
         .ok_or(Refusal::Refused(Errno::Sigsegv))
 }
 
-// How many of the bytes that are left the next call takes: as far as its page goes.
+// How many of the remaining bytes the next call takes: up to the end of its page.
 fn next_len(addr: u64, done: usize, left: usize) -> usize
     ensures { result ≡ next_len (addr + done) left }
 {
@@ -34,7 +34,7 @@ fn next_len(addr: u64, done: usize, left: usize) -> usize
 }
 
 impl Machine {
-    // One call of a read: these bytes, after those that were done.
+    // One call of a read, for the bytes after those that were done.
     fn read_on(&mut self, pid: u32, addr: u64, done: usize, part: &mut [u8]) -> Result<(), Refusal>
         requires { (1 ≤ length part.old) × (length part.old ≤ PAGE_SIZE) }
         ensures read { let load = call.Load (addr + done) (length part.old) in
@@ -45,7 +45,7 @@ impl Machine {
         self.load_into(pid, at, part)
     }
 
-    // One call of a write: these bytes, after those that were done.
+    // One call of a write, for the bytes after those that were done.
     fn write_on(&mut self, pid: u32, addr: u64, done: usize, bytes: &[u8]) -> Result<(), Refusal>
         requires { (1 ≤ length bytes.now) × (length bytes.now ≤ PAGE_SIZE) }
         ensures { let store = call.Store (addr + done) bytes.now in
@@ -55,8 +55,8 @@ impl Machine {
         self.store(pid, at, bytes)
     }
 
-    /// Reads attached memory from an address on, page by page, until one call is not done. An address past 64 bits has no
-    /// piece: Sigsegv, with no call.
+    /// Reads attached memory from an address on, page by page, until a call is refused. An address of 2^64 or
+    /// more is Sigsegv, without a call.
     pub fn read(&mut self, pid: u32, addr: u64, bytes: &mut [u8]) -> Progress
         ensures { ReadTo self.old.system pid addr bytes.old result bytes.new self.new.system }
     {
@@ -77,8 +77,8 @@ impl Machine {
         }
     }
 
-    /// Replaces attached memory from an address on, page by page, until one call is not done. An address past 64 bits has
-    /// no piece: Sigsegv, with no call.
+    /// Replaces attached memory from an address on, page by page, until a call is refused. An address of 2^64
+    /// or more is Sigsegv, without a call.
     pub fn write(&mut self, pid: u32, addr: u64, bytes: &[u8]) -> Progress
         ensures { WrittenTo self.old.system pid addr bytes.now result self.new.system }
     {

@@ -1,8 +1,10 @@
-//! A watched run. The script on standard input runs with threads, while a monitor reads the gauge. The monitor waits for no
-//! lock, also if a pager is slow and calls wait for the world. At the end it prints the events of its last reading, and how
-//! many readings had fewer events than the one before, which is always 0.
+//! A watched run: the script on standard input runs with threads, while a monitor reads the gauge. The
+//! monitor waits for no lock, even if a pager is slow and calls wait for the world. At the end the program
+//! prints the events of the last reading, and how many readings had fewer events than the one before, which
+//! is always 0.
 //!
-//! With the word `gauged` nothing reads, and with `plain` nothing is published either; a comparison shows their cost.
+//! With the word `gauged` nothing reads, and with `plain` nothing is published either. Comparing the three
+//! shows the costs.
 #![tactic(auto)]
 
 mod monitor;
@@ -12,7 +14,7 @@ use std::io::Read;
 use std::process::ExitCode;
 use std::{env, io};
 
-// How the word on the command line has it.
+// What runs in addition to the script, by the word on the command line.
 fn beside(word: Option<&String>) -> Option<Company> {
     match word {
         None => Some(Company::Watched),

@@ -12,7 +12,8 @@ use std::sync::atomic::{AtomicBool, Ordering};
 use std::thread::{Threads, join};
 use thiserror::Error;
 
-/// The additions to the script's workers and flusher: a keeper that publishes, and a monitor that reads.
+/// What runs in addition to the script's workers and flusher: a keeper that publishes, and a monitor that
+/// reads.
 #[derive(Clone, Copy, Debug, PartialEq, Eq)]
 pub(crate) enum Company {
     Plain,
@@ -28,7 +29,7 @@ pub(crate) struct Watched {
     pub(crate) went_back: u64,
 }
 
-/// Why there is no run.
+/// Why nothing was run.
 #[derive(Clone, Copy, Debug, PartialEq, Eq, Error)]
 pub(crate) enum NoRun {
     #[error("no script")]
@@ -82,7 +83,7 @@ fn start(alloc: Global, script: &Script) -> Result<World<SparsePager>, NoRun> {
     }
 }
 
-// The monitor: reads until the run is done, and once more.
+// The monitor: reads until the run is done, and then once more.
 fn watch<R: Wait>(rt: &R, gauge: &Gauge, mut seat: ReaderSeat, is_done: &AtomicBool) -> Watched
     requires { seat.cell ≡ gauge.now }
 {

@@ -25,7 +25,7 @@ module _ (script : ScriptView) (machine : Machine) (seen : List Key) (found : Li
   abbrev Kept : Key → Type 0
   Kept key = IsKept script first seen [] found key
 
-  -- a visited run with the key of a run to which a schedule leads goes on like it
+  -- a visited run with the key of a run to which a schedule leads continues as that one does
   kept-like : (m : Run) → IsReached script first m → Contains seen (key_of script m) → (key : Key) × (k : Kept key) × GoAlike script m k.run
   kept-like m reached met =
       let k = All-contains Kept seen (key_of script m) all.kept met in

@@ -63,7 +63,7 @@ turnless-over script run none = none-over script run (no-followers script run sc
 
 -- THE SCHEDULE
 
--- a schedule goes on by a process that is drawn
+-- a schedule continues with a process that is drawn
 pub drawn-more :
     (script : ScriptView) (schedule : List ℕ) (a b : Run) (stream mid rest : Stream) (turn : Turn)
     → LeadsDrawn script schedule a b stream mid → IsDrawn (turns script b) mid turn rest

@@ -10,7 +10,7 @@ use Rattle.shm_outcomes.specs.declared.fault.LogFault.{LogFault}
 use Rattle.shm_outcomes.specs.declared.fault.LogRefused.{LogRefused}
 use Rattle.shm_outcomes.specs.declared.fault.LogRefused.TheVariants as refusals
 
--- the first line, and those behind it
+-- the first line, and those after it
 first-line : (b : ℕ) (bs : List ℕ) → lines_in (b ∷ bs) ≡ until 10 (b ∷ bs) ∷ lines_in (past 10 (b ∷ bs))
 first-line b [] = elim (cases_Bool (b == 10)) [
   | inl same ↦ rw same refl

@@ -120,7 +120,7 @@ no-change false false h = absurd (cc)
 abbrev event_at : Machine → ℕ → ℕ → Call → Event
 event_at s n pid call = record { pid = pid; call = call; reply = (step s n pid call).reply }
 
--- a call that is no change leaves the machine
+-- a call that changes nothing leaves the machine as it is
 still : (s : Machine) (n pid : ℕ) (call : Call) → is_change (event_at s n pid call) ≡ false → (step s n pid call).state ≡ s
 still s n pid call h =
     elim (no-change (is_refusal (step s n pid call).reply) (looks call) h) [
@@ -166,7 +166,7 @@ leads-redone script (pid ∷ schedule) old new h =
       one-redone old.machine n pid made.0 rest.0 (not-first (length old.events)) ∙ ap (λ (m : Machine). redone (timeless m) (changes rest.0)) machine ∙ rest.2,
     )
 
--- two runs of a script that are alike, but for times
+-- two runs of a script that are alike except for times
 pub record GoAlike (script : ScriptView) (a b : Run) : Type 0 where
   pub machine : timeless a.machine ≡ timeless b.machine
   pub count : length a.events ≡ length b.events
@@ -200,7 +200,7 @@ go-trans script a b c h k = record { machine = h.machine ∙ k.machine; count = 
 masked-value : (r : Reply) (values : List (Option ℕ)) (v : Option ℕ) → values_after values v (Some (masked r)) ≡ values_after values v (Some r)
 masked-value r values v = grind (arith, common_steps)
 
--- it depends on no time that it was told
+-- it depends on no time in its replies
 masked-next : (pid : ℕ) (values : List (Option ℕ)) (lines : List Line) (replies : List Reply) → next_call pid values lines (map masked replies) ≡ next_call pid values lines replies
 masked-next pid values [] replies = refl
 masked-next pid values (Flush n ∷ lines) replies = masked-next pid values lines replies
@@ -220,7 +220,7 @@ map-head f g p ps h = grind (arith, h)
 map-tail : (f g : Process → List Reply) (p : Process) (ps : List Process) → map f (p ∷ ps) ≡ map g (p ∷ ps) → map f ps ≡ map g ps
 map-tail f g p ps h = grind (arith, h)
 
--- the processes were told the same, so each was
+-- all processes got the same replies, so each did
 pub told-at : (f g : Process → List Reply) (ps : List Process) → map f ps ≡ map g ps → (i : ℕ) (p : Process) → i < length ps → p ≡ slice_index_or ps i p → f p ≡ g p
 told-at f g [] same i p lt is = absurd (omega (arith, lt))
 told-at f g (q ∷ ps) same zero p lt is = rw is (map-head f g q ps same)
@@ -256,7 +256,7 @@ same-next script a b pid alike =
     ∙ ap (next_call pid no_values lines) (told-pid a.events b.events pid script.processes alike.told (first-true (has_pid pid script.processes) (is_live b.machine pid) h))
     ∙ masked-next pid no_values lines (replies_to pid b.events))
 
--- one event more, of one process with replies that differ in times alone
+-- one more event, of one process, whose replies differ only in times
 told-more : (es : List Event) (e : Event) (p : Process) → told (es ++ e ∷ []) p ≡ told es p ++ told (e ∷ []) p
 told-more es e p =
     ap (λ (l : List Event). map masked (map reply_of l)) (filter-append (λ (x : Event). x.pid == p.pid) es (e ∷ []))
@@ -296,7 +296,7 @@ after-alike script a b pid call alike =
       told = all-told-more a.events b.events _ _ refl (ap (λ (o : Outcome). o.reply) outcome) script.processes alike.told;
     }
 
--- where one goes on the other does
+-- if one can continue, the other can
 pub goes-alike : (script : ScriptView) (a b : Run) (pid : ℕ) (m : Run) → GoAlike script a b → goes script pid a ≡ Some m → (n : Run) × (goes script pid b ≡ Some n) × GoAlike script m n
 goes-alike script a b pid m alike h =
     let made = made-by (next script a pid) a pid m h in

@@ -16,7 +16,7 @@ pub snoc-cons : (xs ys : List ℕ) (x : ℕ) → (xs ++ x ∷ []) ++ ys ≡ xs +
 snoc-cons [] ys x = refl
 snoc-cons (z ∷ xs) ys x = ap (λ (l : List ℕ). z ∷ l) (snoc-cons xs ys x)
 
--- the pids of the lines, up to a line, that line's, and those behind it
+-- the pids of the lines up to a line, that of the line, and those of the lines after it
 pub pids-at : (entries : List Entry) (i : ℕ) (e : Entry) → i < length entries → e ≡ slice_index_or entries i e
     → map pid_in entries ≡ map pid_in (take i entries) ++ e.pid ∷ map pid_in (drop (i + 1) entries)
 pids-at entries i e lt is =
@@ -34,7 +34,7 @@ one-more-led script entries i e first run next lt is leads on =
     taken (x ∷ xs) zero e lt is = grind (arith, is)
     taken (x ∷ xs) (suc i) e lt is = let next : suc i + 1 ≡ suc (i + 1) = omega arith in rw next (ap (λ (l : List ℕ). x.pid ∷ l) (taken xs i e (omega (arith, lt)) is))
 
--- where a process cannot go on there is no such schedule
+-- if a process cannot continue, there is no such schedule
 halted : (script : ScriptView) (before behind : List ℕ) (pid : ℕ) (a b end : Run) → Leads script before a b → goes script pid b ≡ None → Leads script (before ++ pid ∷ behind) a end → ⊥
 halted script [] behind pid a b end h none k = none-some k.0 (sym none ∙ subst (λ (r : Run). goes script pid r ≡ Some k.0) h k.1)
 halted script (q ∷ before) behind pid a b end h none k =
@@ -50,7 +50,7 @@ halts script log first run entries i e lt is leads none end schedule fills =
     halted script (map pid_in (take i entries)) (map pid_in (drop (i + 1) entries)) e.pid first run end leads none
     (subst (λ (s : List ℕ). Leads script s first end) (pids-at entries i e lt is) schedule.0)
 
--- what the whole order leads to is no such run
+-- the run at the end of the whole order is not such a run
 pub differs : (script : ScriptView) (log : List (List Answer)) (first run : Run) (entries : List Entry) → Leads script (map pid_in entries) first run
     → ((followers script script.processes run ≡ []) × AllFill script log run.events → ⊥) → DiffersInOrder script log first entries
 differs script log first run entries leads not end schedule fills =

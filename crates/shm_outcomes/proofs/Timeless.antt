@@ -38,7 +38,7 @@ module _ (s : Machine) (n : ℕ) (c : Caller) (one : masked_time n ≡ 1) where
   both : (b d : Bool) (o p x y : Outcome) → b ≡ d → o ≡ timeless_outcome x → p ≡ timeless_outcome y → (if b then o else p) ≡ timeless_outcome (if d then x else y)
   both b d o p x y same h k = grind (arith, common_steps)
 
-  -- a test that refuses, or goes on
+  -- a test that refuses, or continues
   tests : (e : Errno) (b d : Bool) (p y : Outcome) → b ≡ d → p ≡ timeless_outcome y → (if b then refuses B e else p) ≡ timeless_outcome (if d then refuses s e else y)
   tests e b d p y same k = both b d (refuses B e) p (refuses s e) y same refl k
 

@@ -117,7 +117,7 @@ in-timeless : (t : List Entry) (i : ℕ) (f g : Entry → Entry) (o : Option Ent
 in-timeless t i f g None is same = grind (arith, common_steps, timeless-get)
 in-timeless t i f g (Some e) is same = grind (arith, common_steps, timeless-get, timeless-set, arith)
 
--- the changes of a segment at place 1 and at place n differ in times alone
+-- the changes of a segment at place 1 and at place n differ only in times
 abbrev pub Match : (Segment → Segment) → (Segment → Segment) → Type 0
 Match f g = (x : Segment) → f (timeless_segment x) ≡ timeless_segment (g x)
 

@@ -1,4 +1,4 @@
--- What a run goes on to, and schedules.
+-- The runs that follow a run, and schedules.
 use Rattle.std.specs.Prelude.{◌≡◌, ℕ, ◌+◌, ◌&&◌, ◌⊎◌, Bool, true, false, List, [], ◌∷◌, ◌++◌, Option, Some, None, cond, All, Contains, length, option_map}
 use Rattle.std.proofs.Common.{ap, refl, sym, subst, arith, inl, inr, length-append}
 use Rattle.std.proofs.lemmas.Bool.{cases_eq}
@@ -14,7 +14,7 @@ use Rattle.shm_text.specs.Script.{ScriptView}
 use Rattle.shm_outcomes.specs.Schedules.{Run, after, goes, is_live, next, Leads, IsOver, pid_of, schedule_of}
 use Rattle.shm_outcomes.specs.Search.{followers, one_run}
 
--- a run that another goes on to is the one after some call
+-- a run that follows another is the one after some call
 pub made-by : (o : Option Call) (run : Run) (pid : ℕ) (m : Run) → option_map (after run pid) o ≡ Some m → (call : Call) × (o ≡ Some call) × (after run pid call ≡ m)
 made-by None run pid m h = absurd (none-some m h)
 made-by (Some call) run pid m h = (call, refl, same_Some _ _ h)
@@ -37,7 +37,7 @@ goes-schedule script pid run m h =
     let made = made-by (next script run pid) run pid m h in
     subst (λ (x : Run). schedule_of x.events ≡ schedule_of run.events ++ pid ∷ []) made.2 (map-append pid_of run.events _)
 
--- a schedule goes on by one line
+-- a schedule continues with one line
 pub leads-more :
     (script : ScriptView) (schedule : List ℕ) (pid : ℕ) (a b c : Run)
     → Leads script schedule a b → goes script pid b ≡ Some c → Leads script (schedule ++ pid ∷ []) a c
@@ -48,7 +48,7 @@ one-all : (P : Run → Type 0) (o : Option Run) → ((m : Run) → o ≡ Some m 
 one-all P None each = λ k d lt. absurd (omega (arith, lt))
 one-all P (Some m) each = λ k d lt. (let e : k ≡ 0 = omega (arith, lt) in rw e (each m refl))
 
--- what holds of each run that some process goes on to, holds of the followers
+-- what holds for each run that follows by some process holds for all followers
 pub followers-all :
     (script : ScriptView) (P : Run → Type 0) (run : Run) → ((pid : ℕ) (m : Run) → goes script pid run ≡ Some m → P m)
     → (ps : List Process) → All P (followers script ps run)

@@ -1,4 +1,4 @@
--- Runs that are told apart by no schedule that goes on from them.
+-- Runs that no later call can tell apart.
 use Rattle.std.specs.Prelude.{◌≡◌, ◌&&◌, Bool, true, false, not, List, filter, length}
 use Rattle.shm_base.specs.History.{is_refusal}
 use Rattle.shm_base.specs.declared.call.Call.{Call}
@@ -19,7 +19,8 @@ is_change e = not (is_refusal e.reply) && not (looks e.call)
 abbrev pub changes : List Event → List Event
 changes events = filter is_change events
 
--- as many calls, of which the same changed the machine in the same order, and each process was told the same but for times
+-- the runs have as many calls; the same calls changed the machine, in the same order; and each process got the same replies
+-- except for times
 pub record AreAlike (f g : Finding) : Type 0 where
   pub count : length f.events ≡ length g.events
   pub told : f.outcome ≡ g.outcome

@@ -1,4 +1,4 @@
--- What a judge says of a log.
+-- What a judge finds about a log.
 use Rattle.std.specs.Prelude.{◌≡◌, ◌⊎◌, ◌<◌, ◌≤◌, ℕ, List, [], ◌∷◌, ◌++◌, map, All, Contains, length, drop, flat_map, Some}
 use Rattle.std.specs.List.{AllPairs}
 use Rattle.shm_base.specs.declared.call.Event.{Event}
@@ -18,7 +18,7 @@ abbrev pub IsExplained : ScriptView → List (List Answer) → Run → List Even
 IsExplained script log first events =
     (end : Run) × IsSchedule script first (schedule_of events) end × (end.events ≡ events) × AllFill script log events
 
--- no process can go on after the run, and it has all the replies of the log
+-- no process can continue after the run, and it has all replies of the log
 abbrev pub IsWholeIn : ScriptView → List (List Answer) → Run → Type 0
 IsWholeIn script log run = (followers script script.processes run ≡ []) × AllFill script log run.events
 
@@ -30,14 +30,14 @@ IsUnexplained script log first = (schedule : List ℕ) (end : Run) → IsSchedul
 abbrev pub IsBeginning : ScriptView → List (List Answer) → Run → Run → Type 0
 IsBeginning script log first run = IsReached script first run × AllBegin script log run.events
 
--- how a run goes on: the calls, each with the reply that it would get
+-- how a run continues: the calls, each with the reply that it would get
 abbrev pub newest : Run → Run → List Event
 newest run next = drop (length run.events) next.events
 
 abbrev pub stuck_at : ScriptView → Run → Stuck
 stuck_at script run = record { events = run.events; next = flat_map (newest run) (followers script script.processes run) }
 
--- the log has no longer beginning
+-- no run that begins the log is longer than this one
 pub record IsStuck (script : ScriptView) (log : List (List Answer)) (first : Run) (s : Stuck) : Type 0 where
   pub beginning : (run : Run) × IsBeginning script log first run × (s ≡ stuck_at script run)
   pub longest : (schedule : List ℕ) (run : Run) → Leads script schedule first run → AllBegin script log run.events → length run.events ≤ length s.events
@@ -52,22 +52,22 @@ AreApart f g = AreAlike f g → ⊥
 abbrev pub IsFound : ScriptView → List (List Answer) → Run → Finding → Type 0
 IsFound script log first f = (run : Run) × IsBeginning script log first run × (f ≡ finding_of script run.events)
 
--- the log has more beginnings than the bound, of which no two are alike
+-- the log has more beginnings than the bound, all of them different
 abbrev pub AreMore : ScriptView → List (List Answer) → Run → ℕ → Type 0
 AreMore script log first most = (found : List Finding) × (most < length found) × All (IsFound script log first) found × AllPairs AreApart found
 
--- why a judge does not know
+-- why a judge has no verdict
 abbrev pub IsDoubt : ScriptView → List (List Answer) → Run → ℕ → SearchError → Type 0
 IsDoubt script log first most (Engine e) = Unit {0}
 IsDoubt script log first most Bound = AreMore script log first most
 
 -- THE SEARCH
 
--- one like it is there
+-- a run like this one is among them
 abbrev pub IsMet : List Finding → Finding → Type 0
 IsMet seen g = (f : Finding) × Contains seen f × AreAlike f g
 
--- a run is put behind those that are left to be visited, if it begins the log and none like it was met
+-- a run is added to those to be visited: it begins the log, and no run like it was met before
 pub record IsNew (script : ScriptView) (log : List (List Answer)) (seen : List Finding) (run : Run) : Type 0 where
   pub begins : AllBegin script log run.events
   pub unmet : IsMet seen (finding_of script run.events) → ⊥
@@ -89,13 +89,14 @@ abbrev pub IsTooMany : ScriptView → List (List Answer) → Run → List Findin
 IsTooMany script log run seen most (Engine e) = Unit {0}
 IsTooMany script log run seen most Bound = IsNew script log seen run × (most ≤ length seen)
 
--- a run that was visited is not the log's whole, is no longer than this, and its followers were met, or are among these
+-- a run that was visited does not have all of the log, is no longer than the longest, and all runs that follow it were met, or
+-- are among these
 pub record IsSettled (script : ScriptView) (log : List (List Answer)) (seen : List Finding) (offered : List Run) (longest : ℕ) (run : Run) : Type 0 where
   pub part : IsOver script run → AllFill script log run.events → ⊥
   pub short : length run.events ≤ longest
   pub onwards : (pid : ℕ) (m : Run) → goes script pid run ≡ Some m → AllBegin script log m.events → IsMet seen (finding_of script m.events) ⊎ Contains offered m
 
--- what was seen so far: these runs are still to be visited, and these to be taken in
+-- the state of the search: the runs still to be visited, and those still to be taken in
 pub record AreSeen (script : ScriptView) (log : List (List Answer)) (first : Run) (seen : List Finding) (runs offered : List Run) (longest : ℕ) : Type 0 where
   pub begun : Contains seen (finding_of script first.events)
   pub found : All (IsFound script log first) seen
@@ -104,7 +105,7 @@ pub record AreSeen (script : ScriptView) (log : List (List Answer)) (first : Run
   pub reached : All (IsReached script first) offered
   pub settled : (run : Run) → IsBeginning script log first run → Contains seen (finding_of script run.events) → Contains runs run ⊎ IsSettled script log seen offered longest run
 
--- the longer one of two beginnings
+-- the longer of two beginnings
 abbrev pub IsLonger : ScriptView → Run → Stuck → Stuck → Type 0
 IsLonger script run old new =
     ((length old.events < length run.events) × (new ≡ stuck_at script run)) ⊎ ((length run.events ≤ length old.events) × (new ≡ old))
@@ -114,6 +115,6 @@ IsLonger script run old new =
 abbrev pub pid_in : Entry → ℕ
 pid_in e = e.pid
 
--- the processes of these lines in order are no schedule with the log's replies
+-- the schedule in the order of these lines does not have the log's replies
 abbrev pub DiffersInOrder : ScriptView → List (List Answer) → Run → List Entry → Type 0
 DiffersInOrder script log first entries = (end : Run) → IsSchedule script first (map pid_in entries) end → AllFill script log end.events → ⊥

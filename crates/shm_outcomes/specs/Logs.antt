@@ -1,4 +1,4 @@
--- What a system answered, process by process, and whether a run has these replies.
+-- The answers that a system gave to each process, and whether a run has these replies.
 use Rattle.std.specs.Prelude.{◌≡◌, ◌<◌, ◌==◌, ℕ, Bool, true, false, List, [], ◌∷◌, length, slice_index_or}
 use Rattle.shm_base.specs.History.{is_refusal}
 use Rattle.shm_base.specs.declared.call.Event.{Event}
@@ -13,12 +13,12 @@ pub record Answer : Type 0 where
   pub line : List ℕ
   pub reply : List ℕ
 
--- what a line of a log says of a process
+-- a line of a log: its process and its answer
 pub record Entry : Type 0 where
   pub pid : ℕ
   pub answer : Answer
 
--- a question mark alone
+-- a single question mark
 abbrev pub is_any : List ℕ → Bool
 is_any [] = false
 is_any (c ∷ []) = c == 63
@@ -28,22 +28,22 @@ abbrev pub FitsAs : Bool → List ℕ → Reply → Type 0
 FitsAs true words reply = is_refusal reply ≡ false
 FitsAs false words reply = words ≡ reply_words reply
 
--- a reply is printed by these words, its times as 0 or `set`; a question mark is any reply that is no refusal
+-- these words print the reply, with its times as 0 or `set`; a question mark stands for any reply that is not a refusal
 abbrev pub Fits : Answer → Reply → Type 0
 Fits answer reply = FitsAs (is_any answer.reply) answer.reply reply
 
--- the replies are a beginning of what was answered
+-- the replies begin the answers
 abbrev pub Begins : List Answer → List Reply → Type 0
 Begins answers [] = Unit {0}
 Begins [] (r ∷ replies) = ⊥
 Begins (a ∷ answers) (r ∷ replies) = Fits a r × Begins answers replies
 
--- so it is of each process; a log has a list for each declared process, in the script's order
+-- the same for each process; a log has a list for each declared process, in the script's order
 abbrev pub AllBegin : ScriptView → List (List Answer) → List Event → Type 0
 AllBegin script log events =
     (i : ℕ) (p : Process) → i < length script.processes → p ≡ slice_index_or script.processes i p → Begins (slice_index_or log i []) (replies_to p.pid events)
 
--- the replies are all that was answered
+-- the replies are exactly the answers
 abbrev pub Fills : List Answer → List Reply → Type 0
 Fills answers replies = Begins answers replies × (length replies ≡ length answers)
 

@@ -16,7 +16,7 @@ hidden reply = reply
 abbrev pub hidden_outcome : List (List Reply) → List (List Reply)
 hidden_outcome outcome = map (map hidden) outcome
 
--- the finding's run is that of a schedule, and has its outcome, in which no identifier and no address is seen
+-- the finding's run is that of a schedule, and has the finding's outcome without identifiers and addresses
 abbrev pub IsMaskedFinding : ScriptView → Run → Finding → Type 0
 IsMaskedFinding script first f =
     (end : Run)
@@ -24,7 +24,7 @@ IsMaskedFinding script first f =
     × (end.events ≡ f.events)
     × (f.outcome ≡ hidden_outcome (outcome_of script f.events))
 
--- every outcome, once, where those that differ in identifiers and addresses alone are one
+-- every outcome once; those that differ only in identifiers and addresses count as one
 pub record AreMaskedOutcomes (script : ScriptView) (first : Run) (found : List Finding) : Type 0 where
   pub sound : All (IsMaskedFinding script first) found
   pub complete : (schedule : List ℕ) (end : Run) → IsSchedule script first schedule end → Contains (outcomes_in found) (hidden_outcome (outcome_of script end.events))

@@ -1,4 +1,4 @@
--- An outcome: the replies of each process in a whole run, but for times.
+-- An outcome: the replies to each process in a whole run, except for times.
 use Rattle.std.specs.Prelude.{ℕ, ◌==◌, if◌then◌else◌, List, map}
 use Rattle.shm_base.specs.declared.call.Event.{Event}
 use Rattle.shm_base.specs.declared.call.Process.{Process}
@@ -8,7 +8,7 @@ use Rattle.shm_base.specs.declared.call.ShmidDs.{ShmidDs}
 use Rattle.shm_text.specs.Script.{ScriptView}
 use Rattle.shm_outcomes.specs.Schedules.{replies_to}
 
--- 0 is never, and any other time is 1
+-- 0, which means never, stays 0; any other time becomes 1
 abbrev pub masked_time : ℕ → ℕ
 masked_time time = if time == 0 then 0 else 1
 

@@ -8,7 +8,7 @@ use Rattle.shm_outcomes.specs.declared.fault.LogFault.{LogFault}
 use Rattle.shm_outcomes.specs.declared.fault.LogFaultKind.{LogFaultKind}
 use Rattle.shm_outcomes.specs.declared.fault.LogFaultKind.TheVariants.{BadLine, UnknownProcess}
 
--- what stands before the first such byte, and behind it
+-- the bytes before the first such byte, and those after it
 abbrev pub until : ℕ → List ℕ → List ℕ
 until c [] = []
 until c (b ∷ bs) = if b == c then [] else b ∷ until c bs
@@ -21,11 +21,11 @@ past c (b ∷ bs) = if b == c then bs else past c bs
 abbrev pub bare : List ℕ → List ℕ
 bare line = if is_some (decimal_of (until 32 (past 32 line))) then past 32 line else line
 
--- what stands behind `= `
+-- the reply: the words after `= `
 abbrev pub reply_in : List ℕ → List ℕ
 reply_in line = past 32 (past 61 line)
 
--- nothing stands on the line, or a comment
+-- the line is empty, or a comment
 abbrev pub is_skipped : List ℕ → Bool
 is_skipped [] = true
 is_skipped (b ∷ bs) = b == 35
@@ -43,11 +43,11 @@ abbrev pub numbered : List Process → List ℕ → Option ℕ → Result Entry 
 numbered processes line None = Err BadLine
 numbered processes line (Some number) = answered_by line (reply_in line) (declared_as processes number)
 
--- what a line says that is not skipped
+-- the entry of a line that is not skipped
 abbrev pub said : List Process → List ℕ → Result Entry LogFaultKind
 said processes line = numbered processes line (decimal_of (until 32 line))
 
--- entries before those of the lines below them
+-- entries before those of the later lines
 abbrev pub all_before : List Entry → Result (List Entry) LogFault → Result (List Entry) LogFault
 all_before entries (Ok more) = Ok (entries ++ more)
 all_before entries (Err fault) = Err fault
@@ -56,7 +56,7 @@ abbrev pub one_said : ℕ → Result Entry LogFaultKind → Result (List Entry) 
 one_said number (Err kind) = Err (record { line = number; kind = kind })
 one_said number (Ok e) = Ok (e ∷ [])
 
--- what a line says, of this number
+-- the entries of a line with this number
 abbrev pub line_says : List Process → ℕ → List ℕ → Result (List Entry) LogFault
 line_says processes number line = if is_skipped line then Ok [] else one_said number (said processes (bare line))
 
@@ -64,12 +64,12 @@ abbrev pub joined : Result (List Entry) LogFault → Result (List Entry) LogFaul
 joined (Ok entries) rest = all_before entries rest
 joined (Err fault) rest = Err fault
 
--- what these lines say, the first of which has this number, or the first fault
+-- the entries of these lines, of which the first has this number, or the first fault
 abbrev pub entries_from : List Process → ℕ → List (List ℕ) → Result (List Entry) LogFault
 entries_from processes number [] = Ok []
 entries_from processes number (line ∷ lines) = joined (line_says processes number line) (entries_from processes (number + 1) lines)
 
--- a line's entries were put behind others
+-- a line's entries were appended to others
 abbrev pub IsSaid : Result (List Entry) LogFault → List Entry → List Entry → Type 0
 IsSaid says olds news = (entries : List Entry) × (says ≡ Ok entries) × (news ≡ olds ++ entries)
 
@@ -82,17 +82,17 @@ abbrev pub lines_in : List ℕ → List (List ℕ)
 lines_in [] = []
 lines_in (b ∷ bs) = if b == 10 then [] ∷ lines_in bs else with_first b (lines_in bs)
 
--- what a log says
+-- the entries of a log, or its first fault
 abbrev pub entries_of : ScriptView → List ℕ → Result (List Entry) LogFault
 entries_of script text = entries_from script.processes 1 (lines_in text)
 
 abbrev pub answer_in : Entry → Answer
 answer_in e = e.answer
 
--- the answers of one process, in order
+-- the answers to one process, in order
 abbrev pub own_answers : List Entry → ℕ → List Answer
 own_answers entries pid = map answer_in (filter (λ (e : Entry). e.pid == pid) entries)
 
--- the answers of each declared process, in the script's order
+-- the answers to each declared process, in the script's order
 abbrev pub log_of : ScriptView → List Entry → List (List Answer)
 log_of script entries = map (λ (p : Process). own_answers entries p.pid) script.processes

@@ -1,4 +1,4 @@
--- What is printed of a verdict.
+-- The printed text of a verdict.
 use Rattle.std.specs.Prelude.{ℕ, ◌+◌, List, [], ◌∷◌, ◌++◌, codes, drop, flat_map, length, slice_index_or}
 use Rattle.shm_base.specs.declared.call.Event.{Event}
 use Rattle.shm_base.specs.declared.call.Process.{Process}
@@ -14,7 +14,7 @@ abbrev pub first_text : List Answer → List ℕ
 first_text [] = []
 first_text (a ∷ answers) = codes "answered " ++ (a.line ++ codes "\n")
 
--- the line of the log that comes next for each of these processes, the first of which stands at a place
+-- the next line of the log for each of these processes, of which the first is at index i
 abbrev pub answers_text : List (List Answer) → List Event → ℕ → List Process → List ℕ
 answers_text log events i [] = []
 answers_text log events i (p ∷ ps) =
@@ -23,7 +23,7 @@ answers_text log events i (p ∷ ps) =
 abbrev pub possible_text : Event → List ℕ
 possible_text e = codes "possible " ++ line_text e
 
--- a longest beginning in order, its schedule, what the log has next for each process, and what it could have there
+-- a longest beginning, its schedule, the log's next line of each process, and the replies that are possible there
 abbrev pub stuck_text : ScriptView → List (List Answer) → Stuck → List ℕ
 stuck_text script log s =
     flat_map line_text s.events ++ (schedule_text s.events ++ (answers_text log s.events 0 script.processes ++ flat_map possible_text s.next))

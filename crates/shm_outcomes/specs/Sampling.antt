@@ -1,4 +1,4 @@
--- Single schedules, each of whose processes is drawn among those that can go on. What a generator answers decides.
+-- Single schedules: the numbers of a generator decide which of the processes that can continue makes its next call.
 use Rattle.std.specs.Prelude.{◌≡◌, ◌<◌, ℕ, zero, suc, List, [], ◌∷◌, ◌++◌, flat_map, length, slice_index_or, Option, Some, None}
 use Rattle.rand.specs.Uniform.{usize_single}
 use Rattle.rand_core.specs.Stream.{Stream}
@@ -14,44 +14,44 @@ abbrev pub one_turn : ℕ → Option Call → List Turn
 one_turn pid None = []
 one_turn pid (Some call) = record { pid = pid; call = call } ∷ []
 
--- which of these processes can go on, each with the call that it makes next
+-- those of these processes that can continue, each with its next call
 abbrev pub turns_of : ScriptView → Run → List Process → List Turn
 turns_of script run processes = flat_map (λ (p : Process). one_turn p.pid (next script run p.pid)) processes
 
--- which processes can go on, in the script's order
+-- the processes that can continue, in the script's order
 abbrev pub turns : ScriptView → Run → List Turn
 turns script run = turns_of script run script.processes
 
--- a number below a count, drawn from all of them alike, and what the generator answers from then on
+-- a number below a count, each with the same probability, and the generator's later numbers
 abbrev pub below : ℕ → Stream → ℕ × Stream
 below count stream = usize_single 0 count stream
 
--- one of these, at the place that the generator gives
+-- the element at the index that the generator gives
 pub record IsDrawn (all : List Turn) (stream : Stream) (turn : Turn) (rest : Stream) : Type 0 where
   pub within : (below (length all) stream).0 < length all
   pub chosen : slice_index_or all (below (length all) stream).0 turn ≡ turn
   pub left : rest ≡ (below (length all) stream).1
 
--- a schedule leads from one run to another, and each of its processes is drawn among those that can go on
+-- a schedule leads from one run to another, and each of its processes is drawn among those that can continue
 abbrev pub LeadsDrawn : ScriptView → List ℕ → Run → Run → Stream → Stream → Type 0
 LeadsDrawn script [] old new stream rest = (old ≡ new) × (stream ≡ rest)
 LeadsDrawn script (pid ∷ schedule) old new stream rest =
     (turn : Turn) × (mid : Stream) × IsDrawn (turns script old) stream turn mid × (turn.pid ≡ pid) × LeadsDrawn script schedule (after old pid turn.call) new mid rest
 
--- the calls and replies of a schedule that is drawn, and what the generator answers from then on
+-- the calls and replies of a drawn schedule, and the generator's later numbers
 pub record IsSample (script : ScriptView) (first : Run) (stream : Stream) (events : List Event) (rest : Stream) : Type 0 where
   pub end : Run
   pub schedule : IsSchedule script first (schedule_of events) end
   pub is : end.events ≡ events
   pub drawn : LeadsDrawn script (schedule_of events) first end stream rest
 
--- one more such run, of this number, is put behind a text
+-- one such run, with this number, is appended to a text
 pub record IsPutSample (script : ScriptView) (first : Run) (number : ℕ) (stream rest : Stream) (old new : List ℕ) : Type 0 where
   pub events : List Event
   pub sample : IsSample script first stream events rest
   pub text : new ≡ old ++ run_text number events
 
--- the text of so many runs, each drawn by what the generator answers after the one before it
+-- the text of this many runs, each drawn by the numbers that follow those of the run before it
 abbrev pub AreSamples : ScriptView → Run → ℕ → Stream → Stream → List ℕ → Type 0
 AreSamples script first zero stream rest text = (text ≡ []) × (stream ≡ rest)
 AreSamples script first (suc n) stream rest text =

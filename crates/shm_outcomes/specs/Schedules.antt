@@ -1,5 +1,4 @@
--- What a script can do: one line of one process at a time, in any order of its processes. Flush lines change no reply and are
--- left out.
+-- Schedules: the processes of a script run their lines one at a time, in any order. Flush lines change no reply and are left out.
 use Rattle.std.specs.Prelude.{◌≡◌, ℕ, ◌+◌, ◌==◌, ◌&&◌, Bool, List, [], ◌∷◌, ◌++◌, map, length, Option, Some, None, is_some, option_map, if◌then◌else◌}
 use Rattle.shm_base.specs.State.{Machine, start_of}
 use Rattle.shm_base.specs.Step.{caller_of, step}
@@ -13,27 +12,27 @@ use Rattle.shm_text.specs.Variables.{no_values, call_of, values_after}
 use Rattle.shm_text.specs.declared.script.Line.{Line}
 use Rattle.shm_text.specs.declared.script.Line.TheVariants.{Command, Flush}
 
--- a run so far: the calls with their replies, and the machine that they lead to
+-- a run so far: the calls with their replies, and the machine at its end
 pub record Run : Type 0 where
   pub machine : Machine
   pub events : List Event
 
--- before the first line
+-- the run before the first line
 abbrev pub fresh : Machine → Run
 fresh machine = record { machine = machine; events = [] }
 
--- the same as a script opens it, over swap areas of these sizes
+-- the run before the first line, when a script opens the machine over swap areas of these sizes
 abbrev pub start : ScriptView → List ℕ → Run
 start script areas = fresh (start_of (record { limits = script.limits; areas = areas; processes = script.processes }))
 
 abbrev pub reply_of : Event → Reply
 reply_of e = e.reply
 
--- what a process was told so far, in order
+-- the replies to a process so far, in order
 abbrev pub replies_to : ℕ → List Event → List Reply
 replies_to pid events = map reply_of (own_part pid events)
 
--- the call of the first line of a process that has no reply yet, with the variables that the replies before it gave
+-- the call of the first line of a process that has no reply yet, with the variables that earlier replies set
 abbrev pub next_call : ℕ → List (Option ℕ) → List Line → List Reply → Option Call
 next_call pid values [] replies = None
 next_call pid values (Flush pages ∷ lines) replies = next_call pid values lines replies
@@ -44,7 +43,7 @@ next_call pid values (Command c ∷ lines) (r ∷ replies) =
     then next_call pid (values_after values c.var (Some r)) lines replies
     else next_call pid values lines (r ∷ replies)
 
--- born, and not ended
+-- the process is born and has not ended
 abbrev pub is_live : Machine → ℕ → Bool
 is_live machine pid = is_some (caller_of machine pid)
 
@@ -64,7 +63,7 @@ after run pid call =
       events = run.events ++ record { pid = pid; call = call; reply = outcome.reply } ∷ [];
     }
 
--- a run after the next line of a process, if it can go on
+-- a run after the next line of a process, if it can continue
 abbrev pub goes : ScriptView → ℕ → Run → Option Run
 goes script pid run = option_map (after run pid) (next script run pid)
 
@@ -73,17 +72,17 @@ abbrev pub Leads : ScriptView → List ℕ → Run → Run → Type 0
 Leads script [] old new = old ≡ new
 Leads script (pid ∷ schedule) old new = (mid : Run) × (goes script pid old ≡ Some mid) × Leads script schedule mid new
 
--- no process can go on
+-- no process can continue
 abbrev pub IsOver : ScriptView → Run → Type 0
 IsOver script run = (pid : ℕ) → goes script pid run ≡ None
 
--- a schedule of a script, from a first run to one at which no process can go on
+-- a schedule of a script: it leads from a first run to one after which no process can continue
 abbrev pub IsSchedule : ScriptView → Run → List ℕ → Run → Type 0
 IsSchedule script first schedule end = Leads script schedule first end × IsOver script end
 
 abbrev pub pid_of : Event → ℕ
 pid_of e = e.pid
 
--- the schedule by which a run came about
+-- the schedule of a run
 abbrev pub schedule_of : List Event → List ℕ
 schedule_of events = map pid_of events

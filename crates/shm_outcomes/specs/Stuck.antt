@@ -1,4 +1,4 @@
--- A run, and the calls by which it can go on, with the reply that each would get.
+-- A run, and the calls by which it can continue, each with the reply that it would get.
 use Rattle.std.specs.Prelude.{List}
 use Rattle.shm_base.specs.declared.call.Event.{Event}
 

@@ -1,4 +1,4 @@
--- What is printed of outcomes.
+-- The printed text of outcomes.
 use Rattle.std.specs.Prelude.{ℕ, Bool, true, false, ◌+◌, ◌-◌, ◌==◌, if◌then◌else◌, List, [], ◌∷◌, ◌++◌, codes, drop, take, flat_map, length}
 use Rattle.std.specs.Fmt.{decimal}
 use Rattle.shm_base.specs.History.{own_part}
@@ -12,7 +12,7 @@ use Rattle.shm_text.specs.Script.{ScriptView}
 use Rattle.shm_outcomes.specs.Schedules.{schedule_of}
 use Rattle.shm_outcomes.specs.Search.{Finding}
 
--- 0 is never, and any other time is `set`
+-- 0 for never, and `set` for any other time
 abbrev pub time_text : ℕ → List ℕ
 time_text time = if time == 0 then codes "0" else codes "set"
 
@@ -31,7 +31,7 @@ placeless e = drop 2 (event_text 1 e)
 abbrev pub without_last : ℕ → List ℕ → List ℕ
 without_last n line = take (length line - n) line
 
--- the line of a call: where it shows a segment, its times, with zeros 25 bytes, are as above
+-- the line of a call; if it shows a segment, the text of its masked times replaces the last 25 bytes, its times as zeros
 abbrev pub line_by : Event → Reply → List ℕ
 line_by e (replies.Stat ds) = without_last 25 (placeless (record e { reply = replies.Stat (without_times ds) })) ++ (times_text ds ++ codes "\n")
 line_by e _ = placeless e
@@ -39,18 +39,18 @@ line_by e _ = placeless e
 abbrev pub line_text : Event → List ℕ
 line_text e = line_by e e.reply
 
--- the same where an identifier or an address is not to be seen: a question mark is in its place
+-- the same with a question mark in place of an identifier or an address
 abbrev pub masked_by : Event → Reply → List ℕ
 masked_by e (replies.Id id) = without_last (length (reply_text (replies.Id id)) + 1) (placeless e) ++ codes "?\n"
 masked_by e (replies.Addr addr) = without_last (length (reply_text (replies.Addr addr)) + 1) (placeless e) ++ codes "?\n"
 masked_by e reply = line_text e
 
--- a line, with its identifier and address or without
+-- a line, masked or not
 abbrev pub line_as : Bool → Event → List ℕ
 line_as true e = masked_by e e.reply
 line_as false e = line_text e
 
--- the words of a reply; of what stat shows, the times, with zeros 24 bytes, are as above
+-- the words of a reply; if it is that of `stat`, the text of its masked times replaces the last 24 bytes, its times as zeros
 abbrev pub reply_words : Reply → List ℕ
 reply_words (replies.Stat ds) = without_last 24 (reply_text (replies.Stat (without_times ds))) ++ times_text ds
 reply_words reply = reply_text reply
@@ -62,7 +62,7 @@ process_text masks events p = flat_map (line_as masks) (own_part p.pid events)
 abbrev pub pid_text : ℕ → List ℕ
 pid_text pid = codes " " ++ decimal pid
 
--- a schedule is the pids in order
+-- a schedule: the pids in order
 abbrev pub schedule_text : List Event → List ℕ
 schedule_text events = codes "schedule" ++ (flat_map pid_text (schedule_of events) ++ codes "\n")
 
@@ -71,12 +71,12 @@ abbrev pub finding_text : Bool → ScriptView → ℕ → Finding → List ℕ
 finding_text masks script n f =
     codes "outcome " ++ (decimal n ++ (codes "\n" ++ (flat_map (process_text masks f.events) script.processes ++ schedule_text f.events)))
 
--- the outcomes from a number on
+-- the outcomes, numbered from n
 abbrev pub findings_text : Bool → ScriptView → ℕ → List Finding → List ℕ
 findings_text masks script n [] = []
 findings_text masks script n (f ∷ found) = finding_text masks script n f ++ findings_text masks script (n + 1) found
 
--- all outcomes, and how many there are
+-- all outcomes, and their number
 abbrev pub outcomes_text : Bool → ScriptView → List Finding → List ℕ
 outcomes_text masks script found = findings_text masks script 1 found ++ (codes "outcomes " ++ (decimal (length found) ++ codes "\n"))
 

@@ -4,21 +4,22 @@ ghost use Rattle.shm_outcomes.specs.declared.fault.LogRefused.TheVariants.{HostM
 
 use std::alloc::{AllocError, AllocFailed};
 
-/// The line does not begin with a process, or has no reply; or the script declares no such process.
+/// What is wrong with a line: it does not begin with a process, it has no reply, or the script does not
+/// declare the process.
 #[derive(Clone, Copy, Debug, PartialEq, Eq)]
 pub enum LogFaultKind {
     BadLine,
     UnknownProcess,
 }
 
-/// The first fault of a log, with the number of its line from 1 on.
+/// The first fault of a log, with the number of its line, from 1.
 #[derive(Clone, Copy, Debug, PartialEq, Eq)]
 pub struct LogFault {
     pub line: u64,
     pub kind: LogFaultKind,
 }
 
-/// Why a log is not read.
+/// Why a log was not read: its first fault, or the host refused memory.
 #[derive(Clone, Copy, Debug, PartialEq, Eq)]
 pub enum LogRefused {
     Fault(LogFault),

@@ -1,5 +1,5 @@
-//! The judge: a search for a schedule that has the replies of a log. It goes on from a run only if its replies begin the log,
-//! and if none like it was met.
+//! The judge: searches a schedule that has the replies of a log. It continues from a run only if the run's
+//! replies begin the log, and if no run like it was met before.
 ghost use Rattle.std.specs.Prelude.{◌≡◌, ◌≢◌, ◌++◌, ◌∷◌, [], ◌↔◌, ◌⊎◌, ◌+◌, ◌<◌, ◌≤◌, ℕ, IfErr, IfOk, IsPermutation, IsTrue, OnOk, length};
 ghost use Rattle.shm_outcomes.specs.Alike.{AreAlike};
 ghost use Rattle.shm_outcomes.specs.Judge.{AreSeen, IsDoubt, IsLonger, IsMet, IsRight, IsTaken, IsTooMany, newest, stuck_at};
@@ -31,7 +31,7 @@ fn are_alike(alloc: Global, finding: &Finding, other: &Finding) -> Result<bool, 
     Ok(are_same_events(&own, &others))
 }
 
-// Whether a run like this one was met.
+// Whether a run like this one was met before.
 fn is_met(alloc: Global, seen: &[Finding], found: &Finding) -> Result<bool, EngineError>
     ensures { IfOk result (λ r. IsTrue r ↔ IsMet seen.now found.now) }
 {
@@ -55,7 +55,7 @@ fn finding_at<M: Engine>(
     Ok(Finding { events, outcome })
 }
 
-// The run, and how it goes on.
+// The run, and the calls by which it can continue.
 fn stuck_at<M: Engine>(alloc: Global, script: &Script, run: &Node<M>) -> Result<Stuck, EngineError>
     ensures { IfOk result (λ s. s ≡ stuck_at script.now run.now) }
 {
@@ -69,7 +69,7 @@ fn stuck_at<M: Engine>(alloc: Global, script: &Script, run: &Node<M>) -> Result<
     Ok(Stuck { events, next })
 }
 
-// What a run has behind the events of one that it goes on from.
+// The events that a run has after those of an earlier one.
 fn newest<'a, M: Engine>(run: &Node<M>, next: &'a Node<M>) -> &'a [Event]
     ensures { result.now ≡ newest run.now next.now }
 {
@@ -81,8 +81,8 @@ fn newest<'a, M: Engine>(run: &Node<M>, next: &'a Node<M>) -> &'a [Event]
     &events[from..]
 }
 
-// Whether some schedule of a script has the replies of a log, whose lines are these entries. The machine has answered no call yet. At most `most` beginnings
-// of schedules are looked at, of which no two are alike.
+// Whether some schedule of a script has the replies of a log, whose lines are these entries. The machine has
+// answered no call yet. Visits at most `most` beginnings of schedules, no two of which are alike.
 pub(crate) fn judge<M: Engine>(
     alloc: Global,
     script: &Script,
@@ -119,7 +119,7 @@ pub(crate) fn judge<M: Engine>(
     Ok(Verdict::Illegal(stuck))
 }
 
-// Whether a run is whole: nothing is offered after it, and it has all the replies of the log.
+// Whether a run is whole: no process can continue, and it has all replies of the log.
 pub(crate) fn is_whole<M: Engine>(
     alloc: Global,
     script: &Script,
@@ -137,7 +137,7 @@ pub(crate) fn is_whole<M: Engine>(
     Ok(told)
 }
 
-// Keeps the longer one of two beginnings.
+// Keeps the longer of two beginnings.
 fn keep_longest<M: Engine>(
     alloc: Global,
     script: &Script,
@@ -152,7 +152,7 @@ fn keep_longest<M: Engine>(
     Ok(())
 }
 
-// The place of the run whose last call is the first in the log, of those from a place on.
+// The index of the run, from an index on, whose last call comes first in the log.
 fn nearest<M: Engine>(entries: &[Entry], offered: &[Node<M>], from: usize) -> usize {
     let mut found = from;
     let mut line = entries.len();
@@ -166,7 +166,7 @@ fn nearest<M: Engine>(entries: &[Entry], offered: &[Node<M>], from: usize) -> us
     found
 }
 
-// Puts that run at the place.
+// Moves that run to the index.
 fn put_nearest<M: Engine>(entries: &[Entry], offered: &mut Vec<Node<M>>, place: usize)
     ensures { IsPermutation offered.old.items offered.new.items }
 {
@@ -176,7 +176,7 @@ fn put_nearest<M: Engine>(entries: &[Entry], offered: &mut Vec<Node<M>>, place: 
     }
 }
 
-// Puts the runs in the order of the lines of their last calls. The first one is taken in last and visited next.
+// Sorts the runs by the log lines of their last calls. The first one is taken in last and visited next.
 fn put_in_order<M: Engine>(entries: &[Entry], offered: &mut Vec<Node<M>>)
     ensures { IsPermutation offered.old.items offered.new.items }
 {
@@ -214,7 +214,7 @@ fn take_in<M: Engine>(
     Ok(())
 }
 
-// Puts a run behind those to be visited, if it begins the log and none like it was met.
+// Adds a run to those to be visited, if it begins the log and no run like it was met before.
 fn take_in_one<M: Engine>(
     alloc: Global,
     script: &Script,

@@ -1,4 +1,4 @@
-//! Every outcome that a script can have, whatever the order of its processes.
+//! Every outcome that a script can have, in any order of its processes.
 #![tactic(auto)]
 
 mod engine;

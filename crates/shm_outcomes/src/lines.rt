@@ -31,7 +31,7 @@ pub(crate) fn next_call(lines: &[Line], pid: u32, events: &[Event]) -> Option<Ca
     None
 }
 
-// The first event of a process from a place on.
+// The index of the first event of a process, from an index on.
 fn next_own(events: &[Event], pid: u32, from: usize) -> usize
     requires { from ≤ length events.now }
     ensures bound { result ≤ length events.now }

@@ -1,4 +1,4 @@
-//! What a system answered, process by process.
+//! What a system answered to each process.
 ghost use Rattle.std.specs.Prelude.{◌≡◌, ◌↔◌, IsTrue, IfNone, IfOk, IfSome, OnOk, length, slice_index_or, [], List};
 ghost use Rattle.shm_base.specs.History.{is_refusal};
 ghost use Rattle.shm_outcomes.specs.Schedules.{replies_to};
@@ -25,7 +25,7 @@ impl Model for Answer {
     ghost view = { λ a. record { line = a.line.items; reply = a.reply.items } };
 }
 
-/// What a line of a log says of a process.
+/// A line of a log: its process and its answer.
 #[derive(Drop)]
 pub struct Entry {
     pub pid: u32,
@@ -49,7 +49,7 @@ pub(crate) fn is_refusal(reply: &Reply) -> bool
     }
 }
 
-// Whether words are a question mark alone.
+// Whether the words are a single question mark.
 fn is_any(words: &[u8]) -> bool
     ensures { result ≡ is_any words.now }
 {
@@ -78,7 +78,7 @@ impl Answer {
     }
 }
 
-/// What one process was answered, in order.
+/// The answers to one process, in order.
 #[derive(Drop)]
 pub struct Answers {
     pub answers: Vec<Answer>,
@@ -93,7 +93,7 @@ impl Model for Answers {
     ghost view = { λ a. a.answers.items };
 }
 
-// How many of these answers the process has in the events, if they are a beginning of them.
+// How many of these answers the process has in the events, if the events begin with these replies.
 fn matched(
     alloc: Global,
     answers: &[Answer],
@@ -117,7 +117,7 @@ fn matched(
     Ok(Some(place))
 }
 
-/// What each declared process was answered, in the script's order; nothing where a list is missing.
+/// The answers to each declared process, in the script's order; none if a list is missing.
 #[derive(Drop)]
 pub struct Log {
     pub processes: Vec<Answers>,
@@ -133,7 +133,7 @@ impl Model for Log {
 }
 
 impl Log {
-    /// What the process at a place was answered.
+    /// The answers to the process at an index.
     pub fn at(&self, place: usize) -> &[Answer]
         ensures { result.now ≡ slice_index_or self.now place [] }
     {
@@ -143,7 +143,7 @@ impl Log {
         }
     }
 
-    // Whether the replies in these events are a beginning of those of the log.
+    // Whether the replies in these events begin those of the log.
     pub(crate) fn begins(
         &self,
         alloc: Global,
@@ -160,7 +160,7 @@ impl Log {
         Ok(true)
     }
 
-    // Whether the replies in these events are those of the log.
+    // Whether the replies in these events are exactly those of the log.
     pub(crate) fn is_told(
         &self,
         alloc: Global,

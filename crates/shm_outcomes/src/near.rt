@@ -1,4 +1,4 @@
-//! A schedule near the order of a log's lines, tried before the whole search.
+//! Tries a schedule near the order of a log's lines, before the whole search.
 ghost use Rattle.std.specs.Prelude.{◌≡◌, All, IfOk, IfSome, OnOk, Some};
 ghost use Rattle.shm_text.specs.Script.{ScriptView};
 ghost use Rattle.shm_outcomes.specs.Schedules.{Run, fresh, goes};
@@ -11,10 +11,10 @@ use crate::search::Node;
 use shm_text::Script;
 use std::alloc::{AllocError, Global};
 
-// How many runs are kept to go back to.
+// How many runs are kept for going back.
 const KEPT: usize = 64;
 
-// How many moves there may be for each line.
+// The most moves for each line.
 const MOVES: usize = 4;
 
 // Whether the last reply of a run is that of a line.
@@ -26,7 +26,7 @@ fn is_answered<M: Engine>(alloc: Global, entry: &Entry, run: &Node<M>) -> Result
     entry.answer.fits(alloc, &events[events.len() - 1].reply)
 }
 
-// The run after a line, if its process can go on and gets the line's reply.
+// The run after a line, if its process can continue and gets the line's reply.
 fn goes_as<M: Engine>(
     alloc: Global,
     script: &Script,
@@ -45,7 +45,7 @@ fn goes_as<M: Engine>(
     Ok(Some(next))
 }
 
-// Drops the first of the runs, if there are as many as are kept.
+// Drops the first run, if the most runs are kept.
 fn forget_first<M: Engine>(path: &mut Vec<Node<M>>)
     ensures reached { (script : ScriptView) (first : Run) →
         All (IsReached script first) path.old.items → All (IsReached script first) path.new.items }
@@ -55,7 +55,7 @@ fn forget_first<M: Engine>(path: &mut Vec<Node<M>>)
     }
 }
 
-// Puts the run after a line behind the last one, if the line fits, and says whether it does.
+// Appends the run after a line, if the line fits, and returns whether it does.
 fn put_next<M: Engine>(
     alloc: Global,
     script: &Script,
@@ -77,7 +77,7 @@ fn put_next<M: Engine>(
     Ok(true)
 }
 
-// Makes one move of a plan, and says whether there was one.
+// Makes one move of a plan, and returns whether there was one.
 fn walk_on<M: Engine>(
     alloc: Global,
     script: &Script,
@@ -108,8 +108,8 @@ fn walk_on<M: Engine>(
     }
 }
 
-// A run of a schedule near the order of the lines. It goes on as long as the plan has a move. The machine has answered no call
-// yet.
+// A run of a schedule near the order of the lines. It continues while the plan has a move. The machine has
+// answered no call yet.
 pub(crate) fn near_order<M: Engine>(
     alloc: Global,
     script: &Script,

@@ -1,4 +1,4 @@
-//! The replies that each process gets in a run, with times of stat masked.
+//! The replies that each process gets in a run, with the times of `stat` masked.
 ghost use Rattle.std.specs.Prelude.{◌≡◌, ◌↔◌, IfOk, IsTrue, List, map};
 ghost use Rattle.shm_base.specs.declared.call.Process.{Process as FlatProcess};
 ghost use Rattle.shm_base.specs.declared.call.Reply.{Reply as FlatReply};
@@ -62,7 +62,7 @@ fn hidden_replies(alloc: Global, replies: &[Reply]) -> Result<Vec<Reply>, AllocE
     Ok(all)
 }
 
-/// The replies to one process, in order. A time is 0, or 1 where it is set.
+/// The replies to one process, in order. A time is 0, or 1 if it is set.
 #[derive(Drop)]
 pub struct Told {
     replies: Vec<Reply>,
@@ -78,7 +78,6 @@ impl Model for Told {
 }
 
 impl Told {
-    /// The replies.
     pub fn replies(&self) -> &[Reply]
         ensures { result.now ≡ self.now }
     {
@@ -174,7 +173,6 @@ fn hidden_told(alloc: Global, told: &[Told]) -> Result<Vec<Told>, AllocError>
 }
 
 impl Outcome {
-    /// The replies of each process.
     pub fn told(&self) -> &[Told]
         ensures { result.now ≡ self.now }
     {

@@ -1,22 +1,23 @@
-//! Which line of a log to try next, where the order of the lines fails. The lines are tried in their order, and a line that does
-//! not fit is left until later.
+//! Which line of a log to try next, if the order of the lines fails. The lines are tried in order, and a line
+//! that does not fit is left for later.
 //!
-//! A plan is a guess. Whatever it tries, the replies decide, so no contract says which line it is.
+//! A plan is a guess. The replies decide whatever it tries, so no contract says which line it picks.
 use crate::log::Entry;
 use shm_base::Event;
 use shm_text::Script;
 use std::alloc::{AllocError, Global};
 
-// How a plan goes on where no line fits.
+// How a plan continues if no line fits.
 #[derive(Clone, Copy)]
 pub(crate) enum Way {
-    // The first line that is left is put before lines that were answered, at the last place where it fits.
+    // Puts the first remaining line before lines that were answered, at the last place where it fits.
     Early,
-    // Other lines are tried in place of the last one, so that no lines change places that are more than so many lines apart.
+    // Tries other lines in place of the last one, so that no lines change places that are farther apart than
+    // this.
     Near(usize),
 }
 
-// How far below the first line that is left a line may be tried, until that first line is put early.
+// How far after the first remaining line a line may be tried, before that first line is put early.
 const LATEST: usize = 16;
 
 fn latest(way: Way) -> usize {
@@ -26,7 +27,7 @@ fn latest(way: Way) -> usize {
     }
 }
 
-// The next line of a process, or the count of lines if it has none.
+// The next line of a process; the number of lines if it has none.
 #[derive(Clone, Copy)]
 struct Head {
     pid: u32,
@@ -35,15 +36,15 @@ struct Head {
 
 // What to do with the runs so far.
 pub(crate) enum Move {
-    // Goes on by this line.
+    // Continues with this line.
     Try(usize),
-    // Goes back to the run before the last one.
+    // Returns to the run before the last one.
     Back,
-    // There is nothing to try.
+    // Nothing is left to try.
     End,
 }
 
-// The first line of a process from a line on, or the count of lines.
+// The first line of a process from a line on; the number of lines if there is none.
 fn own_line(entries: &[Entry], pid: u32, from: usize) -> usize {
     let mut line = from;
     while line < entries.len() {
@@ -56,7 +57,7 @@ fn own_line(entries: &[Entry], pid: u32, from: usize) -> usize {
     line
 }
 
-// The first of the next lines that is not before this one, or `count`.
+// The first of the next lines that is not before `from`, or `count`.
 fn first_head(heads: &[Head], from: usize, count: usize) -> usize {
     let mut found = count;
     for head in heads {
@@ -94,7 +95,7 @@ fn own_count(events: &[Event], pid: u32) -> usize {
     count
 }
 
-// The line of the last of these calls, or the count of lines.
+// The line of the last of these calls; the number of lines if there is none.
 pub(crate) fn last_line(entries: &[Entry], events: &[Event]) -> usize {
     if events.is_empty() {
         return entries.len();
@@ -148,7 +149,7 @@ impl Plan {
         })
     }
 
-    // What to do next, in a log of so many lines.
+    // The next move, in a log of this many lines.
     pub(crate) fn next(&self, count: usize) -> Move {
         if let Some(line) = self.early {
             if self.from > line {
@@ -171,7 +172,7 @@ impl Plan {
         Move::Try(line)
     }
 
-    // The line was answered.
+    // Notes that the line was answered.
     pub(crate) fn took(&mut self, entries: &[Entry], line: usize) -> Result<(), AllocError> {
         self.taken.push(line)?;
         self.from = 0;
@@ -187,12 +188,12 @@ impl Plan {
         Ok(())
     }
 
-    // The line does not fit here.
+    // Notes that the line does not fit here.
     pub(crate) fn failed(&mut self, line: usize) {
         self.from = line.saturating_add(1);
     }
 
-    // The last line that was answered is left again.
+    // Notes that the last line that was answered is open again.
     pub(crate) fn back(&mut self, entries: &[Entry]) {
         let first = first_head(&self.heads, 0, entries.len());
         let Some(line) = self.taken.pop() else {
@@ -205,7 +206,7 @@ impl Plan {
         self.goes_back(first, line);
     }
 
-    // What is tried in place of this line, where no line fitted before `first`.
+    // Chooses what to try in place of this line, if no line fitted before `first`.
     fn goes_back(&mut self, first: usize, line: usize) {
         match self.way {
             Way::Early => {

@@ -1,5 +1,5 @@
-//! Reads a log, line by line. A line has a process, a call and a reply behind `= `, as outcomes are printed; a place may stand
-//! before it. What the call is, the script says, so its words are not looked at.
+//! Reads a log line by line. A line has a process, a call, and a reply after `= `, as outcomes are printed; a
+//! place may precede them. The script says what the call is, so the reader ignores the line's words for it.
 ghost use Rattle.std.specs.Prelude.{◌≡◌, ◌+◌, ◌≤◌, IfErr, IfOk, OnOk, Ok, drop, length, take};
 ghost use Rattle.shm_text.specs.Number.{decimal_of};
 ghost use Rattle.shm_outcomes.specs.Reading.{IsSaid, bare, declared_as, entries_of, is_skipped, line_says, log_of, own_answers, past, reply_in, said, until};
@@ -11,7 +11,7 @@ use shm_base::Process;
 use shm_text::{Script, read_decimal};
 use std::alloc::{AllocError, Global};
 
-// Where the first such byte stands, or the end.
+// The index of the first such byte, or of the end.
 fn place_of(byte: u8, bytes: &[u8]) -> usize
     ensures bound { result ≤ length bytes.now }
     ensures until { take result bytes.now ≡ until byte bytes.now }
@@ -109,7 +109,7 @@ fn said(
     Ok(Ok(Entry { pid, answer }))
 }
 
-/// What a log says, line by line, or its first fault.
+/// The entries of a log, line by line, or its first fault. HostMemory: the host refused memory.
 pub fn read_log(alloc: Global, script: &Script, text: &[u8]) -> Result<Vec<Entry>, LogRefused>
     ensures ok { IfOk result (λ entries. entries_of script.now text.now ≡ Ok entries.items) }
     ensures err { IfErr result (λ e. IsRefusedLog e (entries_of script.now text.now)) }
@@ -127,7 +127,7 @@ pub fn read_log(alloc: Global, script: &Script, text: &[u8]) -> Result<Vec<Entry
     Ok(entries)
 }
 
-// Puts what a line says behind the entries.
+// Appends the entries of a line.
 fn put_line(
     alloc: Global,
     script: &Script,
@@ -172,7 +172,7 @@ fn own_answers(alloc: Global, entries: &[Entry], pid: u32) -> Result<Answers, Al
     Ok(Answers { answers })
 }
 
-/// The answers of each process.
+/// The answers to each process. AllocError: the host refused memory.
 pub fn log_of(alloc: Global, script: &Script, entries: &[Entry]) -> Result<Log, AllocError>
     ensures { IfOk result (λ log. log ≡ log_of script.now entries.now) }
 {

@@ -11,7 +11,7 @@ use shm_base::Event;
 use shm_text::Script;
 use std::alloc::{AllocError, Global};
 
-// How many replies a process has in these events.
+// The number of replies that a process has in these events.
 fn reply_count(events: &[Event], pid: u32) -> usize
     ensures { result ≡ length (replies_to pid events.now) }
 {
@@ -24,7 +24,7 @@ fn reply_count(events: &[Event], pid: u32) -> usize
     count
 }
 
-// The answers from a place on.
+// The answers from an index on.
 fn answers_from(answers: &[Answer], place: usize) -> &[Answer]
     ensures { result.now ≡ drop place answers.now }
 {
@@ -98,8 +98,8 @@ fn put_stuck(
     put_possible(alloc, text, &stuck.next)
 }
 
-/// The text of a verdict: a schedule that has the log's replies; or a longest beginning of the log, with what the log has
-/// behind it and what it could have there.
+/// The text of a verdict: a schedule that has the log's replies; or a longest beginning of the log, the log's
+/// next line of each process, and the replies that are possible there. AllocError: the host refused memory.
 pub fn verdict_text(
     alloc: Global,
     script: &Script,

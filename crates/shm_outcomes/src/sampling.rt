@@ -1,4 +1,4 @@
-//! Single schedules: each process that goes on is drawn among those that can.
+//! Single schedules: a generator draws which of the processes that can continue makes its next call.
 ghost use Rattle.std.specs.Prelude.{◌≡◌, ◌<◌, [], IfNone, IfOk, IfSome, OnOk, length};
 ghost use Rattle.shm_outcomes.specs.Sampling.{AreSamples, IsDrawn, IsPutSample, IsSample, below, turns};
 ghost use Rattle.shm_outcomes.specs.Schedules.{fresh};
@@ -12,14 +12,14 @@ use shm_base::{Call, Event};
 use shm_text::Script;
 use std::alloc::{AllocError, Global};
 
-// A process that can go on, and the call that it makes then.
+// A process that can continue, and its next call.
 #[derive(Clone, Copy)]
 pub(crate) struct Turn {
     pub pid: u32,
     pub call: Call,
 }
 
-// The processes that can go on, in the script's order.
+// The processes that can continue, in the script's order.
 fn turns<M: Engine>(alloc: Global, script: &Script, run: &Node<M>) -> Result<Vec<Turn>, AllocError>
     ensures { IfOk result (λ all. all.items ≡ turns script.now run.now) }
 {
@@ -34,7 +34,7 @@ fn turns<M: Engine>(alloc: Global, script: &Script, run: &Node<M>) -> Result<Vec
     Ok(all)
 }
 
-// A number below a count, drawn from all of them alike.
+// A number below a count, each with the same probability.
 fn below<R: Rng>(rng: &mut R, count: usize) -> usize
     requires { 0 < count }
     ensures bound { result < count }
@@ -43,7 +43,7 @@ fn below<R: Rng>(rng: &mut R, count: usize) -> usize
     rng.random_range(0..count)
 }
 
-// The process that goes on, drawn among those that can.
+// The process that continues, drawn among those that can.
 fn draw<M: Engine, R: Rng>(
     alloc: Global,
     script: &Script,
@@ -81,7 +81,7 @@ fn sample<M: Engine, R: Rng>(
     Ok(run.into_events())
 }
 
-// Appends one more run, of this number, to a text.
+// Appends a run, with this number, to a text.
 fn put_sample<M: Engine, R: Rng>(
     alloc: Global,
     script: &Script,
@@ -100,8 +100,9 @@ fn put_sample<M: Engine, R: Rng>(
     Ok(())
 }
 
-/// The text of so many runs of a script from a machine that has answered no call yet. In each run the generator draws the
-/// process that goes on among those that can, until none can. The same generator gives the same runs.
+/// The text of this many runs of a script, from a machine that has answered no call yet. In each run the
+/// generator draws the process that continues among those that can, until none can. The same generator gives
+/// the same runs. Errors: the host refused memory, or a pager failed.
 pub fn samples<M: Engine, R: Rng>(
     alloc: Global,
     script: &Script,

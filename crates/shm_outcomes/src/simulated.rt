@@ -1,4 +1,4 @@
-//! A system as an engine: it is the flat machine as long as no pager fails.
+//! A system as an engine: it behaves as the flat machine as long as no pager fails.
 ghost use Rattle.std.specs.Prelude.{◌≡◌, ◌⊎◌, ◌+◌, ◌-◌, ◌<◌, ◌^◌, length, map, IfErr, IfOk, OnOk, None};
 ghost use Rattle.shm_base.specs.Step.{step};
 ghost use Rattle.shm_life.specs.MachineView.{names_failure};
@@ -13,7 +13,7 @@ use shm_text::Script;
 use std::alloc::Global;
 use std::marker::Model;
 
-/// A system whose host gives no time, so that each call's time is its place among the calls.
+/// A system whose host gives no time, so the time of each call is its place in the history.
 pub struct Simulated<P: ClonePager> {
     system: System<P>,
 }
@@ -36,7 +36,7 @@ impl<P: ClonePager> Model for Simulated<P> {
 }
 
 impl<P: ClonePager> Simulated<P> {
-    /// The system that a script opens over the pagers. It is refused by the first start error that holds; the pagers are
+    /// The system that a script opens over the pagers. Fails with the first start error; the pagers are
     /// dropped then.
     pub fn open(alloc: Global, script: &Script, pagers: Vec<P>) -> Result<Simulated<P>, StartError>
         ensures machine { IfOk result (λ s. s.machine ≡ (start script.now (map (λ p. length (P.content p)) pagers.items)).machine) }
@@ -57,7 +57,7 @@ impl From<HostMemory> for EngineError {
     }
 }
 
-// Whether a reply names a pager's failure.
+// Whether a reply reports a pager's failure.
 fn names_failure(reply: &Reply) -> bool
     ensures { result ≡ names_failure reply.now }
 {

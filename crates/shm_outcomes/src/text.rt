@@ -65,7 +65,7 @@ fn put_times(text: &mut Vec<u8>, ds: &ShmidDs) -> Result<(), AllocError>
     put_time(text, ds.ctime)
 }
 
-// Puts the line of a call that shows a segment.
+// Appends the line of a call that shows a segment.
 fn put_shown(
     alloc: Global,
     text: &mut Vec<u8>,
@@ -91,7 +91,7 @@ fn shown_words(alloc: Global, ds: &ShmidDs) -> Result<Vec<u8>, AllocError>
     Ok(words)
 }
 
-/// The words of a reply, its times as 0 or `set`.
+/// The words of a reply, with its times as 0 or `set`.
 pub(crate) fn reply_words(alloc: Global, reply: &Reply) -> Result<Vec<u8>, AllocError>
     ensures { IfOk result (λ words. words.items ≡ reply_words reply.now) }
 {
@@ -129,7 +129,7 @@ pub(crate) fn put_line(alloc: Global, text: &mut Vec<u8>, event: &Event) -> Resu
     }
 }
 
-// Puts the line of a call whose reply is not to be seen.
+// Appends the line of a call whose reply is masked.
 fn put_masked(alloc: Global, text: &mut Vec<u8>, event: &Event) -> Result<(), AllocError>
     ensures { OnOk result (text.new.items ≡ text.old.items
         ++ (without_last (length (reply_text event.now.reply) + 1) (placeless event.now) ++ codes "?\n")) }
@@ -141,7 +141,7 @@ fn put_masked(alloc: Global, text: &mut Vec<u8>, event: &Event) -> Result<(), Al
     put(text, b"?\n")
 }
 
-// Puts the line of a call, with its identifier or address or without.
+// Appends the line of a call; its identifier or address may be masked.
 fn put_line_as(
     alloc: Global,
     text: &mut Vec<u8>,
@@ -227,7 +227,8 @@ fn put_finding(
     put_schedule(alloc, text, &finding.events)
 }
 
-/// The text of all outcomes, and how many there are. A question mark may stand for each identifier and each address.
+/// The text of all outcomes, and their number. If `masks`, a question mark replaces each identifier and each
+/// address.
 pub fn outcomes_text(
     alloc: Global,
     masks: bool,
@@ -248,7 +249,7 @@ pub fn outcomes_text(
     Ok(text)
 }
 
-// Appends the lines of calls, with their places from 1 on.
+// Appends the lines of calls, with their places from 1.
 fn put_events(alloc: Global, text: &mut Vec<u8>, events: &[Event]) -> Result<(), AllocError>
     ensures { OnOk result (text.new.items ≡ text.old.items ++ events_text 1 events.now) }
 {

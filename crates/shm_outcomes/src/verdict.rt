@@ -1,8 +1,9 @@
-//! What a judge says of a log.
+//! What a judge finds about a log.
 use shm_base::Event;
 use std::marker::Model;
 
-/// A run that a log begins with, and the calls by which it can go on, with the reply that each would get.
+/// A run with which a log begins, and the calls by which it can continue, each with the reply that it would
+/// get.
 #[derive(Drop)]
 pub struct Stuck {
     pub events: Vec<Event>,
@@ -17,7 +18,8 @@ impl Model for Stuck {
     ghost view = { λ s. record { events = s.events.items; next = s.next.items } };
 }
 
-/// Whether some schedule has the replies of a log: the calls and replies of one, or a longest beginning that some schedule has.
+/// Whether some schedule has the replies of a log: the calls and replies of one; or a longest beginning that
+/// some schedule has.
 #[derive(Drop)]
 pub enum Verdict {
     Legal(Vec<Event>),

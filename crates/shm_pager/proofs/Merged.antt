@@ -33,23 +33,23 @@ merged-set (g₀ ∷ gs) (l₀ ∷ ls) [] i g l r el er = absurd (omega arith)
 merged-set (g₀ ∷ gs) (l₀ ∷ ls) (r₀ ∷ rs) zero g l r el er = refl
 merged-set (g₀ ∷ gs) (l₀ ∷ ls) (r₀ ∷ rs) (suc i) g l r el er = grind (arith, common_steps, (merged-set gs ls rs i g l r))
 
--- one slot of both sides unknown, and its marks
+-- one slot of both sides became unknown, and has these marks
 merged-unknown : (gs : List Good) (ls rs ls' rs' : List (List ℕ)) (i : ℕ) (g : Good) → length ls ≡ length gs → length rs ≡ length gs
     → SlotUnknown i ls ls' → SlotUnknown i rs rs'
     → merged (set gs i g) ls' rs' ≡ set (merged gs ls rs) i (shown g (get_or ls' i []) (get_or rs' i []))
 merged-unknown gs ls rs ls' rs' i g el er ul ur = grind (arith, common_steps, set, merged-set)
 
--- where one slot was set, it is unknown
+-- a slot that was set counts as unknown
 unknown-set : (xs ys : List (List ℕ)) (i : ℕ) (x : List ℕ) → i < length xs → ys ≡ set xs i x → SlotUnknown i xs ys
 unknown-set xs ys i x within e = grind (arith, common_steps)
 
--- one slot of both sides unknown: so it is in what is shown
+-- if one slot of both sides is unknown, it is unknown in the mirror too
 pub unknown-merged : (gs : List Good) (ls rs ls' rs' : List (List ℕ)) (i : ℕ) (g : Good) → i < length gs → length ls ≡ length gs → length rs ≡ length gs
     → SlotUnknown i ls ls' → SlotUnknown i rs rs' → SlotUnknown i (merged gs ls rs) (merged (set gs i g) ls' rs')
 unknown-merged gs ls rs ls' rs' i g within el er ul ur =
     unknown-set (merged gs ls rs) (merged (set gs i g) ls' rs') i (shown g (get_or ls' i []) (get_or rs' i [])) (omega (arith, length-merged gs ls rs)) (merged-unknown gs ls rs ls' rs' i g el er ul ur)
 
--- one slot of both sides unknown, but the page on those that took it, of which there is one
+-- one slot of both sides is unknown, except on the sides that took the page, at least one
 pub merged-written : (gs : List Good) (ls rs ls' rs' : List (List ℕ)) (i : ℕ) (g : Good) (page : List ℕ) → i < length gs → length ls ≡ length gs → length rs ≡ length gs
     → SlotUnknown i ls ls' → SlotUnknown i rs rs' → (g.left ≡ true → ls' ≡ set ls i page) → (g.right ≡ true → rs' ≡ set rs i page)
     → (g.left ≡ true) ⊎ ((g.left ≡ false) × (g.right ≡ true)) → merged (set gs i g) ls' rs' ≡ set (merged gs ls rs) i page

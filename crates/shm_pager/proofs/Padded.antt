@@ -1,11 +1,11 @@
--- Lists of which only a beginning is stored, read and changed.
+-- Lists of which only the first items are stored: reading and changing them.
 use Rattle.std.proofs.Common.{◌≡◌, ℕ, zero, suc, ◌<◌, ◌≤◌, ◌-◌, ◌+◌, List, [], ◌∷◌, ◌++◌, length, get_or, set, map, replicate, refl, sym, ap, ◌∙◌, inl, inr, arith, length-append, length-set}
 use Rattle.std.proofs.lemmas.List.{length-replicate, get_or_past, set_past, set-get_or, set-append_left, length-map, replicate-append-replicate, append-nil}
 use Rattle.std.proofs.lemmas.Bool.{cases_lt}
 use Rattle.shm_pager.specs.Padded.{padded}
 
 module _ {X : Type 0} where
-  -- how many are stored once all below a number are
+  -- how many are stored after all below a number are
   pub size-padded : (xs : List X) (m : ℕ) (d : X) → length (padded xs m d) ≡ length xs + (m - length xs)
   size-padded xs m d = length-append xs (replicate (m - length xs) d) ∙ ap (λ k. length xs + k) (length-replicate (m - length xs) d)
 
@@ -28,11 +28,11 @@ module _ {X : Type 0} where
   get_or-more (x ∷ xs) m zero d = refl
   get_or-more (x ∷ xs) m (suc i) d = get_or-more xs m i d
 
-  -- past the end, too, the other item is read
+  -- beyond the end the other item is read
   pub get_or-padded : (xs : List X) (n i : ℕ) (d : X) → get_or (padded xs n d) i d ≡ get_or xs i d
   get_or-padded xs n i d = get_or-more xs (n - length xs) i d
 
-  -- what was read is put back
+  -- writing back what was read changes nothing
   pub set-read : (xs : List X) (i : ℕ) (x : X) → x ≡ get_or xs i x → set xs i x ≡ xs
   set-read xs i x read = ap (set xs i) read ∙ set-get_or xs i x
 
@@ -40,7 +40,7 @@ module _ {X : Type 0} where
   pub set-padded : (xs : List X) (n i : ℕ) (x d : X) → i < length xs → padded (set xs i x) n d ≡ set (padded xs n d) i x
   set-padded xs n i x d stored = rw (length-set xs i x) (sym (set-append_left xs (replicate (n - length xs) d) i x stored))
 
-  -- an item becomes as the others are
+  -- a stored item becomes like the others
   pub unset-padded : (xs : List X) (n i : ℕ) (d : X) → padded (set xs i d) n d ≡ set (padded xs n d) i d
   unset-padded xs n i d =
       elim (cases_lt i (length xs)) [
@@ -50,7 +50,7 @@ module _ {X : Type 0} where
             rw (set_past xs i d past) (let back : set (padded xs n d) i (get_or (padded xs n d) i d) ≡ padded xs n d = set-get_or (padded xs n d) i d in let kept : set (padded xs n d) i d ≡ padded xs n d = rw same at back in sym kept)
       ]
 
-  -- one more is stored, the first that was not
+  -- the first item that was not stored is stored
   pub push-padded : (xs : List X) (n : ℕ) (x d : X) → length xs < n → padded (xs ++ x ∷ []) n d ≡ set (padded xs n d) (length xs) x
   push-padded xs n x d more = by xs (n - length xs) (n - length (xs ++ x ∷ [])) (let e = length-append xs (x ∷ []) in omega (arith, more, e))
     where
@@ -62,21 +62,21 @@ module _ {X : Type 0} where
   more-same [] m k d = replicate-append-replicate m k d
   more-same (x ∷ xs) m k d = ap (λ l. x ∷ l) (more-same xs m k d)
 
-  -- it is as before where more are stored that are as the others
+  -- storing more items that are like the others changes nothing
   pub padded-padded : (xs : List X) (m n : ℕ) (d : X) → m ≤ n → length xs ≤ n → padded (padded xs m d) n d ≡ padded xs n d
   padded-padded xs m n d few within =
       let sum : m - length xs + (n - length (padded xs m d)) ≡ n - length xs = rw (size-padded xs m d) (omega (arith, few, within)) in
       more-same xs (m - length xs) (n - length (padded xs m d)) d ∙ ap (λ k. xs ++ replicate k d) sum
 
-  -- one more is stored that is as the others
+  -- one more item that is like the others is stored
   pub more-padded : (xs : List X) (m : ℕ) (d : X) → length xs ≤ m → padded xs m d ++ d ∷ [] ≡ padded xs (m + 1) d
   more-padded xs m d within = more-same xs (m - length xs) 1 d ∙ ap (λ k. xs ++ replicate k d) (let e : m - length xs + 1 ≡ m + 1 - length xs = omega (arith, within) in e)
 
-  -- no more are there than are stored
+  -- there are no more items than the stored ones
   pub padded-none : (xs : List X) (m : ℕ) (d : X) → m ≤ length xs → padded xs m d ≡ xs
   padded-none xs m d few = let none : m - length xs ≡ 0 = omega (arith, few) in rw none (append-nil xs)
 
-  -- all of them are as the others
+  -- all items are like the others
   pub padded-same : (k n : ℕ) (d : X) → k ≤ n → padded (replicate k d) n d ≡ replicate n d
   padded-same k n d few = rw (length-replicate k d) (more-same [] k (n - k) d ∙ ap (λ m. replicate m d) (let e : k + (n - k) ≡ n = omega (arith, few) in e))
 

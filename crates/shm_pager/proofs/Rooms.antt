@@ -1,4 +1,4 @@
--- Pages of zeros, and places that have no room for them.
+-- Pages of zeros, and slots that have no memory for them.
 use Rattle.std.proofs.Common.{rules, ◌≡◌, ◌==◌, ◌↔◌, ◌<◌, ℕ, zero, suc, true, List, [], ◌∷◌, length, take, replicate, map, set, Option, Some, None, get_or, ◌≤◌, ◌+◌, length-set, refl, sym, ap, ◌∙◌, arith}
 use Rattle.std.proofs.lemmas.Grind.{common_steps}
 use Rattle.std.specs.List.{list_all}
@@ -18,7 +18,7 @@ all-from_zeros : (n : ℕ) → list_all (λ b. b == 0) (replicate n 0) ≡ true
 all-from_zeros zero = refl
 all-from_zeros (suc n) = all-from_zeros n
 
--- a page is the page of zeros where each of its bytes is
+-- a page is the page of zeros exactly if each of its bytes is zero
 pub zero_page-from_all : (page : List ℕ) → length page ≡ 4096 → (list_all (λ b. b == 0) page ≡ true) ↔ (page ≡ zero_page)
 unfolding zero_page
 zero_page-from_all page whole = (
@@ -38,17 +38,17 @@ NoZeros-replicate zero slot room found zeros = (cc)
 NoZeros-replicate (suc n) zero room found zeros = (cc)
 NoZeros-replicate (suc n) (suc slot) room found zeros = NoZeros-replicate n slot room found zeros
 
--- all rooms given back
+-- all memory was returned
 pub pages-wiped : (after : List (Option (List ℕ))) (n slots : ℕ) → length after ≡ n → n ≤ slots → take n after ≡ replicate n None
     → padded (map page_behind after) slots zero_page ≡ replicate slots zero_page
 pages-wiped after n slots all few e = let blank : map page_behind after ≡ replicate n zero_page = ap (map page_behind) (sym (take_all n after (omega (arith, all))) ∙ e) ∙ pages-replicate n in rw blank (padded-same n slots zero_page few)
 
 module _ (places : List (Option (List ℕ))) (slots slot : ℕ) where
-  -- a place that is stored changes
+  -- a stored slot changes
   pub shown-set : (o : Option (List ℕ)) → slot < length places → padded (map page_behind (set places slot o)) slots zero_page ≡ set (padded (map page_behind places) slots zero_page) slot (page_behind o)
   shown-set o stored = rw (pages-set places slot o) (set-padded (map page_behind places) slots slot (page_behind o) zero_page (rw (length-map places page_behind) stored))
 
-  -- a place is given back
+  -- a slot's memory is returned
   pub shown-clear : padded (map page_behind (set places slot None)) slots zero_page ≡ set (padded (map page_behind places) slots zero_page) slot zero_page
   shown-clear = rw (pages-set places slot None) (unset-padded (map page_behind places) slots slot zero_page)
 
@@ -62,18 +62,18 @@ module _ (places : List (Option (List ℕ))) (slots slot : ℕ) where
   pub shown-more : (m : ℕ) → m ≤ slots → length places ≤ slots → padded (map page_behind (padded places m None)) slots zero_page ≡ padded (map page_behind places) slots zero_page
   shown-more m few within = rw (map-padded page_behind places m None) (padded-padded (map page_behind places) m slots zero_page few (rw (length-map places page_behind) within))
 
--- a room whose page is not zeros
+-- memory with a page that is not zeros
 pub NoZeros-set : (places : List (Option (List ℕ))) (i : ℕ) (room : List ℕ) → i < length places → NoZeros places → (room ≡ zero_page → ⊥) → NoZeros (set places i (Some room))
 NoZeros-set places i room within before other slot found at zeros = grind (arith, common_steps)
 
--- the places that are not stored have no room
+-- the slots that are not stored have no memory
 pub NoZeros-padded : (places : List (Option (List ℕ))) (m : ℕ) → NoZeros places → NoZeros (padded places m None)
 NoZeros-padded places m before slot page found zeros = before slot page (sym (get_or-padded places m slot None) ∙ found) zeros
 
 pub NoZeros-unset : (places : List (Option (List ℕ))) (i : ℕ) → NoZeros places → NoZeros (set places i None)
 NoZeros-unset places i before slot page found zeros = grind (arith, common_steps)
 
--- a page that is not zeros is put into a place, and those before it are stored too
+-- a page that is not zeros is written to a slot, and the slots below it are stored too
 module _ (places : List (Option (List ℕ))) (slots slot : ℕ) (page : List ℕ) (there : slot < slots) (few : length places ≤ slots) where
   pub put-shown : padded (map page_behind (set (padded places (slot + 1) None) slot (Some page))) slots zero_page ≡ set (padded (map page_behind places) slots zero_page) slot page
   put-shown =

@@ -1,4 +1,4 @@
--- What an area of each kind shows.
+-- The pages and failures of an area of each kind.
 use Rattle.std.specs.Prelude.{ℕ, ◌≡◌, List, replicate}
 use Rattle.shm_pager.specs.Pages.{PagerView, zero_page}
 use Rattle.shm_pager.specs.Fuse.{FuseView, new_fuse}
@@ -20,15 +20,15 @@ failed_in (Ram f) = f.failed
 failed_in (Sparse f) = f.failed
 failed_in (Mirror m) = m.failed
 
--- so many slots of zeros
+-- this many slots of zeros
 abbrev pub blank : ℕ → PagerView
 blank slots = record { pages = replicate slots zero_page; failed = 0 }
 
--- zeros in each slot, and just these reads and writes will fail
+-- zeros in each slot, and exactly these reads and writes will fail
 abbrev pub FailsWhere : FuseView → ℕ → List ℕ → List ℕ → Type 0
 FailsWhere f slots reads writes = f ≡ new_fuse (blank slots) reads writes 0
 
--- an area of a kind; what is listed for the sides of a mirror is behind it, and not seen there
+-- a new area of a kind; for a mirror, the calls that will fail are those of its sides, and are not seen here
 abbrev pub IsOfKind : AreaKind → ℕ → List ℕ → List ℕ → AreaPager → Type 0
 IsOfKind kinds.Ram slots reads writes (Ram f) = FailsWhere f slots reads writes
 IsOfKind kinds.Sparse slots reads writes (Sparse f) = FailsWhere f slots reads writes

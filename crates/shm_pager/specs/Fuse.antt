@@ -15,7 +15,7 @@ pub record FuseView : Type 0 where
   -- how many of them failed
   pub failed : ℕ
 
--- a fuse as it is made
+-- a new fuse
 abbrev pub new_fuse : PagerView → List ℕ → List ℕ → ℕ → FuseView
 new_fuse inner bad_reads bad_writes failed =
     record { inner = inner; bad_reads = bad_reads; bad_writes = bad_writes; reads = 0; writes = 0; failed = failed }
@@ -23,14 +23,14 @@ new_fuse inner bad_reads bad_writes failed =
 abbrev pub is_listed : List ℕ → ℕ → Bool
 is_listed places n = list_any (λ k. k == n) places
 
--- whether the next read is one that fails
+-- the next read is one that fails
 abbrev pub read_is_bad : FuseView → Bool
 read_is_bad f = is_listed f.bad_reads (next_count f.reads)
 
--- whether the next write is one that fails
+-- the next write is one that fails
 abbrev pub write_is_bad : FuseView → Bool
 write_is_bad f = is_listed f.bad_writes (next_count f.writes)
 
--- the page that a write which fails on purpose puts into its slot
+-- the page that a write which fails on purpose leaves in its slot
 abbrev pub scorched_page : List ℕ
 scorched_page = replicate PAGE_SIZE 0xa5

@@ -24,7 +24,7 @@ both_sides = record { left = true; right = true }
 abbrev pub no_side : Good
 no_side = record { left = false; right = false }
 
--- the pages that a mirror shows: of each slot the left side's where that is good, else the right side's
+-- the pages of a mirror: for each slot the left side's if that is good, else the right side's
 abbrev pub merged : List Good → List (List ℕ) → List (List ℕ) → List (List ℕ)
 merged [] ls rs = []
 merged (g ∷ gs) ls rs = (if g.left then get_or ls 0 [] else get_or rs 0 []) ∷ merged gs (drop 1 ls) (drop 1 rs)
@@ -32,25 +32,25 @@ merged (g ∷ gs) ls rs = (if g.left then get_or ls 0 [] else get_or rs 0 []) �
 abbrev pub pages_shown : MirrorView → List (List ℕ)
 pages_shown m = merged m.good m.left.pages m.right.pages
 
--- which sides are good for a slot
+-- the sides that are good for a slot
 abbrev pub good_at : MirrorView → ℕ → Good
 good_at m slot = get_or m.good slot no_side
 
--- whether a read of a slot asked the left side, and whether that served
+-- a read of a slot called the left side, and that succeeded
 abbrev pub left_asked : ℕ → MirrorView → Bool
 left_asked slot before = (good_at before slot).left
 
 abbrev pub left_serves : ℕ → MirrorView → MirrorView → Bool
 left_serves slot before after = left_asked slot before && served before.left after.left
 
--- whether it asked the right side, and whether that served
+-- it called the right side, and that succeeded
 abbrev pub right_asked : ℕ → MirrorView → MirrorView → Bool
 right_asked slot before after = (good_at before slot).right && not (left_serves slot before after)
 
 abbrev pub right_serves : ℕ → MirrorView → MirrorView → Bool
 right_serves slot before after = right_asked slot before after && served before.right after.right
 
--- the two sides of a mirror have one size, and hold the same page where both are good
+-- the two sides of a mirror have one size, and hold the same page if both are good
 pub record IsMirror (m : MirrorView) : Type 0 where
   pub left : length m.left.pages ≡ length m.good
   pub right : length m.right.pages ≡ length m.good

@@ -1,7 +1,7 @@
--- Lists of which only a beginning is stored.
+-- Lists of which only the first items are stored.
 use Rattle.std.specs.Prelude.{ℕ, ◌-◌, List, ◌++◌, length, replicate}
 
 module _ {X : Type 0} where
-  -- so many items: those that are stored, and then one that stands for each of the others
+  -- `count` items: the stored ones, and then `other` for each that is not stored
   abbrev pub padded : List X → ℕ → X → List X
   padded stored count other = stored ++ replicate (count - length stored) other

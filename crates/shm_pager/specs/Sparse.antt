@@ -1,12 +1,12 @@
--- Pages that have room only where they are not zeros.
+-- Pages that have memory only if they are not all zeros.
 use Rattle.std.specs.Prelude.{ℕ, ◌≡◌, List, Option, Some, None, get_or}
 use Rattle.shm_pager.specs.Pages.{zero_page}
 
--- the page in a place, zeros where it has no room
+-- the page of a slot: zeros if it has no memory
 abbrev pub page_behind : Option (List ℕ) → List ℕ
 page_behind None = zero_page
 page_behind (Some page) = page
 
--- no room holds zeros
+-- no slot has memory for a page of zeros
 abbrev pub NoZeros : List (Option (List ℕ)) → Type 0
 NoZeros places = (slot : ℕ) (page : List ℕ) → get_or places slot None ≡ Some page → page ≡ zero_page → ⊥

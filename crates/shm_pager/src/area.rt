@@ -1,4 +1,4 @@
-//! A swap area of one of the kinds, as one type.
+//! A swap area of any kind, as one type.
 ghost use Rattle.std.specs.Prelude.{◌≡◌, IfOk, replicate};
 ghost use Rattle.shm_pager.specs.Pages.{zero_page};
 ghost use Rattle.shm_pager.specs.Areas.{area_pages, failed_in, FailsWhere, IsOfKind};
@@ -11,8 +11,8 @@ use crate::sparse::SparsePager;
 use shm_base::{HostMemory, PAGE_BYTES};
 use std::alloc::Global;
 
-/// A kind of swap area: a page of memory for each slot; memory only for slots that hold other bytes than zeros;
-/// or two sides of the first kind with the same pages.
+/// A kind of swap area. `Ram`: a page of memory for each slot. `Sparse`: memory only for slots with a byte
+/// other than 0. `Mirror`: two sides of the first kind, which hold the same pages.
 #[derive(Clone, Copy, Debug, PartialEq, Eq)]
 pub enum AreaKind {
     Ram,
@@ -20,7 +20,7 @@ pub enum AreaKind {
     Mirror,
 }
 
-/// Which calls of a side of an area fail: the places of its reads and of its writes, each counted from 1.
+/// Which calls of one side of an area fail: places of its reads and of its writes, each counted from 1.
 #[derive(Debug, Drop)]
 pub struct Failing {
     pub reads: Vec<u64>,
@@ -53,7 +53,8 @@ fn ram(alloc: Global, slots: u32, failing: Failing) -> Result<FusePager<RamPager
 }
 
 impl AreaPager {
-    /// An area with zeros in each slot. The right side's places count for a mirror alone.
+    /// An area with zeros in each slot. `right` counts only for a mirror. HostMemory: the host refused
+    /// memory.
     pub fn new(
         alloc: Global,
         kind: AreaKind,

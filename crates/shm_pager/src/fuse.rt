@@ -1,4 +1,4 @@
-//! A pager that fails where it is told to.
+//! A pager that fails at chosen calls.
 ghost use Rattle.std.specs.Prelude.{◌≡◌, ◌<◌, [], length, set, get_or, replicate, true, false, not, ◌&&◌, if◌then◌else◌, is_ok, IfOk};
 ghost use Rattle.shm_pager.specs.Pages.{zero_page, last_count, next_count, pager_seen, served, SlotUnknown, CountsErr, TriesWrite, TriesRead};
 ghost use Rattle.shm_pager.specs.Fuse.{new_fuse, is_listed, read_is_bad, write_is_bad, scorched_page};
@@ -7,13 +7,12 @@ use crate::pager::{ClonePager, Pager, PagerFault, read_if, try_write};
 use shm_base::{HostMemory, PAGE_BYTES};
 use std::marker::Model;
 
-// What a failing write leaves in the slot.
+// The byte that a failing write leaves throughout its slot.
 const SCORCH: u8 = 0xa5;
 
-/// A pager round another that fails the reads and writes at the listed places. Each call of `read` takes
-/// the next place in the one list, each call of `write` in the other, from 1 on; a place stays at
-/// `u64::MAX`. Failures of the inner pager are passed on. An inner pager whose own count stands at
-/// `u64::MAX` is not read and written; such a call fails.
+/// A pager around another one. Its reads and writes fail at the listed places. Reads and writes are counted
+/// apart, each from 1; a count stops at `u64::MAX`. Failures of the inner pager are passed on. An inner pager
+/// whose own count of failures is `u64::MAX` is not called any more, and each such call fails.
 pub struct FusePager<P: Pager> {
     inner: P,
     bad_reads: Vec<u64>,
@@ -39,7 +38,7 @@ impl<P: Pager> Model for FusePager<P> {
     } };
 }
 
-// Counts the next call, and says whether it is listed.
+// Counts the next call, and returns whether it is listed.
 fn next_call(listed: &Vec<u64>, call: &mut u64) -> bool
     ensures call { call.new ≡ next_count call.old }
     ensures listed { result ≡ is_listed listed.now.items (next_count call.old) }
@@ -57,9 +56,9 @@ impl<P: Pager> FusePager<P> {
         FusePager::new_at(inner, bad_reads, bad_writes, 0)
     }
 
-    /// As [`FusePager::new`], for a pager that goes on counting where another stopped: it has counted this many failures
-    /// already. At `u64::MAX` it can count no more, and whoever reads and writes by [`try_read`](crate::try_read) and
-    /// [`try_write`](crate::try_write) asks it for nothing.
+    /// As [`FusePager::new`], but for a pager that has counted this many failures already. At `u64::MAX` it
+    /// can't count any more, and [`try_read`](crate::try_read) and [`try_write`](crate::try_write) no longer
+    /// call it.
     pub fn new_at(
         inner: P,
         bad_reads: Vec<u64>,
@@ -93,7 +92,7 @@ impl<P: Pager> Pager for FusePager<P> {
         self.failed
     }
 
-    /// A listed write first puts a page of the byte 0xa5 into the slot.
+    /// A listed write first fills the slot with the byte 0xa5.
     fn write(&mut self, slot: u32, page: &[u8; PAGE_BYTES]) -> Result<(), PagerFault>
         requires there { slot < length self.old.inner.pages }
         requires countable { self.old.failed < last_count }
@@ -121,7 +120,7 @@ impl<P: Pager> Pager for FusePager<P> {
         Err(PagerFault)
     }
 
-    /// A listed read does not ask the inner pager.
+    /// A listed read does not call the inner pager.
     fn read(&mut self, slot: u32, page: &mut [u8; PAGE_BYTES]) -> Result<(), PagerFault>
         requires there { slot < length self.old.inner.pages }
         requires countable { self.old.failed < last_count }

@@ -1,7 +1,6 @@
-//! Pagers: stores of pages by slot, any of whose reads and writes may fail. One trait has four kinds:
-//! pages in memory, sparse pages, a pager that fails at chosen operations, and a mirror that keeps each page
-//! in two pagers. [`AreaPager`] is a swap area of any of these kinds. Each kind makes copies of itself:
-//! [`ClonePager`].
+//! Pagers store pages by slot, and any of their reads and writes may fail. One trait has four kinds: pages in
+//! memory, sparse pages, a pager that fails at chosen calls, and a mirror that keeps each page in two pagers.
+//! [`AreaPager`] is a swap area of any of these kinds. Each kind can be copied: [`ClonePager`].
 #![tactic(auto)]
 
 mod area;

@@ -1,4 +1,4 @@
-//! Two pagers kept alike.
+//! Two pagers that hold the same pages.
 ghost use Rattle.std.specs.Prelude.{◌≡◌, ◌≢◌, ◌<◌, ◌==◌, [], length, set, get_or, replicate, true, false, ◌||◌, if◌then◌else◌, is_ok, IfOk, IfErr, IsErr};
 ghost use Rattle.shm_pager.specs.Pages.{zero_page, last_count, pager_seen, served, SlotUnknown, CountsErr, TriesWrite, TriesRead};
 ghost use Rattle.shm_pager.specs.Mirror.{MirrorView, mirror_of, left_alone, both_sides, no_side, pages_shown, left_asked, left_serves, right_asked, right_serves};
@@ -16,7 +16,7 @@ pub struct Good {
     pub right: bool,
 }
 
-/// Why a mirror was refused.
+/// Why a mirror was refused: the sides differ in size, or the host refused memory.
 #[derive(Clone, Copy, Debug, PartialEq, Eq, Error)]
 pub enum MirrorCause {
     #[error("the two sides differ in size")]
@@ -25,7 +25,7 @@ pub enum MirrorCause {
     HostMemory,
 }
 
-/// A mirror was refused; both sides come back.
+/// A mirror was refused; the caller gets both sides back.
 #[derive(Debug, Drop, Error)]
 #[error("{cause}")]
 pub struct MirrorRefused<L, R> {
@@ -34,10 +34,10 @@ pub struct MirrorRefused<L, R> {
     pub cause: MirrorCause,
 }
 
-/// Two pagers of one size. A write goes to both sides and succeeds where one of them took it; just
-/// those that took it are good for the slot then. A read asks the good sides, left first, until one
-/// serves. The mirror counts its own failures alone, and neither reads nor writes a side whose count
-/// stands at `u64::MAX`. A slot that was discarded has no good side, and a read of it fails.
+/// Two pagers of one size. A write goes to both sides, and succeeds if one of them took it. From then on
+/// exactly those that took it are good for the slot. A read tries the good sides, left first, until one
+/// succeeds. A discarded slot has no good side, so a read of it fails. The mirror counts only its own
+/// failures. It does not call a side whose count of failures is `u64::MAX`.
 pub struct MirrorPager<L: Pager, R: Pager> {
     left: L,
     right: R,
@@ -60,7 +60,7 @@ impl<L: Pager, R: Pager> Model for MirrorPager<L, R> {
         m.good.items m.failed) };
 }
 
-// Both sides good for each slot.
+// Makes both sides good for each slot.
 fn mark_both(good: &mut Vec<Good>)
     ensures { good.new.items ≡ replicate (length good.old.items) both_sides }
 {
@@ -72,7 +72,7 @@ fn mark_both(good: &mut Vec<Good>)
     }
 }
 
-// The left side alone good for each slot.
+// Only the left side is good for each slot.
 fn left_good(alloc: Global, slots: u32) -> Result<Vec<Good>, AllocError>
     ensures { IfOk result (λ good. good.items ≡ replicate slots left_alone) }
 {
@@ -87,7 +87,8 @@ fn left_good(alloc: Global, slots: u32) -> Result<Vec<Good>, AllocError>
 }
 
 impl<L: Pager, R: Pager> MirrorPager<L, R> {
-    /// A mirror that shows what the left side holds. Refused as `Unequal` just where the sizes differ.
+    /// A mirror with the pages of the left side. `Unequal`: the sides differ in size. HostMemory: the host
+    /// refused memory.
     pub fn new(alloc: Global, left: L, right: R) -> Result<MirrorPager<L, R>, MirrorRefused<L, R>>
         ensures ok { IfOk result (λ m.
             let good = replicate (length (L.content left)) left_alone in
@@ -161,7 +162,7 @@ impl<L: Pager, R: Pager> Pager for MirrorPager<L, R> {
         Err(PagerFault)
     }
 
-    /// A side that is not good for the slot is not asked, nor is the right side where the left serves.
+    /// Does not call a side that is not good for the slot, nor the right side if the left one succeeds.
     fn read(&mut self, slot: u32, page: &mut [u8; PAGE_BYTES]) -> Result<(), PagerFault>
         requires there { slot < length (pages_shown self.old) }
         requires countable { self.old.failed < last_count }
@@ -208,7 +209,7 @@ impl<L: Pager, R: Pager> Pager for MirrorPager<L, R> {
         };
     }
 
-    /// Both sides are good for each slot then.
+    /// Afterwards both sides are good for each slot.
     fn wipe(&mut self)
         ensures content { pages_shown self.new ≡ replicate (length (pages_shown self.old)) zero_page }
         ensures left { self.new.left

@@ -1,12 +1,12 @@
-//! What each pager promises. A pager that broke it could change bytes of segments; whatever fails in
-//! the ways named here cannot.
+//! What each pager promises. A pager that broke its promise could change bytes of segments. One that fails in
+//! the ways named here can not.
 ghost use Rattle.std.specs.Prelude.{◌≡◌, ℕ, ◌<◌, ◌&&◌, true, false, List, [], length, set, get_or, replicate, is_ok, IfOk};
 ghost use Rattle.shm_pager.specs.Pages.{zero_page, last_count, pager_seen, served, SlotUnknown, CountsErr, TriesWrite, TriesRead};
 
 use shm_base::{HostMemory, PAGE_BYTES};
 use thiserror::Error;
 
-/// A read or a write was not done.
+/// A pager did not do a read or a write.
 #[derive(Clone, Copy, Debug, PartialEq, Eq, Error)]
 #[error("a pager failed")]
 pub struct PagerFault;
@@ -23,12 +23,12 @@ pub trait Pager: Drop {
     fn slots(&self) -> u32
         ensures { result ≡ length (content self.now) };
 
-    /// How many reads and writes have failed. A pager whose count stands at `u64::MAX` is read and
-    /// written no more: see [`try_read`] and [`try_write`].
+    /// How many reads and writes have failed. A pager whose count is `u64::MAX` must not be read or written
+    /// any more: see [`try_read`] and [`try_write`].
     fn failures(&self) -> u64
         ensures { result ≡ failed self.now };
 
-    /// Puts a page into a slot. After an error nobody knows what the slot holds; the other slots stay.
+    /// Writes a page to a slot. After an error the slot's bytes are unknown; the other slots are unchanged.
     fn write(&mut self, slot: u32, page: &[u8; PAGE_BYTES]) -> Result<(), PagerFault>
         requires there { slot < length (content self.old) }
         requires countable { failed self.old < last_count }
@@ -36,7 +36,7 @@ pub trait Pager: Drop {
         ensures page { IfOk result (λ _. content self.new ≡ set (content self.old) slot page.now) }
         ensures failed { CountsErr result (failed self.old) (failed self.new) };
 
-    /// Reads the page in a slot. After an error nobody knows what the buffer holds.
+    /// Reads the page in a slot. After an error the buffer's bytes are unknown.
     fn read(&mut self, slot: u32, page: &mut [u8; PAGE_BYTES]) -> Result<(), PagerFault>
         requires there { slot < length (content self.old) }
         requires countable { failed self.old < last_count }
@@ -44,7 +44,7 @@ pub trait Pager: Drop {
         ensures page { IfOk result (λ _. get_or (content self.old) slot [] ≡ page.new) }
         ensures failed { CountsErr result (failed self.old) (failed self.new) };
 
-    /// Says that nobody needs what a slot holds. Nobody knows afterwards what that is.
+    /// Says that a slot's bytes are no longer needed. Afterwards they are unknown.
     fn discard(&mut self, slot: u32)
         requires { slot < length (content self.old) }
         ensures content { SlotUnknown slot (content self.old) (content self.new) }
@@ -56,10 +56,11 @@ pub trait Pager: Drop {
         ensures failed { failed self.new ≡ failed self.old };
 }
 
-/// A pager of which a copy can be made. The copy and the pager go on apart.
+/// A pager that can be copied. Afterwards the copy and the original are independent.
 pub trait ClonePager: Pager {
-    /// A second pager in the same state: the same page in each slot, the same counts, and the same reads and
-    /// writes will fail. Takes memory for the pages that have memory in this one.
+    /// A second pager in the same state: the same page in each slot and the same counts, and the same reads
+    /// and writes will fail. Takes memory only for pages that have memory in this one. HostMemory: the host
+    /// refused memory.
     fn try_clone(&self) -> Result<Self, HostMemory>
         ensures { IfOk result (λ copy. copy ≡ self.now) };
 }
@@ -72,7 +73,7 @@ pub fn zeros() -> [u8; PAGE_BYTES]
     [0; PAGE_BYTES]
 }
 
-/// Writes to a pager that may have counted its last failure. Such a pager is not asked, and the write
+/// Writes to a pager, unless it has counted its last failure: then the pager is not called, and the write
 /// fails.
 pub fn try_write<P: Pager>(
     pager: &mut P,
@@ -91,7 +92,7 @@ pub fn try_write<P: Pager>(
     pager.write(slot, page)
 }
 
-/// Reads from a pager that may have counted its last failure. Such a pager is not asked, and the read
+/// Reads from a pager, unless it has counted its last failure: then the pager is not called, and the read
 /// fails.
 pub fn try_read<P: Pager>(
     pager: &mut P,
@@ -111,7 +112,7 @@ pub fn try_read<P: Pager>(
     pager.read(slot, page)
 }
 
-/// As [`try_read`], but where the pager is not to be asked, the read fails and the pager stays.
+/// As [`try_read`]; if `asked` is false, the pager is not called, and the read fails.
 pub(crate) fn read_if<P: Pager>(
     asked: bool,
     pager: &mut P,
@@ -130,8 +131,8 @@ pub(crate) fn read_if<P: Pager>(
     asked && try_read(pager, slot, page).is_ok()
 }
 
-/// A pager of a kind that is not known. Code over pagers is generic and takes this as one of its types;
-/// the boxes are made by the caller.
+/// A pager of a kind that is not known at compile time. Code over pagers is generic, and this is one of its
+/// types; the caller makes the boxes.
 pub type AnyPager = Box<dyn Pager + Send>;
 
 impl Pager for AnyPager {

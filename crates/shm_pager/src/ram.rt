@@ -23,7 +23,7 @@ impl Model for RamPager {
 }
 
 impl RamPager {
-    /// A pager with zeros in each slot.
+    /// A pager with zeros in each slot. AllocError: the host refused memory.
     pub fn new(alloc: Global, slots: u32) -> Result<RamPager, AllocError>
         ensures { IfOk result (λ p. p ≡ replicate slots zero_page) }
     {
@@ -34,7 +34,7 @@ impl RamPager {
         Ok(RamPager { pages })
     }
 
-    // Gives the memory back, in which nothing but zeros is left.
+    // Returns the memory, which holds only zeros by now.
     fn release(self)
         requires { self ≡ replicate (length self) zero_page }
     {
@@ -74,7 +74,7 @@ impl Pager for RamPager {
         Ok(())
     }
 
-    /// The slot holds zeros then.
+    /// Afterwards the slot holds zeros.
     fn discard(&mut self, slot: u32)
         requires { slot < length self.old }
         ensures { self.new ≡ set self.old slot zero_page }

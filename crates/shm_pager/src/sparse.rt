@@ -1,4 +1,4 @@
-//! Pages in memory, but no room for zeros. A slot that was never written costs no memory at all.
+//! Pages in memory, where pages of zeros take no memory.
 ghost use Rattle.std.specs.Prelude.{◌≡◌, ◌≢◌, ◌+◌, ◌<◌, ◌≤◌, ◌↔◌, [], length, set, get_or, replicate, vec_capacity, None, Some, IsTrue, IsOk, IfOk, MatchOption, OnErr};
 ghost use Rattle.shm_pager.specs.Pages.{zero_page, last_count};
 ghost use Rattle.shm_pager.specs.Padded.{padded};
@@ -8,7 +8,7 @@ use shm_base::{HostMemory, PAGE_BYTES};
 use std::alloc::{AllocError, Global};
 use std::marker::Model;
 
-/// The memory of a page. The page is zeroed before its memory goes back, wherever that is.
+/// The memory of a page. The page is zeroed before its memory is returned, wherever that happens.
 struct Room {
     page: Box<[u8; PAGE_BYTES]>,
 }
@@ -36,7 +36,7 @@ impl Room {
         *self.page = *page;
     }
 
-    // Gives the memory back, in which nothing but zeros is left.
+    // Returns the memory, which holds only zeros by now.
     fn release(self)
         requires { self ≡ zero_page }
     {
@@ -51,11 +51,11 @@ impl Drop for Room {
     }
 }
 
-/// Pages in memory, with an allocation for each that is not all zeros. A read never fails; a write fails
-/// only where it needs room and the allocator has none. A page of zeros written gives its room back.
+/// Pages in memory, with an allocation for each that is not all zeros. A read never fails. A write fails only
+/// if it needs memory and the allocator has none. A page of zeros that is written returns the slot's memory.
 pub struct SparsePager {
     alloc: Global,
-    // The slots up to the last that was written; those after it hold zeros.
+    // The slots up to the last that was written; later ones hold zeros.
     pages: Vec<Option<Room>>,
     slots: u32,
     failed: u64,
@@ -80,7 +80,7 @@ fn is_zero(page: &[u8; PAGE_BYTES]) -> bool
     page.iter().all(|&byte| byte == 0)
 }
 
-// Has the slots up to this one in the table.
+// Extends the table up to this slot.
 fn reach(pages: &mut Vec<Option<Room>>, slot: u32)
     requires { slot < vec_capacity pages.old }
     ensures items { pages.new.items ≡ padded pages.old.items (slot + 1) None }
@@ -91,7 +91,7 @@ fn reach(pages: &mut Vec<Option<Room>>, slot: u32)
     }
 }
 
-// What a slot holds, if it is not zeros.
+// The slot's page, unless it is all zeros.
 fn room_at(pages: &Vec<Option<Room>>, slot: u32) -> Option<&Room>
     ensures { let held = get_or pages.now.items slot None in
         MatchOption result (held ≡ None) (λ room. held ≡ Some room.now) }
@@ -99,7 +99,7 @@ fn room_at(pages: &Vec<Option<Room>>, slot: u32) -> Option<&Room>
     pages.get(slot as usize)?.as_ref()
 }
 
-// Has a slot hold zeros.
+// Makes a slot hold zeros.
 fn clear(pages: &mut Vec<Option<Room>>, slot: u32)
     ensures items { pages.new.items ≡ set pages.old.items slot None }
     ensures capacity { vec_capacity pages.new ≡ vec_capacity pages.old }
@@ -109,7 +109,7 @@ fn clear(pages: &mut Vec<Option<Room>>, slot: u32)
     }
 }
 
-// The memory of a page once more, none where there is none.
+// A copy of a page's memory, if there is any.
 fn copied_room(alloc: Global, place: &Option<Room>) -> Result<Option<Room>, AllocError>
     ensures { IfOk result (λ copy. copy ≡ place.now) }
 {
@@ -119,7 +119,7 @@ fn copied_room(alloc: Global, place: &Option<Room>) -> Result<Option<Room>, Allo
     }
 }
 
-// The rooms once more, in a table with a place for each slot.
+// A copy of all pages, in a table that has room for each slot.
 fn copied_rooms(
     alloc: Global,
     pages: &Vec<Option<Room>>,
@@ -138,7 +138,8 @@ fn copied_rooms(
 
 #[tactic(auto, using(crate::proofs::Rooms::rooms))]
 impl SparsePager {
-    /// A pager with zeros in each slot. It reserves a place for each, and touches none.
+    /// A pager with zeros in each slot. It reserves a place in its table for each, and touches none.
+    /// AllocError: the host refused memory.
     pub fn new(alloc: Global, slots: u32) -> Result<SparsePager, AllocError>
         ensures { IfOk result (λ p. p ≡ record { pages = replicate slots zero_page; failed = 0 }) }
     {
@@ -150,7 +151,7 @@ impl SparsePager {
         })
     }
 
-    // Gives the memory back, in which no page is left.
+    // Returns the memory, which holds no page by now.
     fn release(self)
         requires { self.pages ≡ replicate (length self.pages) zero_page }
     {
@@ -177,8 +178,8 @@ impl Pager for SparsePager {
         self.failed
     }
 
-    /// Fails only where a page that is not zeros is to replace zeros, and finds no room. The slot keeps
-    /// its zeros then.
+    /// Fails only if a page that is not all zeros would replace zeros, and there is no memory for it. The
+    /// slot keeps its zeros.
     fn write(&mut self, slot: u32, page: &[u8; PAGE_BYTES]) -> Result<(), PagerFault>
         requires there { slot < length self.old.pages }
         requires countable { self.old.failed < last_count }
@@ -223,7 +224,7 @@ impl Pager for SparsePager {
         Ok(())
     }
 
-    /// The slot holds zeros then, and takes no room.
+    /// Afterwards the slot holds zeros, and takes no memory.
     fn discard(&mut self, slot: u32)
         requires { slot < length self.old.pages }
         ensures { self.new ≡ record self.old { pages = set self.old.pages slot zero_page } }
@@ -241,7 +242,8 @@ impl Pager for SparsePager {
 }
 
 impl ClonePager for SparsePager {
-    /// Reserves a place for each slot, as [`SparsePager::new`] does, and walks those up to the last that was written.
+    /// Reserves a place for each slot, as [`SparsePager::new`] does, and visits those up to the last that was
+    /// written.
     fn try_clone(&self) -> Result<SparsePager, HostMemory> {
         Ok(SparsePager {
             alloc: self.alloc,

@@ -1,4 +1,5 @@
-//! What no clause sees: which side of a mirrored area a failing call is of, and what a discard does behind a fuse.
+//! What no contract says: which side of a mirrored area a failing call belongs to, and what a discard does
+//! inside a fuse.
 use crate::{
     AreaKind, AreaPager, Failing, FusePager, Pager, PagerFault, RamPager, try_read, try_write,
     zeros,
@@ -10,7 +11,7 @@ use std::sync::Arc;
 use std::sync::atomic::{AtomicU64, Ordering};
 use std::test::Fail;
 
-// Pages that count outside how often a slot was discarded.
+// Pages that count, in a variable outside, how often a slot was discarded.
 struct CountedPager {
     inner: RamPager,
     failures: u64,
@@ -105,7 +106,7 @@ fn area(
     Ok(AreaPager::new(alloc, kind, 1, left, right)?)
 }
 
-// Whether a write and two reads after it are done.
+// Whether a write, and each of two reads after it, succeeds.
 fn written_and_read(rt: &impl Abort, mut area: AreaPager) -> (bool, bool, bool) {
     assert_eq!(rt; area.slots(), 1);
     let mut page = zeros();
@@ -114,7 +115,7 @@ fn written_and_read(rt: &impl Abort, mut area: AreaPager) -> (bool, bool, bool) 
     (written, first, try_read(&mut area, 0, &mut page).is_ok())
 }
 
-// The calls of both sides that fail, and whether a write and two reads after it are done.
+// The calls of both sides that fail, and whether a write, and each of two reads after it, succeeds.
 const MIRRORED: &[(&str, Calls<'_>, Calls<'_>, (bool, bool, bool))] = &[
     ("other reads", (&[1], &[]), (&[2], &[]), (true, true, true)),
     (
@@ -146,7 +147,7 @@ fn each_side_of_a_mirrored_area_fails_where_it_is_told(rt: HostRuntime) -> Resul
     Ok(())
 }
 
-// The first byte of a slot that was written and then discarded, or none where it can't be read.
+// The first byte of a slot that was written and then discarded; none if it can't be read.
 fn discarded(rt: &impl Abort, mut area: AreaPager) -> Option<u8> {
     assert_eq!(rt; area.slots(), 1);
     assert!(rt; try_write(&mut area, 0, &[7; PAGE_BYTES]).is_ok());
@@ -158,7 +159,7 @@ fn discarded(rt: &impl Abort, mut area: AreaPager) -> Option<u8> {
     }
 }
 
-// A mirrored area has no good side for a slot that was discarded; the others have zeros there.
+// A mirrored area has no good side for a discarded slot; the other kinds have zeros there.
 #[test]
 fn an_area_of_each_kind_passes_a_discard_on(rt: HostRuntime) -> Result<(), Fail> {
     let kinds = [

@@ -3,35 +3,36 @@ use shm_base::{END_ADDRESS, HostMemory, LOWEST_ADDRESS, MOST_SHMALL, PAGE_SIZE};
 use std::alloc::Global;
 use std::process::Abort;
 
-/// What is done to a space, or asked of it, with the answer that is wanted.
+/// A change of a space or a question about it, with the expected answer.
 enum Act {
-    /// Pages of a segment are put at an address, or cannot be.
+    /// Attaches pages of a segment at an address; whether that is possible.
     Put(u64, u32, u32, bool),
-    /// The byte that an address denotes: its segment, its place there, and whether it may be written.
+    /// The byte that an address denotes: its segment, its offset there, and whether it may be written.
     Byte(u64, Option<(u32, u64, bool)>),
-    /// The piece that an address lies in.
+    /// The piece that has an address.
     PieceAt(u64, Option<Piece>),
-    /// The address of the least gap for a page.
+    /// The address of the least gap for one page.
     Choose(u64),
     /// Whether a piece has one of some pages.
     Occupied(u64, u32, bool),
     /// The segments of which a cut of a range would leave a part of a piece.
     Rests(u64, u64, &'static [u32]),
-    /// How many pieces meet a range, and how many there would be without it.
+    /// How many pieces meet a range, and how many would be left without it.
     Met(u64, u64, usize),
     Outside(u64, u64, usize),
-    /// A range is taken out.
+    /// Takes a range out.
     Cut(u64, u64),
-    /// The lowest piece whose segment would begin at an address.
+    /// The lowest piece with this origin.
     Origin(u64, Option<Piece>),
-    /// The pieces of a segment that would begin at an address are taken out.
+    /// Takes out the pieces of a segment with this origin.
     Take(u64, u32),
-    /// All pieces, and how many they are.
+    /// All pieces, and how many there are.
     Pieces(&'static [Piece]),
     Count(usize),
 }
 
-/// Puts whole pages of a segment at an address, if nothing is there and there is room; whether it did.
+/// Attaches whole pages of a segment at an address, if nothing is there and there is room. Returns whether it
+/// did.
 fn put(space: &mut Space, base: u64, seg: u32, pages: u32) -> bool {
     if pages < 1 || pages > 4096 || base % PAGE_SIZE != 0 || base < LOWEST_ADDRESS {
         return false;
@@ -56,7 +57,7 @@ fn put(space: &mut Space, base: u64, seg: u32, pages: u32) -> bool {
     true
 }
 
-/// Takes a range out, if it is one of whole pages and there is room for what is left; whether it did.
+/// Takes a range out, if it has whole pages and there is room for what is left. Returns whether it did.
 fn cut(space: &mut Space, from: u64, to: u64) -> bool {
     if from % PAGE_SIZE != 0 || to % PAGE_SIZE != 0 || from >= to {
         return false;
@@ -81,7 +82,7 @@ fn byte_at(space: &Space, addr: u64) -> Option<(u32, u64, bool)> {
     Some((place.seg, place.at, place.writable))
 }
 
-/// Does an act; whether its answer is the wanted one.
+/// Performs an act, and returns whether its answer is the expected one.
 fn answers(space: &mut Space, act: &Act) -> bool {
     match *act {
         Act::Put(base, seg, pages, done) => put(space, base, seg, pages) == done,
@@ -103,14 +104,14 @@ fn answers(space: &mut Space, act: &Act) -> bool {
     }
 }
 
-/// Each act has its answer, one after another. A message counts the rows from 0.
+/// Checks the acts in order. A message counts the rows from 0.
 fn answers_all(rt: &impl Abort, space: &mut Space, acts: &[Act]) {
     for (row, act) in acts.iter().enumerate() {
         assert!(rt; answers(space, act), "at row {row}");
     }
 }
 
-/// As `answers_all`, in a space that begins with no piece.
+/// As `answers_all`, in a space without pieces.
 fn in_a_space(rt: &impl Abort, alloc: Global, acts: &[Act]) -> Result<(), HostMemory> {
     let mut space = Space::new(alloc, 256)?;
     answers_all(rt, &mut space, acts);
@@ -175,7 +176,7 @@ fn a_space_has_room_for_its_most(rt: HostRuntime) -> Result<(), HostMemory> {
     Ok(())
 }
 
-// A page of the space is occupied, and the last page of the addresses.
+// A page of the space is occupied, and so is the last page of the addresses.
 const OCCUPIED: &[Act] = &[
     Act::Put(0x50000000, 0, 1, true),
     Act::Put(0x7fffffffe000, 0, 1, true),
@@ -197,7 +198,7 @@ fn ranges_are_occupied(rt: HostRuntime) -> Result<(), HostMemory> {
     in_a_space(&rt, rt.alloc(), OCCUPIED)
 }
 
-// Three pieces side by side, and ranges that leave parts of none, of one or of two of them.
+// Three consecutive pieces, and ranges that leave parts of none, of one or of two of them.
 const RESTS: &[Act] = &[
     Act::Put(0x50000000, 7, 2, true),
     Act::Put(0x50002000, 8, 1, true),
@@ -217,7 +218,7 @@ fn ranges_leave_parts(rt: HostRuntime) -> Result<(), HostMemory> {
     in_a_space(&rt, rt.alloc(), RESTS)
 }
 
-// A hole that comes between pieces side by side is the next choice.
+// A hole between consecutive pieces is the next choice.
 const HOLES: &[Act] = &[
     Act::Put(0x40000000, 1, 1, true),
     Act::Put(0x40001000, 2, 1, true),
@@ -260,7 +261,7 @@ const ABOVE: Piece = Piece {
     key: 0,
 };
 
-// A page in the middle of three is taken out.
+// Takes out the page in the middle of three.
 const CUT: &[Act] = &[
     Act::Put(0x40000000, 7, 3, true),
     Act::Met(0x40001000, 0x40002000, 1),
@@ -283,7 +284,7 @@ fn a_cut_leaves_two_parts(rt: HostRuntime) -> Result<(), HostMemory> {
     in_a_space(&rt, rt.alloc(), CUT)
 }
 
-// Holes of one page are passed, and a hole of two that a cut makes among them is found.
+// Holes of one page are skipped, and a hole of two that a cut makes among them is found.
 fn chooses_behind_holes(rt: &impl Abort, space: &mut Space) {
     for k in 0..40u64 {
         assert!(rt; put(space, 0x40000000 + 0x2000 * k, 0, 1), "at {k}");

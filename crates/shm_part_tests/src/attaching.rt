@@ -12,43 +12,43 @@ use shm_slots::Swap;
 use std::alloc::Global;
 use std::process::Abort;
 
-/// What is done to the spaces of a family, or asked of them, with the answer that is wanted.
+/// A change of the processes of a family or a question about them, with the expected answer.
 pub(crate) enum Act {
-    /// Process 1 attaches a segment at an address: this many pages, to be written too or only read.
+    /// Process 1 attaches a segment at an address: this many pages, writable or read-only.
     Attach(u32, u64, u32, bool),
     /// Process 1 has no room for one more piece.
     Full,
-    /// Process 1 detaches what the lowest piece of an origin names: a segment, or nothing.
+    /// Process 1 detaches the segment with this origin, or nothing.
     Detach(u64, Option<u32>),
-    /// Process 1 forks a child, or cannot.
+    /// Process 1 forks a child, or can't.
     Fork(u32, bool),
-    /// A process loses all its pieces: their segments.
+    /// A process loses all its pieces, of these segments.
     Exec(u32, &'static [u32]),
     /// As `Exec`, and the process ends.
     Exit(u32, &'static [u32]),
     /// The user of a process, if it is live.
     User(u32, Option<u32>),
-    /// How many pieces name a segment.
+    /// How many pieces a segment has.
     Count(u32, u32),
-    /// The spans of an access of process 1 to this many addresses, which writes or reads; none if it is refused.
+    /// The spans of process 1's access to this many addresses, a write or a read; none if it is refused.
     Spans(u64, u64, bool, &'static [Span]),
     /// The frames that a process has for its pages from an address on.
     Frames(u32, u64, &'static [Option<FrameNo>]),
     /// Pages move.
     Note(&'static [PageMove]),
-    /// Process 1 unmaps from one address up to another, or may not.
+    /// Process 1 unmaps the addresses from one up to another, or is refused.
     Unmap(u64, u64, Option<Errno>),
-    /// A range of process 1 becomes writable or read-only, or not all of it.
+    /// Process 1 makes a range writable or read-only, or is refused in it.
     Protect(u64, u64, bool, Option<Errno>),
-    /// The first address at which an access of a process fails, which writes or reads.
+    /// The first address at which a process's access fails; it writes or reads.
     Fails(u32, u64, u64, bool, Option<u64>),
-    /// The first address of an access of a process whose page has no frame.
+    /// The first address of a process's access whose page has no frame.
     Absent(u32, u64, u64, Option<u64>),
-    /// The segments that lost pieces last.
+    /// The segments that the last change concerned.
     Lost(&'static [u32]),
 }
 
-/// Process 1 of user 100, and child 2, each with this many pieces at most.
+/// Process 1 of user 100, and child 2; each has at most this many pieces.
 pub(crate) fn family(alloc: Global, most: u32) -> Result<Spaces, HostMemory>
     requires { most ≤ 256 }
 {
@@ -61,7 +61,7 @@ pub(crate) fn family(alloc: Global, most: u32) -> Result<Spaces, HostMemory>
     Spaces::new(alloc, &[parent, child], most)
 }
 
-/// A store that holds no segment, over one area of one slot: no page is resident.
+/// A store without segments, over one area of one slot: no page is resident.
 pub(crate) fn bare_store(alloc: Global) -> Result<PageStore<RamPager>, HostMemory> {
     let mut pagers = Vec::with_capacity(alloc, 1)?;
     pagers.push(RamPager::new(alloc, 1)?)?;
@@ -69,7 +69,7 @@ pub(crate) fn bare_store(alloc: Global) -> Result<PageStore<RamPager>, HostMemor
     PageStore::new(alloc, 2, swap)
 }
 
-/// Whether pages at a base lie within the addresses.
+/// Whether the pages at a base are within the addresses.
 fn is_range(base: u64, pages: u32) -> bool
     ensures { result ≡ true → (1 ≤ pages) × (pages ≤ 4096) × IsRange pages base }
 {
@@ -80,7 +80,7 @@ fn is_range(base: u64, pages: u32) -> bool
         && base <= END_ADDRESS - PAGE_SIZE * pages as u64
 }
 
-/// Attaches pages of a segment to process 1, where there is room for one more piece.
+/// Attaches pages of a segment to process 1, if there is room for one more piece.
 fn attach(
     spaces: &mut Spaces,
     store: &PageStore<RamPager>,
@@ -105,7 +105,7 @@ fn attach(
         .is_ok()
 }
 
-/// Detaches what the lowest piece of an origin names, and tells the segment.
+/// Detaches the segment with this origin, and returns it.
 fn detach(spaces: &mut Spaces, addr: u64) -> Option<u32> {
     let caller = spaces.caller(1)?;
     let seg = spaces.space(&caller).origin_of(addr)?.seg;
@@ -161,7 +161,7 @@ fn has_frames(spaces: &Spaces, pid: u32, from: u64, wanted: &[Option<FrameNo>]) 
     true
 }
 
-/// Whether an access has just these spans.
+/// Whether an access has exactly these spans.
 fn has_spans(spaces: &Spaces, addr: u64, len: u64, write: bool, wanted: &[Span]) -> bool {
     if len < 1 || len > 64 {
         return false;
@@ -189,7 +189,7 @@ fn protect(spaces: &mut Spaces, addr: u64, len: u64, writable: bool) -> Option<E
     spaces.protect(&caller, addr, len, writable).err()
 }
 
-/// Does an act; whether its answer is the wanted one.
+/// Performs an act, and returns whether its answer is the expected one.
 fn answers(spaces: &mut Spaces, store: &PageStore<RamPager>, act: &Act) -> bool {
     match *act {
         Act::Attach(seg, base, pages, writable) => {
@@ -220,7 +220,7 @@ fn answers(spaces: &mut Spaces, store: &PageStore<RamPager>, act: &Act) -> bool 
     }
 }
 
-/// Each act has its answer, one after another. A message counts the rows from 0.
+/// Checks the acts in order. A message counts the rows from 0.
 pub(crate) fn answers_all(
     rt: &impl Abort,
     spaces: &mut Spaces,
@@ -232,7 +232,7 @@ pub(crate) fn answers_all(
     }
 }
 
-/// As `answers_all`, in a family that begins with no piece.
+/// As `answers_all`, in a family without pieces.
 pub(crate) fn in_a_family(rt: &impl Abort, alloc: Global, acts: &[Act]) -> Result<(), HostMemory> {
     let store = bare_store(alloc)?;
     let mut spaces = family(alloc, 256)?;
@@ -272,7 +272,7 @@ fn an_access_over_two_pieces_has_two_spans(rt: HostRuntime) -> Result<(), HostMe
 
 const FULL: &[Act] = &[Act::Full, Act::Count(0, 256)];
 
-// Process 1 attaches 256 pages, each a piece.
+// Process 1 attaches 256 pages, each as a piece of its own.
 fn fills(rt: &impl Abort, spaces: &mut Spaces, store: &PageStore<RamPager>) {
     for k in 0..256u64 {
         let base = 0x40000000 + 4096 * k;
@@ -335,7 +335,7 @@ fn the_lowest_piece_names_the_segment(rt: HostRuntime) -> Result<(), HostMemory>
     in_a_family(&rt, rt.alloc(), SAME_ORIGIN)
 }
 
-// Process 1 forks its child, and each goes.
+// Process 1 forks its child, and both end.
 const FORKS_AND_GOES: &[Act] = &[
     Act::Attach(0, 0x40000000, 1, true),
     Act::User(2, None),
@@ -383,7 +383,7 @@ fn moves_reach_each_piece_and_each_process(rt: HostRuntime) -> Result<(), HostMe
     in_a_family(&rt, rt.alloc(), MOVES)
 }
 
-// Of three pages the first and the last are in memory. Where an address has no piece nothing is absent.
+// The first and the last of three pages are in memory. An address without a piece is not absent.
 const ABSENT: &[Act] = &[
     Act::Attach(0, 0x40000000, 3, true),
     Act::Absent(1, 0x40000ffe, 4, Some(0x40000ffe)),
@@ -424,7 +424,7 @@ fn a_gone_segment_has_no_frames(rt: HostRuntime) -> Result<(), HostMemory> {
     in_a_family(&rt, rt.alloc(), GONE)
 }
 
-// Of four pages in frames 10 to 13, two are replaced, and one goes.
+// Of four pages in frames 10 to 13, two are replaced, and one is removed.
 const CUT_TWICE: &[Act] = &[
     Act::Attach(0, 0x40000000, 4, true),
     Act::Note(&[PageMove::Came(FIRST, 10)]),

@@ -5,32 +5,32 @@ use std::process::Abort;
 /// A row of a table: its identifier, its key and its value.
 type Row = (i32, u32, u8);
 
-/// What is done to a table, or asked of it, with the answer that is wanted.
+/// A change of a table or a question about it, with the expected answer.
 enum Act {
-    /// A value is put under a key, which is 0 for none: its identifier.
+    /// Inserts a value under a key, 0 for none, and expects this identifier.
     Put(u32, u8, i32),
     /// No index is free.
     Full,
-    /// A live row is destroyed.
+    /// Destroys a live row.
     Destroy(i32),
-    /// The value under an identifier.
+    /// The value of an identifier.
     Look(i32, Result<u8, LookRefused>),
-    /// The value under an identifier is written.
+    /// Writes the value of an identifier.
     Write(i32, u8),
-    /// The identifier under a key, and the key of an identifier.
+    /// The identifier that a key finds, and the key of an identifier.
     FindKey(u32, Option<i32>),
     KeyOf(i32, u32),
-    /// The key of an identifier is hidden.
+    /// Hides the key of an identifier.
     HideKey(i32),
-    /// How many rows there are.
+    /// The number of rows.
     Count(u64),
-    /// The row of an index.
+    /// The row at an index.
     RowAt(usize, Option<Row>),
-    /// All rows, by rising index.
+    /// All rows, in order of their indexes.
     Rows(&'static [Row]),
 }
 
-/// Puts a value under a key that no row has: its identifier, or none where no index is free.
+/// Inserts a value under a key that no row has. Returns its identifier, or none if no index is free.
 fn put(table: &mut IdTable<u8>, key: u32, value: u8) -> Option<i32> {
     if table.find_key(key).is_some() {
         return None;
@@ -40,7 +40,7 @@ fn put(table: &mut IdTable<u8>, key: u32, value: u8) -> Option<i32> {
     Some(id)
 }
 
-/// Destroys a row; whether it was live.
+/// Destroys a row. Returns whether it was live.
 fn destroy(table: &mut IdTable<u8>, id: i32) -> bool {
     let live = table.look(id).is_ok();
     if live {
@@ -49,7 +49,7 @@ fn destroy(table: &mut IdTable<u8>, id: i32) -> bool {
     live
 }
 
-/// Writes a value; whether its row is live.
+/// Writes a value. Returns whether its row is live.
 fn write(table: &mut IdTable<u8>, id: i32, value: u8) -> bool {
     let live = table.look(id).is_ok();
     if live {
@@ -58,7 +58,7 @@ fn write(table: &mut IdTable<u8>, id: i32, value: u8) -> bool {
     live
 }
 
-/// Hides a key; whether its row is live.
+/// Hides a key. Returns whether its row is live.
 fn hide_key(table: &mut IdTable<u8>, id: i32) -> bool {
     let live = table.look(id).is_ok();
     if live {
@@ -67,7 +67,7 @@ fn hide_key(table: &mut IdTable<u8>, id: i32) -> bool {
     live
 }
 
-/// Whether the table has just these rows.
+/// Whether the table has exactly these rows.
 fn has_rows(table: &IdTable<u8>, wanted: &[Row]) -> bool {
     let mut rows = table.rows();
     for row in wanted {
@@ -83,7 +83,7 @@ fn row_at(table: &IdTable<u8>, index: usize) -> Option<Row> {
     Some((id, key, *value))
 }
 
-/// Does an act; whether its answer is the wanted one.
+/// Performs an act, and returns whether its answer is the expected one.
 fn answers(table: &mut IdTable<u8>, act: &Act) -> bool {
     match *act {
         Act::Put(key, value, id) => put(table, key, value) == Some(id),
@@ -100,14 +100,14 @@ fn answers(table: &mut IdTable<u8>, act: &Act) -> bool {
     }
 }
 
-/// Each act has its answer, one after another. A message counts the rows from 0.
+/// Checks the acts in order. A message counts the rows from 0.
 fn answers_all(rt: &impl Abort, table: &mut IdTable<u8>, acts: &[Act]) {
     for (row, act) in acts.iter().enumerate() {
         assert!(rt; answers(table, act), "at row {row}");
     }
 }
 
-/// As `answers_all`, in a table that begins with no row.
+/// As `answers_all`, in a table without rows.
 fn in_a_table(rt: &impl Abort, alloc: Global, acts: &[Act]) {
     let mut table: IdTable<u8> = IdTable::new(alloc);
     answers_all(rt, &mut table, acts);

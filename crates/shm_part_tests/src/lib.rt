@@ -1,5 +1,5 @@
-//! Tests of the parts beside the page store, through what each makes public: the script that is read, what is printed, identifiers,
-//! address spaces and the texts of errors.
+//! Tests of the parts other than the page store, through what each makes public: reading scripts, printing,
+//! identifiers, address spaces and the texts of errors.
 #![tactic(auto)]
 
 #[cfg(test)]

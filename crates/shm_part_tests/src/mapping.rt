@@ -1,6 +1,6 @@
-//! What a process does to its attached memory beside the calls, the processes in order, and a copy of them all. The test of copies
-//! holds also where the host refuses memory to a copy: `rt try --test --fail-alloc N -- mapping::a_copy` has the N-th allocation
-//! fail.
+//! Unmap and protect, the list of processes, and a copy of all of them. The test of copies also passes if the
+//! host refuses memory for a copy: `rt try --test --fail-alloc N -- mapping::a_copy` makes the N-th
+//! allocation fail.
 use crate::attaching::{Act, answers_all, bare_store, family, in_a_family};
 use shm_attach::{Life, Listed, Spaces};
 use shm_base::{Cred, Errno, HostMemory, PageRef};
@@ -8,8 +8,8 @@ use shm_fault::{PageMove, PageStore};
 use shm_pager::RamPager;
 use std::process::Abort;
 
-// A border moves where a part joins its neighbour, and whole pieces do not join. A segment is noted where there are more
-// pieces then.
+// A border moves if a part joins its neighbour; whole pieces do not join. A segment is noted if there are
+// more pieces afterwards.
 const PROTECTED: &[Act] = &[
     Act::Attach(0, 0x50000000, 8, true),
     Act::Protect(0x50001000, 0x2000, false, None),
@@ -44,7 +44,7 @@ fn parts_of_an_attach_are_protected(rt: HostRuntime) -> Result<(), HostMemory> {
     in_a_family(&rt, rt.alloc(), PROTECTED)
 }
 
-// What is below a hole, or below a piece that may not be written, was changed by then.
+// A protect that stops at a hole, or at a piece that may not be written, has changed everything below it.
 const STOPPED: &[Act] = &[
     Act::Attach(0, 0x50000000, 8, true),
     Act::Protect(0x50000800, 0, false, Some(Errno::Einval)),
@@ -67,7 +67,8 @@ const STOPPED: &[Act] = &[
     Act::Fails(1, 0x50006000, 0xa001, false, Some(0x50010000)),
 ];
 
-// The segments of the first piece and of the last are noted in their order, and those of an earlier call are forgotten.
+// The segments of the first piece and of the last are noted in order, and those of an earlier call are
+// forgotten.
 const SPLIT: &[Act] = &[
     Act::Attach(0, 0x50000000, 2, true),
     Act::Attach(1, 0x50002000, 1, true),
@@ -111,7 +112,7 @@ fn ranges_are_unmapped(rt: HostRuntime) -> Result<(), HostMemory> {
     in_a_family(&rt, rt.alloc(), UNMAPPED)
 }
 
-// With two pieces at most the middle of one is neither protected, nor unmapped beside another hole.
+// With at most two pieces, the middle of one can be neither protected nor, next to another hole, unmapped.
 const OF_TWO_PIECES: &[Act] = &[
     Act::Attach(0, 0x50000000, 8, true),
     Act::Protect(0x50001000, 0x1000, false, Some(Errno::Enomem)),
@@ -134,7 +135,7 @@ fn too_many_pieces_are_refused(rt: HostRuntime) -> Result<(), HostMemory> {
     Ok(())
 }
 
-// No piece lies at the last address, and none is of a process that is not live.
+// No piece is at the last address, and a process that is not live has none.
 const OUTSIDE: &[Act] = &[
     Act::Attach(0, 0x7fffffffe000, 1, true),
     Act::Fails(1, 0x7fffffffe000, 0x1001, true, Some(0x7ffffffff000)),
@@ -204,7 +205,7 @@ const CHANGES: &[Act] = &[
     Act::Frames(2, 0x50000000, &[None]),
 ];
 
-/// What is done to a copy reaches its source no more than the other way round.
+/// Changes of a copy do not affect its source, nor the other way round.
 fn go_on_alone(
     rt: &impl Abort,
     source: &mut Spaces,

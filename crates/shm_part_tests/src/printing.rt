@@ -1,4 +1,4 @@
-//! What no contract says: that text comes with memory at hand, and printed words.
+//! What no contract says: printing succeeds while there is memory; and the printed words.
 use bitflags::Flags;
 use shm_base::{
     AccessLen, AtFlags, Call, Chunk, Errno, Event, GetFlags, Perm, Reply, ShmidDs, Status, Tally,

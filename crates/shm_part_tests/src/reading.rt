@@ -1,5 +1,5 @@
-//! What no contract says: that a script is read with memory at hand, and the longest ones; and each form
-//! and fault once.
+//! What no contract says: a script is read while there is memory, also the longest one; and each form and
+//! fault once.
 use bitflags::Flags;
 use shm_base::{AccessLen, AtFlags, Call, Chunk, GetFlags, Reply};
 use shm_text::{
@@ -11,7 +11,7 @@ use std::test::Fail;
 
 const HEAD: &[u8] = b"limits 65536 16 64 4 1\nprocess 1 100 100\n";
 
-/// What became of a script: how many processes and other lines it has, or its fault.
+/// The result of reading a script: how many processes and other lines it has, or its fault.
 #[derive(Clone, Copy, Debug, PartialEq, Eq)]
 enum Outcome {
     Script(usize, usize),
@@ -27,7 +27,7 @@ fn read(alloc: Global, script: &[u8]) -> Outcome {
     }
 }
 
-/// The call of a script whose last line is this one, where all variables are 0.
+/// The call of a script whose last line is this one, if all variables are 0.
 fn call_of(alloc: Global, line: &[u8]) -> Result<Call, Fail> {
     let mut script = HEAD.to_vec(alloc)?;
     script.extend_from_slice(line)?;
@@ -40,7 +40,7 @@ fn call_of(alloc: Global, line: &[u8]) -> Result<Call, Fail> {
     }
 }
 
-// The lines' calls in order, each with what the one before it answered.
+// The calls of the lines in order, each with the answer to the one before it.
 fn are_in_file_order(rt: &impl Abort, lines: &[Line]) -> Result<(), Fail> {
     assert_eq!(rt; lines.len(), 2);
     let mut vars = Vars::new();
@@ -280,7 +280,7 @@ const FAULTS: [(&[u8], FaultKind); 66] = [
     (b"0 flush 1 1", FaultKind::BadLine),
 ];
 
-/// Whether this third line has this fault, with an end of line or without.
+/// Whether this third line has this fault, with a line end and without.
 fn has_fault(alloc: Global, line: &[u8], kind: FaultKind) -> Result<bool, Fail> {
     let mut script = HEAD.to_vec(alloc)?;
     script.extend_from_slice(line)?;

@@ -1,4 +1,4 @@
-//! The texts of errors, as each type tells them.
+//! The texts of errors, as each type prints them.
 use shm_attach::Segv;
 use shm_ids::LookRefused;
 use shm_pager::{MirrorCause, PagerFault};

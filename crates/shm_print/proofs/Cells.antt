@@ -1,4 +1,4 @@
--- Texts that are filled up to cells of a listing.
+-- Texts that are padded to cells of a listing.
 use Rattle.std.proofs.Common.{arith, ◌≡◌, ◌-◌, ◌/◌, ◌%◌, ◌^◌, ℕ, zero, suc, List, ◌∷◌, ◌++◌, refl, ap, length, append_assoc, length-append}
 use Rattle.std.proofs.lemmas.List.{length-replicate}
 use Rattle.std.proofs.lemmas.Bool.{le-ltb}
@@ -41,7 +41,7 @@ joined : (a b c d e f s t end : List ℕ) {a' b' c' d' e' f' : List ℕ} → a +
     → (a ++ (s ++ (b ++ (s ++ (c ++ (s ++ (d ++ t))))))) ++ (e ++ (s ++ (f ++ (s ++ end)))) ≡ a' ++ (b' ++ (c' ++ (d' ++ (e' ++ (f' ++ end)))))
 joined a b c d e f s t end p q r u v w = rw (← p, ← q, ← r, ← u, ← v, ← w) (simp append_assoc refl)
 
--- the line as it is written, first to the cell of the mode
+-- the line as it is written, up to the cell of the mode
 pub line_of_cells : (id held : ℤ) (shown : ShmidDs) (a b c d : _) (head : List ℕ) → held ≡ id → a ≡ format_spec 32 1 0 10 (2 ^ 64 - 1) → b ≡ format_spec 32 1 0 10 (2 ^ 64 - 1) → c ≡ format_spec 32 1 0 10 (2 ^ 64 - 1) → d ≡ format_spec 32 1 0 10 (2 ^ 64 - 1)
     → head ≡ key_text shown.key ++ (codes " " ++ (styled_signed_decimal a held ++ (codes " " ++ (styled_decimal b shown.perm.uid ++ (codes " " ++ (mode_text shown.perm.mode ++ codes "        "))))))
     → head ++ (styled_decimal c shown.size ++ (codes " " ++ (styled_decimal d shown.nattch ++ (codes " " ++ (status_text shown.status ++ codes "\n"))))) ≡ segment_line id shown

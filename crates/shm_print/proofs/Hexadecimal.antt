@@ -14,7 +14,7 @@ onto_by : (k n : ℕ) (acc : List ℕ) (t : Bool) → (n / 16 == 0) ≡ t
     → digits_onto (suc k) 16 false n acc ≡ (if t then digit_glyph false (n % 16) ∷ acc else digits_onto k 16 false (n / 16) (digit_glyph false (n % 16) ∷ acc))
 onto_by k n acc t is = ap (λ (b : Bool). if b then digit_glyph false (n % 16) ∷ acc else digits_onto k 16 false (n / 16) (digit_glyph false (n % 16) ∷ acc)) is
 
--- a digit stands before those that are there
+-- a digit is put before those that are there
 pub before : (room : List ℕ) (at d g : ℕ) → 0 < at → at ≤ length room → d ≡ g → drop (at - 1) (set room (at - 1) d) ≡ g ∷ drop at room
 before room at d g some within is =
     let on : at - 1 + 1 ≡ at = omega (arith, some) in

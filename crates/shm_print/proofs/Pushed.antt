@@ -1,4 +1,4 @@
--- What was pushed behind a text.
+-- What was appended to a text.
 use Rattle.std.proofs.Common.{◌≡◌, ℕ, List, ◌++◌, Ok, Err, append_assoc, refl}
 use Rattle.std.specs.Prelude.{Result, OnOk, is_ok, codes, if◌then◌else◌}
 use Rattle.std.specs.Fmt.{decimal}

@@ -30,12 +30,12 @@ mode_text m = decimal (m / 64 % 8) ++ (decimal (m / 8 % 8) ++ decimal (m % 8))
 abbrev pub wants_exclusion : GetFlags → Bool
 wants_exclusion flags = bit_and flags.0 1024 == 1024
 
--- the flags of shmget, each behind a comma
+-- the flags of shmget, each after a comma
 abbrev pub get_flags_text : GetFlags → List ℕ
 get_flags_text flags =
     (if wants_creation flags then codes ",creat" else []) ++ (if wants_exclusion flags then codes ",excl" else [])
 
--- the flags of shmat in this order with commas, `-` where there is none
+-- the flags of shmat in this order, separated by commas; `-` if there is none
 abbrev pub at_flags_text : AtFlags → List ℕ
 at_flags_text flags =
     if is_rnd flags then codes "rnd" ++ ((if is_remap flags then codes ",remap" else []) ++ (if is_rdonly flags then codes ",rdonly" else [])) else
@@ -97,7 +97,7 @@ reply_text (replies.Refused e) = name_of e
 abbrev pub event_text : ℕ → Event → List ℕ
 event_text n e = decimal n ++ (codes " " ++ (decimal e.pid ++ (codes " " ++ (call_text e.call ++ (codes " = " ++ (reply_text e.reply ++ codes "\n"))))))
 
--- the lines of events, the first of which stands at a place
+-- the lines of events, the first of which is at place n
 abbrev pub events_text : ℕ → List Event → List ℕ
 events_text n [] = []
 events_text n (e ∷ es) = event_text n e ++ events_text (n + 1) es

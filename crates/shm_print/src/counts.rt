@@ -30,8 +30,8 @@ fn moves_line(alloc: Global, tally: &Tally) -> Result<String, AllocError>
     format!(in alloc; "usage in {ins} out {outs} failures {failures}\n")
 }
 
-/// The three lines of a machine's counts: events, segments and their pages; frames and slots in use, each
-/// after how many there are; pager reads, pager writes, and pager failures.
+/// Three lines of counts: events, segments and their pages; frames and slots, each with how many are in use;
+/// pager reads, pager writes and pager failures. AllocError: the host refused memory.
 pub fn usage_text(alloc: Global, tally: &Tally) -> Result<String, AllocError>
     ensures { IfOk result (λ s. string_bytes s ≡ usage.usage_text tally.now) }
 {

@@ -4,7 +4,7 @@ ghost use Rattle.std.specs.Fmt.{digits, digit_glyph};
 
 use std::alloc::AllocError;
 
-/// As many digits as 64 bits can have in any base.
+/// The most digits that 64 bits have in any base.
 const MOST_DIGITS: usize = 64;
 
 // The digit of a number below 16.
@@ -19,7 +19,7 @@ fn digit(number: u64) -> u8
     }
 }
 
-// Puts the digits of a number at the end of the room, and returns where they begin.
+// Writes the digits of a number at the end of the room, and returns where they begin.
 fn fill_digits(number: u64, room: &mut [u8; MOST_DIGITS]) -> usize
     ensures start { result ≤ MOST_DIGITS }
     ensures digits { drop result room.new ≡ digits 16 false number }

@@ -62,7 +62,7 @@ fn push_counted(text: &mut String, word: &str, number: u64) -> Result<(), AllocE
     push_number(text, number)
 }
 
-// Appends the word of a call and its arguments to a text.
+// Appends the word and the arguments of a call to a text.
 fn push_call(text: &mut String, call: &Call) -> Result<(), AllocError>
     ensures { OnOk result (string_bytes text.new ≡ string_bytes text.old ++ printed.call_text call.now) }
 {
@@ -158,7 +158,7 @@ fn push_reply(text: &mut String, reply: &Reply) -> Result<(), AllocError>
     }
 }
 
-// Appends the place of an event and its process to a text.
+// Appends an event's place in the history and its process to a text.
 fn push_place(text: &mut String, place: u64, pid: u32) -> Result<(), AllocError>
     ensures { OnOk result (string_bytes text.new ≡ string_bytes text.old ++ (decimal place ++ (codes " " ++ (decimal pid ++ codes " ")))) }
 {
@@ -168,7 +168,7 @@ fn push_place(text: &mut String, place: u64, pid: u32) -> Result<(), AllocError>
 }
 
 /// Appends the line of an event to a text: its place in the history from 1, the process, the call and the
-/// reply. Where memory is refused a part of the line may stand there.
+/// reply. AllocError: the host refused memory, and the text may have a part of the line.
 pub fn push_event(text: &mut String, place: u64, event: &Event) -> Result<(), AllocError>
     ensures { OnOk result (string_bytes text.new ≡ string_bytes text.old ++ printed.event_text place event.now) }
 {
@@ -179,8 +179,8 @@ pub fn push_event(text: &mut String, place: u64, event: &Event) -> Result<(), Al
     text.push_str("\n")
 }
 
-/// A reply: an identifier or a number in decimal, an address, bytes as digits, what stat shows, `ok`, or the
-/// name of a refusal.
+/// The text of a reply: an identifier or a number in decimal, an address, bytes as hexadecimal digits, the
+/// fields of stat, `ok`, or the name of a refusal. AllocError: the host refused memory.
 pub fn reply_text(alloc: Global, reply: &Reply) -> Result<String, AllocError>
     ensures { IfOk result (λ s. string_bytes s ≡ printed.reply_text reply.now) }
 {
@@ -189,7 +189,8 @@ pub fn reply_text(alloc: Global, reply: &Reply) -> Result<String, AllocError>
     Ok(text)
 }
 
-/// The line of an event: its place in the history from 1, the process, the call and the reply.
+/// The line of an event: its place in the history from 1, the process, the call and the reply. AllocError:
+/// the host refused memory.
 pub fn event_text(alloc: Global, place: u64, event: &Event) -> Result<String, AllocError>
     ensures { IfOk result (λ s. string_bytes s ≡ printed.event_text place event.now) }
 {

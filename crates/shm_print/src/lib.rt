@@ -1,4 +1,4 @@
-//! The printed text of values: the line of an event, the lines of a listing, and the usage.
+//! The printed text of values: the line of an event, the lines of a listing, and the counts.
 #![tactic(auto)]
 
 mod counts;

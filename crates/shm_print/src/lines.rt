@@ -6,15 +6,15 @@ use crate::words::{Key, Octal, StatusWord};
 use shm_base::{ShmId, ShmidDs};
 use std::alloc::{AllocError, Global};
 
-/// The header of a listing.
+/// The header of a listing. AllocError: the host refused memory.
 pub fn header_line(alloc: Global) -> Result<String, AllocError>
     ensures { IfOk result (λ s. string_bytes s ≡ listing.header_line) }
 {
     format!(in alloc; "key        shmid      owner      perms      bytes      nattch     status\n")
 }
 
-/// The line of a segment: its key, identifier, owner, mode, size, attach count and marks. All cells but
-/// the last have 10 places.
+/// The line of a segment: its key, identifier, owner, mode, size, attach count and marks. Every cell but the
+/// last is 10 characters wide. AllocError: the host refused memory.
 pub fn segment_line(alloc: Global, id: ShmId, shown: &ShmidDs) -> Result<String, AllocError>
     ensures { IfOk result (λ s. string_bytes s ≡ listing.segment_line id shown.now) }
 {

@@ -6,7 +6,7 @@ use bitflags::Flags;
 use shm_base::{AtFlags, GetFlags, Status};
 use std::fmt;
 
-/// A key: eight digits.
+/// A key as `0x` and eight hexadecimal digits.
 #[derive(Clone, Copy)]
 pub(crate) struct Key(pub(crate) u32);
 
@@ -19,7 +19,7 @@ impl fmt::Display for Key {
     }
 }
 
-/// Three octal digits.
+/// A mode as three octal digits.
 #[derive(Clone, Copy)]
 pub(crate) struct Octal(pub(crate) u16);
 
@@ -32,7 +32,7 @@ impl fmt::Display for Octal {
     }
 }
 
-/// The flags of shmget after its mode.
+/// The flags of shmget, which follow its mode.
 #[derive(Clone, Copy)]
 pub(crate) struct GetWord(pub(crate) GetFlags);
 

@@ -56,7 +56,7 @@ no_cause : (fault : RunFault) (areas : List ℕ) (script : ScriptView) → (faul
 no_cause fault areas script (inl e) = λ input read. subst (λ f. IsCause f areas input) (sym e) tt
 no_cause fault areas script (inr e) = λ input read. subst (λ f. IsCause f areas input) (sym e) tt
 
--- input that was not read says nothing of itself
+-- input that was not read says nothing
 pub unread_cause : (fault : RunFault) (input : Option (List ℕ)) → (fault ≡ HostMemory) ⊎ (fault ≡ ReadFailed) → IfSome input (λ bytes. (areas : List ℕ) → IsCause fault areas bytes)
 unread_cause fault None e = tt
 unread_cause fault (Some input) (inl e) = λ areas. subst (λ f. IsCause f areas input) (sym e) tt
@@ -112,7 +112,7 @@ pub world_serials : (result : Result (Unit {0}) RunFault) → IfErr result (λ f
 world_serials (Ok done) e = tt
 world_serials (Err fault) e = world_serial fault e
 
--- where a result is no error, what is true anyway
+-- if a result is not an error, a fact that holds anyway
 pub anyway : {E : Type 0} → (result : Result (Unit {0}) E) (P : Type 0) → P → OnOk result P
 anyway (Ok done) P p = p
 anyway (Err fault) P p = tt

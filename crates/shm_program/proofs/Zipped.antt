@@ -1,4 +1,4 @@
--- Pairs that are put behind others.
+-- Pairs that are appended to others.
 use Rattle.std.proofs.Common.{arith, ◌≡◌, ◌<◌, ◌+◌, ◌∙◌, ℕ, suc, List, [], ◌∷◌, ◌++◌, take, get_or, length, ap, sym, subst}
 use Rattle.std.proofs.Math.Seq.{take-suc}
 use Rattle.std.specs.List.{AllZip}

@@ -1,4 +1,4 @@
--- Which pager is made of each word for a swap area.
+-- The pager that is made for each word for a swap area.
 use Rattle.std.specs.Prelude.{ℕ, List, [], ◌∷◌}
 use Rattle.shm_pager.specs.Areas.{IsOfKind}
 use Rattle.shm_pager.specs.declared.area.AreaKind.{AreaKind}
@@ -7,7 +7,7 @@ use Rattle.shm_pager.specs.declared.area.AreaPager.{AreaPager}
 use Rattle.shm_program.specs.declared.options.SwapWord.{SwapWord}
 use Rattle.shm_program.specs.declared.options.SwapWord.TheVariants.{Ram, Sparse, Mirror, FuseRead, FuseWrite}
 
--- a fuse is of memory
+-- a fuse is a ram area
 abbrev pub kind_of : SwapWord → AreaKind
 kind_of (Ram n) = kinds.Ram
 kind_of (Sparse n) = kinds.Sparse
@@ -31,6 +31,6 @@ abbrev pub writes_of : SwapWord → List ℕ
 writes_of (FuseWrite n k) = k ∷ []
 writes_of _ = []
 
--- the area of a word as it is made: zeros in each slot, and no call fails but the one that a fuse names
+-- the new area of a word: zeros in each slot, and only the call that a fuse names will fail
 abbrev pub IsAreaOf : SwapWord → AreaPager → Type 0
 IsAreaOf swap p = IsOfKind (kind_of swap) (size_of swap) (reads_of swap) (writes_of swap) p

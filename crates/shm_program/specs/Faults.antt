@@ -1,4 +1,4 @@
--- The texts of the faults, and the exit statuses.
+-- The messages of the faults, and the exit statuses.
 use Rattle.std.specs.Prelude.{ℕ, List, ◌++◌, codes}
 use Rattle.std.specs.Fmt.{decimal}
 use Rattle.shm_text.specs.Fault.{kind_text}
@@ -19,7 +19,7 @@ fault_text (Mismatch pid) = codes "history mismatch " ++ decimal pid
 fault_text ThreadRefused = codes "thread refused"
 fault_text HostMemory = codes "out of memory"
 
--- 1 is a script fault, 3 a fault of the run, 4 out of memory
+-- 1 for a script fault, 3 for a fault of the run, 4 for out of memory
 abbrev pub exit_status : RunFault → ℕ
 exit_status (Script f) = 1
 exit_status (StartRefused n) = 3
@@ -30,12 +30,12 @@ exit_status (Mismatch pid) = 3
 exit_status ThreadRefused = 3
 exit_status HostMemory = 4
 
--- a refusal of the reader's, as a fault of the run
+-- the reader's refusal as a fault of the run
 abbrev pub refused_as : ReadRefused → RunFault
 refused_as refused.HostMemory = HostMemory
 refused_as (refused.Fault fault) = Script fault
 
--- a start error, as a fault of the run
+-- a start error as a fault of the run
 abbrev pub stopped_as : StartError → RunFault
 stopped_as starts.Areas = StartRefused 1
 stopped_as starts.AreaSize = StartRefused 2

@@ -1,4 +1,4 @@
--- The words of the command line.
+-- The words of the command line for swap areas.
 use Rattle.std.specs.Prelude.{ℕ, ◌+◌, ◌&&◌, ◌==◌, position, take, if◌then◌else◌, List, [], ◌∷◌, length, drop, Option, Some, None, slice_index, codes, nat_le}
 use Rattle.std.specs.Str.{bytes_eq}
 use Rattle.shm_base.specs.Bounds.{within}
@@ -15,7 +15,7 @@ sized (Some n) = if nat_le 1 n && nat_le n PROFILE_SLOTS then Some n else None
 abbrev pub slots_of : List ℕ → Option ℕ
 slots_of w = sized (decimal_of w)
 
--- a place of a read or a write, from 1 on
+-- the place of a read or a write, from 1
 abbrev pub place_in : Option ℕ → Option ℕ
 place_in None = None
 place_in (Some k) = if nat_le 1 k then Some k else None
@@ -57,7 +57,7 @@ swap_before (Some s) (Some ss) = Some (s ∷ ss)
 swap_before (Some s) None = None
 swap_before None rest = None
 
--- what each word names, if all name something
+-- the areas of all words, if each names one
 abbrev pub each_swap : List (List ℕ) → Option (List SwapWord)
 each_swap [] = Some []
 each_swap (w ∷ ws) = swap_before (swap_of w) (each_swap ws)

@@ -18,11 +18,11 @@ abbrev pub values_of : List HolderView → ℕ → List (Option ℕ)
 values_of [] pid = no_values
 values_of (h ∷ hs) pid = if h.pid == pid then h.values else values_of hs pid
 
--- the variables of all processes once one of them has these
+-- the variables of all processes, with these for one of them
 abbrev pub with_values : List HolderView → ℕ → List (Option ℕ) → List HolderView
 with_values [] pid values = []
 with_values (h ∷ hs) pid values = if h.pid == pid then record { pid = h.pid; values = values } ∷ hs else h ∷ with_values hs pid values
 
--- the variables of all processes once a line was answered
+-- the variables of all processes after a line was answered
 abbrev pub with_answer : List HolderView → CommandView → Option Reply → List HolderView
 with_answer hs c reply = with_values hs c.pid (values_after (values_of hs c.pid) c.var reply)

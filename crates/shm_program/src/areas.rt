@@ -1,4 +1,4 @@
-//! The pagers of the swap areas that words name.
+//! The pagers of the swap areas that the command line names.
 ghost use Rattle.std.specs.Prelude.{◌≡◌, [], IfOk};
 ghost use Rattle.std.specs.List.{AllZip};
 ghost use Rattle.shm_program.specs.Areas.{kind_of, size_of, reads_of, writes_of, IsAreaOf};
@@ -9,7 +9,7 @@ use shm_pager::{AreaKind, AreaPager, Failing};
 use std::alloc::Global;
 
 impl SwapWord {
-    // The kind of its area. A fuse is of memory.
+    // The kind of the word's area; a fuse is a ram area.
     fn kind(self) -> AreaKind
         ensures { result ≡ kind_of self }
     {
@@ -29,7 +29,7 @@ impl SwapWord {
         }
     }
 
-    // The places of its failing calls.
+    // The places of the area's failing calls.
     fn failing(self, alloc: Global) -> Result<Failing, HostMemory>
         ensures reads { IfOk result (λ f. f.reads.items ≡ reads_of self) }
         ensures writes { IfOk result (λ f. f.writes.items ≡ writes_of self) }
@@ -61,7 +61,8 @@ fn area_of(alloc: Global, swap: SwapWord) -> Result<AreaPager, HostMemory>
     )
 }
 
-/// A pager for each of the words, in their order. A fuse fails only at the read or the write that its word names.
+/// A pager for each of the words, in order. A fuse fails only at the read or the write that its word names.
+/// HostMemory: the host refused memory.
 pub fn areas_of(alloc: Global, swaps: &[SwapWord]) -> Result<Vec<AreaPager>, HostMemory>
     ensures { IfOk result (λ pagers. AllZip IsAreaOf swaps.now pagers.items) }
 {

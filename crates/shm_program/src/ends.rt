@@ -1,4 +1,4 @@
-//! Reading the whole input, which is a script, and writing the whole output.
+//! Reads the whole input, which is a script, and writes the whole output.
 ghost use Rattle.std.specs.Prelude.{◌≡◌, ◌⊎◌, ◌++◌, ◌<◌, ◌≤◌, ◌+◌, ◌-◌, List, ℕ, Ok, true, length, OnOk, IfOk, IfErr, IfSome};
 ghost use Rattle.std.specs.Io.KnownBytes.{Appends, Consumes, IsAtEnd};
 ghost use Rattle.shm_text.specs.Reading.{script_of};
@@ -19,8 +19,9 @@ const ASKS: u32 = 2_097_152;
 // The bytes of one read.
 const BUFFER: usize = 4096;
 
-// Whether to read again after this failure: only after an interruption. A reader that does not wait answers `WouldBlock`
-// if it has nothing yet; that is a failure, because reading again at once would keep a processor busy.
+// Whether to read again after this failure: only after an interruption. A reader that does not block answers
+// `WouldBlock` if it has nothing yet. That counts as a failure, because reading again at once would keep a
+// processor busy.
 fn is_asked_again(kind: ErrorKind) -> bool
     ensures { result ≡ is_asked_again kind }
 {
@@ -64,7 +65,8 @@ fn read_input<R: Read>(alloc: Global, reader: &mut R) -> Result<Vec<u8>, RunFaul
     Err(RunFault::ReadFailed)
 }
 
-/// The whole input as a script. It fails by the script's first fault, or if the reader failed or memory is out.
+/// The whole input as a script. Fails with the script's first fault, or if the reader failed or the host
+/// refused memory.
 pub fn whole_script<R: Read>(alloc: Global, reader: &mut R) -> Result<Script, RunFault>
     ensures read { IfOk result
         (λ script. IfSome (R.remaining reader.old) (λ input. script_of input ≡ Ok script)) }
@@ -97,7 +99,8 @@ impl From<WriteFault> for RunFault {
     }
 }
 
-/// Writes the bytes, each once. Any fault of the writer ends it, also an interruption or a write of no byte.
+/// Writes the bytes, each once. Any failure of the writer ends it, also an interruption or a write of no
+/// byte.
 pub fn write_output<W: Write>(writer: &mut W, bytes: &[u8]) -> Result<(), WriteFault>
     ensures { OnOk result (Appends (W.contents writer.old) (W.contents writer.new) bytes.now) }
 {

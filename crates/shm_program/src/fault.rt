@@ -1,4 +1,4 @@
-//! Why a run ends without its whole output, with the program's texts and statuses.
+//! Why a run ends without its whole output, with the program's messages and exit statuses.
 ghost use Rattle.std.specs.Prelude.{◌≡◌};
 ghost use Rattle.shm_program.specs.Faults.{refused_as, stopped_as};
 ghost use Rattle.shm_program.specs.declared.fault.RunFault.TheVariants as faults;
@@ -9,12 +9,20 @@ use shm_text::{ReadRefused, ScriptFault};
 use std::alloc::AllocError;
 use std::{error, fmt};
 
-/// Why a run ended without its whole output. `Script`: the input is not a script; it has the first fault.
-/// `StartRefused`: the number of the first start error. `ReadFailed`: the reader failed, or was asked 2,097,152
-/// times without an end. `WriteFailed`: the writer failed, was interrupted, or took no byte; an unknown beginning
-/// was written. `HostMemory`: out of memory. Only a run with threads has the others. `Gate`: the gate ended a
-/// worker; it has the least such pid. `Mismatch`: a worker's calls and the history disagree; it has the least such
-/// pid, or 0. `ThreadRefused`: the host refused a thread.
+/// Why a run ended without its whole output.
+///
+/// - `Script`: the input is not a script; it has the first fault.
+/// - `StartRefused`: the machine was not opened; it has the number of the first start error.
+/// - `ReadFailed`: the reader failed, or was called 2,097,152 times without an end.
+/// - `WriteFailed`: the writer failed, was interrupted, or took no byte. An unknown part of the output, from
+///   its beginning, was written.
+/// - `HostMemory`: the host refused memory.
+///
+/// Only a run with threads has the others:
+///
+/// - `Gate`: the gate ended a worker; it has the least such pid.
+/// - `Mismatch`: a worker's calls and the history disagree; it has the least such pid, or 0.
+/// - `ThreadRefused`: the host refused a thread.
 #[derive(Clone, Copy, Debug, PartialEq, Eq)]
 pub enum RunFault {
     Script(ScriptFault),

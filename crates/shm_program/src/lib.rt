@@ -1,5 +1,5 @@
-//! What the programs that run a script share: the words for swap areas, the whole input as a script, the world
-//! that it opens, the variables of its processes, the output, and the faults with their texts and statuses.
+//! What the programs that run a script share: the words for swap areas, the input as a script, the world that
+//! it opens, the variables of its processes, the output, and the faults with their messages and statuses.
 #![tactic(auto)]
 
 mod areas;

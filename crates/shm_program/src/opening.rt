@@ -9,8 +9,8 @@ use shm_pager::Pager;
 use shm_text::Script;
 use std::alloc::Global;
 
-/// The world that a script opens, without events, over the given pagers. It fails as the start of its system does: with
-/// the first start error, or out of memory; then the pagers are dropped.
+/// The world that a script opens over the given pagers. It has no events. Fails with the first start error,
+/// or if the host refused memory; the pagers are dropped then.
 pub fn open_world<P: Pager>(
     alloc: Global,
     script: &Script,

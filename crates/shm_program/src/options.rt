@@ -1,4 +1,4 @@
-//! The words of the command line.
+//! The words of the command line for swap areas.
 ghost use Rattle.std.specs.Prelude.{◌≡◌, ◌≤◌, ◌<◌, ◌+◌, length, take, drop, map, option_map, IfOk, IfSome};
 ghost use Rattle.shm_program.specs.Options.{slots_of, place_in, area_by, fuse_by, colon, swap_of, swaps_of};
 ghost use Rattle.shm_text.specs.Number.{decimal_of};
@@ -8,8 +8,8 @@ use shm_text::read_decimal;
 use std::alloc::{AllocError, Global};
 use std::convert::AsStr;
 
-/// A swap area: its kind, its slots (1 to 65536), and for a fuse the number, from 1, of the read or the write that
-/// fails.
+/// A swap area: its kind, its number of slots (1 to 65536), and for a fuse the number, from 1, of the read or
+/// the write that fails.
 #[derive(Clone, Copy, Debug, PartialEq, Eq)]
 pub enum SwapWord {
     Ram(u32),
@@ -105,8 +105,9 @@ fn read_swap(word: &[u8]) -> Option<SwapWord>
     }
 }
 
-/// The swap areas that words name, in their order: `ram:N`, `sparse:N`, `mirror:N`, `fuse:N:rK` or `fuse:N:wK` each.
-/// None if there are not one to eight words, or if one of them names no area.
+/// The swap areas that words name, in order. Each word is `ram:N`, `sparse:N`, `mirror:N`, `fuse:N:rK` or
+/// `fuse:N:wK`. None if there are not one to eight words, or if a word names no area. AllocError: the host
+/// refused memory.
 pub fn read_swaps<W: AsStr>(alloc: Global, words: &[W]) -> Result<Option<Vec<SwapWord>>, AllocError>
     ensures { IfOk result (λ found. option_map (λ v. v.items) found ≡ swaps_of (map W.text words.now)) }
 {

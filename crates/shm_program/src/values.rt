@@ -39,7 +39,7 @@ impl Model for Values {
 }
 
 impl Values {
-    /// The variables of these processes at the start.
+    /// The variables of these processes at the start. AllocError: the host refused memory.
     pub fn new(alloc: Global, processes: &[Process]) -> Result<Values, AllocError>
         ensures { IfOk result (λ v. v ≡ map fresh_holder processes.now) }
     {
@@ -53,7 +53,7 @@ impl Values {
         Ok(Values { holders })
     }
 
-    /// The call that a command line makes now.
+    /// The call that a command line makes, with the present variables of its process.
     pub fn call(&self, command: &Command) -> Call
         ensures { result ≡ call_of (values_of self.now command.now.pid) command.now.call }
     {
@@ -66,7 +66,7 @@ impl Values {
         Vars::new().call(command)
     }
 
-    /// Takes the reply to a command line.
+    /// Stores the reply to a command line in its variable.
     pub fn took(&mut self, command: &Command, reply: &Reply)
         ensures { self.new ≡ with_answer self.old command.now (Some reply.now) }
     {

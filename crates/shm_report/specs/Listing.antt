@@ -6,7 +6,7 @@ use Rattle.shm_base.specs.declared.call.ShmidDs.{ShmidDs}
 use Rattle.shm_life.specs.Listed.{listed_segment}
 use Rattle.shm_print.specs.Listing.{header_line, segment_line}
 
--- the line of what is shown of a segment, where there is one
+-- the line of a segment, if there is one
 abbrev pub line_shown : Option (ℤ × ShmidDs) → List ℕ
 line_shown None = []
 line_shown (Some shown) = segment_line shown.0 shown.1
@@ -16,6 +16,6 @@ abbrev pub lines_from : Machine → ℕ → List Entry → List ℕ
 lines_from m i [] = []
 lines_from m i (e ∷ es) = line_shown (listed_segment m (identifier i e.destroyed) e.segment) ++ lines_from m (i + 1) es
 
--- the header, and a line for each segment by rising index
+-- the header, and a line for each segment in order of their indexes
 abbrev pub listing_of : Machine → List ℕ
 listing_of m = header_line ++ lines_from m 0 m.table

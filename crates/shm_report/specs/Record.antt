@@ -1,4 +1,4 @@
--- The record of a step: what the step did, and then how the machine and its memory stand, a line each.
+-- The record of a step: what the step did, and the state of the machine and its memory after it, line by line.
 use Rattle.std.specs.Prelude.{ℕ, ◌+◌, Bool, false, if◌then◌else◌, List, [], ◌∷◌, ◌++◌, codes, length, Option, Some, None}
 use Rattle.std.specs.Fmt.{decimal, digits}
 use Rattle.std.specs.List.{flat_map}
@@ -24,7 +24,7 @@ module _ {X : Type 0} where
 
 -- WHAT THE STEP DID
 
--- `start`; a call's line of the history, where it stands at place n; or a flush round
+-- `start`; a call's line of the history at place n; or a flush round
 abbrev pub action_text : ℕ → Action → List ℕ
 action_text n Start = codes "start\n"
 action_text n (Call e) = codes "call " ++ event_text n e
@@ -32,7 +32,7 @@ action_text n (Flush pages r) = codes "flush " ++ (decimal pages ++ (codes " wri
 
 -- THE PROCESSES
 
--- `piece BASE SEGMENT FIRST_PAGE PAGES rw`, or `ro` where it is read-only
+-- `piece BASE SEGMENT FIRST_PAGE PAGES rw`, or `ro` if it is read-only
 abbrev pub piece_line : Piece → List ℕ
 piece_line p = codes "piece 0x" ++ (digits 16 false p.base ++ (codes " " ++ (decimal p.seg ++ (codes " " ++ (decimal p.first_page ++ (codes " " ++ (decimal p.pages ++ (codes " " ++ ((if p.writable then codes "rw" else codes "ro") ++ codes "\n")))))))))
 
@@ -48,7 +48,7 @@ abbrev pub process_by : ℕ → Option ℕ → Option Caller → List ℕ
 process_by pid unborn None = codes "process " ++ (decimal pid ++ idle_text unborn)
 process_by pid unborn (Some c) = codes "process " ++ (decimal pid ++ (codes " live " ++ (decimal c.cred.uid ++ (codes " " ++ (decimal c.cred.gid ++ (codes "\n" ++ pieces_text c.pieces))))))
 
--- `process PID live UID GID` and its pieces by rising base; `process PID unborn`; or `process PID ended`
+-- `process PID live UID GID` and its pieces in order of their bases; `process PID unborn`; or `process PID ended`
 abbrev pub process_text : List Runner → ℕ → List ℕ
 process_text rs pid = process_by pid (unborn_from 0 pid rs) (caller_from 0 pid rs)
 
@@ -59,7 +59,7 @@ processes_text rs (p ∷ ps) = process_text rs p.pid ++ processes_text rs ps
 
 -- THE MEMORY
 
--- `r` where the referenced bit is set, and `d` where the dirty bit is
+-- `r` if the referenced bit is set, and `d` if the dirty bit is
 abbrev pub bits_text : Bool → Bool → List ℕ
 bits_text referenced dirty = (if referenced then codes "r" else codes "-") ++ (if dirty then codes "d" else codes "-")
 
@@ -70,15 +70,15 @@ abbrev pub frame_line_for : ℕ → Frame → Option PageRef → List ℕ
 frame_line_for i f None = []
 frame_line_for i f (Some p) = codes "frame " ++ (decimal i ++ (codes " " ++ (page_text p ++ (codes " " ++ (bits_text f.referenced f.dirty ++ codes "\n")))))
 
--- `frame NUMBER SEGMENT PAGE BITS` where a page owns it, nothing where it is free
+-- `frame NUMBER SEGMENT PAGE BITS` if a page owns it, nothing if it is free
 abbrev pub frame_line : ℕ → Frame → List ℕ
 frame_line i f = frame_line_for i f f.owner
 
--- how many frames there are, where the clock's hand stands, and the frames that are owned
+-- the number of frames, the position of the clock's hand, and the frames that are owned
 abbrev pub frames_text : StoreView → List ℕ
 frames_text m = codes "frames " ++ (decimal (length m.frames) ++ (codes " hand " ++ (decimal m.hand ++ (codes "\n" ++ numbered frame_line 0 m.frames))))
 
--- `slot AREA NUMBER SEGMENT PAGE` where a page owns it, nothing where it is free
+-- `slot AREA NUMBER SEGMENT PAGE` if a page owns it, nothing if it is free
 abbrev pub slot_line : ℕ → ℕ → Option PageRef → List ℕ
 slot_line area i None = []
 slot_line area i (Some p) = codes "slot " ++ (decimal area ++ (codes " " ++ (decimal i ++ (codes " " ++ (page_text p ++ codes "\n")))))
@@ -87,7 +87,7 @@ abbrev pub area_line : ℕ → Option ℕ → List ℕ
 area_line i None = codes "area " ++ (decimal i ++ codes " gone\n")
 area_line i (Some slots) = codes "area " ++ (decimal i ++ (codes " " ++ (decimal slots ++ codes "\n")))
 
--- how many slots an area has, or that it is gone, and its slots that are owned
+-- how many slots an area has, or that it is gone; and the slots that are owned
 abbrev pub area_text : ℕ → AreaView → List ℕ
 area_text i a = area_line i (size_of a) ++ numbered (slot_line i) 0 a.owners
 
@@ -96,7 +96,7 @@ areas_text s = numbered area_text 0 s.areas
 
 -- THE STEP
 
--- the segments as the listing has them, and the processes
+-- the segments of the listing, and the processes
 unfoldable pub machine_text : WorldState → List ℕ
 machine_text w = listing_of w.machine ++ processes_text w.machine.runners w.opening.processes
 
@@ -107,7 +107,7 @@ memory_text m = frames_text m ++ areas_text m.swap
 unfoldable pub counts_text : WorldState → List ℕ
 counts_text w = usage_text (tally_of w)
 
--- its number, what it did, and then the machine, its memory and the usage as they stand after it; an empty line ends it
+-- the step's number, its action, and then the machine, its memory and the counts after it; an empty line ends the record
 abbrev pub step_text : ℕ → Action → WorldState → List ℕ
 step_text n action w =
     codes "step " ++ (decimal n ++ (codes "\n" ++ (action_text (length w.events) action ++ (machine_text w ++ (memory_text w.memory ++ (counts_text w ++ codes "\n"))))))

@@ -6,8 +6,8 @@ use shm_base::{Event, FlushReport};
 use shm_print::push_event;
 use std::alloc::AllocError;
 
-/// The action of a step. `Start`: the machine opens. `Call`: a call with its reply. `Flush`: a flush round of at most
-/// this many pages, with its report.
+/// What a step did. `Start`: the machine opened. `Call`: a call with its reply. `Flush`: a flush round of at
+/// most this many pages, with its report.
 #[derive(Debug, Drop)]
 pub enum Action {
     Start,
@@ -15,7 +15,7 @@ pub enum Action {
     Flush(u64, FlushReport),
 }
 
-// Appends the line of an action to a text. A call has this place in the history.
+// Appends the line of an action to a text. A call is at this place of the history.
 pub(crate) fn push_action(text: &mut String, place: u64, action: &Action) -> Result<(), AllocError>
     ensures { OnOk result (string_bytes text.new ≡ string_bytes text.old ++ action_text place action.now) }
 {

@@ -7,7 +7,7 @@ use shm_history::World;
 use shm_pager::Pager;
 use std::alloc::{AllocError, Global};
 
-/// The current usage of a world, in three lines.
+/// The present counts of a world, in three lines. AllocError: the host refused memory.
 pub fn usage<P: Pager>(alloc: Global, world: &World<P>) -> Result<String, AllocError>
     ensures text { IfOk result (λ s. string_bytes s ≡ usage_text (tally_of world.now)) }
     ensures counted { AreCountsOf P.failed world.now.memory.swap }

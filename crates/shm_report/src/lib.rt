@@ -1,5 +1,6 @@
-//! The texts of a world: the listing, the usage, and the record of each step for the viewer. A record has the step's action,
-//! the segments, the pieces of the processes, the frames, the swap areas and the counts.
+//! The texts of a world: the listing, the counts, and the record of each step for the viewer. A record has
+//! the step's action, the segments, the processes with their pieces, the frames, the swap areas and the
+//! counts.
 #![tactic(auto)]
 
 mod action;

@@ -22,8 +22,8 @@ fn push_line(
     Ok(())
 }
 
-/// The listing of a machine: the header, and a line for each segment in the order of their indexes, including those
-/// marked for removal.
+/// The listing of a machine: the header, and a line for each segment in the order of their indexes, including
+/// those marked for removal. AllocError: the host refused memory.
 pub fn listing<P: Pager>(alloc: Global, world: &World<P>) -> Result<String, AllocError>
     ensures { IfOk result (λ s. string_bytes s ≡ listing_of world.now.machine) }
 {

@@ -11,8 +11,8 @@ use shm_pager::Pager;
 use shm_slots::Swap;
 use std::alloc::AllocError;
 
-// Appends the line of a frame to a text, if a page owns it. Its look at the referenced bit is not counted as one of the
-// clock's.
+// Appends the line of a frame to a text, if a page owns it. Reading the referenced bit here is not one of the
+// clock's looks, which are counted.
 fn push_frame(text: &mut String, frames: &Frames, frame: u32) -> Result<(), AllocError>
     requires { frame < length frames.now }
     ensures { OnOk result
@@ -40,7 +40,7 @@ fn push_owned(text: &mut String, frames: &Frames) -> Result<(), AllocError>
     Ok(())
 }
 
-// Appends the frames to a text, with the place of the clock's hand.
+// Appends the frames to a text, with the position of the clock's hand.
 pub(crate) fn push_frames<P: Pager>(
     text: &mut String,
     store: &PageStore<P>,

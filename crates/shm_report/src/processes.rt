@@ -1,4 +1,4 @@
-//! The processes, each with the pieces of its address space.
+//! The processes, each with its pieces.
 ghost use Rattle.std.specs.Prelude.{◌≡◌, ◌++◌, OnOk, string_bytes};
 ghost use Rattle.shm_areas.specs.Arranged.{bare, bare_all};
 ghost use Rattle.shm_report.specs.Record.{piece_line, pieces_text, process_text, processes_text};

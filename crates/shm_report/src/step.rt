@@ -34,7 +34,7 @@ fn push_memory<P: Pager>(text: &mut String, store: &PageStore<P>) -> Result<(), 
     push_areas(text, store.swap())
 }
 
-// Appends the usage to a text.
+// Appends the counts to a text.
 #[tactic(auto, unfolding(crate::specs::Record::counts_text))]
 fn push_counts<P: Pager>(
     alloc: Global,
@@ -46,9 +46,10 @@ fn push_counts<P: Pager>(
     text.push_str(&usage(alloc, world)?)
 }
 
-/// Appends the record of a step to a text: its number, its action, and the world after it: the segments of the listing,
-/// the processes with their pieces, the frames, the swap areas and the usage. Each line begins with a word that names
-/// its subject. If memory is out, the text may end with a part of the record.
+/// Appends the record of a step to a text: its number, its action, and the world after it. These are the
+/// segments of the listing, the processes with their pieces, the frames, the swap areas and the counts. Each
+/// line begins with a word that names its subject. AllocError: the host refused memory, and the text may end
+/// with a part of the record.
 pub fn push_step<P: Pager>(
     alloc: Global,
     text: &mut String,

@@ -1,4 +1,4 @@
-//! What tests of runs share: a gate, worlds, and what is seen after a run.
+//! What tests of runs share: a gate, worlds, and observations after a run.
 use shm_base::{AccessLen, Call, Reply, Tally};
 use shm_history::{System, World};
 use shm_pager::{Pager, RamPager};
@@ -15,7 +15,7 @@ const TURNS: u64 = 1_000_000;
 
 const SETTLED: u64 = 20_000;
 
-/// Waits until a count is this high, for this many turns. False if it was not.
+/// Waits for at most this many turns until a count is this high. Returns whether it was.
 pub(crate) fn comes_to(count: &AtomicU64, least: u64) -> bool {
     for _ in 0..TURNS {
         if count.load(Ordering::SeqCst) >= least {
@@ -26,38 +26,38 @@ pub(crate) fn comes_to(count: &AtomicU64, least: u64) -> bool {
     false
 }
 
-// Lets the other threads run until they wait, for all that is known.
+// Lets the other threads run until they probably wait.
 fn others_run() {
     for _ in 0..SETTLED {
         thread::yield_now();
     }
 }
 
-/// What a gate does.
+/// The rule of a gate.
 #[derive(Clone, Copy)]
 pub(crate) enum Rule {
     /// Lets every worker pass.
     Open,
-    /// Ends the workers from this pid on.
+    /// Ends every worker whose pid is not below this one.
     Below(u32),
     /// Ends one worker.
     Without(u32),
     /// Lets this many of the flusher's rounds pass.
     Rounds(u64),
-    /// Holds each of two processes until the other comes as far.
+    /// Holds each of two processes until the other has come as far.
     Meet,
     /// Holds process 1 after its first call until process 2 has made one.
     ChildFirst,
-    /// Has process 2 make its call while process 1 is told of its own.
+    /// Has process 2 make its call while process 1's gate is in `after`.
     WhileTold,
     /// Holds the flusher's first round until process 1 has made this many calls.
     Behind(u64),
-    /// Holds process 1 before its first call so long that all children wait, and before its third until another process
-    /// has made a call.
+    /// Holds process 1 before its first call until all children probably wait, and before its third until
+    /// another process has made a call.
     Waited,
 }
 
-/// Of which call a gate was asked last for a worker, and of which it was told.
+/// The number of the call of a worker's last `before`, and that of its last `after`.
 struct Turn {
     asked: AtomicU64,
     told: AtomicU64,
@@ -71,13 +71,13 @@ impl Turn {
         }
     }
 
-    // Whether the gate is asked of the next call, and was told of all before.
+    // Whether the gate is called before the next call, and was called after all earlier ones.
     fn ask(&self, n: u64) -> bool {
         let before = n.wrapping_sub(1);
         self.asked.swap(n, Ordering::SeqCst) == before && self.told.load(Ordering::SeqCst) == before
     }
 
-    // Whether the gate is told of the call of which it was asked last.
+    // Whether the gate is called after the call before which it was called last.
     fn tell(&self, n: u64) -> bool {
         let before = n.wrapping_sub(1);
         self.told.swap(n, Ordering::SeqCst) == before && self.asked.load(Ordering::SeqCst) == n
@@ -90,8 +90,8 @@ impl Drop for Turn {
     }
 }
 
-/// Keeps a rule, and counts for the flusher, process 1 and process 2 what it was asked and told, and when out of
-/// turn. Another process counts as process 2.
+/// Keeps a rule. Counts its calls for the flusher, for process 1 and for process 2, and those out of order.
+/// Any other process counts as process 2.
 pub(crate) struct Ruled {
     rule: Rule,
     flusher: Turn,
@@ -111,8 +111,8 @@ impl Ruled {
         }
     }
 
-    /// Of which call it was asked last and told last for the flusher, for process 1 and for process 2; and how often
-    /// it was out of turn.
+    /// The numbers of the last `before` and of the last `after`, for the flusher, for process 1 and for
+    /// process 2; and how many calls were out of order.
     pub(crate) fn counts(&self) -> [u64; 7] {
         [
             self.flusher.asked.load(Ordering::SeqCst),
@@ -125,7 +125,7 @@ impl Ruled {
         ]
     }
 
-    /// How many rounds it was told of.
+    /// The number of rounds after which it was called.
     pub(crate) fn rounds(&self) -> u64 {
         self.flusher.told.load(Ordering::SeqCst)
     }
@@ -208,12 +208,12 @@ pub(crate) fn world_over<P: Pager>(
     Ok(World::new(alloc, system))
 }
 
-/// What a test looks at after a run.
+/// What a test examines after a run.
 #[derive(Clone, Copy)]
 pub(crate) struct Noted {
     pub(crate) events: usize,
     pub(crate) transcripts: usize,
-    /// How many calls each of the first five transcripts has; 0 where there is none.
+    /// How many calls each of the first five transcripts has; 0 for a transcript that does not exist.
     pub(crate) calls: [usize; 5],
     /// How many calls are marked: the host refused memory for them.
     pub(crate) marked: usize,
@@ -221,12 +221,12 @@ pub(crate) struct Noted {
     pub(crate) tally: Tally,
     /// The last event's process and reply.
     pub(crate) last: Option<(u32, Reply)>,
-    /// What process 1 loads after the run from where the first segment is attached.
+    /// What process 1 loads after the run from the address of the first segment.
     pub(crate) loaded: Option<Reply>,
 }
 
 impl Noted {
-    /// Whether there are this many transcripts, with this many calls each.
+    /// Whether there are this many transcripts, with these numbers of calls.
     pub(crate) fn has_calls(&self, calls: &[usize]) -> bool {
         self.transcripts == calls.len() && self.calls.starts_with(calls)
     }
@@ -284,7 +284,7 @@ pub(crate) fn ended(run: Result<Outcome<RamPager>, RunError>) -> Result<Noted, R
     Ok(look(&mut world, &transcripts))
 }
 
-/// What is seen after a run of a script with this gate, or why it has no outcome.
+/// The observations after a run of a script with this gate, or why it has no outcome.
 pub(crate) fn run_script<R: Threads + Wait + Sync, G: Gate>(
     rt: &R,
     alloc: Global,
@@ -294,7 +294,7 @@ pub(crate) fn run_script<R: Threads + Wait + Sync, G: Gate>(
     run_over(rt, alloc, script, 64, gate)
 }
 
-// What is seen after a run over an area of this many slots.
+// The observations after a run over an area of this many slots.
 fn run_over<R: Threads + Wait + Sync, G: Gate>(
     rt: &R,
     alloc: Global,
@@ -316,7 +316,7 @@ pub(crate) fn fault_behind<R: Threads + Wait + Sync, G: Gate>(
     Ok(run_script(rt, alloc, script, gate)?.err())
 }
 
-/// What is seen after a run of a text, or why it has no outcome.
+/// The observations after a run of a text, or why it has no outcome.
 pub(crate) fn run_behind<R: Threads + Wait + Sync, G: Gate>(
     rt: &R,
     alloc: Global,
@@ -327,7 +327,7 @@ pub(crate) fn run_behind<R: Threads + Wait + Sync, G: Gate>(
     run_script(rt, alloc, &script, gate)
 }
 
-/// What is seen after a run by this rule.
+/// The observations after a run by this rule.
 pub(crate) fn seen_by<R: Threads + Wait + Sync>(
     rt: &R,
     alloc: Global,
@@ -337,7 +337,7 @@ pub(crate) fn seen_by<R: Threads + Wait + Sync>(
     Ok(run_behind(rt, alloc, text, &Ruled::by(rule))??)
 }
 
-/// What is seen after a run by this rule over an area of this many slots.
+/// The observations after a run by this rule over an area of this many slots.
 pub(crate) fn seen_over<R: Threads + Wait + Sync>(
     rt: &R,
     alloc: Global,

@@ -1,4 +1,4 @@
-//! Which pid the comparison names, of runs that are made up.
+//! The pid that the comparison names, for invented runs.
 use bitflags::Flags;
 use shm_base::{Call, Chunk, Errno, Event, GetFlags, Reply, ShmId};
 use shm_text::{Script, read_script};
@@ -10,7 +10,7 @@ fn script(alloc: Global, text: &[u8]) -> Result<Script, Fail> {
     Ok(read_script(alloc, text).ok().ok_or("a script")?)
 }
 
-/// A call with its answer, made up.
+/// An invented call with its answer.
 #[derive(Clone, Copy)]
 enum Made {
     Store,
@@ -81,7 +81,7 @@ process 2 100 100\n\
 2 exit\n\
 2 exit\n";
 
-/// What a run might have kept: of the child 1, of process 2, and of all.
+/// What a run may have kept: the transcripts of child 1 and of process 2, and the history.
 struct Kept {
     child: &'static [Made],
     process: &'static [Made],
@@ -104,14 +104,14 @@ const KEPT: [Kept; 14] = [
         all: &[(2, Made::Exit)],
         found: Some(2),
     },
-    // a store is nowhere
+    // a store is missing everywhere
     Kept {
         child: &[],
         process: &[Made::Exit],
         all: &[(2, Made::Exit)],
         found: Some(2),
     },
-    // a store stands twice
+    // a store is in the history twice
     Kept {
         child: &[],
         process: &[Made::Store, Made::Exit],
@@ -125,14 +125,14 @@ const KEPT: [Kept; 14] = [
         all: &[(2, Made::OtherStore), (2, Made::Exit)],
         found: Some(2),
     },
-    // other bytes stand in the history
+    // other bytes are in the history
     Kept {
         child: &[],
         process: &[Made::Store, Made::Exit],
         all: &[(2, Made::OtherStore), (2, Made::Exit)],
         found: Some(2),
     },
-    // another reply stands in the history
+    // another reply is in the history
     Kept {
         child: &[],
         process: &[Made::Store, Made::Exit],
@@ -153,7 +153,7 @@ const KEPT: [Kept; 14] = [
         all: &[(2, Made::Store)],
         found: Some(2),
     },
-    // the worker goes on after its exit
+    // the worker continues after its exit
     Kept {
         child: &[],
         process: &[Made::Store, Made::Exit, Made::Exit],
@@ -226,7 +226,7 @@ process 1 100 100\n\
 1 s = shmget private 1 600\n\
 1 rmid s\n";
 
-/// A shmget for which the host refused memory, and the removal of what its variable names.
+/// A shmget for which the host refused memory, and a removal of the segment that its variable names.
 fn marked(alloc: Global, id: ShmId) -> Result<Vec<Transcript>, Fail> {
     let get = Entry {
         call: Call::Shmget {

@@ -1,4 +1,4 @@
-//! When a gate is asked and told, and how a run ends that a gate ends.
+//! When a run calls its gate, and how a run ends if its gate ends a worker.
 use crate::behind::{Rule, Ruled, fault_by, run_behind, seen_by};
 use crate::runs::{FAMILY, TURNED, TWO};
 use shm_base::Reply;
@@ -23,12 +23,12 @@ fn a_gate_is_asked_before_and_told_after_each(rt: HostRuntime) -> Result<(), Fai
     let gate = Ruled::by(Rule::Open);
     let seen = run_behind(&rt, rt.alloc(), ROUNDS, &gate)??;
     assert_eq!(rt; seen.events, 6);
-    // the flusher's two rounds and the three calls of each process, and nothing out of turn
+    // the flusher's two rounds and the three calls of each process, and nothing out of order
     assert!(rt; gate.counts() == [2, 2, 3, 3, 3, 3, 0]);
     Ok(())
 }
 
-/// The second process looks for what the first has made.
+/// The second process looks for what the first one made.
 const LOOK: &[u8] = b"\
 limits 65536 16 64 4 1\n\
 process 1 100 100\n\
@@ -43,7 +43,7 @@ fn a_gate_is_told_behind_the_answer(rt: HostRuntime) -> Result<(), Fail> {
     Ok(())
 }
 
-/// How runs end that a gate ends: all of the workers are ended, those of the processes, one, or none.
+/// How runs end if the gate ends workers: all of them, those of the processes, one, or none.
 const ENDED: &[(&str, &[u8], Rule, Option<RunError>)] = &[
     (
         "the flusher before a process",

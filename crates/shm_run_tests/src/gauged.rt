@@ -1,4 +1,4 @@
-//! Gauged runs beside a reader, which waits for no lock.
+//! Gauged runs with a reader, which waits for no lock.
 ghost use Rattle.std.specs.Prelude.{◌≡◌};
 
 use crate::behind::{Rule, Ruled, comes_to, script, world_over};
@@ -13,17 +13,17 @@ use std::sync::atomic::{AtomicU64, Ordering};
 use std::test::Fail;
 use std::thread::{Threads, join};
 
-/// What a reader tells others, and they it.
+/// What a reader and the other threads report to each other.
 struct Readings {
-    /// How many have ended.
+    /// How many readings have ended.
     ended: AtomicU64,
-    /// How many were none that a world can have, or went back in events.
+    /// How many readings no world can have, or had fewer events than the one before.
     wrong: AtomicU64,
-    /// How many of two pages rounds have written out after four calls, as was read last.
+    /// How many of two pages flush rounds have written after four calls, by the last reading.
     flushed: AtomicU64,
     /// Whether the run has ended.
     done: AtomicU64,
-    /// How often one that was waited for did not come.
+    /// How many readings that were waited for did not come.
     late: AtomicU64,
 }
 
@@ -49,7 +49,7 @@ impl Readings {
         self.ended.fetch_add(1, Ordering::SeqCst);
     }
 
-    /// Waits until this count is so high.
+    /// Waits until this count is at least this high.
     fn wait(&self, count: &AtomicU64, least: u64) {
         if !comes_to(count, least) {
             self.late.fetch_add(1, Ordering::SeqCst);
@@ -69,7 +69,7 @@ impl Drop for Readings {
     }
 }
 
-/// Reads until the run has ended, and so often at least.
+/// Reads until the run has ended, and at least this many times.
 fn watch<R: Wait>(
     rt: &R,
     gauge: &Gauge,
@@ -118,19 +118,19 @@ fn run_gauged<R: Threads + Wait + Sync, G: Gate, P: Pager + Send>(
     }
 }
 
-/// How a gauged run ended beside a reader.
+/// How a gauged run with a reader ended.
 #[derive(Clone, Copy)]
 struct Ending {
     fault: Option<RunError>,
-    /// How many events were read at the end.
+    /// The events of the last reading.
     events: u64,
-    /// How many readings were none that a world can have, or went back in events.
+    /// How many readings no world can have, or had fewer events than the one before.
     wrong: u64,
-    /// How often a reading that was waited for did not come.
+    /// How many readings that were waited for did not come.
     late: u64,
 }
 
-/// Runs a script, gauged, beside a reader on a thread of its own, which reads so often at least.
+/// Runs a gauged script with a reader on a thread of its own, which reads at least this many times.
 fn beside_a_reader<R: Threads + Wait + Sync, G: Gate, P: Pager + Send>(
     rt: &R,
     alloc: Global,
@@ -155,7 +155,7 @@ fn beside_a_reader<R: Threads + Wait + Sync, G: Gate, P: Pager + Send>(
     })
 }
 
-// Of 64 pages in memory.
+// The same over an area of 64 pages in memory.
 fn over_memory<R: Threads + Wait + Sync, G: Gate>(
     rt: &R,
     alloc: Global,
@@ -179,8 +179,8 @@ fn readings_beside_four_that_count(rt: HostRuntime) -> Result<(), Fail> {
     Ok(())
 }
 
-/// Lets the flusher's rounds come after process 1's fourth call, and holds the flusher after each until it is read that
-/// as many pages more were written out.
+/// Starts the flusher's rounds after process 1's fourth call, and holds the flusher after each round until a
+/// reading shows the pages that it wrote.
 struct UntilRead<'a> {
     behind: Ruled,
     readings: &'a Readings,
@@ -211,7 +211,7 @@ impl Gate for UntilRead<'_> {
     }
 }
 
-// How a run ends whose rounds of this many pages are each read.
+// How a run ends whose rounds of this many pages are read one by one.
 fn read_after_each<R: Threads + Wait + Sync>(
     rt: &R,
     alloc: Global,
@@ -237,7 +237,7 @@ fn each_round_is_published(rt: HostRuntime) -> Result<(), Fail> {
     Ok(())
 }
 
-/// Pages in memory. The first write, which comes under the world's lock, ends only when a reading was begun and
+/// Pages in memory. The first write, which holds the world's lock, ends only after a reading has begun and
 /// ended since.
 struct WaitingPager<'a> {
     inner: RamPager,
@@ -261,7 +261,7 @@ impl Pager for WaitingPager<'_> {
     fn write(&mut self, slot: u32, page: &[u8; 4096]) -> Result<(), PagerFault> {
         if !self.has_waited {
             self.has_waited = true;
-            // one may have been begun before, but not two
+            // one may have begun before, but not two
             let ended = self.readings.ended.load(Ordering::SeqCst);
             self.readings
                 .wait(&self.readings.ended, ended.saturating_add(2));
@@ -292,7 +292,7 @@ impl Drop for WaitingPager<'_> {
     }
 }
 
-/// Three pages in two frames: the last but one call writes a page out.
+/// Three pages in two frames: the second to last call evicts a page.
 const SHORT: &[u8] = b"\
 limits 65536 16 64 2 0\n\
 process 1 100 100\n\

@@ -1,5 +1,5 @@
-//! A run of which the host refuses one allocation: none of its calls is lost, none is made twice, and nobody waits for
-//! ever. `rt try --test --fail-alloc N -- refused::` has the N-th allocation fail.
+//! A run of which the host refuses one allocation: none of its calls is lost or made twice, and no thread
+//! waits forever. `rt try --test --fail-alloc N -- refused::` makes the N-th allocation fail.
 use crate::behind::{Noted, Rule, Ruled, ended};
 use shm_history::{System, World};
 use shm_pager::RamPager;
@@ -10,7 +10,7 @@ use std::sync::Wait;
 use std::test::Fail;
 use std::thread::Threads;
 
-/// A child, which waits, its parent, and another process. Four of the eight lines take memory.
+/// A waiting child, its parent, and another process. Four of the eight lines take memory.
 const TAKERS: &[u8] = b"\
 limits 65536 16 64 4 1\n\
 child 3\n\
@@ -25,8 +25,8 @@ process 2 100 100\n\
 2 b = shmat t null -\n\
 2 store b 2b\n";
 
-// Whether the run ended as it may: with an event of each call but a marked one, or before any call, or, where a thread
-// was refused, with no call of a process that is declared after that one.
+// Whether the run ended in one of the allowed ways: with an event for each call that is not marked; before
+// any call; or, if a thread was refused, without calls of processes that are declared after that one.
 fn is_as_it_may(run: &Result<Noted, RunError>, gate: &Ruled) -> bool {
     let [_, _, parent, _, others, _, _] = gate.counts();
     match run {
@@ -45,7 +45,7 @@ fn opened(alloc: Global, script: &Script) -> Option<World<RamPager>> {
     Some(World::new(alloc, system))
 }
 
-// What is seen after the run, or none where memory was refused before it.
+// The observations after the run; none if memory was refused before it.
 fn ran<R: Threads + Wait + Sync>(
     rt: &R,
     alloc: Global,

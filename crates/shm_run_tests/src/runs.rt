@@ -1,4 +1,4 @@
-//! Whole runs: whatever the schedule, they end as stated.
+//! Whole runs: whatever the schedule, they end as expected.
 use crate::behind::{Rule, Ruled, fault_behind, script, seen_by, seen_over};
 use shm_base::{Chunk, Reply, Tally};
 use shm_text::{FlushLine, Line, Script};
@@ -55,7 +55,7 @@ child 5\n\
 1 fork 2\n\
 1 fork 3\n";
 
-/// Eight children wait. One of them is born, and the others never are.
+/// Eight waiting children. One of them is born, and the others never are.
 const WAITERS: &[u8] = b"\
 limits 65536 16 64 4 1\n\
 child 2\n\
@@ -77,8 +77,8 @@ limits 65536 16 64 4 1\n\
 process 1 100 100\n\
 process 2 100 100\n";
 
-/// A head with lines that come this often after it, the rule of the run, and what is seen after it: this many events, and
-/// this many calls of each process.
+/// A head; lines that follow it this many times; the rule of the run; and the observations after it: this
+/// many events, and this many calls of each process.
 struct Whole {
     name: &'static str,
     head: &'static [u8],
@@ -137,7 +137,7 @@ const RUNS: &[Whole] = &[
     },
 ];
 
-// Whether a run ends as said.
+// Whether a run ends as expected.
 fn ends_so<R: Threads + Wait + Sync>(rt: &R, alloc: Global, run: &Whole) -> Result<bool, Fail> {
     let text = repeated(alloc, run.head, run.lines, run.times)?;
     let seen = seen_by(rt, alloc, &text, run.rule)?;
@@ -152,7 +152,7 @@ fn runs_end_as_stated(rt: HostRuntime) -> Result<(), Fail> {
     Ok(())
 }
 
-// The head, and then the lines so often.
+// The head, and then the lines this many times.
 pub(crate) fn repeated(
     alloc: Global,
     head: &[u8],
@@ -166,7 +166,7 @@ pub(crate) fn repeated(
     Ok(text)
 }
 
-/// Process 1 lets three children share its page, and then wants frames for another segment.
+/// Process 1 shares its page with three children, and then needs frames for another segment.
 pub(crate) const COUNTER: &[u8] = b"\
 limits 65536 16 64 2 0\n\
 process 1 100 100\n\
@@ -212,7 +212,7 @@ fn four_count_together(rt: HostRuntime) -> Result<(), Fail> {
     Ok(())
 }
 
-// Adds a line for each of 64 processes, which begins and ends so.
+// Adds a line for each of 64 processes, with this beginning and end.
 fn push_lines(alloc: Global, text: &mut Vec<u8>, head: &str, tail: &str) -> Result<(), Fail> {
     for pid in 1..65 {
         let line = format!(in alloc; "{head}{pid}{tail}\n")?;
@@ -245,7 +245,7 @@ process 2 100 100\n\
 2 exec\n\
 1 exit\n";
 
-// Adds three rounds, of one page to three.
+// Adds three rounds, of one, two and three pages.
 fn push_rounds(script: &mut Script) -> Result<(), Fail> {
     for pages in 1..4 {
         let round = FlushLine::new(pages).ok_or("1 to 4096")?;
@@ -254,7 +254,7 @@ fn push_rounds(script: &mut Script) -> Result<(), Fail> {
     Ok(())
 }
 
-// Whether the flusher makes this many rounds, and the run ends so.
+// Whether the flusher makes this many rounds, and the run ends as expected.
 fn makes_rounds<R: Threads + Wait + Sync>(
     rt: &R,
     alloc: Global,
@@ -303,7 +303,7 @@ pub(crate) fn late(alloc: Global, rounds: &[u64]) -> Result<Vec<u8>, Fail> {
     Ok(text)
 }
 
-/// Behind four calls and a round of one page.
+/// The counts after four calls and a round of one page.
 const ONE_WRITTEN: Tally = Tally {
     events: 4,
     segments: 1,
@@ -332,7 +332,7 @@ const ROUNDS: &[(u64, Tally)] = &[
     ),
 ];
 
-// What is counted after the calls and a round of this many pages.
+// The counts after the calls and a round of this many pages.
 fn counted_late<R: Threads + Wait + Sync>(
     rt: &R,
     alloc: Global,
@@ -359,7 +359,7 @@ process 1 100 100\n\
 1 s = shmget private 266240 600\n\
 1 a = shmat s null -\n";
 
-// A byte is stored in each of 65 pages, and a round asks for all of them.
+// Stores a byte in each of 65 pages, and asks for a round of all of them.
 fn wide(alloc: Global) -> Result<Vec<u8>, Fail> {
     let mut text = Vec::from_slice(alloc, WIDE)?;
     for page in 0u32..65 {
@@ -382,7 +382,7 @@ fn a_round_of_many_pages(rt: HostRuntime) -> Result<(), Fail> {
     Ok(())
 }
 
-// A parent waits for the call of the child that it forked, while seven others wait that are never born.
+// A parent waits for a call of the child that it forked, while seven other children wait that are never born.
 #[test]
 fn a_fork_wakes_the_child(rt: HostRuntime) -> Result<(), Fail> {
     let seen = seen_by(&rt, rt.alloc(), WAITERS, Rule::Waited)?;

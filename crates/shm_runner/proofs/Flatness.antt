@@ -43,7 +43,7 @@ no_failures : {script : ScriptView} {areas : List ℕ} (w : WorldState) → IsWo
 unfolding AreCounted
 no_failures w is unspent = is.sound.counted unspent
 
--- what is printed of a world over which no pager failed
+-- the output for a world in which no pager failed
 pub flat_printed : (script : ScriptView) (areas : List ℕ) (w : WorldState) → IsWorldOf IsWorldSound script areas w → RunsInOrder (map fresh_holder script.processes) script.lines w.events
     → w.memory.swap.never_spent ≡ true → total w.memory.swap ≡ 0 → world_text w ≡ flat_text script areas ++ usage_text (tally_of w)
 flat_printed script areas w is follows unspent clear =
@@ -61,7 +61,7 @@ clear_counts : {P : Type 0} (failed : P → ℕ) {script : ScriptView} {areas : 
     → (w.memory.swap.never_spent ≡ true) × (total w.memory.swap ≡ 0)
 clear_counts failed w is counted never = unfailing failed w.memory.swap is.sound.exact.sound.swap counted never
 
--- what is printed of a world over pagers that never fail
+-- the output for a world with pagers that never fail
 pub flat_unfailing : {P : Type 0} (failed : P → ℕ) (script : ScriptView) (areas : List ℕ) (w : WorldState) → IsWorldOf IsWorldSound script areas w → AreCountsOf failed w.memory.swap → RunsInOrder (map fresh_holder script.processes) script.lines w.events
     → NeverFails failed → world_text w ≡ flat_text script areas ++ usage_text (tally_of w)
 flat_unfailing failed script areas w is counted follows never =

@@ -19,7 +19,7 @@ use Rattle.shm_threads.specs.Transcripts.{AreTranscripts}
 use Rattle.shm_runner.specs.Threaded.{IsThreadedOutput, IsAllOrNothing, have_mark}
 use Rattle.shm_program.specs.declared.fault.RunFault.{RunFault}
 
--- what is known of a world that is printed, beside the order of its history
+-- what is known of a world that is printed, other than the order of its history
 pub record Known {P : Type 0} (failed : P → ℕ) (script : ScriptView) (areas : List ℕ) (w : WorldState) : Type 0 where
   pub is_world : IsWorldOf IsWorldSound script areas w
   pub counted : AreCountsOf failed w.memory.swap
@@ -33,7 +33,7 @@ serial_text failed swap (Ok done) script areas w old new k began follows written
     (world_text w, record { world = w; is_world = k.is_world; began = began; counted = k.counted; follows = follows; printed = refl; invisible = flat; unfailing = unfailing }, written)
 serial_text failed swap (Err fault) script areas w old new k began follows written = tt
 
--- the areas of a world that began with the counts that they were handed in with
+-- the areas of a world whose counts began as they were passed in
 pub began_from : (swap : SwapView) (w : WorldState) → AreUntouched swap → IsWorldSound w → first_counts w.memory.swap ≡ first_counts swap → GoesOn swap w.memory.swap
 began_from swap w untouched sound same = goes_on_from swap w.memory.swap untouched sound.exact.sound.swap same
 

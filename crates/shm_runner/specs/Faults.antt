@@ -1,4 +1,4 @@
--- How a run with threads ends.
+-- How a run with threads fails.
 use Rattle.shm_threads.specs.declared.outcome.RunError.{RunError}
 use Rattle.shm_threads.specs.declared.outcome.RunError.TheVariants as errors
 use Rattle.shm_program.specs.declared.fault.RunFault.{RunFault}

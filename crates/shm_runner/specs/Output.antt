@@ -1,4 +1,4 @@
--- What a run prints.
+-- The output of a run.
 use Rattle.std.specs.Prelude.{◌≡◌, ℕ, List, [], ◌∷◌, ◌++◌, map, true, Some}
 use Rattle.shm_base.specs.declared.call.Event.{Event}
 use Rattle.shm_text.specs.Script.{ScriptView}
@@ -16,7 +16,7 @@ use Rattle.shm_program.specs.Runs.{IsWorldOf}
 use Rattle.shm_laws.specs.Worlds.{IsWorldSound}
 use Rattle.shm_runner.specs.Flat.{flat_text}
 
--- the events are the calls of these lines in file order, each with the variables of its process
+-- the events are the calls of these lines in order, each with the variables of its process
 abbrev pub RunsInOrder : List HolderView → List Line → List Event → Type 0
 RunsInOrder hs [] [] = Unit {0}
 RunsInOrder hs [] (e ∷ es) = ⊥
@@ -25,7 +25,7 @@ RunsInOrder hs (Command c ∷ ls) [] = ⊥
 RunsInOrder hs (Command c ∷ ls) (e ∷ es) =
     (e.pid ≡ c.pid) × (e.call ≡ call_of (values_of hs c.pid) c.call) × RunsInOrder (with_answer hs c (Some e.reply)) ls es
 
--- what is printed of a world: the event lines, the listing, and the usage
+-- the output for a world: the event lines, the listing, and the counts
 abbrev pub world_text : WorldState → List ℕ
 world_text w = events_text 1 w.events ++ listing_of w.machine ++ usage_text (tally_of w)
 
@@ -33,9 +33,9 @@ world_text w = events_text 1 w.events ++ listing_of w.machine ++ usage_text (tal
 abbrev pub NeverFails : {P : Type 0} → (P → ℕ) → Type 0
 NeverFails {P = P} failed = (p : P) → failed p ≡ 0
 
--- the text of a world whose history the script's lines made, over the swap areas as they were handed in: its counts began
--- there, and each is one of a pager. Where no failure was counted and no area was spent, its event lines and its listing are
--- those of the flat machine, which the script and the areas' sizes determine; so they are over pagers that never fail
+-- The text of a world whose history the script's lines made, over the swap areas as they were passed in. Its counts began there,
+-- and each is a count of a pager. If no failure was counted and no area was spent, its event lines and its listing are those of
+-- the flat machine, which the script and the areas' sizes determine. That is always so with pagers that never fail
 pub record IsOutput {P : Type 0} (failed : P → ℕ) (swap : SwapView) (script : ScriptView) (areas : List ℕ) (text : List ℕ) : Type 0 where
   pub world : WorldState
   pub is_world : IsWorldOf IsWorldSound script areas world

@@ -1,4 +1,4 @@
--- What a run with threads prints, and what its faults say of its input.
+-- The output of a run with threads, and what its faults say about its input.
 use Rattle.std.specs.Prelude.{◌≡◌, ◌⊎◌, ℕ, Bool, true, false, List, Option, Result, OnOk, IfErr, IfSome}
 use Rattle.std.specs.List.{list_any}
 use Rattle.std.specs.Io.KnownBytes.{IsAtEnd}
@@ -28,9 +28,9 @@ has_mark entries = list_any (λ (e : Entry). is_marked e.answer) entries
 abbrev pub have_mark : List Transcript → Bool
 have_mark transcripts = list_any (λ (t : Transcript). has_mark t.entries.items) transcripts
 
--- the text of the world of a run that the script's processes made, each in its own order, and whether one of its calls is
--- marked out of memory, over the swap areas as they were handed in: its counts began there, and each is one of a pager. Over
--- pagers that never fail no reply names a failure
+-- The text of the world of a run of the script's processes, each in its own order, over the swap areas as they were passed in;
+-- and whether one of its calls is marked as out of memory. Its counts began there, and each is a count of a pager. With pagers
+-- that never fail, no reply reports a failure
 pub record IsThreadedOutput {P : Type 0} (failed : P → ℕ) (swap : SwapView) (marked : Bool) (script : ScriptView) (areas : List ℕ) (text : List ℕ) : Type 0 where
   pub world : WorldState
   pub transcripts : List Transcript
@@ -42,11 +42,11 @@ pub record IsThreadedOutput {P : Type 0} (failed : P → ℕ) (swap : SwapView) 
   pub marks : have_mark transcripts ≡ marked
   pub printed : text ≡ world_text world
 
--- nothing is written, or all, where a call of the run found no memory
+-- nothing is written; or everything is, if a call of the run was out of memory
 abbrev pub IsAllOrNothing : RunFault → Option (List ℕ) → Option (List ℕ) → Type 0 → Type 0
 IsAllOrNothing fault old new Marked = IsSilent fault old new ⊎ ((fault ≡ HostMemory) × Marked)
 
--- a run with threads, from what is left of the input before it and behind it, and what is written
+-- a run with threads: the input before it and the rest after it, and the output
 pub record IsThreadedRun {P : Type 0} (failed : P → ℕ) (swap : SwapView) (result : Result (Unit {0}) RunFault) (input rest old new : Option (List ℕ)) (areas : List ℕ) : Type 0 where
   pub ok : OnOk result (IfSome input (λ bytes. Prints (IsThreadedOutput failed swap false) old new areas bytes))
   pub whole : OnOk result (IsAtEnd rest)

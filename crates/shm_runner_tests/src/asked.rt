@@ -1,4 +1,4 @@
-//! Swap areas whose pagers count how often they are asked.
+//! Swap areas whose pagers count their calls.
 ghost use Rattle.shm_pager.specs.Areas.{area_pages, failed_in};
 
 use shm_pager::{AreaPager, Pager, PagerFault};
@@ -6,7 +6,7 @@ use std::alloc::{AllocError, Global};
 use std::sync::Arc;
 use std::sync::atomic::{AtomicU64, Ordering};
 
-/// How often a pager was asked to read, to write and to discard.
+/// How often a pager was called to read, to write and to discard.
 pub(crate) struct Asks {
     reads: Arc<AtomicU64>,
     writes: Arc<AtomicU64>,
@@ -42,7 +42,7 @@ impl Asks {
         })
     }
 
-    /// Reads, writes and discards until now.
+    /// The reads, writes and discards so far.
     pub(crate) fn counts(&self) -> (u64, u64, u64) {
         (
             self.reads.load(Ordering::SeqCst),
@@ -52,7 +52,7 @@ impl Asks {
     }
 }
 
-/// A swap area that counts what it is asked, and then does it.
+/// A swap area that counts each call, and then does it.
 pub(crate) struct AskedPager {
     inner: AreaPager,
     reads: Arc<AtomicU64>,

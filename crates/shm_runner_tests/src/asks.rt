@@ -1,4 +1,4 @@
-//! How often each area's pager is asked by a script's lines, in the order of the file.
+//! How often the lines of a script call each area's pager, in file order.
 use crate::asked::{AskedPager, Asks};
 use crate::stop::Stop;
 use shm_history::World;
@@ -7,7 +7,7 @@ use shm_program::{SwapWord, Values, areas_of, open_world};
 use shm_text::{Line, Script};
 use std::alloc::{AllocError, Global};
 
-// Counts for as many areas.
+// Counts for this many areas.
 fn all_asks(alloc: Global, areas: usize) -> Result<Vec<Asks>, AllocError> {
     let mut asks = Vec::new(alloc);
     for _ in 0..areas {
@@ -26,7 +26,7 @@ fn counted(alloc: Global, swaps: &[SwapWord], asks: &[Asks]) -> Result<Vec<Asked
     Ok(pagers)
 }
 
-// Appends a line with three numbers for each area to a text.
+// Appends a line to a text, with three numbers for each area.
 fn push_asks(text: &mut String, asks: &[Asks]) -> Result<(), AllocError> {
     text.push_str("asked")?;
     for its in asks {
@@ -77,7 +77,8 @@ fn run_over(
     run_lines(alloc, &mut world, script, asks)
 }
 
-/// Runs the lines of the script, and prints after each how often each area was asked since the start.
+/// Runs the lines of the script, and prints after each how often each area's pager was called since the
+/// start.
 pub(crate) fn asks<R: Print>(
     rt: &R,
     alloc: Global,

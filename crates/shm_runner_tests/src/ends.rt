@@ -1,4 +1,5 @@
-//! Readers and writers that fail, are interrupted, or go byte by byte; and the texts and statuses of faults.
+//! Readers and writers that fail, are interrupted, or transfer single bytes; and the texts and statuses of
+//! faults.
 use shm_base::{BadLimits, HostMemory};
 use shm_history::StartError;
 use shm_pager::{PagerFault, RamPager};
@@ -29,7 +30,7 @@ usage events 4 segments 1 reserved 2 locked 0\n\
 usage frames 2/4 dirty 2 slots 0/64\n\
 usage in 0 out 0 failures 0\n";
 
-/// Gives this many bytes at each ask, and fails at one of them, from 1 on.
+/// Gives this many bytes at each read, and fails at one of them, counted from 1.
 #[derive(Drop)]
 pub(crate) struct Source {
     rest: &'static [u8],
@@ -64,7 +65,7 @@ impl Read for Source {
     }
 }
 
-/// Is always interrupted.
+/// A reader that is always interrupted.
 #[derive(Drop)]
 struct Restless {
     asks: u32,
@@ -77,7 +78,7 @@ impl Read for Restless {
     }
 }
 
-/// Takes this many bytes at each write, and fails at one of them, from 1 on.
+/// Takes this many bytes at each write, and fails at one of them, counted from 1.
 #[derive(Drop)]
 pub(crate) struct Sink {
     pub(crate) taken: Vec<u8>,
@@ -142,7 +143,7 @@ fn byte_by_byte(rt: HostRuntime) -> Result<(), Fail> {
 #[test]
 fn failing_reads(rt: HostRuntime) -> Result<(), Fail> {
     let alloc = rt.alloc();
-    // 6 asks of 25 bytes for the 132 of the script, and one that finds its end
+    // 6 reads of 25 bytes for the 132 of the script, and one that finds its end
     for fails in 1..=7 {
         let mut taker = writer(alloc, 4096, 0, ErrorKind::Other);
         let fault = run(alloc, &mut reader(25, fails), &mut taker, 1)?;

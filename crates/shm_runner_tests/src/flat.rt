@@ -1,5 +1,5 @@
-//! Shared memory as lists of bytes, after docs/MACHINE.md alone: what each call of a sweep must answer. It has no
-//! pages in frames and no areas' slots. It knows the rules that the script of a sweep meets: every process is user 0,
+//! Shared memory as lists of bytes, by docs/MACHINE.md alone: the expected reply to each call of a sweep. It
+//! has no frames and no slots. It has the rules that the script of a sweep needs: every process is user 0,
 //! and no call is beyond a limit.
 use bitflags::Flags;
 use shm_base::{AtFlags, Call, Chunk, Errno, Perm, Reply, ShmId, ShmidDs, Status};
@@ -13,7 +13,7 @@ const LOWEST_GAP: u64 = 0x40000000;
 
 const CHILD: u32 = 3;
 
-/// A segment at an index. It is kept in the list when it is destroyed.
+/// A segment at an index. It stays in the list after it is destroyed.
 #[derive(Drop)]
 struct Segment {
     index: u32,
@@ -23,7 +23,7 @@ struct Segment {
     bytes: Vec<u8>,
 }
 
-/// An attach of a process: its address and length, and the segment's number in the list.
+/// An attach of a process: its address and length, and the segment's index in the list.
 #[derive(Clone, Copy)]
 struct Attach {
     pid: u32,
@@ -33,7 +33,7 @@ struct Attach {
     is_writable: bool,
 }
 
-/// A byte of a segment, and whether it is found through a piece that may be written.
+/// A byte of a segment, and whether the piece with it may be written.
 #[derive(Clone, Copy)]
 struct Place {
     segment: usize,
@@ -41,7 +41,7 @@ struct Place {
     is_writable: bool,
 }
 
-/// The machine: two processes of user 0 and a child that is not born, over two swap areas.
+/// The machine: two processes of user 0 and a child that is not born yet, over two swap areas.
 #[derive(Drop)]
 pub(crate) struct Flat {
     alloc: Global,
@@ -50,12 +50,12 @@ pub(crate) struct Flat {
     live: Vec<u32>,
     segments: Vec<Segment>,
     attaches: Vec<Attach>,
-    /// Which of the two areas are there.
+    /// Which of the two areas are active.
     areas: [bool; 2],
 }
 
 impl Attach {
-    // How far an address is from the begin of the piece, if the piece of this process covers it.
+    // The offset of an address in the piece, if the piece is this process's and has the address.
     fn offset(&self, pid: u32, addr: u64) -> Option<u64> {
         if self.pid != pid || addr < self.addr {
             return None;
@@ -72,7 +72,7 @@ impl Attach {
         self.addr.wrapping_add(self.len)
     }
 
-    // Whether the process has this piece in a range.
+    // Whether the piece is this process's and has a part in a range.
     fn meets(&self, pid: u32, addr: u64, len: u64) -> bool {
         self.pid == pid && self.addr < addr.wrapping_add(len) && addr < self.end()
     }
@@ -96,7 +96,7 @@ impl Segment {
         }
     }
 
-    // Marks it, or destroys it where nothing is attached.
+    // Marks the segment, or destroys it if nothing is attached.
     fn removed(&mut self) {
         self.shown.key = 0;
         self.shown.status.insert(Status::DEST);
@@ -114,7 +114,7 @@ impl Segment {
     }
 }
 
-// All bytes are zero, of whole pages.
+// The zeros of a segment's whole pages.
 fn zeros(alloc: Global, size: u64) -> Result<Vec<u8>, Fail> {
     let mut bytes = Vec::new(alloc);
     for _ in 0..size.div_ceil(4096) {
@@ -123,7 +123,7 @@ fn zeros(alloc: Global, size: u64) -> Result<Vec<u8>, Fail> {
     Ok(bytes)
 }
 
-// What stat shows of a segment that a process makes at this time.
+// What `stat` shows of a segment that a process makes at this time.
 fn made(key: u32, mode: u16, size: u64, pid: u32, now: u64) -> ShmidDs {
     ShmidDs {
         key,
@@ -146,7 +146,7 @@ fn made(key: u32, mode: u16, size: u64, pid: u32, now: u64) -> ShmidDs {
 }
 
 impl Flat {
-    /// No call is made yet.
+    /// The machine before the first call.
     pub(crate) fn new(alloc: Global) -> Result<Flat, Fail> {
         let mut live = Vec::new(alloc);
         live.push(1)?;
@@ -161,12 +161,12 @@ impl Flat {
         })
     }
 
-    /// A call that a pager's failure refused has its place in the history and changes nothing.
+    /// Skips a call that a pager's failure refused: it has its place in the history, and changes nothing.
     pub(crate) fn passes_over(&mut self) {
         self.now = self.now.wrapping_add(1);
     }
 
-    /// What the next call of the history must answer.
+    /// The expected reply to the next call of the history.
     pub(crate) fn answer(&mut self, pid: u32, call: &Call) -> Result<Reply, Fail> {
         self.now = self.now.wrapping_add(1);
         if !self.live.contains(&pid) {
@@ -200,7 +200,7 @@ impl Flat {
         reply.unwrap_or(Reply::Refused(Errno::Sigsegv))
     }
 
-    // The live segment with this key, where that is not 0.
+    // The live segment with this key, if that is not 0.
     fn of_key(&self, key: u32) -> Option<&Segment> {
         for segment in &self.segments {
             if segment.is_live && key != 0 && segment.shown.key == key {
@@ -210,7 +210,7 @@ impl Flat {
         None
     }
 
-    // Whether a live segment has the index, and how many were destroyed at it.
+    // Whether the index has a live segment, and how many were destroyed at it.
     fn at_index(&self, index: u32) -> (bool, u32) {
         let mut is_held = false;
         let mut destroyed = 0u32;
@@ -224,7 +224,7 @@ impl Flat {
         (is_held, destroyed)
     }
 
-    // The least index that no segment holds, and the next identifier there.
+    // The least index without a segment, and the next identifier there.
     fn next(&self) -> Result<(u32, ShmId), Fail> {
         for index in 0..16u32 {
             let (is_held, destroyed) = self.at_index(index);
@@ -253,7 +253,7 @@ impl Flat {
         Ok(Reply::Id(id))
     }
 
-    // The number in the list of the live segment with this identifier.
+    // The index in the list of the live segment with this identifier.
     fn number(&self, id: ShmId) -> Result<usize, Errno> {
         for (number, segment) in self.segments.iter().enumerate() {
             if segment.id == id {
@@ -267,7 +267,8 @@ impl Flat {
         Err(Errno::Einval)
     }
 
-    // The least gap of the process for this many bytes. It begins at the lowest address or where a piece ends.
+    // The least gap of the process for this many bytes. It begins at the lowest address or at the end of a
+    // piece.
     fn gap(&self, pid: u32, len: u64) -> u64 {
         let mut addr = LOWEST_GAP;
         for _ in 0..=self.attaches.len() {
@@ -279,7 +280,7 @@ impl Flat {
         addr
     }
 
-    // Where a piece ends that the process has in this range.
+    // The end of a piece that the process has in this range, if there is one.
     fn occupied(&self, pid: u32, addr: u64, len: u64) -> Option<u64> {
         for attach in &self.attaches {
             if attach.meets(pid, addr, len) {
@@ -311,7 +312,7 @@ impl Flat {
         Ok(Reply::Addr(addr))
     }
 
-    // Takes the piece at the address away, and answers which segment it was of.
+    // Removes the piece at the address, and returns its segment.
     fn take(&mut self, pid: u32, addr: u64) -> Option<usize> {
         for attach in self.attaches.iter_mut() {
             if attach.pid == pid && attach.addr == addr {
@@ -334,7 +335,7 @@ impl Flat {
         Reply::Done
     }
 
-    // The child gets a copy of each piece, which counts as an attach and has no time.
+    // The child gets a copy of each piece. Each copy counts as an attach, and sets no time.
     fn fork(&mut self, pid: u32, child: u32) -> Result<Reply, Fail> {
         if child != CHILD || self.live.contains(&child) {
             return Ok(Reply::Refused(Errno::Eagain));
@@ -386,7 +387,7 @@ impl Flat {
         Reply::Done
     }
 
-    // An area that is there goes away.
+    // Takes away an active area.
     fn swapoff(&mut self, area: u32) -> Reply {
         for (number, is_there) in (0u32..).zip(self.areas.iter_mut()) {
             if number == area && *is_there {
@@ -435,7 +436,7 @@ impl Flat {
         Chunk::new(bytes.get(..len)?)
     }
 
-    // Nothing is written where one byte of the range may not be.
+    // Writes nothing if a byte of the range may not be written.
     fn store(&mut self, pid: u32, addr: u64, bytes: &[u8]) -> Option<Reply> {
         let mut at = addr;
         for _ in bytes {
@@ -465,7 +466,7 @@ impl Flat {
         Some(Reply::Number(old))
     }
 
-    /// The live segment at an index: its identifier, what stat shows and its bytes.
+    /// The live segment at an index: its identifier, what `stat` shows, and its bytes.
     pub(crate) fn segment(&self, index: u32) -> Option<(ShmId, ShmidDs, &[u8])> {
         for segment in &self.segments {
             if segment.index == index && segment.is_live {

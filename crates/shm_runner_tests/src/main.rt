@@ -1,7 +1,8 @@
-//! Tests of whole runs: readers, writers and pagers that fail, in file order and with threads. The program is for tests that
-//! need a process of their own. It runs the script on standard input over the swap areas that its words name. With `asks` it prints
-//! how often each area's pager was asked, and with `twins` what two worlds beside each other came to: with no room in their
-//! histories, `-with-room`, and `-without-it`, the call to which memory was refused.
+//! Tests of whole runs: readers, writers and pagers that fail, in file order and with threads. The program is
+//! for tests that need a process of their own. It runs the script on standard input over the swap areas that
+//! its words name. With `asks` it prints how often each area's pager was called. With `twins` it prints the
+//! result of two worlds that make the same calls. `-with-room` reserves room in their histories, and
+//! `-without-it` leaves out the call to which memory was refused.
 #![tactic(auto)]
 
 mod asked;
@@ -37,7 +38,7 @@ fn swaps_of(alloc: Global, words: &[String]) -> Result<Vec<SwapWord>, Stop> {
     }
 }
 
-// Does what the first word names.
+// Does what the first word says.
 fn run_mode<R: Print>(
     rt: &R,
     alloc: Global,

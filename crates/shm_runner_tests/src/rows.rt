@@ -1,10 +1,10 @@
-//! Whole runs of scripts that page much in a few frames: what they print, with what was paged.
+//! Whole runs of scripts that page much in a few frames: their output, with the counts of paging.
 use crate::ends::{run, writer};
 use std::alloc::Global;
 use std::io::ErrorKind;
 use std::test::Fail;
 
-/// A script, and all that must be printed.
+/// A script, and its whole output.
 struct Row {
     name: &'static str,
     script: &'static [u8],
@@ -57,7 +57,7 @@ usage events 15 segments 3 reserved 9 locked 2\n\
 usage frames 4/4 dirty 2 slots 0/64\n\
 usage in 0 out 0 failures 0\n",
     },
-    // The load over two pages brings the first one in where the second was, writes that to a slot, and reads it again.
+    // The load over two pages brings the first page in, evicts the second to a slot, and reads it again.
     Row {
         name: "a fault evicts the second page",
         script: b"\
@@ -82,7 +82,7 @@ usage in 1 out 1 failures 0\n",
     },
 ];
 
-// Whether the script's run ends with no fault and prints this.
+// Whether the script's run succeeds and prints this.
 fn prints(alloc: Global, script: &[u8], output: &[u8]) -> Result<bool, Fail> {
     let mut reader = script;
     let mut printed = writer(alloc, 4096, 0, ErrorKind::Other);

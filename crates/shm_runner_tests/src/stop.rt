@@ -1,10 +1,10 @@
-//! Why the program of the tests ends before its end.
+//! Why the program of the tests stops early.
 use shm_base::HostMemory;
 use shm_program::RunFault;
 use std::alloc::{AllocError, AllocFailed};
 use std::io;
 
-/// What two worlds differ in.
+/// The part in which two worlds differ.
 #[derive(Clone, Copy, Debug, PartialEq, Eq)]
 pub(crate) enum Part {
     Replies,
@@ -15,7 +15,7 @@ pub(crate) enum Part {
     States,
 }
 
-/// Other words than it knows; a script, a start or a stream that failed; refused memory; two worlds that differ.
+/// Unknown words; a script, a start or a stream that failed; refused memory; or two worlds that differ.
 #[derive(Clone, Copy, Debug, PartialEq, Eq)]
 pub(crate) enum Stop {
     Words,

@@ -1,6 +1,6 @@
-//! One call of a pager fails, at each place in turn, without a swapoff and with one. Whatever failed, each call has the
-//! reply that it has on lists of bytes, where a call that was refused for the failure does nothing; and every byte at
-//! the end is the same.
+//! One call of a pager fails, at each place in turn, without a swapoff and with one. Whatever failed, each
+//! call has the reply that it has on lists of bytes, where a call that was refused for the failure does
+//! nothing. At the end every byte is the same.
 use crate::flat::Flat;
 use shm_base::{AccessLen, AtFlags, Call, Chunk, Errno, Event, Reply, ShmId};
 use shm_history::World;
@@ -13,12 +13,13 @@ use std::sync::Wait;
 use std::test::Fail;
 use std::thread::Threads;
 
-/// How many slots the areas have. The first is too small for all pages, so that the second is used without a swapoff.
+/// The slots of the areas. The first area is too small for all pages, so the second is used without a swapoff
+/// too.
 const FIRST_SLOTS: u32 = 8;
 
 const SECOND_SLOTS: u32 = 16;
 
-/// How many segments there may be.
+/// The most segments.
 const SHMMNI: u32 = 16;
 
 const MOST_PLACES: u64 = 1000;
@@ -52,7 +53,7 @@ child 3\n\
 1 stat a\n\
 0 flush 2\n";
 
-/// Thirty commands, which leave other bytes behind each time.
+/// Thirty commands, which leave other bytes each time.
 const ROUND: &[u8] = b"\
 1 xadd p 72340172838076673\n\
 2 xadd p+4090 578437695752307201\n\
@@ -88,7 +89,7 @@ const ROUND: &[u8] = b"\
 1 load p+4064 64\n\
 0 flush 3\n";
 
-// Twelve rounds; where asked, an area is taken away in their middle.
+// Twelve rounds; with `swapoff`, an area is taken away halfway.
 fn script(alloc: Global, swapoff: bool) -> Result<Script, Fail> {
     let mut text = Vec::from_slice(alloc, HEAD)?;
     for round in 0..12 {
@@ -100,7 +101,7 @@ fn script(alloc: Global, swapoff: bool) -> Result<Script, Fail> {
     Ok(read_script(alloc, &text).ok().ok_or("a script")?)
 }
 
-// A list of this place alone; of none, where it is 0.
+// A list with only this place; an empty list for 0.
 fn at(alloc: Global, place: u64) -> Result<Vec<u64>, Fail> {
     let mut places = Vec::new(alloc);
     if place > 0 {
@@ -109,7 +110,7 @@ fn at(alloc: Global, place: u64) -> Result<Vec<u64>, Fail> {
     Ok(places)
 }
 
-// An area of this many slots whose read and whose write at these places fail; 0 is none.
+// An area of this many slots whose read and whose write at these places fail; 0 means none.
 fn fuse(alloc: Global, slots: u32, read: u64, write: u64) -> Result<FusePager<RamPager>, Fail> {
     let ram = RamPager::new(alloc, slots)?;
     Ok(FusePager::new(ram, at(alloc, read)?, at(alloc, write)?))
@@ -143,7 +144,7 @@ fn run_lines<P: Pager>(alloc: Global, world: &mut World<P>, script: &Script) -> 
     Ok(())
 }
 
-// The world after the script: run in the order of its lines, or with a thread for each process.
+// The world after the script, which runs in file order or with a thread for each process.
 fn ran<R: Threads + Wait + Sync, P: Pager + Send>(
     rt: &R,
     alloc: Global,
@@ -168,7 +169,7 @@ fn load(addr: u64, len: u64) -> Result<Call, Fail> {
     Ok(Call::Load { addr, len })
 }
 
-// Whether a call was refused for a pager's failure.
+// Whether a call was refused because a pager failed.
 fn is_failure(call: &Call, reply: &Reply) -> bool {
     match call {
         Call::Load { .. } | Call::Store { .. } | Call::Xadd { .. } => {
@@ -183,8 +184,8 @@ fn called<P: Pager>(world: &mut World<P>, pid: u32, call: &Call) -> Result<Reply
     Ok(world.call(pid, call).ok().ok_or("memory")?)
 }
 
-// Makes the calls of a history on lists of bytes, where each must have the same reply, and says how many of them were
-// refused for a failure.
+// Makes the calls of a history on lists of bytes, and checks each reply. Returns how many of them were
+// refused because a pager failed.
 fn replay(flat: &mut Flat, history: &[Event]) -> Result<u64, Fail> {
     let mut failed = 0u64;
     for event in history {
@@ -198,7 +199,8 @@ fn replay(flat: &mut Flat, history: &[Event]) -> Result<u64, Fail> {
     Ok(failed)
 }
 
-// Whether a load of process 1 answers the bytes, and how often it was refused for a failure: at most once.
+// Whether a load of process 1 gives the bytes, and how often it was refused because a pager failed: at most
+// once.
 fn loaded<P: Pager>(world: &mut World<P>, addr: u64, bytes: &[u8]) -> Result<(bool, u64), Fail> {
     let load = load(addr, 64)?;
     let wanted = Reply::Bytes(Chunk::new(bytes).ok_or("1 to 64 bytes")?);
@@ -209,7 +211,7 @@ fn loaded<P: Pager>(world: &mut World<P>, addr: u64, bytes: &[u8]) -> Result<(bo
     Ok((reply == wanted, 0))
 }
 
-// Where process 1 attaches the segment.
+// The address at which process 1 attaches the segment.
 fn attached<P: Pager>(world: &mut World<P>, id: ShmId) -> Result<u64, Fail> {
     let shmat = Call::Shmat {
         id,
@@ -222,7 +224,7 @@ fn attached<P: Pager>(world: &mut World<P>, id: ShmId) -> Result<u64, Fail> {
     }
 }
 
-// Whether the segment has these bytes, and how many loads of them were refused for a failure.
+// Whether the segment has these bytes, and how many loads of them were refused because a pager failed.
 fn has_bytes<P: Pager>(world: &mut World<P>, id: ShmId, bytes: &[u8]) -> Result<(bool, u64), Fail> {
     let mut addr = attached(world, id)?;
     let mut failed = 0u64;
@@ -237,7 +239,8 @@ fn has_bytes<P: Pager>(world: &mut World<P>, id: ShmId, bytes: &[u8]) -> Result<
     Ok((true, failed))
 }
 
-// Whether the index has the same segment in both, with every byte, and how many loads were refused for a failure.
+// Whether the index has the same segment in both, with every byte, and how many loads were refused because a
+// pager failed.
 fn same_segment<P: Pager>(
     world: &mut World<P>,
     flat: &Flat,
@@ -255,7 +258,7 @@ fn same_segment<P: Pager>(
     }
 }
 
-// How many loads were refused for a failure, where the segments are the same in both, with every byte.
+// How many loads were refused because a pager failed, if the segments are the same in both, with every byte.
 fn compared_segments<P: Pager>(world: &mut World<P>, flat: &Flat) -> Result<u64, Fail> {
     let mut failed = 0u64;
     for index in 0..SHMMNI {
@@ -268,8 +271,8 @@ fn compared_segments<P: Pager>(world: &mut World<P>, flat: &Flat) -> Result<u64,
     Ok(failed)
 }
 
-// The failures of a world whose calls have the replies of lists of bytes, and leave the same bytes. Of the loads that
-// compare them one may fail; and no more calls are refused for a failure than failures are counted.
+// The failures of a world whose calls have the replies of lists of bytes, and leave the same bytes. One of
+// the loads that compare them may fail. No more calls are refused for a failure than failures are counted.
 fn compared<P: Pager>(alloc: Global, world: &mut World<P>) -> Result<u64, Fail> {
     let mut flat = Flat::new(alloc)?;
     let refused = replay(&mut flat, world.history())?;
@@ -281,8 +284,8 @@ fn compared<P: Pager>(alloc: Global, world: &mut World<P>) -> Result<u64, Fail> 
     Ok(failures)
 }
 
-// Runs the script over the areas, compares it with its calls on lists of bytes, and says how many failures there
-// were.
+// Runs the script over the areas, compares it with its calls on lists of bytes, and returns the number of
+// failures.
 fn failures<R: Threads + Wait + Sync, P: Pager + Send>(
     rt: &R,
     alloc: Global,
@@ -303,7 +306,7 @@ enum Failing {
     SecondWrites,
 }
 
-// Two areas, of which one fails at this place.
+// Two areas, one of which fails at this place.
 fn fuses(alloc: Global, failing: Failing, place: u64) -> Result<Vec<FusePager<RamPager>>, Fail> {
     let (first, second) = match failing {
         Failing::FirstReads => ((place, 0), (0, 0)),
@@ -317,7 +320,7 @@ fn fuses(alloc: Global, failing: Failing, place: u64) -> Result<Vec<FusePager<Ra
     Ok(areas)
 }
 
-// Each of these calls fails in turn, until a run has no failure. It has some at the first place.
+// Each of these calls fails in turn, until a run has no failure. The first run has one.
 fn each_fails<R: Threads + Wait + Sync>(
     rt: &R,
     alloc: Global,
@@ -334,7 +337,7 @@ fn each_fails<R: Threads + Wait + Sync>(
     Err("each run had a failure".into())
 }
 
-// Whether the first run without a failure is not the first.
+// Whether the first run without a failure is a later one.
 fn past(place: u64) -> Result<(), Fail> {
     if place == 1 {
         return Err("nothing failed".into());
@@ -357,7 +360,7 @@ fn each_call_fails<R: Threads + Wait + Sync>(
 
 type Mirror = MirrorPager<FusePager<RamPager>, FusePager<RamPager>>;
 
-// A mirror of this many slots whose left side fails at this write, and whose right side at this read.
+// A mirror of this many slots whose left side fails at this write, and whose right side fails at this read.
 fn mirror(alloc: Global, slots: u32, write: u64, read: u64) -> Result<Mirror, Fail> {
     let left = fuse(alloc, slots, 0, write)?;
     let right = fuse(alloc, slots, read, 0)?;
@@ -368,7 +371,7 @@ fn mirror(alloc: Global, slots: u32, write: u64, read: u64) -> Result<Mirror, Fa
     )
 }
 
-// Two mirrors, of which the first fails so.
+// Two mirrors, the first of which fails at these calls.
 fn mirrors(alloc: Global, write: u64, read: u64) -> Result<Vec<Mirror>, Fail> {
     let mut areas = Vec::with_capacity(alloc, 2)?;
     areas.push(mirror(alloc, FIRST_SLOTS, write, read)?)?;

@@ -1,4 +1,4 @@
-//! A run with threads writes its whole output, or nothing.
+//! A run with threads writes its whole output or nothing.
 use crate::ends::{OUTPUT, SCRIPT, Sink, reader, writer};
 use shm_base::{Call, Reply};
 use shm_history::World;
@@ -59,7 +59,7 @@ fn script(alloc: Global) -> Result<Script, Fail> {
     Ok(read_script(alloc, SCRIPT).ok().ok_or("a script")?)
 }
 
-// The world of the script, with no event yet.
+// The world of the script before its first event.
 fn opened(alloc: Global, script: &Script) -> Result<World<RamPager>, Fail> {
     let pagers = vec![in alloc; RamPager::new(alloc, 64)?]?;
     Ok(open_world(alloc, script, pagers).ok().ok_or("it starts")?)
@@ -73,7 +73,7 @@ fn ran<T: Threads + Wait + Sync>(rt: &T, alloc: Global) -> Result<World<RamPager
     Ok(run.ok().ok_or("a run")?.world)
 }
 
-// What a worker keeps of a call: its reply, or that the host refused memory.
+// A worker's answer to a call: its reply, or that the host refused memory.
 fn answer_of(reply: Option<Reply>) -> Answer {
     match reply {
         Some(reply) => Answer::Reply(reply),
@@ -81,7 +81,7 @@ fn answer_of(reply: Option<Reply>) -> Answer {
     }
 }
 
-// A transcript with one call, for which the host refused memory, or with none.
+// A transcript with one call for which the host refused memory, or without calls.
 fn transcripts(alloc: Global, marked: bool) -> Result<Vec<Transcript>, Fail> {
     let mut entries = Vec::new(alloc);
     if marked {
@@ -102,7 +102,7 @@ fn outcome<T: Threads + Wait + Sync>(
     Ok(Outcome { world, transcripts })
 }
 
-// How the writing of such an outcome ends.
+// How writing such an outcome ends.
 fn written<T: Threads + Wait + Sync>(
     rt: &T,
     alloc: Global,

@@ -1,5 +1,5 @@
-//! Two worlds beside each other that make the same calls. Where memory is refused to one of them, it is as its twin is, which
-//! never lacked memory, and stays so, whether the call is made again or not.
+//! Two worlds that make the same calls. If memory is refused to one of them, it equals its twin, which always
+//! had memory, and stays equal, whether the call is made again or not.
 use crate::stop::{Part, Stop};
 use shm_base::{Call, Reply};
 use shm_history::World;
@@ -9,15 +9,15 @@ use shm_report::{Action, push_step};
 use shm_text::{Line, Script};
 use std::alloc::{AllocError, Global};
 
-/// How two worlds are run: the room in their histories, and whether a call to which memory was refused is made again, or is left
-/// out in both.
+/// How two worlds are run: the room in their histories, and whether a call to which memory was refused is
+/// made again or left out in both.
 #[derive(Clone, Copy)]
 pub(crate) struct Way {
     pub(crate) room: usize,
     pub(crate) again: bool,
 }
 
-/// The indexes that are looked at: more than the scripts have segments.
+/// The indexes that are compared: more than the scripts have segments.
 const INDEXES: u32 = 64;
 
 // All that a world prints: segments, processes and their pieces, frames, slots and counts.
@@ -54,7 +54,7 @@ fn are_same<P: Pager>(alloc: Global, one: &World<P>, other: &World<P>) -> Result
     Ok(())
 }
 
-// A world as the script opens it. Where memory is refused it is opened again.
+// The world that the script opens. If memory is refused, it is opened again.
 fn opened<R: Print>(
     rt: &R,
     alloc: Global,
@@ -70,7 +70,7 @@ fn opened<R: Print>(
     Ok(open_world(alloc, script, areas)?)
 }
 
-// Makes room for as many calls. Where memory is refused the world is as its twin.
+// Makes room for this many calls. If memory is refused, the world equals its twin.
 fn reserve<R: Print, P: Pager>(
     rt: &R,
     alloc: Global,
@@ -86,15 +86,15 @@ fn reserve<R: Print, P: Pager>(
     Ok(world.reserve(calls)?)
 }
 
-// What a call of a world came to: its reply, and whether memory was refused at first.
+// The result of a world's call: its reply, and whether memory was refused at first.
 #[derive(Clone, Copy)]
 struct Made {
     reply: Reply,
     was_refused: bool,
 }
 
-// Makes a call. Where memory is refused the world is as its twin, which has not made the call yet; the call is made again then,
-// or is left out.
+// Makes a call. If memory is refused, the world equals its twin, which has not made the call yet. The call is
+// then made again, or left out.
 fn first<R: Print, P: Pager>(
     rt: &R,
     alloc: Global,
@@ -143,7 +143,7 @@ fn second<R: Print, P: Pager>(
     })
 }
 
-// Makes a call in both worlds, which are the same afterwards. It has no reply where it is left out.
+// Makes a call in both worlds, which are equal afterwards. There is no reply if it is left out.
 fn call_both<R: Print, P: Pager>(
     rt: &R,
     alloc: Global,
@@ -160,7 +160,7 @@ fn call_both<R: Print, P: Pager>(
     if its.reply != made.reply {
         return Err(Stop::Differs(Part::Replies));
     }
-    // what takes memory itself is done where it was refused, and at the end
+    // comparing takes memory itself, so it is done where memory was refused, and at the end
     if made.was_refused || its.was_refused {
         are_same(alloc, one, other)?;
     }
@@ -213,7 +213,8 @@ fn run_lines<R: Print, P: Pager>(
     are_same(alloc, one, other)
 }
 
-/// Runs the lines of the script in two worlds, and prints where memory was refused, and how many calls both have in the end.
+/// Runs the lines of the script in two worlds. Prints where memory was refused, and how many calls both made
+/// in the end.
 pub(crate) fn twins<R: Print>(
     rt: &R,
     alloc: Global,

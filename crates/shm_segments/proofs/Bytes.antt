@@ -1,4 +1,4 @@
--- Bytes by place and bytes by span.
+-- Bytes one by one, and bytes by spans.
 use Rattle.shm_segments.proofs.Names.{◌≡◌, ◌≢◌, ℕ, zero, suc, ◌+◌, ◌<◌, ◌≤◌, ◌==◌, if◌then◌else◌, Bool, true, List, [], ◌∷◌, ◌++◌, length, set, take, drop, map, refl, sym, ap, ◌∙◌, arith, length-set, append_assoc, append-nil, take-append-drop, drop_more, map-append, drop-set-lt, sum_by-cons, common_steps, take-set_at, eqb_tells, nat_tests, slice_index, sum_by, All, Place, Span, run, span_places, Held, bytes_of, is_held, paste, pasted, written, FitsPage, read_from, bytes_of-pasted_same, bytes_of-pasted_other, fits-pasted, cases_eq, slice_set}
 
 -- BYTES BY PLACE
@@ -31,7 +31,7 @@ pub bytes_of-put_other : (hs : List Held) (p : Place) (b id : ℕ) → id ≢ p.
 bytes_of-put_other [] p b id ne = refl
 bytes_of-put_other (g ∷ gs) p b id ne = grind (arith, nat_tests, bytes_of-put_other gs p b id ne)
 
--- BYTES ONE AFTER ANOTHER ARE A SPAN
+-- BYTES ONE AFTER ANOTHER MAKE A SPAN
 
 abbrev sets : List ℕ → ℕ → List ℕ → List ℕ
 sets xs at [] = xs
@@ -64,7 +64,7 @@ bytes_of-puts_other (suc n) hs seg at w (b ∷ bs) id ne =
     let p : Place = record { seg = seg; at = at; writable = w } in
     bytes_of-puts_other n (put hs p b) seg (at + 1) w bs id ne ∙ bytes_of-put_other hs p b id ne
 
--- bytes put one by one are a span pasted
+-- writing bytes one by one pastes a span
 same-pasted : (hs : List Held) (seg at n : ℕ) (w : Bool) (bs : List ℕ) → length bs ≡ n → is_held hs seg ≡ true → at + n ≤ length (bytes_of hs seg)
     → SameBytes (puts hs (run seg at n w) bs) (map (pasted seg at bs) hs)
 same-pasted hs seg at n w bs e there le id = grind (arith, common_steps, eqb_tells, bytes_of-pasted_same, sets-paste, bytes_of-puts_same, bytes_of-pasted_other, bytes_of-puts_other)
@@ -105,13 +105,13 @@ pub each-pasted : (qs : List Span) (hs : List Held) (p : Span) (new : List ℕ) 
 each-pasted [] hs p new le fit h = tt
 each-pasted (q ∷ qs) hs p new le fit h = (fits-pasted hs p q new le fit h.0, each-pasted qs hs p new le fit h.1)
 
--- what each span leaves of a store, all of them leave
+-- what each span keeps of a store, all of them keep
 pub written-keeps : (P : List Held → Type 0) → ((hs : List Held) (p : Span) (new : List ℕ) → P hs → FitsPage hs p → length new ≤ p.len → P (map (pasted p.seg p.at new) hs))
     → (ps : List Span) (hs : List Held) (new : List ℕ) → P hs → Each (FitsPage hs) ps → P (written hs ps new)
 written-keeps P step [] hs new here fits = here
 written-keeps P step (p ∷ ps) hs new here fits = grind (arith, common_steps, nat_tests, each-pasted, written-keeps P step ps)
 
--- the bytes replaced place by place are those replaced span by span
+-- replacing the bytes one by one is replacing them span by span
 pub written-same : (ps : List Span) (w : Bool) (hs : List Held) (new : List ℕ) → Each (FitsPage hs) ps → sum_by len_of ps ≡ length new → SameBytes (puts hs (span_places w ps) new) (written hs ps new)
 written-same [] w hs new h e id = refl
 written-same (p ∷ ps) w hs new h e id =
@@ -133,7 +133,7 @@ get-run : (n : ℕ) (hs : List Held) (seg at : ℕ) (w : Bool) → at + n ≤ le
 get-run zero hs seg at w le = refl
 get-run (suc n) hs seg at w le = grind (arith, common_steps, drop_more, get-run n hs seg (at + 1) w (omega arith))
 
--- the bytes read place by place are those read span by span
+-- reading the bytes one by one is reading them span by span
 pub get-spans : (ps : List Span) (w : Bool) (hs : List Held) → Each (FitsPage hs) ps → map (get hs) (span_places w ps) ≡ read_from hs ps
 get-spans [] w hs h = refl
 get-spans (p ∷ ps) w hs h = grind (arith, common_steps, map-append, get, p.at, p.len, get-run, h.0.1, h.1, get-spans ps w hs h.1)

@@ -14,7 +14,7 @@ look-live rows id v looked = grind (arith, common_steps, live_looked)
 abbrev pub with_other : List (Entry Head) → ℕ → Row Head → List (Entry Head)
 with_other rows id s = set rows (id % 32768) (record (entry_at rows (id % 32768)) { row = Some s })
 
--- another value, another key, or both, are another row
+-- another value, another key, or both, make another row
 pub other-value : (rows : List (Entry Head)) (id : ℕ) (r : Row Head) (v : Head) → live_row rows id ≡ Some r → with_value rows (id % 32768) v ≡ with_other rows id (record r { value = v })
 other-value rows id r v there = grind (arith, common_steps, live-at)
 
@@ -24,14 +24,14 @@ other-both rows id r key v there =
     let l = live-at rows id r there in
     with_key-with_value rows (id % 32768) key r v l.within l.there
 
--- the table shows f where f of the old segment is the new one
+-- the table is changed by f, if f makes the new segment of the old one
 pub joined-other : (hs : List Held) (rows : List (Entry Head)) (id : ℕ) (r s : Row Head) (f : Segment → Segment) → live_row rows id ≡ Some r
     → f (whole hs id r) ≡ whole hs id s → joined_table hs (with_other rows id s) ≡ change (joined_table hs rows) id f
 joined-other hs rows id r s f there same =
     let l = live-at rows id r there in
     sym (change-flat (whole hs) rows id f r s l.within l.there (rw l.own same))
 
--- what is live then
+-- what is live afterwards
 pub live-other_same : (rows : List (Entry Head)) (id : ℕ) (r s : Row Head) → live_row rows id ≡ Some r → live_row (with_other rows id s) id ≡ Some s
 live-other_same rows id r s there = grind (arith, common_steps, live-at, at_set, s)
 
@@ -44,7 +44,7 @@ agree-other hs rows id r s agree there same = grind (arith, common_steps, agree.
 
 -- A LOCK SET
 
--- the table shows the row's lock and not the store's
+-- the table shows the row's lock, not the store's
 pub joined-lock : (hs : List Held) (rows : List (Entry Head)) (id : ℕ) (b : Bool) → joined_table (with_lock hs id b) rows ≡ joined_table hs rows
 joined-lock hs rows id b = joined-same hs (with_lock hs id b) rows (λ at. bytes_of-lock hs id b at)
 
@@ -59,7 +59,7 @@ shape-lock_other : (hs : List Held) (id : ℕ) (b : Bool) (at : ℕ) → at ≢ 
 shape-lock_other [] id b at apart = refl
 shape-lock_other (g ∷ gs) id b at apart = grind (arith, nat_tests, shape-lock_other gs id b at apart)
 
--- a row locked or unlocked, and so what is held
+-- a row and its held segment are locked or unlocked together
 pub agree-lock : (hs : List Held) (rows : List (Entry Head)) (id : ℕ) (r : Row Head) (v : Head) → Agree hs rows → live_row rows id ≡ Some r → v.size ≡ r.value.size
     → Agree (with_lock hs id v.locked) (with_other rows id (record r { value = v }))
 agree-lock hs rows id r v agree there size = record {

@@ -1,4 +1,4 @@
--- One entry of a table set: what stands there, and sums over the entries.
+-- One entry of a table is set: the entry, and sums over the entries.
 use Rattle.shm_segments.proofs.Names.{◌≡◌, ◌≢◌, ℕ, zero, suc, ◌+◌, List, [], ◌∷◌, length, slice_get, Some, refl, ap, ◌∙◌, arith, get_or, length-set, get_or-set_same, sum_by, sum_by-set, slice_get_within, slice_get-get_or, get_or_from_slice_get, slice_set}
 
 module _ {X : Type 0} where
@@ -17,7 +17,7 @@ module _ {X : Type 0} where
   pub length-slice_set : (t : List X) (i : ℕ) (e : X) → length (slice_set t i e) ≡ length t
   length-slice_set t i e = length-set t i e
 
-  -- a sum loses the term of the old entry and gains that of the new one
+  -- a sum loses the old entry's term and gains the new one's
   pub sum-set : (f : X → ℕ) (t : List X) (i : ℕ) (e x : X) → slice_get t i ≡ Some x → sum_by f (slice_set t i e) + f x ≡ sum_by f t + f e
   sum-set f t i e x h =
       let old : f (get_or t i x) ≡ f x = ap f (get_or_from_slice_get t i x x h) in

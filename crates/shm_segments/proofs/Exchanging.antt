@@ -1,4 +1,4 @@
--- What is kept where bytes are exchanged, or stay as the expected ones are not there.
+-- What holds after an exchange of bytes, or after the expected bytes were not there.
 use Rattle.shm_segments.proofs.Names.{◌≡◌, ℕ, Bool, true, false, List, length, refl, ap, All, Result, OnOk, OnErr, Ok, Err, Some, Span, Held, StoreView, Head, held, joined_table, read_from, SegmentsView, KeepsMemory, IsWhole, loaded, span_places, SpanFits, Entry, Agree}
 use Rattle.shm_base.specs.Exchange.{same_bytes}
 use Rattle.shm_fault.specs.Allowed.{IsAccess}
@@ -14,12 +14,12 @@ use Rattle.shm_segments.proofs.Spanning.{spans-fit}
 loads : (hs : List Held) (rows : List (Entry Head)) (ps : List Span) → Agree hs rows → All (SpanFits (joined_table hs rows)) ps → loaded (joined_table hs rows) (span_places false ps) ≡ read_from hs ps
 loads hs rows ps agree fit = load_shown hs rows false ps agree (spans-fit hs rows ps agree fit)
 
--- they are the expected ones where the store finds those
+-- they are the expected ones if the store finds those
 pub expects : (hs : List Held) (rows : List (Entry Head)) (ps : List Span) (expected : List ℕ) → Agree hs rows → All (SpanFits (joined_table hs rows)) ps
     → replaces (joined_table hs rows) (span_places false ps) (Some expected) ≡ holds hs ps expected
 expects hs rows ps expected agree fit = ap (λ (bs : List ℕ). same_bytes bs expected) (loads hs rows ps agree fit)
 
--- the table and the memory then
+-- the table and the memory afterwards
 record Kept {A E : Type 0} (r : Result A E) (writes : Bool) (s n : StoreView) (rows : List (Entry Head)) (pages locks : ℕ) (ps : List Span) (new : List ℕ) : Type 0 where
   pub whole : IsWhole n rows pages locks
   pub keeps : KeepsMemory s n
@@ -47,7 +47,7 @@ kept (Err x) false s n rows pages locks ps new before after answer w a e = recor
 abbrev seen : StoreView → List (Entry Head) → SegmentsView
 seen m rows = record { table = joined_table (held m) rows; memory = m }
 
--- done or not, all is whole, and the table shows what was done
+-- whether it succeeded or not, everything is sound, and the table shows what was done
 pub swapped : {A E : Type 0} (r : Result A E) (writes : Bool) (s n : StoreView) (rows : List (Entry Head)) (pages locks : ℕ) (ps : List Span) (new before after : List ℕ) (answer : Result Touched PagerFailed) → IsWhole s rows pages locks
     → IsAccess (SpanFits (joined_table (held s) rows)) ps (length new) → Swaps writes ps new before after s n r answer
     → IsWhole n rows pages locks × Swapped writes ps new before after (seen s rows) (seen n rows) r answer

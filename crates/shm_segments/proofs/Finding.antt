@@ -1,4 +1,4 @@
--- A row that the table has is a segment that was found.
+-- A row of the table is a segment that was found.
 use Rattle.shm_segments.proofs.Names.{live_looked, with_value, StoreView, held, is_held, Ok, IsOk, look, look-entry, ◌≡◌, ℕ, pos, ◌/◌, ◌%◌, ◌<◌, List, length, slice_get, Option, Some, None, ℤ, ◌==◌, true, if◌then◌else◌, refl, ap, ◌∙◌, arith, cases_lt, none-some, bytes_at, bytes_at_entry, Row, entry_at, identifier, flat_entry, row_shown, row_listed, at_past, at-table, past-flat, Held, bytes_of, Head, Found, segment_of, whole, joined_table, Agree, SizesFit, IsFound, segment_seen, nat_tests, common_steps, is_some, option_map, FlatEntry, Entry, live_row}
 use Rattle.shm_segments.proofs.Joins.{at-live, held-as, same-held}
 use Rattle.shm_segments.specs.Table as table
@@ -9,11 +9,11 @@ index-of i d lt = omega (arith, lt)
 pub sequence-of : (i d : ℕ) → i < 32768 → identifier i d / 32768 ≡ d
 sequence-of i d lt = omega (arith, lt)
 
--- a row stands within the table
+-- a row is within the table
 pub row-within : (rows : List (Entry Head)) (i : ℕ) (r : Row Head) → (entry_at rows i).row ≡ Some r → i < length rows
 row-within rows i r is = grind (arith, at_past rows i, is)
 
--- what the flat table has at its index
+-- the flat table's entry at its index
 pub at-row : (hs : List Held) (rows : List (Entry Head)) (i : ℕ) (r : Row Head) → (entry_at rows i).row ≡ Some r
     → slice_get (joined_table hs rows) i ≡ Some (record { destroyed = (entry_at rows i).destroyed; segment = Some (whole hs (identifier i (entry_at rows i).destroyed) r) })
 at-row hs rows i r is = grind (arith, common_steps, at-table, row-within)
@@ -43,7 +43,7 @@ found_at hs rows i r agree sizes is =
 listed : (i d : ℕ) (o : Option (Row Head)) (x : ℤ × (ℕ × Head)) → row_shown i d o ≡ Some x → (o ≡ Some (record { key = x.1.0; value = x.1.1 })) × (x.0 ≡ pos (identifier i d))
 listed i d o x is = grind (arith, common_steps, nat_tests, none-some, pos, identifier)
 
--- a row that is listed stands at its index
+-- a row that is listed is at its index
 pub listed-row : (i : ℕ) (e : Entry Head) (x : ℤ × (ℕ × Head)) → row_listed i e ≡ Some x
     → (e.row ≡ Some (record { key = x.1.0; value = x.1.1 })) × (x.0 ≡ pos (identifier i e.destroyed))
 listed-row i e x is = listed i e.destroyed e.row x is
@@ -69,7 +69,7 @@ is_live-row hs rows id is = grind (arith, live-joined hs rows id, is)
 pub is_live-look : (hs : List Held) (rows : List (Entry Head)) (id : ℕ) → table.IsLive (joined_table hs rows) id → IsOk (look rows (pos id))
 is_live-look hs rows id is = let lives = is_live-row hs rows id is in grind (arith, common_steps, look-entry, lives)
 
--- and so it is when its value was changed
+-- and still so after its value changed
 pub look-with_value : (rows : List (Entry Head)) (id : ℕ) (v w : Head) → look rows (pos id) ≡ Ok v → IsOk (look (with_value rows (id % 32768) w) (pos id))
 look-with_value rows id v w looked = let l = live_looked rows id v looked in grind (arith, common_steps, look-entry, l.within, l.there, l.own)
 

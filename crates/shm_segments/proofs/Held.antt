@@ -57,7 +57,7 @@ pasted-sums : (hs : List Held) (p : Span) (new : List ℕ) → AreHeldApart hs �
     → (pages_in_store (map (pasted p.seg p.at new) hs) ≡ pages_in_store hs) × (locked_pages_in_store (map (pasted p.seg p.at new) hs) ≡ locked_pages_in_store hs)
 pasted-sums hs p new apart fit few = grind (arith, common_steps, find_held, pages_in_store, sum-changed)
 
--- what a store over spans leaves
+-- the counts after a store over spans
 pub record SameSums (hs gs : List Held) : Type 0 where
   pub apart : AreHeldApart gs
   pub pages : pages_in_store gs ≡ pages_in_store hs

@@ -4,7 +4,7 @@ use Rattle.shm_segments.proofs.Bytes.{SameBytes}
 
 -- WHAT IS LIVE
 
--- what stands at the index of a live identifier
+-- the entry at the index of a live identifier
 pub record LiveAt (rows : List (Entry Head)) (id : ℕ) (r : Row Head) : Type 0 where
   pub within : id % 32768 < length rows
   pub there : (entry_at rows (id % 32768)).row ≡ Some r
@@ -13,11 +13,11 @@ pub record LiveAt (rows : List (Entry Head)) (id : ℕ) (r : Row Head) : Type 0 
 pub live-at : (rows : List (Entry Head)) (id : ℕ) (r : Row Head) → live_row rows id ≡ Some r → LiveAt rows id r
 live-at rows id r is = grind (arith, nat_tests, at_past rows (id % 32768), is)
 
--- what stands at an index is live under its identifier
+-- the row at an index is live under its identifier
 pub at-live : (rows : List (Entry Head)) (i : ℕ) → i < 32768 → live_row rows (identifier i (entry_at rows i).destroyed) ≡ (entry_at rows i).row
 at-live rows i small = grind (arith, common_steps, identifier-mod)
 
--- THE TABLE SEES BYTES ALONE
+-- THE TABLE SEES ONLY BYTES
 
 whole-same : (hs gs : List Held) (id : ℕ) (r : Row Head) → bytes_of gs id ≡ bytes_of hs id → whole gs id r ≡ whole hs id r
 whole-same hs gs id r e = ap (segment_of r) e
@@ -55,7 +55,7 @@ set-from n (suc k) hs gs (e ∷ es) x same =
     (λ j d lt other. let after : n + suc j ≡ (n + 1) + j = omega arith in rw after at (same (suc j) d (omega arith) (omega arith))) in
     rw (next, first, rest) refl
 
--- an entry set, where what is held changes under identifiers of its index alone
+-- an entry is set, and held segments change only under identifiers of its index
 pub set-joined : (hs gs : List Held) (rows : List (Entry Head)) (i : ℕ) (x : Entry Head) → length rows ≤ 32768
     → ((id : ℕ) → id % 32768 ≢ i → bytes_of gs id ≡ bytes_of hs id)
     → slice_set (joined_table hs rows) i (flat_entry (whole gs) i x) ≡ joined_table gs (set rows i x)
@@ -72,7 +72,7 @@ set-joined hs gs rows i x few same =
 pub same-held : (hs : List Held) (rows : List (Entry Head)) (id : ℕ) → Agree hs rows → is_held hs id ≡ is_some (live_row rows id)
 same-held hs rows id agree = grind (arith, nat_tests, agree.same id)
 
--- what is held of a live segment
+-- the held segment of a live row
 pub record HeldAs (hs : List Held) (id : ℕ) (r : Row Head) : Type 0 where
   pub g : Held
   pub is : find_held hs id ≡ Some g

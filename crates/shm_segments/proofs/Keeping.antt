@@ -1,4 +1,4 @@
--- What is kept where a head changes.
+-- What holds after a change of a head.
 use Rattle.shm_segments.proofs.Names.{◌≡◌, ℕ, pos, ◌%◌, ◌≤◌, List, Some, sym, ◌∙◌, arith, Segment, change, Row, key_at, look, with_value, with_key, Held, bytes_of, Head, segment_of, whole, joined_table, SizesFit, AreSegmentsSound, common_steps, Ok, FlatEntry, Entry, live_row, MOST_SHMMAX}
 use Rattle.shm_segments.proofs.Sums.{pages-with_other, locked-other_same}
 use Rattle.shm_segments.proofs.Edits.{look-live, with_other, other-value, other-both, live-other_same, live-other, joined-other, agree-other}
@@ -7,7 +7,7 @@ use Rattle.shm_segments.proofs.Edits.{look-live, with_other, other-value, other-
 pub sizes-other : (rows : List (Entry Head)) (id : ℕ) (r s : Row Head) → live_row rows id ≡ Some r → SizesFit rows → (1 ≤ s.value.size) × (s.value.size ≤ MOST_SHMMAX) → SizesFit (with_other rows id s)
 sizes-other rows id r s lives sizes range = grind (arith, common_steps, with_other, live-other_same, live-other)
 
--- what rows and bytes keep, and what they show
+-- the invariant of rows and bytes, and the table that they show
 pub record KeptAs (hs : List Held) (rows : List (Entry Head)) (pages locked_pages : ℕ) (shown : List FlatEntry) : Type 0 where
   pub kept : AreSegmentsSound hs rows pages locked_pages
   pub is : joined_table hs rows ≡ shown
@@ -29,7 +29,7 @@ kept-other hs rows pages locks seg r s f k lives size locked same = record {
   is = joined-other hs rows seg r s f lives same;
 }
 
--- a head put in the place of one of the same size and lock
+-- a head is replaced by one of the same size and lock
 pub kept-value : (hs : List Held) (rows : List (Entry Head)) (pages locks seg : ℕ) (v w : Head) (f : Segment → Segment) → AreSegmentsSound hs rows pages locks → look rows (pos seg) ≡ Ok v
     → w.size ≡ v.size → w.locked ≡ v.locked
     → ((key : ℕ) (bs : List ℕ) → f (segment_of (record { key = key; value = v }) bs) ≡ segment_of (record { key = key; value = w }) bs)

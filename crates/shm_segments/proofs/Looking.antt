@@ -1,4 +1,4 @@
--- What is found under an identifier, and what the flat machine says of it.
+-- What is found under an identifier, and the flat machine's answer about it.
 use Rattle.shm_segments.proofs.Names.{common_steps, destroyed_at-flat, next_id, ◌≡◌, ◌≢◌, ℕ, pos, ℤ, ◌%◌, List, Option, Some, None, IsOk, refl, sym, ap, ◌∙◌, arith, Eidrm, Einval, bytes_at, Removed, Invalid, entry_at, key_at, find_key, index_of, look, flat_answer, flat_found, natural_of, look-flat, find_key-flat, find_key-look, free_index-flat, Held, bytes_of, Head, Found, segment_of, whole, joined_table, Agree, SizesFit, IsFound, look_of, refused_look, Ok, Err, is_some, option_map, Entry, Row, free_index, id_at, live_row}
 use Rattle.shm_base.specs.Identifier as flat
 use Rattle.shm_segments.proofs.Joins.{live-at}
@@ -25,7 +25,7 @@ look-found hs rows seg v looked =
     ∙ ap (flat_answer (whole hs) (seg % 32768) seg (key_at rows (seg % 32768))) looked
     ∙ ap (λ (bs : List ℕ). flat.Found (seg % 32768) (segment_of (record { key = key_at rows (seg % 32768); value = v }) bs)) (sym bytes)
 
--- and does not find what is not there
+-- and it does not find what does not exist
 pub look-removed : (hs : List Held) (rows : List (Entry Head)) (id : ℤ) → look rows id ≡ Err Removed → refused_look (flat.look (joined_table hs rows) id) ≡ Some Eidrm
 look-removed hs rows id looked = ap refused_look (look-flat (whole hs) rows id ∙ ap (flat_answer (whole hs) (index_of id) (natural_of id) (key_at rows (index_of id))) looked)
 
@@ -45,11 +45,11 @@ key-some hs rows key id some found ok = find_key-look (whole hs) (λ n r. refl) 
 pub none-mapped : {X Y : Type 0} (f : X → Y) (o : Option X) → option_map f o ≡ None → o ≡ None
 none-mapped f o is = grind arith
 
--- the identifier that comes next is the one that the rows have for it
+-- the next identifier is the one that the rows give
 pub next-joined : (hs : List Held) (rows : List (Entry Head)) → next_id (joined_table hs rows) ≡ option_map (id_at rows) (free_index rows)
 next-joined hs rows = rw (free_index-flat (whole hs) rows) (grind (arith, common_steps, destroyed_at-flat (whole hs) rows))
 
--- WHAT A LOOK ANSWERS
+-- THE RESULT OF A LOOKUP
 
 same-found : (rows : List (Entry Head)) (f : Found) → f.id ≡ pos f.seg → f.key ≡ key_at rows (f.seg % 32768) → found_under rows f.seg f.head ≡ f
 same-found rows f id key = rw (sym id, sym key) refl

@@ -1,4 +1,4 @@
--- What is kept where a segment is made, destroyed, locked or written.
+-- What holds after a segment is made, destroyed, locked or written.
 use Rattle.shm_segments.proofs.Names.{locked_in_row, pages_in_row, ◌≡◌, ◌≢◌, ◌⊎◌, ℕ, pos, ℤ, ◌+◌, ◌-◌, ◌*◌, ◌/◌, ◌%◌, ◌<◌, ◌≤◌, Bool, false, if◌then◌else◌, List, Option, Some, None, refl, sym, ap, ◌∙◌, inl, inr, arith, cases_eq, none-some, pages_of, change, Row, entry_at, identifier, key_at, look, with_value, with_row, without_row, free_index-flat, destroyed_at-flat, Held, find_held, is_held, held_pages, pages_if_locked, with_zeros, without, with_lock, apart-push, apart-without, apart-lock, Head, joined_table, Agree, SizesFit, AreSegmentsSound, made, created, destroyed, nat_tests, common_steps, replicate, slice_set, Ok, option_map, Entry, free_index, id_at, live_row, relocked, relocked_head, is_some, Segment, segment_of, bytes_of, MOST_SHMMAX, MOST_SHMALL}
 use Rattle.shm_base.specs.Identifier as flat
 use Rattle.shm_segments.proofs.Joins.{LiveAt, live-at, held-as}
@@ -129,12 +129,12 @@ kept-made hs rows pages locks i key v k found loose range =
 
 -- THE NEXT ONE
 
--- what is made is what the flat table makes
+-- the segment that is made is the one that the flat table makes
 pub made-joined : (hs : List Held) (rows : List (Entry Head)) (i key : ℕ) (v : Head) → free_index rows ≡ Some i
     → made (joined_table hs rows) key v ≡ Some (pos (id_of rows i), created (joined_table hs rows) i key v)
 made-joined hs rows i key v found = grind (arith, common_steps, flat.free_index, free_index-flat, option_map, pos, flat.identifier, flat.destroyed_at, destroyed_at-flat)
 
--- the next identifier is that of the free index, and nothing is held under it
+-- the next identifier is that of the free index, and no segment is held under it
 pub record IsNext (hs : List Held) (rows : List (Entry Head)) (id : ℤ) : Type 0 where
   pub i : ℕ
   pub found : free_index rows ≡ Some i
@@ -148,6 +148,6 @@ next-free hs rows id agree is = by (free_index rows) refl is
     by None found z = absurd (none-some id (sym z))
     by (Some i) found z = record { i = i; found = found; is = cc z; new = free-new hs rows i agree (index-free rows i agree.few found) }
 
--- a segment's pages are few
+-- a segment has few pages
 pub few-pages : (b : Bool) (size : ℕ) → size ≤ MOST_SHMMAX → (if b then pages_of size else 0) ≤ MOST_SHMALL
 few-pages b size range = grind (arith, nat_tests)

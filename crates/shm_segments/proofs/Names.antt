@@ -1,4 +1,4 @@
--- The names that the proofs cite, from below and from the words of this crate.
+-- The names that the proofs use: those of the crates below, and of the specs of this crate.
 pub use Rattle.std.proofs.Common.{Bool, IsOk, List, None, Option, Some, [], ap, append-nil, append_assoc, arith, drop, eq-eqb, false, get_or, get_or-set_same, if◌then◌else◌, inl, inr, is_none, length, length-set, map, ne_eqb, not, of_z, pos, refl, rules, set, slice_get, subst, suc, sym, take, to_z, true, w32, zero, ℕ, ℤ, ◌%◌, ◌*◌, ◌++◌, ◌+◌, ◌-◌, ◌/◌, ◌<◌, ◌==◌, ◌^◌, ◌∙◌, ◌∷◌, ◌≡◌, ◌≢◌, ◌≤◌, ◌⊎◌, option_map, Ok, is_some, replicate, Err}
 pub use Rattle.std.proofs.lemmas.Bool.{cases_eq, cases_lt, ltb-true}
 pub use Rattle.std.proofs.lemmas.Bool.Decides.{eqb_tells, nat_tests}

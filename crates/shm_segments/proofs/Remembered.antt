@@ -1,4 +1,4 @@
--- What the memory keeps, and that it shows the table.
+-- The memory's invariant, and that it shows the table.
 use Rattle.shm_segments.proofs.Names.{◌≡◌, ◌≢◌, ℕ, ◌==◌, false, List, [], ◌∷◌, ◌++◌, length, Option, None, refl, sym, ap, ◌∙◌, arith, eq-eqb, not, append-nil, All, Result, OnOk, OnErr, sum_by, Span, Held, find_held, is_held, holds_locked, with_zeros, without, FitsPage, written, find_held-id, find-without_same, find-without_other, find-zeros_same, find-zeros_other, StoreView, frame_of, fresh_store, Frame, SwapView, SegRec, find_seg, but, new_seg, rec_in, IsBlank, not-held, rec-added, LockedPagesStay, IsStoreSound, GoesOn-refl, GoesOn-trans, GoesOn, Head, joined_table, Agree, SegmentsView, ShowsTable, KeepsMemory, AreSegmentsSound, IsWhole, stored, span_places, SpanFits, filter-append, filter-none, common_steps, is_some, option_map, Ok, Err, FlatEntry, Entry, live_row}
 use Rattle.shm_fault.specs.Store.{held}
 use Rattle.shm_segments.proofs.Finding.{live-joined}
@@ -29,11 +29,11 @@ memory-trans a b c p q = record {
   frames = q.frames ∙ p.frames;
 }
 
--- frames and swap as they were, and no page moved
+-- frames and swap are unchanged, and no page moved
 pub memory-zeros : (a b : StoreView) (id n : ℕ) → is_held (held a) id ≡ false → held b ≡ with_zeros (held a) id n → b.swap ≡ a.swap → b.frames ≡ a.frames → ((s page : ℕ) → frame_of b s page ≡ frame_of a s page) → KeepsMemory a b
 memory-zeros a b id n new is swap frames still = grind (arith, common_steps, find-zeros_same, find-zeros_other)
 
--- a segment is gone, and the others' pages are where they were
+-- a segment is gone, and the others' pages did not move
 pub memory-without : (a b : StoreView) (id : ℕ) → held b ≡ without (held a) id → GoesOn a.swap b.swap → length b.frames ≡ length a.frames → ((s page : ℕ) → s ≢ id → frame_of b s page ≡ frame_of a s page) → KeepsMemory a b
 memory-without a b id is goes frames still = grind (arith, common_steps, find-without_same, find-without_other, is_some)
 
@@ -41,7 +41,7 @@ memory-without a b id is goes frames still = grind (arith, common_steps, find-wi
 pub memory-same : (a b : StoreView) → held b ≡ held a → LockedPagesStay a b → GoesOn a.swap b.swap → length b.frames ≡ length a.frames → KeepsMemory a b
 memory-same a b is kept goes frames = record { kept = kept; locks = λ id e. rw is at e; goes_on = goes; frames = frames }
 
--- A SEGMENT THAT WAS MADE AND IS TAKEN BACK
+-- A SEGMENT THAT WAS MADE AND IS DROPPED AGAIN
 
 but-new : (gs : List SegRec) (id n : ℕ) → find_seg gs id ≡ None → but id (gs ++ new_seg id n ∷ []) ≡ gs
 but-new gs id n none =
@@ -57,7 +57,7 @@ undone s t u id n sound new is dropped =
     let blank : IsBlank id t = λ page. rw is (rec-added s sound id n none (record { seg = id; page = page }) ∙ ap (λ (o : Option SegRec). rec_in o page) none) in
     dropped blank ∙ ap (λ (v : StoreView). record v { segs = but id v.segs }) is ∙ taken-back s id n none
 
--- what agrees with the same rows has the same locks
+-- held segments that agree with the same rows have the same locks
 pub agree-locks : (hs gs : List Held) (rows : List (Entry Head)) (id : ℕ) → Agree hs rows → Agree gs rows → holds_locked gs id ≡ holds_locked hs id
 agree-locks hs gs rows id a b = grind (arith, a.same id, b.same id)
 
@@ -84,7 +84,7 @@ memory-written a b rows ps new agree fit is kept goes frames = record {
   frames = frames;
 }
 
--- done or not, all is whole, and the table shows what was done
+-- whether it succeeded or not, everything is sound, and the table shows what was done
 pub record Wrote {A E : Type 0} (r : Result A E) (s n : StoreView) (rows : List (Entry Head)) (pages locks : ℕ) (ps : List Span) (new : List ℕ) : Type 0 where
   pub whole : IsWhole n rows pages locks
   pub keeps : KeepsMemory s n

@@ -1,4 +1,4 @@
--- Segments that come and go, as the flat machine's table shows them.
+-- Segments that are made and destroyed, as the flat machine's table shows them.
 use Rattle.shm_segments.proofs.Names.{◌≡◌, ◌≢◌, ℕ, ◌+◌, ◌*◌, ◌%◌, ◌<◌, ◌≤◌, ◌==◌, if◌then◌else◌, false, List, length, Some, None, sym, ap, ◌∙◌, arith, inl, inr, length-set, cases_lt, cases_eq, length-replicate, pages_of, with_segment, Row, identifier, entry_at, with_row, without_row, at_set, at_set_other, at_row, at_row_other, with_row-few, free_found, identifier-mod, with_segment-flat, flat_table-make, Held, bytes_of, held_bytes, is_held, with_zeros, without, find-without_same, find-without_other, find-zeros_same, find-zeros_other, Head, segment_of, whole, joined_table, Agree, nat_tests, common_steps, replicate, is_some, option_map, slice_set, Entry, free_index, live_row}
 use Rattle.shm_segments.proofs.Joins.{at-live, set-joined, same-held}
 
@@ -10,7 +10,7 @@ id_of rows i = identifier i (entry_at rows i).destroyed
 pub live-stale : (rows : List (Entry Head)) (i at : ℕ) → at % 32768 ≡ i → at ≢ id_of rows i → live_row rows at ≡ None
 live-stale rows i at here other = grind (arith, nat_tests, here, other)
 
--- what is live is the entries' matter
+-- whether a segment is live depends only on its entry
 live-entry : (rows gs : List (Entry Head)) (at : ℕ) → entry_at gs (at % 32768) ≡ entry_at rows (at % 32768) → live_row gs at ≡ live_row rows at
 live-entry rows gs at same = ap (λ (e : Entry Head). if identifier (at % 32768) e.destroyed == at then e.row else None) same
 
@@ -19,7 +19,7 @@ live-entry rows gs at same = ap (λ (e : Entry Head). if identifier (at % 32768)
 abbrev emptied : List (Entry Head) → ℕ → Entry Head
 emptied rows i = record { destroyed = (entry_at rows i).destroyed + 1; row = None }
 
--- a row destroyed, and what is held of it dropped
+-- a row is destroyed, and its held segment is dropped
 pub joined-without : (hs : List Held) (rows : List (Entry Head)) (i : ℕ) → length rows ≤ 32768 → i < 32768
     → joined_table (without hs (id_of rows i)) (without_row rows i) ≡ slice_set (joined_table hs rows) i (record { destroyed = (entry_at rows i).destroyed + 1; segment = None })
 joined-without hs rows i few small =
@@ -29,14 +29,14 @@ joined-without hs rows i few small =
     (set-joined hs (without hs id) rows i (record { destroyed = (entry_at rows i).destroyed + 1; row = None }) few
     (λ at other. ap held_bytes (find-without_other hs id at (λ is. other (ap (λ n. n % 32768) is ∙ own)))))
 
--- nothing is live then at its index
+-- afterwards nothing is live at its index
 pub live-without_here : (rows : List (Entry Head)) (i at : ℕ) → i < length rows → at % 32768 ≡ i → live_row (without_row rows i) at ≡ None
 live-without_here rows i at within here = grind (arith, nat_tests, here, at_set rows i (emptied rows i) within)
 
 pub live-without_other : (rows : List (Entry Head)) (i at : ℕ) → at % 32768 ≢ i → live_row (without_row rows i) at ≡ live_row rows at
 live-without_other rows i at other = live-entry rows (without_row rows i) at (at_set_other rows i (at % 32768) (emptied rows i) other)
 
--- what was not destroyed is live as before
+-- what was not destroyed is still live
 pub live-without : (rows : List (Entry Head)) (i at : ℕ) → i < length rows → at ≢ id_of rows i → live_row (without_row rows i) at ≡ live_row rows at
 live-without rows i at within apart = elim (cases_eq (at % 32768) i) [ inl here ↦ live-without_here rows i at within here ∙ sym (live-stale rows i at here apart) | inr other ↦ live-without_other rows i at other ]
 
@@ -46,7 +46,7 @@ agree-without hs rows i agree within =
 
 -- CREATED
 
--- an index that may be given to a new segment
+-- an index that a new segment can get
 pub record IsFree (rows : List (Entry Head)) (i : ℕ) : Type 0 where
   pub within : i ≤ length rows
   pub small : i < 32768
@@ -62,7 +62,7 @@ index-free rows i few is =
       none = rw same at f.row;
     }
 
--- nothing is held under its identifier
+-- no segment is held under its identifier
 pub free-new : (hs : List Held) (rows : List (Entry Head)) (i : ℕ) → Agree hs rows → IsFree rows i → is_held hs (id_of rows i) ≡ false
 free-new hs rows i agree free = same-held hs rows (id_of rows i) agree ∙ ap is_some (at-live rows i free.small ∙ free.none)
 
@@ -88,7 +88,7 @@ joined-with_row hs rows i key pages v agree free =
     same : joined_table gs rows ≡ joined_table hs rows
     same = grind (arith, common_steps, flat_table-make, gs, find-zeros_other, id, id_of, identifier-mod, agree.few, free.small, free.none)
 
--- what is live then
+-- what is live afterwards
 pub live-with_row_same : (rows : List (Entry Head)) (i key : ℕ) (v : Head) → IsFree rows i → live_row (with_row rows i key v) (id_of rows i) ≡ Some (record { key = key; value = v })
 live-with_row_same rows i key v free = grind (arith, common_steps, id_of, identifier-mod, free.small, at_row, free.within)
 

@@ -1,16 +1,16 @@
--- Changes of a table that leave alone how many pages each segment has, which are locked, and which are marked.
+-- Changes of a table that keep each segment's number of pages, its lock and its mark.
 use Rattle.shm_segments.proofs.Names.{◌≡◌, ℕ, ◌%◌, List, [], ◌∷◌, ◌∙◌, length, slice_get, Option, Some, None, refl, arith, cases_eq, Segment, Runner, Place, set_in, with_byte, entry_byte_set, stored, change, change_all, with_entry, reserved, locked, attached, attach_all, detached, detach_all, live_in, pages_at, is_orphan, orphan_in, orphan, id_in, nat_tests, common_steps, slice_set, is_some, option_map, pages_held, pages_locked}
 use Rattle.shm_base.specs.State.{Entry}
 use Rattle.shm_segments.specs.Table.{live}
 use Rattle.shm_segments.specs.Orphan.{identifier_at}
 use Rattle.shm_segments.proofs.Entries.{get-set_same, get-set_other, length-slice_set, sum-set_same}
 
--- two segments, or none, of as many pages
+-- two segments with the same number of pages, or none
 pub record AlikePages (o p : Option Segment) : Type 0 where
   pub pages : pages_held p ≡ pages_held o
   pub some : is_some p ≡ is_some o
 
--- the same segments are live, with as many pages
+-- the same segments are live, with the same numbers of pages
 pub record SamePages (t u : List Entry) : Type 0 where
   pub size : length u ≡ length t
   pub reserved : reserved u ≡ reserved t
@@ -36,14 +36,14 @@ pages-trans t u v a b = record { size = b.size ∙ a.size; reserved = b.reserved
 pub same-trans : (t u v : List Entry) → SameTable t u → SameTable u v → SameTable t v
 same-trans t u v a b = record { same = pages-trans t u v a.same b.same; locked = b.locked ∙ a.locked; left = λ rs i. b.left rs i ∙ a.left rs i }
 
--- a word on what stands at an index is the same where it is so for the entry that was set
+-- a property of the entry at an index is unchanged if it is for the entry that was set
 at-set : {Y : Type 0} (w : Option Entry → Y) (t : List Entry) (i j : ℕ) (e x : Entry) → slice_get t i ≡ Some x → w (Some e) ≡ w (Some x) → w (slice_get (slice_set t i e) j) ≡ w (slice_get t j)
 at-set w t i j e x there same = grind (arith, cases_eq i j, get-set_same t i e x there, get-set_other t i j e, there, same)
 
 live-alike : (id d : ℕ) (o p : Option Segment) → AlikePages o p → (pages_held (live_in id (Some (record { destroyed = d; segment = p }))) ≡ pages_held (live_in id (Some (record { destroyed = d; segment = o })))) × (is_some (live_in id (Some (record { destroyed = d; segment = p }))) ≡ is_some (live_in id (Some (record { destroyed = d; segment = o }))))
 live-alike id d o p a = grind (arith, nat_tests, a.pages, a.some)
 
--- one entry set to one of as many pages
+-- one entry is set to one with the same number of pages
 pub set-pages : (t : List Entry) (i : ℕ) (x : Entry) (p : Option Segment) → slice_get t i ≡ Some x → AlikePages x.segment p → SamePages t (slice_set t i (record { destroyed = x.destroyed; segment = p }))
 set-pages t i x p there a =
     let e : Entry = record { destroyed = x.destroyed; segment = p } in
@@ -55,7 +55,7 @@ set-pages t i x p there a =
       ids = λ j. at-set (id_in j) t i j e x there refl;
     }
 
--- what is marked where one entry is set to one that is marked alike
+-- the marks after one entry is set to one with the same mark
 pub set-left : (t : List Entry) (i : ℕ) (x : Entry) (p : Option Segment) → slice_get t i ≡ Some x → ((rs : List Runner) (id : ℕ) → is_orphan rs id p ≡ is_orphan rs id x.segment)
     → (rs : List Runner) (j : ℕ) → orphan rs (slice_set t i (record { destroyed = x.destroyed; segment = p })) j ≡ orphan rs t j
 set-left t i x p there a rs j = at-set (orphan_in j rs) t i j (record { destroyed = x.destroyed; segment = p }) x there (a rs _)

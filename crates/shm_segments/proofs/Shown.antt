@@ -55,7 +55,7 @@ live-append (p ∷ ps) qs rows a b = (a.0, live-append ps qs rows a.1 b)
 
 -- SPAN BY SPAN
 
--- what fits is live
+-- spans that fit are in live segments
 live-spans : (ps : List Span) (w : Bool) (hs : List Held) (rows : List (Entry Head)) → Agree hs rows → Each (FitsPage hs) ps → AreLive rows (span_places w ps)
 live-spans [] w hs rows agree h = tt
 live-spans (p ∷ ps) w hs rows agree h =
@@ -63,7 +63,7 @@ live-spans (p ∷ ps) w hs rows agree h =
     (live-run p.len p.seg p.at w rows (sym (same-held hs rows p.seg agree) ∙ h.0.0))
     (live-spans ps w hs rows agree h.1)
 
--- a store shows in the table as the bytes at the places replaced
+-- a store changes the table's bytes at the places
 pub store_shown : (hs : List Held) (rows : List (Entry Head)) (w : Bool) (ps : List Span) (new : List ℕ) → Agree hs rows → All (FitsPage hs) ps → sum_by len_of ps ≡ length new
     → stored (joined_table hs rows) (span_places w ps) new ≡ joined_table (written hs ps new) rows
 store_shown hs rows w ps new agree fit size =
@@ -71,21 +71,21 @@ store_shown hs rows w ps new agree fit size =
     stored-joined (span_places w ps) new hs rows agree.few (live-spans ps w hs rows agree fits)
     ∙ sym (joined-same (puts hs (span_places w ps) new) (written hs ps new) rows (written-same ps w hs new fits size))
 
--- a load gives the bytes at the places of the table
+-- a load gives the table's bytes at the places
 pub load_shown : (hs : List Held) (rows : List (Entry Head)) (w : Bool) (ps : List Span) → Agree hs rows → All (FitsPage hs) ps
     → loaded (joined_table hs rows) (span_places w ps) ≡ read_from hs ps
 load_shown hs rows w ps agree fit = let fits = each (FitsPage hs) ps fit in loaded-joined (span_places w ps) hs rows (live-spans ps w hs rows agree fits) ∙ get-spans ps w hs fits
 
--- the number that stands there
+-- the number at the places
 pub number_shown : (hs : List Held) (rows : List (Entry Head)) (ps : List Span) → Agree hs rows → All (FitsPage hs) ps → table.loaded_number (joined_table hs rows) (span_places false ps) ≡ store.number_in hs ps
 number_shown hs rows ps agree fit = ap (from_le_bytes w64) (load_shown hs rows false ps agree fit)
 
--- WHAT A STORE LEAVES
+-- AFTER A STORE
 
 pub agree-pasted : (hs : List Held) (rows : List (Entry Head)) (p : Span) (new : List ℕ) → Agree hs rows → FitsPage hs p → length new ≤ p.len → Agree (map (pasted p.seg p.at new) hs) rows
 agree-pasted hs rows p new agree fit few = grind (arith, common_steps, find-map, find_held-id)
 
--- rows and what is held still agree
+-- rows and held segments still agree
 pub agree-written : (hs : List Held) (rows : List (Entry Head)) (ps : List Span) (new : List ℕ) → Agree hs rows → All (FitsPage hs) ps → Agree (written hs ps new) rows
 agree-written hs rows ps new agree fit =
     written-keeps (λ gs. Agree gs rows) (λ gs p bs here fits few. agree-pasted gs rows p bs here fits few) ps hs new agree (each (FitsPage hs) ps fit)

@@ -1,4 +1,4 @@
--- Spans that lie in pages of live segments.
+-- Spans within pages of live segments.
 use Rattle.shm_segments.proofs.Names.{◌≡◌, ℕ, List, get_or, ap, arith, ltb-true, All, Span, Held, FitsPage, Head, whole, joined_table, Agree, pages_at, SpanFits, common_steps, option_map, pages_held, Entry, live_row}
 use Rattle.shm_segments.proofs.Joins.{held-as}
 use Rattle.shm_segments.proofs.Finding.{live-joined}

@@ -48,7 +48,7 @@ row-locked_by uid hs id o whole = grind (arith, common_steps, nat_tests, whole)
 pub locked_by-joined : (uid : ℕ) (hs : List Held) (rows : List (Entry Head)) → Agree hs rows → locked_by_user uid (joined_table hs rows) ≡ locked_by_of_rows uid rows
 locked_by-joined uid hs rows agree = sum-from (pages_locked_by uid) (locked_by_in_row uid) hs (row-locked_by uid hs) 0 rows (all-whole hs rows agree)
 
--- those that one user locked are among the locked ones
+-- the segments that one user locked are among the locked ones
 locked_by-part : (uid : ℕ) (o : Option (Row Head)) → locked_by_in_row uid o ≤ locked_in_row o
 locked_by-part uid o = grind (arith, nat_tests)
 
@@ -65,14 +65,14 @@ locked_by_more_le uid rows i lt =
     let more = locked_by_more uid rows i lt in
     omega (arith, more, sum_by-take-le (λ (e : Entry Head). locked_by_in_row uid e.row) rows (i + 1), locked_by-all uid rows)
 
--- nothing is locked by a user where nothing is locked
+-- no user has locked anything if nothing is locked
 pub locked_by-none : (uid : ℕ) (rows : List (Entry Head)) → locked_of_rows rows ≡ 0 → locked_by_of_rows uid rows ≡ 0
 locked_by-none uid rows none = omega (arith, locked_by-all uid rows, none)
 
 pub segment_count-joined : (hs : List Held) (rows : List (Entry Head)) → segment_count (joined_table hs rows) ≡ row_count rows
 segment_count-joined hs rows = segment_count-flat (whole hs) 0 rows
 
--- A ROW MORE, ANOTHER OR NONE
+-- A ROW IS ADDED, CHANGED OR REMOVED
 
 -- any sum over rows
 module _ (f : Option (Row Head) → ℕ) (nothing : f None ≡ 0) where
@@ -98,7 +98,7 @@ pages-with_other rows id r s there size = grind (arith, common_steps, sum-other)
 pub locked-with_row : (rows : List (Entry Head)) (i key : ℕ) (v : Head) → IsFree rows i → v.locked ≡ false → locked_of_rows (with_row rows i key v) ≡ locked_of_rows rows
 locked-with_row rows i key v free lock = grind (arith, common_steps, sum-with_row)
 
--- the same where size and lock stay
+-- the same if size and lock are unchanged
 pub locked-other_same : (rows : List (Entry Head)) (id : ℕ) (r s : Row Head) → live_row rows id ≡ Some r → s.value.size ≡ r.value.size → s.value.locked ≡ r.value.locked → locked_of_rows (with_other rows id s) ≡ locked_of_rows rows
 locked-other_same rows id r s there size lock = grind (arith, common_steps, sum-other locked_in_row refl)
 

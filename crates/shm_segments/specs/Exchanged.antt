@@ -1,4 +1,4 @@
--- What an exchange of the bytes of spans leaves of the segments.
+-- The segments after an exchange of the bytes of spans.
 use Rattle.std.specs.Prelude.{ℕ, ◌≡◌, Bool, true, false, if◌then◌else◌, List, Option, Some, None, Result, OnOk, OnErr}
 use Rattle.shm_base.specs.Access.{Place, loaded, stored}
 use Rattle.shm_base.specs.Exchange.{same_bytes}
@@ -10,8 +10,7 @@ use Rattle.shm_fault.specs.declared.touched.PagerFailed.{PagerFailed}
 use Rattle.shm_fault.specs.Access.{Accessed}
 use Rattle.shm_segments.specs.View.{SegmentsView, KeepsMemory}
 
--- whether the bytes at places are replaced: always where none are expected, else if they are the expected
--- ones
+-- the bytes at the places are replaced: if none are expected, or if they are the expected ones
 abbrev pub replaces : List Entry → List Place → Option (List ℕ) → Bool
 replaces table places None = true
 replaces table places (Some expected) = same_bytes (loaded table places) expected
@@ -20,8 +19,7 @@ replaces table places (Some expected) = same_bytes (loaded table places) expecte
 abbrev pub left_by : Bool → List Entry → List Place → List ℕ → List Entry
 left_by writes table places bytes = if writes then stored table places bytes else table
 
--- the bytes that were there were read, and replaced if `writes` says so; where a pager failed nothing was
--- read, and they are as before
+-- the old bytes were read, and replaced if `writes`; if a pager failed, nothing was read or replaced
 pub record Swapped
     {A E : Type 0} (writes : Bool) (ps : List Span) (bytes before after : List ℕ) (s t : SegmentsView)
     (result : Result A E) (answer : Result Touched PagerFailed) : Type 0 where

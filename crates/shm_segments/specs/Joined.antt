@@ -1,4 +1,4 @@
--- The flat machine's table, joined from rows without bytes and from bytes that lie elsewhere.
+-- The flat machine's table, joined from rows without bytes and from bytes that are kept elsewhere.
 use Rattle.std.specs.Prelude.{ℕ, ◌≡◌, ◌*◌, ◌%◌, ◌≤◌, Bool, true, false, ◌&&◌, ◌==◌, if◌then◌else◌, List, length, Option, Some, None, option_map, sum_by}
 use Rattle.shm_base.specs.State.{Segment, Entry as FlatEntry, pages_of}
 use Rattle.shm_ids.specs.declared.table.Entry.{Entry}
@@ -28,7 +28,7 @@ segment_of r bytes =
       bytes = bytes;
     }
 
--- what a head has of a segment: all but its key and its bytes
+-- the part of a segment that its head has: all but its key and its bytes
 abbrev pub head_of : Segment → Head
 head_of x =
     record {
@@ -44,12 +44,12 @@ head_of x =
       ctime = x.ctime;
     }
 
--- a head that a user locks, or that is unlocked
+-- the head after a user locked the segment, or after it was unlocked
 abbrev pub relocked_head : Option ℕ → Head → Head
 relocked_head None h = record h { locked = false; locker = 0 }
 relocked_head (Some uid) h = if h.locked then h else record h { locked = true; locker = uid }
 
--- the segment of a row, with the bytes that are held under its identifier
+-- the segment of a row, with the bytes that are held for its identifier
 abbrev pub whole : List Held → ℕ → Row Head → Segment
 whole hs id r = segment_of r (bytes_of hs id)
 
@@ -72,7 +72,7 @@ abbrev pub locked_in_row : Option (Row Head) → ℕ
 locked_in_row None = 0
 locked_in_row (Some r) = if r.value.locked then pages_of r.value.size else 0
 
--- the pages of all segments, and of the locked ones, by their rows
+-- the pages of all segments, counted over the rows
 abbrev pub pages_of_rows : List (Entry Head) → ℕ
 pages_of_rows rows = sum_by (λ (e : Entry Head). pages_in_row e.row) rows
 
@@ -83,11 +83,11 @@ abbrev pub locked_by_in_row : ℕ → Option (Row Head) → ℕ
 locked_by_in_row uid None = 0
 locked_by_in_row uid (Some r) = if r.value.locked && (r.value.locker == uid) then pages_of r.value.size else 0
 
--- the pages of those that a user locked
+-- the pages of the segments that this user locked
 abbrev pub locked_by_of_rows : ℕ → List (Entry Head) → ℕ
 locked_by_of_rows uid rows = sum_by (λ (e : Entry Head). locked_by_in_row uid e.row) rows
 
--- what rows and held segments both know of a segment
+-- what both a row and a held segment know of a segment
 pub record Shape : Type 0 where
   pub locked : Bool
   pub size : ℕ
@@ -98,7 +98,7 @@ shape_held g = record { locked = g.locked; size = length g.bytes }
 abbrev pub shape_row : Row Head → Shape
 shape_row r = record { locked = r.value.locked; size = PAGE_SIZE * pages_of r.value.size }
 
--- a segment is held where it is live, with its row's lock and pages, and nothing else is held
+-- the held segments are exactly the live ones, and agree with their rows on the lock and the pages
 pub record Agree (hs : List Held) (rows : List (Entry Head)) : Type 0 where
   pub few : length rows ≤ INDEXES
   pub same : (id : ℕ) → option_map shape_held (find_held hs id) ≡ option_map shape_row (live_row rows id)

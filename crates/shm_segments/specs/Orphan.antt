@@ -1,4 +1,4 @@
--- Segments that are marked and that no piece names.
+-- Segments that are marked and have no pieces.
 use Rattle.std.specs.Prelude.{◌==◌, ◌&&◌, ℕ, Bool, false, List, Option, Some, None, slice_get}
 use Rattle.shm_base.specs.State.{Segment, Entry, Runner}
 use Rattle.shm_base.specs.Identifier.{identifier}
@@ -12,7 +12,7 @@ abbrev pub orphan_in : ℕ → List Runner → Option Entry → Bool
 orphan_in i rs None = false
 orphan_in i rs (Some e) = is_orphan rs (identifier i e.destroyed) e.segment
 
--- the segment at an index is marked, and no piece names it
+-- the segment at an index is marked and has no pieces
 abbrev pub orphan : List Runner → List Entry → ℕ → Bool
 orphan rs table i = orphan_in i rs (slice_get table i)
 

@@ -1,4 +1,4 @@
--- What always holds between heads, bytes and counts.
+-- The invariant of heads, bytes and counts.
 use Rattle.std.specs.Prelude.{◌≡◌, ◌≤◌, ℕ, List, Some}
 use Rattle.shm_ids.specs.declared.table.Entry.{Entry}
 use Rattle.shm_ids.specs.declared.table.Row.{Row}
@@ -10,12 +10,12 @@ use Rattle.shm_segments.specs.declared.head.Head.{Head}
 use Rattle.shm_segments.specs.Joined.{live_row, pages_of_rows, locked_of_rows, Agree}
 use Rattle.shm_base.specs.declared.bounds.TheConstants.{MOST_SHMMAX}
 
--- a segment has at least 1 byte, and no more than the largest limit
+-- every segment has at least 1 byte, and no more than the largest limit
 abbrev pub SizesFit : List (Entry Head) → Type 0
 SizesFit rows =
     (id : ℕ) (r : Row Head) → live_row rows id ≡ Some r → (1 ≤ r.value.size) × (r.value.size ≤ MOST_SHMMAX)
 
--- heads and bytes are of the same segments, and their pages are counted
+-- heads and bytes belong to the same segments, and the counts of their pages are right
 pub record AreSegmentsSound (hs : List Held) (rows : List (Entry Head)) (pages locks : ℕ) : Type 0 where
   pub agree : Agree hs rows
   pub sizes : SizesFit rows
@@ -25,7 +25,7 @@ pub record AreSegmentsSound (hs : List Held) (rows : List (Entry Head)) (pages l
   pub few_pages : pages_in_store hs ≤ pages
   pub few_locked : locked_pages_in_store hs ≤ locks
 
--- so it is with what the memory holds, which is sound
+-- the same, with the bytes in a sound store
 pub record IsWhole (m : StoreView) (rows : List (Entry Head)) (pages locks : ℕ) : Type 0 where
   pub kept : AreSegmentsSound (held m) rows pages locks
   pub sound : IsStoreSound m

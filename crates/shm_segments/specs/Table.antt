@@ -1,4 +1,4 @@
--- Words on the flat machine's table that contracts cite.
+-- Definitions over the flat machine's table that contracts use.
 use Rattle.std.specs.Prelude.{slice_get, slice_set, replicate, option_map, ℤ, ◌≡◌, ◌≤◌, ◌+◌, ◌*◌, ◌/◌, ◌%◌, ◌^◌, ◌==◌, ℕ, pos, Bool, true, nat_lt, if◌then◌else◌, is_some, List, length, Option, Some, None}
 use Rattle.std.specs.Int.{w64, from_le_bytes, to_le_bytes}
 use Rattle.shm_base.specs.declared.errno.Errno.{Errno}
@@ -20,7 +20,7 @@ use Rattle.shm_base.specs.declared.paging.TheConstants.{PAGE_SIZE}
 abbrev pub segment_seen : List Entry → Found → Segment
 segment_seen table f = segment_of (record { key = f.key; value = f.head }) (bytes_at table f.seg)
 
--- it is live there, under its identifier
+-- that segment is live, under its identifier
 pub record IsFound (table : List Entry) (f : Found) : Type 0 where
   pub entry :
       slice_get table (f.seg % INDEXES)
@@ -29,11 +29,11 @@ pub record IsFound (table : List Entry) (f : Found) : Type 0 where
   pub long : length (bytes_at table f.seg) ≡ PAGE_SIZE * pages_of f.head.size
   pub size : (1 ≤ f.head.size) × (f.head.size ≤ MOST_SHMMAX)
 
--- what the flat machine says of an identifier or a key that was found
+-- the flat machine's answer about an identifier or a key that was found
 abbrev pub look_of : List Entry → Found → flat.Look
 look_of table f = flat.Found (f.seg % INDEXES) (segment_seen table f)
 
--- with which number a look that finds nothing is refused
+-- the error of a lookup that finds nothing
 abbrev pub refused_look : flat.Look → Option Errno
 refused_look (flat.Found i x) = None
 refused_look flat.Removed = Some Eidrm
@@ -43,7 +43,7 @@ abbrev pub live_in : ℕ → Option Entry → Option Segment
 live_in id None = None
 live_in id (Some e) = if e.destroyed == id / INDEXES then e.segment else None
 
--- the segment under an identifier
+-- the live segment with an identifier
 abbrev pub live : List Entry → ℕ → Option Segment
 live table id = live_in id (slice_get table (id % INDEXES))
 
@@ -54,11 +54,11 @@ abbrev pub segment_in : Option Entry → Option Segment
 segment_in None = None
 segment_in (Some e) = e.segment
 
--- how many pages it has, none where it is not live
+-- how many pages it has; none if it is not live
 abbrev pub pages_at : List Entry → ℕ → ℕ
 pages_at table id = pages_held (live table id)
 
--- it has that page
+-- it has this page
 abbrev pub page_there : List Entry → ℕ → ℕ → Bool
 page_there table id page = nat_lt page (pages_at table id)
 
@@ -66,40 +66,40 @@ page_there table id page = nat_lt page (pages_at table id)
 abbrev pub SpanFits : List Entry → Span → Type 0
 SpanFits table p = InPage p × (page_there table p.seg (page_of p) ≡ true)
 
--- the identifier that the next segment gets; nothing where no index is free
+-- the identifier of the next segment; none if no index is free
 abbrev pub next_id : List Entry → Option ℤ
 next_id table = option_map (λ i. pos (flat.identifier i (flat.destroyed_at table i))) (flat.free_index table)
 
--- a segment that is made at an index
+-- the table with a new segment at an index
 abbrev pub created : List Entry → ℕ → ℕ → Head → List Entry
 created table i key h =
     flat.with_segment table i
     (segment_of (record { key = key; value = h }) (replicate (PAGE_SIZE * pages_of h.size) 0))
 
--- what making a segment answers, and the table that it leaves; nothing where no index is free
+-- the result of making a segment, and the table afterwards; none if no index is free
 abbrev pub made : List Entry → ℕ → Head → Option (ℤ × List Entry)
 made table key h =
     option_map (λ i. (pos (flat.identifier i (flat.destroyed_at table i)), created table i key h))
     (flat.free_index table)
 
--- a segment that is gone
+-- the table after a segment was destroyed
 abbrev pub destroyed : List Entry → ℕ → List Entry
 destroyed table id = slice_set table (id % INDEXES) (record { destroyed = id / INDEXES + 1; segment = None })
 
--- a segment with other owners, and another mode, as the step's `sets` makes it
+-- a segment with other owners and another mode, as the step's `sets` makes it
 abbrev pub reowned : ℕ → ℕ → ℕ → ℕ → Segment → Segment
 reowned n uid gid mode y =
     record y { perm = record y.perm { uid = uid; gid = gid; mode = mode % 512 }; ctime = n }
 
--- a segment that a user locks, or that is unlocked
+-- a segment after a user locked it, or after it was unlocked
 abbrev pub relocked : Option ℕ → Segment → Segment
 relocked None y = unlocked y
 relocked (Some uid) y = locks_as uid y
 
--- the little-endian number that stands at places, as the step's `xadd` reads it
+-- the little-endian number at these places, as the step's `xadd` reads it
 abbrev pub loaded_number : List Entry → List Place → ℕ
 loaded_number table ps = from_le_bytes w64 (loaded table ps)
 
--- the table with so much added to it, modulo 2^64, as the step's `xadd` leaves it
+-- the table after an addition to it, modulo 2^64, as the step's `xadd` leaves it
 abbrev pub added_at : List Entry → List Place → ℕ → List Entry
 added_at table ps more = stored table ps (to_le_bytes w64 ((loaded_number table ps + more) % 2 ^ 64))

@@ -1,4 +1,4 @@
--- What contracts see of the segments: the flat machine's table, and the memory that its bytes lie in.
+-- What contracts see of the segments: the flat machine's table, and the store that holds its bytes.
 use Rattle.std.specs.Prelude.{ℕ, ◌≡◌, true, List, option_map, length}
 use Rattle.shm_base.specs.State.{Segment, Entry}
 use Rattle.shm_fault.specs.Held.{Held, find_held, holds_locked}
@@ -12,20 +12,20 @@ pub record SegmentsView : Type 0 where
   pub table : List Entry
   pub memory : StoreView
 
--- a live segment, as the memory holds it
+-- a live segment, as the store holds it
 abbrev pub as_held : ℕ → Segment → Held
 as_held id x = record { id = id; locked = x.locked; bytes = x.bytes }
 
--- each live segment is held with its bytes and its lock, and nothing else is held
+-- the held segments are exactly the live ones, with their bytes and locks
 abbrev pub ShowsTable : List Entry → StoreView → Type 0
 ShowsTable table m = (id : ℕ) → find_held (held m) id ≡ option_map (as_held id) (live table id)
 
--- the memory is sound, and shows the table
+-- the store is sound, and shows the table
 pub record IsTableExact (table : List Entry) (m : StoreView) : Type 0 where
   pub sound : IsStoreSound m
   pub shows : ShowsTable table m
 
--- what each step but a lock keeps of the memory
+-- what every step other than a lock keeps of the store
 pub record KeepsMemory (before after : StoreView) : Type 0 where
   pub kept : LockedPagesStay before after
   pub locks : (id : ℕ) → holds_locked (held after) id ≡ true → holds_locked (held before) id ≡ true

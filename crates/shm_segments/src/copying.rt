@@ -6,7 +6,7 @@ use shm_base::HostMemory;
 use shm_pager::ClonePager;
 
 impl<P: ClonePager> Segments<P> {
-    /// The same segments once more, with memory and swap areas of their own.
+    /// A copy of the segments, with their own memory and swap areas. HostMemory: the host refused memory.
     pub fn try_clone(&self) -> Result<Segments<P>, HostMemory>
         ensures { IfOk result (λ copy. copy ≡ self.now) }
     {

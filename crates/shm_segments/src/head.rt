@@ -1,11 +1,12 @@
-//! What is kept of a segment beside its bytes.
+//! The head of a segment: all of it but its key and its bytes.
 ghost use Rattle.std.specs.Prelude.{◌≡◌, ◌≤◌};
 ghost use Rattle.shm_base.specs.declared.bounds.TheConstants.{MOST_SHMALL, MOST_SHMMAX};
 ghost use Rattle.shm_base.specs.State as flat;
 
 use shm_base::{Perm, ShmId, pages_of};
 
-/// A segment without its key and its bytes. The user who locked it counts while it is locked, and is 0 else.
+/// A segment without its key and its bytes. `locker` is the user who locked it while it is locked, and 0
+/// otherwise.
 #[derive(Clone, Copy, Debug, PartialEq, Eq)]
 pub struct Head {
     pub perm: Perm,
@@ -20,8 +21,8 @@ pub struct Head {
     pub ctime: u64,
 }
 
-/// A live segment: its identifier, its key (0 where it has none), and the rest but for its bytes. It is true
-/// until the segment changes.
+/// A live segment: its identifier, its key (0 if it has none), and its head. It is true until the segment
+/// changes.
 #[derive(Clone, Copy, Debug, PartialEq, Eq)]
 pub struct Found {
     pub seg: u32,
@@ -31,7 +32,7 @@ pub struct Found {
 }
 
 impl Found {
-    /// How many pages the segment has.
+    /// The number of pages of the segment.
     pub fn pages(&self) -> u32
         requires size { self.now.head.size ≤ MOST_SHMMAX }
         ensures value { result ≡ flat.pages_of self.now.head.size }

@@ -1,7 +1,7 @@
-//! The segments of a machine: a table of what is kept of each, and their bytes beside it.
+//! The segments of a machine: a table of their heads, and a store of their bytes.
 //!
-//! Seen from outside there is one list, the flat machine's table: each call says what it does to that.
-//! That heads lie under identifiers, and bytes in a store, is this crate's own matter.
+//! Contracts see one list, the flat machine's table, and say what each call does to it. How heads and bytes
+//! are kept is private to this crate.
 #![tactic(auto)]
 
 mod copying;

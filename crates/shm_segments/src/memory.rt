@@ -1,4 +1,4 @@
-//! The bytes of the segments, and the pages that they lie in.
+//! The bytes of the segments, and the pages that have them.
 ghost use Rattle.std.specs.Prelude.{◌≡◌, ◌≤◌, ◌+◌, ℕ, OnOk, OnErr, length, option_copied, set, None, true, false};
 ghost use Rattle.shm_base.specs.Access.{loaded, stored};
 ghost use Rattle.shm_base.specs.Segments.{reserved};
@@ -19,7 +19,7 @@ use shm_fault::{PageStore, PagerFailed, Touched};
 use shm_pager::{Pager, PagerFault};
 
 impl<P: Pager> Segments<P> {
-    /// The pages and their places. They are sound, and show the table, at all times.
+    /// The store of the pages.
     pub fn store(&self) -> &PageStore<P>
         ensures value { result.now ≡ self.now.memory }
         ensures exact { IsTableExact self.now.table self.now.memory }
@@ -27,9 +27,9 @@ impl<P: Pager> Segments<P> {
         &self.store
     }
 
-    /// Copies the bytes of one or two spans, each with the frame that its page is in. Pages that are not
-    /// resident come in. What is counted, and which pages moved, goes into `touched`. An error is a pager's,
-    /// and `out` is as it was then.
+    /// Copies the bytes of one or two spans, each with the frame of its page. Brings in pages that are not
+    /// resident. `touched` gets the counts and the pages that moved. PagerFailed: a pager failed, and `out`
+    /// is unchanged.
     #[inline(always)]
     pub fn read(
         &mut self,
@@ -49,7 +49,8 @@ impl<P: Pager> Segments<P> {
         self.store.read_with(spans, out, touched)
     }
 
-    /// Replaces the bytes of one or two spans, as `read` reads them. On an error no byte has changed.
+    /// Replaces the bytes of one or two spans, as `read` reads them. PagerFailed: a pager failed, and no byte
+    /// changed.
     #[inline(always)]
     pub fn write(
         &mut self,
@@ -69,8 +70,8 @@ impl<P: Pager> Segments<P> {
         self.store.write_with(spans, bytes, touched)
     }
 
-    /// Adds to the eight little-endian bytes of one or two spans, modulo 2^64; `old` is then the number that
-    /// stood there. Pages come in as for `read`, and on an error no byte has changed.
+    /// Adds to the eight little-endian bytes of one or two spans, modulo 2^64; `old` gets the number that
+    /// they had. Pages come in as for `read`. PagerFailed: a pager failed, and no byte changed.
     #[inline(always)]
     pub fn add(
         &mut self,
@@ -92,8 +93,8 @@ impl<P: Pager> Segments<P> {
         self.store.add_with(spans, more, old, touched)
     }
 
-    /// Copies the bytes of one or two spans into `before` and replaces them; where bytes are expected, only
-    /// if they are those. Pages come in as for `read`, and on an error no byte has changed.
+    /// Copies the bytes of one or two spans into `before`, and replaces them; if bytes are expected, only if
+    /// they equal those. Pages come in as for `read`. PagerFailed: a pager failed, and no byte changed.
     pub fn exchange(
         &mut self,
         spans: &[Span],
@@ -119,7 +120,7 @@ impl<P: Pager> Segments<P> {
         }
     }
 
-    /// Writes the first `n` dirty frames of segments that are not locked out to their slots.
+    /// Writes the first `n` dirty frames of segments that are not locked to their slots.
     pub fn flush(&mut self, n: u64) -> FlushReport
         ensures flushed { IsFlushed self.old.memory self.new.memory n result }
         ensures table { self.new.table ≡ self.old.table }
@@ -130,8 +131,8 @@ impl<P: Pager> Segments<P> {
         self.store.flush(n)
     }
 
-    /// Takes a swap area away, after its pages. It is there, and the others have a slot for each page of
-    /// each segment. Where a pager fails it stays.
+    /// Takes an active swap area away, and moves its pages elsewhere before. The other areas must have a slot
+    /// for each page of each segment. PagerFailed: a pager failed, and the area stays.
     pub fn move_off(&mut self, area: u32) -> Result<(), PagerFailed>
         requires there { (area_at self.old.memory.swap area).here ≡ true }
         requires room { reserved self.old.table + length (area_at self.old.memory.swap area).pages

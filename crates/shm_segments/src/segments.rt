@@ -21,11 +21,11 @@ use shm_slots::Swap;
 use std::alloc::Global;
 use std::marker::Model;
 
-/// The segments, seen as the flat machine's table beside the memory that their bytes lie in.
+/// The segments. Contracts see the flat machine's table, and the store of their bytes.
 pub struct Segments<P: Pager> {
     pub(crate) table: IdTable<Head>,
     pub(crate) store: PageStore<P>,
-    // The pages of all segments, and of the locked ones.
+    // The pages of all segments, and those of the locked ones.
     pub(crate) reserved: u64,
     pub(crate) locked: u64,
 }
@@ -107,7 +107,7 @@ fn relock(head: &mut Head, locker: Option<u32>)
     }
 }
 
-// What is found under an identifier, where it is live.
+// The live row of an identifier.
 fn found_under(table: &IdTable<Head>, id: ShmId) -> Result<Found, LookRefused>
     ensures id { IfOk result (λ f. f.id ≡ id) }
     ensures seg { IfOk result (λ f. pos f.seg ≡ id) }
@@ -125,8 +125,8 @@ fn found_under(table: &IdTable<Head>, id: ShmId) -> Result<Found, LookRefused>
 }
 
 impl<P: Pager> Segments<P> {
-    /// No segment, over this number of frames and the swap, none of whose slots is owned. The memory of the
-    /// frames is taken here.
+    /// No segments, over this number of frames and over a swap that has no owned slot. Takes the memory of
+    /// the frames. HostMemory: the host refused memory.
     pub fn new(alloc: Global, frames: u32, swap: Swap<P>) -> Result<Segments<P>, HostMemory>
         requires frames { (2 ≤ frames) × (frames ≤ MOST_FRAMES) }
         requires free { (area slot : ℕ) → owner_of swap area slot ≡ None }
@@ -143,22 +143,22 @@ impl<P: Pager> Segments<P> {
         })
     }
 
-    /// The pages of all segments.
+    /// The number of pages of all segments.
     pub fn reserved(&self) -> u64
         ensures { result ≡ reserved self.now.table }
     {
         self.reserved
     }
 
-    /// The pages of the locked segments.
+    /// The number of pages of the locked segments.
     pub fn locked(&self) -> u64
         ensures { result ≡ locked_pages self.now.table }
     {
         self.locked
     }
 
-    /// The pages of the segments that a user locked. It walks the indexes that were ever used, unless nothing
-    /// is locked.
+    /// The number of pages of the segments that a user locked. Visits all indexes that were ever used, unless
+    /// nothing is locked.
     pub fn locked_by(&self, user: u32) -> u64
         ensures value { result ≡ locked_by_user user self.now.table }
         ensures few { result ≤ locked_pages self.now.table }
@@ -176,7 +176,7 @@ impl<P: Pager> Segments<P> {
         self.table.row_count()
     }
 
-    /// How many indexes were ever used.
+    /// The number of indexes that were ever used.
     pub fn indexes(&self) -> u32
         ensures { result ≡ length self.now.table }
     {
@@ -212,8 +212,8 @@ impl<P: Pager> Segments<P> {
         }
     }
 
-    /// The segment under an identifier that a process names: Eidrm where it was destroyed, Einval where the
-    /// identifier was never issued (shmctl(2)).
+    /// The segment of an identifier that a process names (shmctl(2)). Eidrm: it was destroyed. Einval: the
+    /// identifier was never issued.
     pub fn look(&self, id: ShmId) -> Result<Found, Errno>
         ensures found { IfOk result (IsFound self.now.table) }
         ensures ok { IfOk result (λ f. flat_ids.look self.now.table id ≡ look_of self.now.table f) }
@@ -237,15 +237,16 @@ impl<P: Pager> Segments<P> {
         found_under(&self.table, id).ok()
     }
 
-    /// The identifier that the next segment gets: that of the least free index. None where each index is held
-    /// or worn out.
+    /// The identifier of the next segment: that of the least free index. None if every index has a segment or
+    /// is worn out.
     pub fn next_id(&self) -> Option<ShmId>
         ensures { result ≡ next_id self.now.table }
     {
         self.table.next_id()
     }
 
-    /// Makes a segment of zeros under the next identifier. Its key is that of no other segment, or 0.
+    /// Makes a segment of zeros under the next identifier. No other segment has its key, unless that is 0.
+    /// HostMemory: the host refused memory, and nothing changed.
     pub fn create(&mut self, id: ShmId, key: u32, head: Head) -> Result<(), HostMemory>
         requires next { next_id self.old.table ≡ Some id }
         requires absent { key ≢ 0 → flat_ids.find_key self.old.table key ≡ flat_ids.Invalid }
@@ -273,7 +274,7 @@ impl<P: Pager> Segments<P> {
         }
     }
 
-    /// Takes a segment out, with its bytes. Its identifier never comes again. It takes no memory.
+    /// Destroys a segment and its bytes. Its identifier is never used again. Takes no memory.
     pub fn destroy(&mut self, seg: u32)
         requires { IsLive self.old.table seg }
         ensures table { self.new.table ≡ destroyed self.old.table seg }
@@ -288,7 +289,7 @@ impl<P: Pager> Segments<P> {
         self.locked -= pages_locked(&head);
     }
 
-    /// Sets the time and the pid of an attach.
+    /// Sets the time and the last pid of an attach.
     pub fn attached(&mut self, seg: u32, time: u64, pid: u32)
         requires { IsLive self.old.table seg }
         ensures { self.new ≡ record self.old { table = change self.old.table seg (attached time pid) } }
@@ -298,7 +299,7 @@ impl<P: Pager> Segments<P> {
         head.lpid = pid;
     }
 
-    /// Sets the time and the pid of a detach.
+    /// Sets the time and the last pid of a detach.
     pub fn detached(&mut self, seg: u32, time: u64, pid: u32)
         requires { IsLive self.old.table seg }
         ensures { self.new ≡ record self.old { table = change self.old.table seg (detached time pid) } }
@@ -321,7 +322,7 @@ impl<P: Pager> Segments<P> {
         head.ctime = time;
     }
 
-    /// Marks the segment to be destroyed (SHM_DEST), and hides its key.
+    /// Marks the segment for removal (SHM_DEST), and hides its key.
     pub fn mark(&mut self, seg: u32)
         requires { IsLive self.old.table seg }
         ensures { self.new ≡ record self.old { table = change self.old.table seg marked } }
@@ -330,8 +331,8 @@ impl<P: Pager> Segments<P> {
         self.table.hide_key(seg);
     }
 
-    /// Locks the segment's pages for a user, or unlocks them (SHM_LOCKED). A segment that is locked keeps its
-    /// locker.
+    /// Locks the segment's pages for a user, or unlocks them (SHM_LOCKED). A segment that is locked already
+    /// keeps its locker.
     pub fn set_locked(&mut self, seg: u32, locker: Option<u32>)
         requires live { IsLive self.old.table seg }
         requires small { locked_pages self.old.table ≤ MOST_SHMALL }

@@ -1,4 +1,4 @@
--- Failures that are answered are failures that were counted.
+-- Failures that are reported are failures that were counted.
 use Rattle.std.proofs.Common.{◌≡◌, ℕ, suc, ◌<◌, ◌≤◌, true, false, List, [], ◌∷◌, All, length, get_or, refl, sym, ◌∙◌, arith, sum_by}
 use Rattle.std.specs.List.{list_any}
 use Rattle.std.proofs.lemmas.List.Elements.{All-head, All-tail}
@@ -32,11 +32,11 @@ pub some_spent-never : (s : SwapView) → IsSwap s → s.never_spent ≡ true �
 unfolding some_spent
 some_spent-never s swap flag = grind (arith, common_steps, spent-here s.areas, swap.unspent, flag)
 
--- where no area was spent, a cause is a failure that was counted
+-- if no area was spent, a cause is a failure that was counted
 pub total-lt : (s t : SwapView) → some_spent s ≡ false → had_cause s t ≡ true → total s < total t
 total-lt s t clear cause = grind (arith, common_steps, clear, cause)
 
--- counts that are all 0: none has risen, and none has its last value
+-- if all counts are 0, none has risen and none is at its last value
 counts-zero : {P : Type 0} (failed : P → ℕ) (xs : List AreaView) → All (IsCounted failed) xs → ((p : P) → failed p ≡ 0)
     → (list_any is_spent xs ≡ false) × (sum_by rise xs ≡ 0)
 counts-zero failed [] all none = (refl, refl)
@@ -47,7 +47,7 @@ counts-zero failed (x ∷ xs) all none =
     let rest = counts-zero failed xs (All-tail (IsCounted failed) x xs all) none in
     (grind (arith, common_steps, now, rest.0), omega (arith, start, now, rest.1, sum_by-cons rise x xs))
 
--- over pagers that count no failure none was ever counted, and no area was ever spent
+-- over pagers that never count a failure, none was counted, and no area was ever spent
 pub unfailing : {P : Type 0} (failed : P → ℕ) (s : SwapView) → IsSwap s → AreCountsOf failed s → ((p : P) → failed p ≡ 0)
     → (s.never_spent ≡ true) × (total s ≡ 0)
 unfolding total

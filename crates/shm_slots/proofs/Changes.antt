@@ -1,4 +1,4 @@
--- One area of a swap changed.
+-- A swap with one area changed.
 use Rattle.std.proofs.Common.{◌≡◌, ℕ, zero, suc, ◌<◌, ◌≤◌, Bool, true, false, not, ◌&&◌, ◌||◌, List, [], ◌∷◌, ◌++◌, Option, None, length, get_or, set, map, sum_by, refl, sym, ap, ◌∙◌, inl, inr, arith, get_or-set_same}
 use Rattle.std.specs.Prelude.{Result, IfErr, OnErr}
 use Rattle.std.specs.List.{list_any}
@@ -14,11 +14,11 @@ use Rattle.shm_slots.specs.Cause.{some_spent, total, had_cause, GoesOn, IsSteady
 abbrev pub changed : SwapView → ℕ → AreaView → Bool → SwapView
 changed s i a flag = record { areas = set s.areas i a; never_spent = flag }
 
--- the area's pager was asked: the flag falls where the area is spent
+-- the area's pager was called: the flag becomes false if the area is spent
 abbrev pub asked_of : SwapView → ℕ → AreaView → SwapView
 asked_of s i a = changed s i a (s.never_spent && not (is_spent a))
 
--- an area that has a slot is there
+-- an area that has a slot is active
 pub slot-here : (a : AreaView) → IsArea a → (slot : ℕ) → slot < length a.pages → a.here ≡ true
 slot-here a area slot lt = grind (arith, common_steps)
 
@@ -30,7 +30,7 @@ area_within s t i same within = rw same within
 pub area-found : (s t : SwapView) (i : ℕ) (was : AreaView) → s ≡ t → was ≡ get_or s.areas i was → i < length t.areas → was ≡ area_at t i
 area-found s t i was same found within = get_or_read t.areas i was within (rw (← same) found) no_area
 
--- the area set to what a function makes of it
+-- the area becomes what a function makes of it
 pub area-set : (f : AreaView → AreaView) (s t : SwapView) (i : ℕ) (was a : AreaView) → s ≡ t → was ≡ get_or s.areas i was → i < length t.areas → a ≡ f was → changed s i a s.never_spent ≡ with_area t i (f (area_at t i))
 area-set f s t i was a same found within is = rw (is, area-found s t i was same found within, same) refl
 
@@ -53,13 +53,13 @@ flag-push (x ∷ xs) a = grind (arith, common_steps, (flag-push xs a))
 pub IsSwap-new : (xs : List AreaView) (flag : Bool) → length xs ≤ MOST_AREAS → ((k : ℕ) → IsArea (get_or xs k no_area)) → flag ≡ not (list_any is_spent xs) → IsSwap (record { areas = xs; never_spent = flag })
 IsSwap-new xs flag few each is = grind (arith, common_steps)
 
--- a function of each area, where that of the changed one stays
+-- a function of each area that is the same for the changed one
 map-changed : {B : Type 0} (f : AreaView → B) (xs : List AreaView) (i : ℕ) (was a : AreaView) → was ≡ get_or xs i was → f a ≡ f was → map f (set xs i a) ≡ map f xs
 map-changed f [] i was a found same = refl
 map-changed f (x ∷ xs) zero was a found same = ap (λ y. y ∷ map f xs) (same ∙ ap f found)
 map-changed f (x ∷ xs) (suc i) was a found same = ap (λ ys. f x ∷ ys) (map-changed f xs i was a found same)
 
--- whether some area was spent, where one of them has another count
+-- some area is spent, after one of them got another count
 any_spent-set : (xs : List AreaView) (i : ℕ) (a : AreaView) → i < length xs → (is_spent (get_or xs i no_area) ≡ true → is_spent a ≡ true)
     → list_any is_spent (set xs i a) ≡ not (not (list_any is_spent xs) && not (is_spent a))
 any_spent-set [] i a lt stays = absurd (omega (arith, lt))
@@ -80,7 +80,7 @@ any_spent-kept (x ∷ xs) (suc i) was a found same = ap (λ b. is_spent x || b) 
 size_of-kept : (was a : AreaView) → IsArea was → IsArea a → a.here ≡ was.here → length a.owners ≡ length was.owners → size_of a ≡ size_of was
 size_of-kept was a old new here owners = grind (arith, common_steps)
 
--- what asking the pager of the area at i leaves of a swap
+-- a swap after the pager of the area at i was called
 pub record Asked {A E : Type 0} (r : Result A E) (s : SwapView) (i : ℕ) (was a : AreaView) : Type 0 where
   pub before : area_at s i ≡ was
   pub after : area_at (asked_of s i a) i ≡ a
@@ -90,7 +90,7 @@ pub record Asked {A E : Type 0} (r : Result A E) (s : SwapView) (i : ℕ) (was a
   pub same_sizes : sizes (asked_of s i a) ≡ sizes s
   pub cause : OnErr r (had_cause s (asked_of s i a) ≡ true)
 
--- what success leaves: the swap as it was, or with a page written
+-- a swap after a successful call: unchanged, or with a page written
 pub asked-same : {A E : Type 0} {r : Result A E} {s : SwapView} {i : ℕ} {was a : AreaView} → Asked r s i was a → a ≡ was → asked_of s i a ≡ s
 asked-same {s = s} {i = i} {was = was} {a = a} d e =
     let same : a.failed ≡ was.failed = ap (λ (b : AreaView). b.failed) e in
@@ -101,9 +101,9 @@ asked-page {s = s} {i = i} {was = was} {a = a} slot page d e =
     let same : a.failed ≡ was.failed = ap (λ (b : AreaView). b.failed) e in
     rw (d.flag same, d.before, e) refl
 
--- what a call on the area at i leaves of a swap, where it found the area `was` and left it as `a`
+-- a swap after a call on the area at i, which was `was` and is `a`
 module _ (s : SwapView) (i : ℕ) (was a : AreaView) (found : was ≡ get_or s.areas i was) where
-  -- the area that stood there, where the index is one of an area
+  -- the area that was at an index of the swap
   at_i : i < length s.areas → was ≡ area_at s i
   at_i within = found ∙ get_or_default s.areas i was no_area within
 
@@ -113,7 +113,7 @@ module _ (s : SwapView) (i : ℕ) (was a : AreaView) (found : was ≡ get_or s.a
   sizes-changed : IsSwap s → IsArea a → a.here ≡ was.here → length a.owners ≡ length was.owners → map size_of (set s.areas i a) ≡ sizes s
   sizes-changed swap area here owners = grind (arith, common_steps, set, map-changed, size_of-kept, at_i, set_past)
 
-  -- the count stayed, as did the flag
+  -- count and flag are unchanged
   IsSwap-kept : IsSwap s → IsArea a → a.failed ≡ was.failed → IsSwap (changed s i a s.never_spent)
   IsSwap-kept swap area same = grind (arith, common_steps, any_spent-kept s.areas i was a found)
 
@@ -124,7 +124,7 @@ module _ (s : SwapView) (i : ℕ) (was a : AreaView) (found : was ≡ get_or s.a
   unfolding total
   total-kept start failed flag = grind (arith, common_steps)
 
-  -- a slot's owner was set, and its page perhaps changed
+  -- a slot's owner was set, and its page may have changed
   module _ (slot : ℕ) (owner : Option PageRef) (pages : List (List ℕ)) (is : a ≡ record (with_owner was slot owner) { pages = pages }) where
     pub IsSwap-owner : IsSwap s → IsArea a → IsSwap (changed s i a s.never_spent)
     IsSwap-owner swap area = IsSwap-kept swap area (ap (λ (b : AreaView). b.failed) is)
@@ -132,7 +132,7 @@ module _ (s : SwapView) (i : ℕ) (was a : AreaView) (found : was ≡ get_or s.a
     pub IsSteady-owner : IsSwap s → IsArea a → IsSteady s (changed s i a s.never_spent)
     IsSteady-owner swap area = grind (arith, common_steps, total-kept, sizes-changed)
 
-  -- the pager was asked
+  -- the pager was called
   flag-kept : i < length s.areas → IsSwap s → a.failed ≡ was.failed → (s.never_spent && not (is_spent a)) ≡ s.never_spent
   flag-kept within swap same = grind (arith, common_steps, at_i within, swap.unspent, none_spent-at s.areas i within)
 
@@ -146,7 +146,7 @@ module _ (s : SwapView) (i : ℕ) (was a : AreaView) (found : was ≡ get_or s.a
     sizes-asked : IsSwap s → IsArea a → map size_of (set s.areas i a) ≡ sizes s
     sizes-asked swap area = grind (arith, common_steps, sizes-changed)
 
-    -- a fault of the area is a cause
+    -- a failure of the area is a cause
     had_cause-asked : (flag : Bool) (slot : ℕ) → HasSlot s i slot → IsSwap s → CountedFault was a → had_cause s (changed s i a flag) ≡ true
     unfolding total some_spent
     had_cause-asked flag slot there swap (inl counted) = grind (arith, common_steps, sum_by, swap.each)
@@ -164,11 +164,11 @@ module _ (s : SwapView) (i : ℕ) (was a : AreaView) (found : was ≡ get_or s.a
           cause = IfErr-weaker r _ _ (λ _ f. had_cause-asked _ slot there swap f) fault;
         }
 
-  -- the count alone changed: the slots stayed
+  -- only the count changed
   pub SameSlots-asked : a ≡ record was { failed = a.failed } → SameSlots s (asked_of s i a)
   SameSlots-asked is = grind (arith, common_steps)
 
-  -- the pager went
+  -- the pager was dropped
   module _ (is : a ≡ off was) where
     pub IsSwap-off : IsSwap s → IsArea a → IsSwap (changed s i a s.never_spent)
     IsSwap-off swap area = IsSwap-kept swap area (ap (λ (b : AreaView). b.failed) is)

@@ -1,4 +1,4 @@
--- Slots counted: where all are owned, as many are used as there are.
+-- Counting slots: if all are owned, as many are used as there are.
 use Rattle.std.proofs.Common.{rules, ◌≡◌, ◌≢◌, ℕ, zero, suc, ◌+◌, ◌<◌, List, [], ◌∷◌, length, get_or, map, Option, Some, None, refl, sym, ◌∙◌, arith, sum_by}
 use Rattle.std.specs.Prelude.{IfNone}
 use Rattle.std.proofs.lemmas.Grind.{common_steps}
@@ -25,7 +25,7 @@ used-full (x ∷ xs) each used =
     let rest = used-full xs (λ k. each (suc k)) (λ k l. used (suc k) (omega arith)) in
     omega (arith, first, rest, sum_by-cons used_in x xs, sum_by-cons slots_in (size_of x) (map size_of xs))
 
--- all areas full but for one
+-- all areas but one are full
 used-full_but : (xs : List AreaView) (out : ℕ) → ((k : ℕ) → IsArea (get_or xs k no_area))
     → ((k : ℕ) → k < length xs → k ≢ out → UsedBelow (length (get_or xs k no_area).owners) (get_or xs k no_area).owners)
     → sum_by used_in xs + length (get_or xs out no_area).pages ≡ sum_by slots_in (map size_of xs) + used_in (get_or xs out no_area)
@@ -39,12 +39,12 @@ used-full_but (x ∷ xs) (suc out) each used =
     let rest = used-full_but xs out (λ k. each (suc k)) (λ k l n. used (suc k) (omega arith) (omega arith)) in
     omega (arith, first, rest, sum_by-cons used_in x xs, sum_by-cons slots_in (size_of x) (map size_of xs))
 
--- where no slot was found, as many are used as there are
+-- if no slot was found, as many are used as there are
 pub used_slots-full : (found : Option Slot) (owner : PageRef) (s t : SwapView) → FoundFree s None found → Takes owner s found t → IsSwap t → IfNone found (used_slots s ≡ swap_slots s)
 used_slots-full None owner s t all same swap = used-full s.areas (rw same at swap).each (λ k l. all k l (λ e. cc))
 used_slots-full (Some k) owner s t found taken swap = search rules
 
--- where no slot was found outside an area, as many are used outside it as there are
+-- if no slot was found outside an area, as many are used outside it as there are
 pub used_slots-full_but : (found : Option Slot) (owner : PageRef) (s t : SwapView) (out : ℕ) → FoundFree s (Some out) found → Takes owner s found t → IsSwap t
     → IfNone found (used_slots s + length (area_at s out).pages ≡ swap_slots s + used_in (area_at s out))
 used_slots-full_but None owner s t out all same swap = used-full_but s.areas out (rw same at swap).each (λ k l n. all k l (λ e. n (cc)))

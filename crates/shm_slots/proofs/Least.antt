@@ -8,7 +8,7 @@ use Rattle.shm_base.specs.Numbers.{NumbersView, IsLeastNumber, WithTaken, WithRe
 use Rattle.shm_slots.specs.Owners.{UsedBelow, IsLeastFree, AreOwnersSound, used_count}
 
 module _ {X : Type 0} where
-  -- the least number that is not taken is the least free one, unless it is past the end
+  -- the least number that is not taken is the least free one, unless it is beyond the end
   pub used_before : (xs : List (Option X)) (v : NumbersView) (used n : ℕ) → AreOwnersSound xs v used → IsLeastNumber v n → UsedBelow n xs
   used_before xs v used n sound least i l = sym (sound.taken i) ∙ least.below i l
 
@@ -18,7 +18,7 @@ module _ {X : Type 0} where
       let f = least.free in
       record { within = within; free = grind (arith, common_steps, t, f); least = used_before xs v used n sound least }
 
-  -- there is but one
+  -- there is only one
   pub least_same : (xs : List (Option X)) (v : NumbersView) (used n i : ℕ) → AreOwnersSound xs v used → IsLeastNumber v n → IsLeastFree xs i → n ≡ i
   least_same xs v used n i sound least free =
       elim (cases_lt n i) [
@@ -55,7 +55,7 @@ module _ {X : Type 0} where
         counted = let c : used_count (set xs n None) + 1 ≡ used_count xs + 0 = rw owned at count in omega (arith, c, sound.counted);
       }
 
-  -- where none is free, as many are owned as there are
+  -- if none is free, as many are owned as there are
   pub count-full : (xs : List (Option X)) → UsedBelow (length xs) xs → used_count xs ≡ length xs
   count-full [] used = refl
   count-full (None ∷ xs) used = absurd (let h = used 0 (omega arith) in search rules)

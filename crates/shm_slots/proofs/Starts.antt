@@ -1,4 +1,4 @@
--- Areas that began with the counts that they were handed in with.
+-- Areas whose counts began as they were passed in.
 use Rattle.std.proofs.Common.{◌≡◌, ℕ, zero, suc, ◌≤◌, true, false, List, [], ◌∷◌, All, length, get_or, map, refl, sym, ap, ◌∙◌, arith}
 use Rattle.std.specs.List.{list_any}
 use Rattle.std.proofs.Math.ListN.{get_or-map, length-map}
@@ -12,7 +12,7 @@ each_untouched : {A : Type 0} (f : A → PagerView) (ps : List A) → All IsUnto
 each_untouched f [] = All-nil IsUntouched
 each_untouched f (p ∷ ps) = All-cons IsUntouched (fresh (f p)) (map (λ q. fresh (f q)) ps) (record { here = refl; count = refl }) (each_untouched f ps)
 
--- swap areas as their pagers are handed in
+-- swap areas when their pagers are passed in
 pub untouched_new : {A : Type 0} (f : A → PagerView) (ps : List A) → AreUntouched (new_swap (map (λ p. fresh (f p)) ps))
 untouched_new f ps = record { each = each_untouched f ps; unspent = refl }
 
@@ -56,6 +56,6 @@ module _ (s t : SwapView) (untouched : AreUntouched s) (after : IsSwap t) (same 
   flag : t.never_spent ≡ true → s.never_spent ≡ true
   flag unspent = grind (arith, common_steps, untouched.unspent, unspent_by s.areas (unspent_at (grind (arith, common_steps, after.unspent, unspent))))
 
-  -- areas that began with the counts of areas as they are handed in go on from those
+  -- areas that began with the counts of areas that were passed in go on from those
   pub goes_on_from : GoesOn s t
   goes_on_from = record { areas = same_length s.areas t.areas same; starts = starts_at s.areas t.areas same; counts = counts_at; here = here_at s.areas t.areas untouched.each (same_length s.areas t.areas same); flag = flag }

@@ -1,21 +1,21 @@
--- Failures: their sum, which never falls, and what may cause a refusal.
+-- Failures: their sum, which never falls, and the possible causes of a refusal.
 use Rattle.std.specs.Prelude.{ℕ, ◌≡◌, ◌≤◌, Bool, true, ◌||◌, nat_lt, length, sum_by}
 use Rattle.std.specs.List.{list_any}
 use Rattle.shm_slots.specs.View.{SwapView, area_at, rise, is_spent_here, sizes}
 
--- some area that is there has its count at its last value
+-- some active area has its count at the last value
 unfoldable pub some_spent : SwapView → Bool
 some_spent s = list_any is_spent_here s.areas
 
--- how much all counts have risen
+-- the sum of the rises of all counts
 unfoldable pub total : SwapView → ℕ
 total s = sum_by rise s.areas
 
--- a refusal has a cause: a count rose in the call, or that of an area that is there stood at its last value before
+-- a refusal has a cause: a count rose in the call, or the count of an active area was at its last value before
 abbrev pub had_cause : SwapView → SwapView → Bool
 had_cause before after = nat_lt (total before) (total after) || some_spent before
 
--- counts never fall, an area that is gone stays gone, and one that was spent once is never forgotten
+-- counts never fall, an area that is gone stays gone, and a spent area is never forgotten
 pub record GoesOn (before after : SwapView) : Type 0 where
   pub areas : length after.areas ≡ length before.areas
   pub starts : (area : ℕ) → (area_at after area).start ≡ (area_at before area).start
@@ -23,7 +23,7 @@ pub record GoesOn (before after : SwapView) : Type 0 where
   pub here : (area : ℕ) → (area_at after area).here ≡ true → (area_at before area).here ≡ true
   pub flag : after.never_spent ≡ true → before.never_spent ≡ true
 
--- no area comes or goes, and no size and no count changes
+-- no area comes or goes, and no size or count changes
 pub record IsSteady (before after : SwapView) : Type 0 where
   pub goes_on : GoesOn before after
   pub failures : total after ≡ total before

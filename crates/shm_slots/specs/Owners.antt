@@ -3,7 +3,7 @@ use Rattle.std.specs.Prelude.{◌≡◌, ℕ, ◌<◌, ◌≤◌, true, is_some,
 use Rattle.shm_base.specs.Numbers.{NumbersView, is_taken}
 
 module _ {X : Type 0} where
-  -- no number below is free
+  -- no number below `first` is free
   abbrev pub UsedBelow : ℕ → List (Option X) → Type 0
   UsedBelow first owners = (i : ℕ) → i < first → is_some (get_or owners i None) ≡ true
 
@@ -13,7 +13,7 @@ module _ {X : Type 0} where
     pub free : get_or owners number None ≡ None
     pub least : UsedBelow number owners
 
-  -- the answer of a search for the least free number
+  -- the result of a search for the least free number
   abbrev pub FoundLeast : List (Option X) → Option ℕ → Type 0
   FoundLeast owners found = MatchOption found (UsedBelow (length owners) owners) (IsLeastFree owners)
 
@@ -21,7 +21,7 @@ module _ {X : Type 0} where
   abbrev pub used_count : List (Option X) → ℕ
   used_count owners = count_by is_some owners
 
-  -- what stands beside the owners: the owned numbers are taken, and there is room to give each back; how many are owned
+  -- the owned numbers are taken, there is room to return each, and `used` counts them
   pub record AreOwnersSound (owners : List (Option X)) (numbers : NumbersView) (used : ℕ) : Type 0 where
     pub taken : (i : ℕ) → is_taken numbers i ≡ is_some (get_or owners i None)
     pub room : length owners ≤ numbers.room

@@ -1,4 +1,4 @@
--- What contracts see of swap areas, and what the calls change of them.
+-- What contracts see of swap areas, and the changes that calls make.
 use Rattle.std.specs.Prelude.{ℕ, ◌≡◌, ◌≢◌, ◌<◌, ◌≤◌, ◌+◌, ◌-◌, ◌*◌, ◌⊎◌, ◌==◌, ◌&&◌, Bool, true, false, not, if◌then◌else◌, List, [], Option, Some, None, set, get_or, map, replicate, length, is_some, sum_by, All, MatchOption}
 use Rattle.std.specs.List.{list_any}
 use Rattle.shm_base.specs.declared.paging.PageRef.{PageRef}
@@ -9,8 +9,7 @@ use Rattle.shm_pager.specs.Pages.{PagerView, SlotUnknown, last_count}
 use Rattle.shm_slots.specs.Owners.{used_count}
 use Rattle.shm_base.specs.declared.bounds.TheConstants.{MOST_AREAS, MOST_SLOTS}
 
--- a swap area: whether it is there, the page and the owner of each slot, and its pager's count of
--- failures as it was handed in and as it stands
+-- a swap area: whether it is active, the page and the owner of each slot, and its pager's count of failures at the start and now
 pub record AreaView : Type 0 where
   pub here : Bool
   pub pages : List (List ℕ)
@@ -18,58 +17,58 @@ pub record AreaView : Type 0 where
   pub start : ℕ
   pub failed : ℕ
 
--- the pages behind a pager, none where it is gone
+-- the pages of a pager; none once it is gone
 abbrev pub content_of : {P : Type 0} → (P → List (List ℕ)) → Option P → List (List ℕ)
 content_of content None = []
 content_of content (Some p) = content p
 
--- the pager's count, and the last one where it is gone
+-- the pager's count; the last known one once it is gone
 abbrev pub count_of : {P : Type 0} → (P → ℕ) → ℕ → Option P → ℕ
 count_of failed last None = last
 count_of failed last (Some p) = failed p
 
--- what stands where no area is
+-- the value beyond the last area
 abbrev pub no_area : AreaView
 no_area = record { here = false; pages = []; owners = []; start = 0; failed = 0 }
 
--- what the area's count has risen by
+-- how much the area's count has risen
 abbrev pub rise : AreaView → ℕ
 rise a = a.failed - a.start
 
--- the area's count stands at its last value
+-- the area's count is at its last value
 abbrev pub is_spent : AreaView → Bool
 is_spent a = a.failed == last_count
 
--- the area is there, and its count stands at its last value
+-- the area is active, and its count is at its last value
 abbrev pub is_spent_here : AreaView → Bool
 is_spent_here a = is_spent a && a.here
 
--- one more failure, or none since the area was spent; then nothing changed
+-- one more failure; none if the area was spent, and then nothing changed
 abbrev pub CountedFault : AreaView → AreaView → Type 0
 CountedFault before after = (after.failed ≡ before.failed + 1) ⊎ ((before.failed ≡ last_count) × (after ≡ before))
 
--- a read that failed: the count alone may differ
+-- a read that failed changes at most the count
 abbrev pub AfterReadFault : AreaView → AreaView → Type 0
 AfterReadFault before after = (after ≡ record before { failed = after.failed }) × CountedFault before after
 
--- a write that failed: what the slot holds is unknown, and the count may differ
+-- a write that failed may change the slot's page and the count
 abbrev pub AfterWriteFault : ℕ → AreaView → AreaView → Type 0
 AfterWriteFault slot before after =
     (after ≡ record before { pages = after.pages; failed = after.failed }) × SlotUnknown slot before.pages after.pages × CountedFault before after
 
--- the area with a page in one slot
+-- the area with this page in one slot
 abbrev pub with_page : AreaView → ℕ → List ℕ → AreaView
 with_page a slot page = record a { pages = set a.pages slot page }
 
--- the area with the owner of one slot
+-- the area with this owner of one slot
 abbrev pub with_owner : AreaView → ℕ → Option PageRef → AreaView
 with_owner a slot owner = record a { owners = set a.owners slot owner }
 
--- the area once its pager is gone
+-- the area after its pager is gone
 abbrev pub off : AreaView → AreaView
 off a = record { here = false; pages = []; owners = []; start = a.start; failed = a.failed }
 
--- an area as its pager is handed in
+-- an area when its pager is passed in
 abbrev pub fresh : PagerView → AreaView
 fresh p = record { here = true; pages = p.pages; owners = replicate (length p.pages) None; start = p.failed; failed = p.failed }
 
@@ -78,7 +77,7 @@ pub record SwapView : Type 0 where
   pub areas : List AreaView
   pub never_spent : Bool
 
--- the areas as they are handed in
+-- the areas when their pagers are passed in
 abbrev pub new_swap : List AreaView → SwapView
 new_swap areas = record { areas = areas; never_spent = not (list_any is_spent areas) }
 
@@ -88,7 +87,7 @@ area_at s i = get_or s.areas i no_area
 abbrev pub with_area : SwapView → ℕ → AreaView → SwapView
 with_area s i a = record s { areas = set s.areas i a }
 
--- the slot is there
+-- the slot exists
 abbrev pub HasSlot : SwapView → ℕ → ℕ → Type 0
 HasSlot s area slot = (area < length s.areas) × (slot < length (area_at s area).pages)
 
@@ -100,24 +99,24 @@ owner_of s area slot = get_or (area_at s area).owners slot None
 abbrev pub page_in : SwapView → ℕ → ℕ → List ℕ
 page_in s area slot = get_or (area_at s area).pages slot []
 
--- the owner of one slot set
+-- one slot has this owner
 abbrev pub with_slot_owner : SwapView → Slot → Option PageRef → SwapView
 with_slot_owner s k owner = with_area s k.area (with_owner (area_at s k.area) k.slot owner)
 
--- the page in one slot set
+-- one slot has this page
 abbrev pub with_slot_page : SwapView → Slot → List ℕ → SwapView
 with_slot_page s k page = with_area s k.area (with_page (area_at s k.area) k.slot page)
 
--- one slot freed, which may hold any page
+-- one slot is free, and holds an arbitrary page
 abbrev pub without_slot : SwapView → Slot → List ℕ → SwapView
 without_slot s k page = with_area s k.area (with_page (with_owner (area_at s k.area) k.slot None) k.slot page)
 
--- every slot of the areas below i, but for one that may be left out, is owned
+-- every slot of the areas below i is owned; one area may be left out
 abbrev pub AllOwned : SwapView → Option ℕ → ℕ → Type 0
 AllOwned s left_out i =
     (area : ℕ) → area < i → left_out ≢ Some area → (slot : ℕ) → slot < length (area_at s area).owners → is_some (owner_of s area slot) ≡ true
 
--- the slot is the least free one of the lowest-numbered area that has one, but for one area that may be left out
+-- the slot is the least free one of the first area with a free slot; one area may be left out
 pub record IsFirstFree (s : SwapView) (left_out : Option ℕ) (k : Slot) : Type 0 where
   pub there : HasSlot s k.area k.slot
   pub outside : left_out ≢ Some k.area
@@ -125,34 +124,34 @@ pub record IsFirstFree (s : SwapView) (left_out : Option ℕ) (k : Slot) : Type 
   pub lowest : AllOwned s left_out k.area
   pub least : (slot : ℕ) → slot < k.slot → is_some (owner_of s k.area slot) ≡ true
 
--- the answer of a search for a free slot: the first one, or none where all are owned
+-- the result of a search for a free slot: the first one, or none if all are owned
 abbrev pub FoundFree : SwapView → Option ℕ → Option Slot → Type 0
 FoundFree s left_out found = MatchOption found (AllOwned s left_out (length s.areas)) (IsFirstFree s left_out)
 
--- the slot that was found got an owner
+-- the slot that was found has this owner now
 abbrev pub Takes : PageRef → SwapView → Option Slot → SwapView → Type 0
 Takes owner before found after =
     MatchOption found (after ≡ before) (λ k. after ≡ with_slot_owner before k (Some owner))
 
--- one area changed, and the flag fell where it is spent
+-- one area changed, and `never_spent` is false if it is spent now
 abbrev pub OneArea : ℕ → SwapView → SwapView → Type 0
 OneArea area before after =
     after ≡ record { areas = set before.areas area (area_at after area); never_spent = before.never_spent && not (is_spent (area_at after area)) }
 
--- the slots, what they hold and who owns them are as before
+-- the slots, their pages and their owners are unchanged
 pub record SameSlots (before after : SwapView) : Type 0 where
   pub areas : length after.areas ≡ length before.areas
   pub pages : (area : ℕ) → (area_at after area).pages ≡ (area_at before area).pages
   pub owners : (area : ℕ) → (area_at after area).owners ≡ (area_at before area).owners
 
--- an area's slots, none where it is gone
+-- an area's number of slots; none once it is gone
 abbrev pub size_of : AreaView → Option ℕ
 size_of a = if a.here then Some (length a.pages) else None
 
 abbrev pub sizes : SwapView → List (Option ℕ)
 sizes s = map size_of s.areas
 
--- the slots of the areas that are there
+-- the slots of all active areas
 abbrev pub swap_slots : SwapView → ℕ
 swap_slots s = slots (sizes s)
 
@@ -164,34 +163,34 @@ used_in a = used_count a.owners
 abbrev pub used_slots : SwapView → ℕ
 used_slots s = sum_by used_in s.areas
 
--- what each area's count stood at when its pager was handed in, areas that are gone included
+-- each area's count when its pager was passed in, areas that are gone included
 abbrev pub first_counts : SwapView → List ℕ
 first_counts s = map (λ (a : AreaView). a.start) s.areas
 
--- some area, one that is gone included, has its count at its last value
+-- some area, active or gone, has its count at the last value
 abbrev pub was_spent : SwapView → Bool
 was_spent s = list_any is_spent s.areas
 
--- the area is as its pager was handed in: it is there, and no failure was counted
+-- the area is active and has counted no failure since its pager was passed in
 pub record IsUntouched (a : AreaView) : Type 0 where
   pub here : a.here ≡ true
   pub count : a.failed ≡ a.start
 
--- so is every area of the swap
+-- every area of the swap is untouched
 pub record AreUntouched (s : SwapView) : Type 0 where
   pub each : All IsUntouched s.areas
   pub unspent : s.never_spent ≡ not (was_spent s)
 
--- the number is the count of some pager of this type
+-- some pager of this type has this count
 abbrev pub IsCountOf : {P : Type 0} → (P → ℕ) → ℕ → Type 0
 IsCountOf {P = P} failed n = (p : P) × (failed p ≡ n)
 
--- so are the area's count as its pager was handed in and its count as it stands
+-- the area's first and present counts are counts of pagers of this type
 pub record IsCounted {P : Type 0} (failed : P → ℕ) (a : AreaView) : Type 0 where
   pub start : IsCountOf failed a.start
   pub now : IsCountOf failed a.failed
 
--- so it is with every area: no count is of anything but a pager
+-- every area's counts are counts of pagers of this type
 abbrev pub AreCountsOf : {P : Type 0} → (P → ℕ) → SwapView → Type 0
 AreCountsOf failed s = All (IsCounted failed) s.areas
 
@@ -199,11 +198,11 @@ AreCountsOf failed s = All (IsCounted failed) s.areas
 abbrev pub most_swap_slots : ℕ
 most_swap_slots = MOST_AREAS * MOST_SLOTS
 
--- how many slots an area may have
+-- the numbers of slots that an area may have
 abbrev pub IsAreaSize : ℕ → Type 0
 IsAreaSize n = (1 ≤ n) × (n ≤ MOST_SLOTS)
 
--- what is true of every area
+-- the invariant of every area
 pub record IsArea (a : AreaView) : Type 0 where
   pub small : length a.pages ≤ MOST_SLOTS
   pub owned : length a.owners ≡ length a.pages
@@ -211,7 +210,7 @@ pub record IsArea (a : AreaView) : Type 0 where
   pub begun : a.start ≤ a.failed
   pub countable : a.failed ≤ last_count
 
--- what is true of every swap; it was never spent exactly when no area's count has its last value
+-- the invariant of every swap; it was never spent exactly when no area's count is at its last value
 pub record IsSwap (s : SwapView) : Type 0 where
   pub few : length s.areas ≤ MOST_AREAS
   pub each : (area : ℕ) → IsArea (area_at s area)

@@ -1,4 +1,4 @@
-//! One swap area: its pager while that is there, and who owns each slot.
+//! One swap area: its pager while it has one, and the owner of each slot.
 ghost use Rattle.std.specs.Prelude.{◌≡◌, ◌<◌, ◌≤◌, [], length, get_or, Some, None, IfOk, IfErr};
 ghost use Rattle.shm_pager.specs.Pages.{pager_seen, SlotUnknown};
 ghost use Rattle.shm_slots.specs.Owners.{IsLeastFree};
@@ -9,8 +9,8 @@ use shm_pager::{ClonePager, Pager, PagerFault, try_read, try_write};
 use std::alloc::{AllocError, Global};
 use std::marker::Model;
 
-/// A swap area. It keeps what its pager's count stood at when it was handed in, and, once the pager is
-/// gone, what it stood at then.
+/// A swap area. It keeps its pager's count of failures at the start and, once the pager is gone, the last
+/// one.
 pub(crate) struct Area<P: Pager> {
     pager: Option<P>,
     owners: Owners,
@@ -72,7 +72,7 @@ impl<P: Pager> Area<P> {
         })
     }
 
-    /// What the pager's count stands at, or stood at last.
+    /// The pager's count of failures, or the last one.
     pub(crate) fn count(&self) -> u64
         ensures { result ≡ self.now.failed }
     {
@@ -82,21 +82,21 @@ impl<P: Pager> Area<P> {
         }
     }
 
-    /// What the pager's count stood at when it was handed in.
+    /// The pager's count of failures when it was passed in.
     pub(crate) fn first_count(&self) -> u64
         ensures { result ≡ self.now.start }
     {
         self.start
     }
 
-    /// Whether the count stands at its last value.
+    /// Whether the count is at its last value.
     pub(crate) fn is_spent(&self) -> bool
         ensures { result ≡ is_spent self.now }
     {
         self.count() == u64::MAX
     }
 
-    /// What the pager's count has risen by.
+    /// How much the pager's count has risen.
     pub(crate) fn rise(&self) -> u64
         ensures rise { result ≡ rise self.now }
         ensures counted { IsCounted P.failed self.now }
@@ -104,14 +104,14 @@ impl<P: Pager> Area<P> {
         self.count() - self.start
     }
 
-    /// How many slots there are, if the area is there.
+    /// The number of slots, if the area is active.
     pub(crate) fn size(&self) -> Option<u32>
         ensures { result ≡ size_of self.now }
     {
         Some(self.pager.as_ref()?.slots())
     }
 
-    /// Who owns each slot.
+    /// The owner of each slot.
     pub(crate) fn owners(&self) -> &Owners
         ensures { result.now ≡ self.now.owners }
     {
@@ -127,7 +127,7 @@ impl<P: Pager> Area<P> {
         self.owners.take(slot, owner);
     }
 
-    /// Frees a slot, and tells the pager that nobody needs what it holds.
+    /// Frees a slot, and tells the pager that its page is no longer needed.
     pub(crate) fn give(&mut self, slot: u32)
         requires { slot < length self.old.pages }
         ensures pages { SlotUnknown slot self.old.pages self.new.pages }
@@ -140,7 +140,7 @@ impl<P: Pager> Area<P> {
         self.owners.give(slot);
     }
 
-    /// Puts a page into a slot.
+    /// Writes a page to a slot.
     pub(crate) fn write(&mut self, slot: u32, page: &[u8; PAGE_BYTES]) -> Result<(), PagerFault>
         requires { slot < length self.old.pages }
         ensures ok { IfOk result (λ _. self.new ≡ with_page self.old slot page.now) }
@@ -171,7 +171,7 @@ impl<P: Pager> Area<P> {
         }
     }
 
-    /// Drops the pager. The count stays as it stood.
+    /// Drops the pager. The count stays.
     pub(crate) fn turn_off(&mut self)
         ensures gone { self.new ≡ off self.old }
         ensures sound { IsArea self.new }
@@ -182,7 +182,7 @@ impl<P: Pager> Area<P> {
     }
 }
 
-// The pager once more, none where there is none.
+// A copy of the pager, if there is one.
 fn copied_pager<P: ClonePager>(pager: &Option<P>) -> Result<Option<P>, HostMemory>
     ensures { IfOk result (λ copy. copy ≡ pager.now) }
 {
@@ -193,7 +193,7 @@ fn copied_pager<P: ClonePager>(pager: &Option<P>) -> Result<Option<P>, HostMemor
 }
 
 impl<P: ClonePager> Area<P> {
-    /// The same area once more, with a pager of its own.
+    /// A copy of the area, with its own copy of the pager.
     pub(crate) fn try_clone(&self) -> Result<Area<P>, HostMemory>
         ensures { IfOk result (λ copy. copy ≡ self.now) }
     {

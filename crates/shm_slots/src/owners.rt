@@ -1,4 +1,4 @@
-//! Who owns each slot of an area, and which slot is the least that is free.
+//! The owner of each slot of an area, and the least free slot.
 ghost use Rattle.std.specs.Prelude.{◌≡◌, ◌<◌, ◌≤◌, ◌^◌, ℕ, [], length, nat_lt, is_some, set, get_or, replicate, vec_capacity, Some, None, IfOk};
 ghost use Rattle.shm_pager.specs.Padded.{padded};
 ghost use Rattle.shm_base.specs.Numbers.{is_taken};
@@ -10,10 +10,10 @@ use std::marker::Model;
 
 /// The owners of an area's slots. A slot that was never owned has no entry.
 pub(crate) struct Owners {
-    // The least free slot is taken first, so these are a beginning of all slots.
+    // The first slots. All later ones are free, because the least free slot is taken first.
     slots: Vec<Option<PageRef>>,
     count: u32,
-    // The slots that are owned are taken.
+    // A number is taken while its slot is owned.
     numbers: Numbers,
     used: usize,
 }
@@ -43,7 +43,7 @@ impl Model for Owners {
         × AreOwnersSound (padded o.slots.items o.count None) o.numbers o.used };
 }
 
-// Gives a slot an owner, the first without an entry or one that has one.
+// Sets the owner of a slot: of the first one without an entry, or of one that has an entry.
 fn put_owner(slots: &mut Vec<Option<PageRef>>, slot: u32, owner: PageRef)
     requires within { slot ≤ length slots.old.items }
     requires room { slot < vec_capacity slots.old }
@@ -60,7 +60,7 @@ fn put_owner(slots: &mut Vec<Option<PageRef>>, slot: u32, owner: PageRef)
     }
 }
 
-// Numbers of which those below `used` are taken. There is room for those below `room`.
+// The numbers below `used` are taken, and there is room for those below `room`.
 fn taken_below(alloc: Global, used: u32, room: u32) -> Result<Numbers, AllocError>
     requires { used ≤ room }
     ensures taken { IfOk result (λ numbers. (i : ℕ) → is_taken numbers i ≡ nat_lt i used) }
@@ -74,7 +74,7 @@ fn taken_below(alloc: Global, used: u32, room: u32) -> Result<Numbers, AllocErro
     Ok(numbers)
 }
 
-// Gives back the numbers of the slots that are free.
+// Returns the numbers of the free slots.
 fn give_free(numbers: &mut Numbers, slots: &Vec<Option<PageRef>>)
     requires few { length slots.now.items < 2 ^ 32 }
     requires taken { (i : ℕ) → is_taken numbers.old i ≡ nat_lt i (length slots.now.items) }
@@ -89,7 +89,7 @@ fn give_free(numbers: &mut Numbers, slots: &Vec<Option<PageRef>>)
 }
 
 impl Owners {
-    /// This many free slots. Room for each owner is reserved, and none of it is touched.
+    /// This many free slots. Reserves room for each owner, and touches none of it.
     pub(crate) fn new(alloc: Global, count: u32) -> Result<Owners, AllocError>
         ensures { IfOk result (λ o. o ≡ replicate count None) }
     {
@@ -103,7 +103,7 @@ impl Owners {
         })
     }
 
-    /// The same owners once more. Room for each is reserved; only the slots that were ever owned are walked.
+    /// A copy of the owners. Reserves room for each; visits only the slots that were ever owned.
     pub(crate) fn try_clone(&self) -> Result<Owners, AllocError>
         ensures { IfOk result (λ copy. copy ≡ self.now) }
     {
@@ -127,7 +127,7 @@ impl Owners {
         self.used as u32
     }
 
-    /// Who owns a slot.
+    /// The owner of a slot.
     pub(crate) fn get(&self, slot: u32) -> Option<PageRef>
         requires { slot < length self.now }
         ensures { result ≡ get_or self.now slot None }
@@ -135,7 +135,7 @@ impl Owners {
         self.slots.get(slot as usize).copied().flatten()
     }
 
-    /// The owners of the slots that were ever owned, by rising number. The slots after them are free.
+    /// The owners of the first slots: all those that were ever owned. The slots after them are free.
     pub(crate) fn entries(&self) -> &[Option<PageRef>]
         ensures few { length result.now ≤ length self.now }
         ensures owners { self.now ≡ padded result.now (length self.now) None }
@@ -176,7 +176,7 @@ impl Owners {
         }
     }
 
-    /// Leaves no slot.
+    /// Removes all slots.
     pub(crate) fn clear(&mut self)
         ensures { self.new ≡ [] }
     {

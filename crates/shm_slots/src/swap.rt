@@ -1,5 +1,5 @@
-//! All swap areas. A slot has one owner or none. Areas and slots are named by their numbers, which do
-//! not shift where an area goes.
+//! All swap areas. A slot has one owner or none. Areas and slots have numbers, which do not change when
+//! another area is dropped.
 ghost use Rattle.std.specs.Prelude.{◌≡◌, ◌+◌, ◌<◌, ◌≤◌, ◌&&◌, [], length, set, map, min, true, not, Some, None, All, IfOk, IfErr, OnErr, IfNone, EachIndex};
 ghost use Rattle.shm_pager.specs.Pages.{pager_seen, last_count};
 ghost use Rattle.shm_slots.specs.View.{is_spent};
@@ -27,7 +27,7 @@ impl<P: Pager> Model for Swap<P> {
     ghost invariant = { λ s. IsSwap (record { areas = s.areas.items; never_spent = s.never_spent }) };
 }
 
-// Whether no area was ever spent, this one as it is now included.
+// Whether no area was ever spent, including this one in its present state.
 fn stays_unspent<P: Pager>(never_spent: bool, area: &Area<P>) -> bool
     ensures { result ≡ (never_spent && not (is_spent area.now)) }
 {
@@ -40,8 +40,8 @@ impl<P: Pager> Swap<P> {
     ghost use Rattle.shm_base.specs.declared.bounds.TheConstants.{MOST_AREAS};
     ghost use Rattle.shm_pager.specs.Padded.{padded};
 
-    /// Swap over these pagers, which become the areas 0, 1 and so on. No slot is owned. A pager that is
-    /// spent when it is handed in counts as an area that was spent.
+    /// A swap over these pagers, which become the areas 0, 1 and so on. No slot is owned. A pager that is
+    /// spent when it is passed in counts as a spent area. HostMemory: the host refused memory.
     pub fn new(alloc: Global, pagers: Vec<P>) -> Result<Swap<P>, HostMemory>
         requires areas { (1 ≤ length pagers.items) × (length pagers.items ≤ MOST_AREAS) }
         requires sizes { All (λ p. IsAreaSize (length (P.content p))) pagers.items }
@@ -58,7 +58,7 @@ impl<P: Pager> Swap<P> {
         Ok(Swap { areas, never_spent })
     }
 
-    /// The slots of the areas that are there.
+    /// The number of slots of all active areas.
     pub fn capacity(&self) -> u64
         ensures { result ≡ swap_slots self.now }
     {
@@ -80,22 +80,22 @@ impl<P: Pager> Swap<P> {
         total
     }
 
-    /// How many slots an area has, if it is there.
+    /// The number of slots of an area, if it is active.
     pub fn size(&self, area: u32) -> Option<u32>
         ensures { result ≡ size_of (area_at self.now area) }
     {
         self.areas.get(area as usize)?.size()
     }
 
-    /// How many areas there are, those gone included.
+    /// The number of areas, those that are gone included.
     pub fn areas(&self) -> u32
         ensures { result ≡ length self.now.areas }
     {
         self.areas.len() as u32
     }
 
-    /// Who owns the slots of an area that were ever owned, by rising number. The slots after them are free. An
-    /// area that is gone has none.
+    /// The owners of the first slots of an area: all those that were ever owned. The slots after them are
+    /// free. An area that is gone has none.
     pub fn owners(&self, area: u32) -> &[Option<PageRef>]
         ensures few { length result.now ≤ length (area_at self.now area).owners }
         ensures owners { let owners = (area_at self.now area).owners in
@@ -107,7 +107,7 @@ impl<P: Pager> Swap<P> {
         }
     }
 
-    /// What the count of an area's pager stood at when it was handed in. It is 0 if there is no such area.
+    /// The count of failures of an area's pager when it was passed in; 0 if there is no such area.
     pub fn first_count(&self, area: u32) -> u64
         ensures { result ≡ (area_at self.now area).start }
     {
@@ -118,9 +118,8 @@ impl<P: Pager> Swap<P> {
     }
 
     #[tactic(auto, unfolding(crate::specs::Cause::total))]
-    /// How many failures the pagers have counted since they were handed in, those gone included. The
-    /// sum stays at `u64::MAX`. Each area's counts, first and last, are counts of pagers: where pagers of this
-    /// type count no failure, there is none.
+    /// How many failures the pagers have counted since they were passed in, those that are gone included. The
+    /// sum stops at `u64::MAX`. All counts are counts of pagers, so pagers of a type that never fails give 0.
     pub fn failures(&self) -> u64
         ensures value { result ≡ min (total self.now) last_count }
         ensures counted { AreCountsOf P.failed self.now }
@@ -133,16 +132,16 @@ impl<P: Pager> Swap<P> {
         total
     }
 
-    /// Whether no area, those gone included, was ever spent: its pager's count at `u64::MAX`.
+    /// Whether no area, active or gone, was ever spent: a spent area's count is at `u64::MAX`.
     pub fn never_spent(&self) -> bool
         ensures value { result ≡ self.now.never_spent }
         ensures sound { IsSwap self.now }
     {
-        // Kept by each read and write, so that no pager is asked here.
+        // Each read and write updates this, so no pager is called here.
         self.never_spent
     }
 
-    /// Who owns a slot.
+    /// The owner of a slot.
     pub fn owner(&self, slot: Slot) -> Option<PageRef>
         requires { HasSlot self.now slot.area slot.slot }
         ensures { result ≡ owner_of self.now slot.area slot.slot }
@@ -150,8 +149,7 @@ impl<P: Pager> Swap<P> {
         self.areas[slot.area as usize].owners().get(slot.slot)
     }
 
-    /// Gives the least free slot of the lowest-numbered area that has one an owner. None only where all
-    /// slots are owned.
+    /// Gives an owner the least free slot of the first area that has one. None if all slots are owned.
     pub fn take_slot(&mut self, owner: PageRef) -> Option<Slot>
         ensures found { FoundFree self.old None result }
         ensures taken { Takes owner self.old result self.new }
@@ -162,7 +160,7 @@ impl<P: Pager> Swap<P> {
         self.take_free(owner, None)
     }
 
-    /// As [`Swap::take_slot`], among the other areas than this one.
+    /// As [`Swap::take_slot`], but never takes a slot of this area.
     pub fn take_outside(&mut self, owner: PageRef, area: u32) -> Option<Slot>
         ensures found { FoundFree self.old (Some area) result }
         ensures taken { Takes owner self.old result self.new }
@@ -186,7 +184,7 @@ impl<P: Pager> Swap<P> {
         Some(slot)
     }
 
-    // The least free slot of the lowest-numbered area that has one, but for one area.
+    // The least free slot of the first area that has one; one area may be left out.
     fn first_free(&self, left_out: Option<u32>) -> Option<Slot>
         ensures { FoundFree self.now left_out result }
     {
@@ -202,7 +200,7 @@ impl<P: Pager> Swap<P> {
         None
     }
 
-    /// Puts a page into a slot. After an error nobody knows what the slot holds.
+    /// Writes a page to a slot. After an error the slot's page is unknown.
     #[tactic(auto, using(crate::proofs::Changes::area_within, crate::proofs::Changes::slot_within))]
     pub fn write_slot(&mut self, slot: Slot, page: &[u8; PAGE_BYTES]) -> Result<(), PagerFault>
         requires { HasSlot self.old slot.area slot.slot }
@@ -221,7 +219,7 @@ impl<P: Pager> Swap<P> {
         result
     }
 
-    /// Reads the page in a slot. After an error nobody knows what the buffer holds.
+    /// Reads the page in a slot. After an error the buffer's bytes are unknown.
     #[tactic(auto, using(crate::proofs::Changes::area_within, crate::proofs::Changes::slot_within))]
     pub fn read_slot(&mut self, slot: Slot, page: &mut [u8; PAGE_BYTES]) -> Result<(), PagerFault>
         requires { HasSlot self.old slot.area slot.slot }
@@ -242,8 +240,8 @@ impl<P: Pager> Swap<P> {
         result
     }
 
-    /// Frees a slot. Its pager is told that nobody needs what the slot holds, so that nobody knows
-    /// afterwards what that is.
+    /// Frees a slot, and tells its pager that the page is no longer needed. Afterwards the slot's page is
+    /// unknown.
     pub fn give_slot(&mut self, slot: Slot)
         requires { HasSlot self.old slot.area slot.slot }
         ensures given { self.new ≡ without_slot self.old slot (page_in self.new slot.area slot.slot) }
@@ -253,7 +251,8 @@ impl<P: Pager> Swap<P> {
         self.areas[slot.area as usize].give(slot.slot);
     }
 
-    /// Drops an area's pager. The area keeps its number and what its pager has counted.
+    /// Drops an area's pager. The area keeps its number and its count of failures. None of its slots may be
+    /// owned.
     pub fn turn_off(&mut self, area: u32)
         requires there { area < length self.old.areas }
         requires free { let owners = (area_at self.old area).owners in
@@ -269,7 +268,8 @@ impl<P: Pager> Swap<P> {
 }
 
 impl<P: ClonePager> Swap<P> {
-    /// The same areas once more, each with a pager of its own. What was never used of them is not walked.
+    /// A copy of the areas, each with its own copy of its pager. Slots that were never used are not visited.
+    /// HostMemory: the host refused memory.
     pub fn try_clone(&self) -> Result<Swap<P>, HostMemory>
         ensures { IfOk result (λ copy. copy ≡ self.now) }
     {

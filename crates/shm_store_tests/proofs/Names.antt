@@ -1,4 +1,4 @@
--- The names that the proofs cite, from below and from the words of this crate.
+-- The names that the proofs use: those of the crates below, and of the specs of this crate.
 pub use Rattle.std.proofs.Common.{Bool, List, None, Option, Some, [], ap, arith, drop, eq-eqb, false, filter, get_or, inl, inr, is_some, length, map, ne_eqb, not, option_map, refl, replicate, rules, set, suc, sym, take, true, zero, ℕ, ◌++◌, ◌+◌, ◌/◌, ◌<◌, ◌==◌, ◌∙◌, ◌∷◌, ◌≡◌, ◌≤◌}
 pub use Rattle.std.proofs.lemmas.Bool.Decides.{eqb_tells}
 pub use Rattle.std.proofs.lemmas.Fn.{filter_same}

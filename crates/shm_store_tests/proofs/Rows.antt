@@ -1,4 +1,4 @@
--- What the rows of a run tell of the segments that are held.
+-- What the rows of a run say about the segments of the store.
 use Rattle.shm_store_tests.proofs.Names.{◌≡◌, ℕ, ◌+◌, ◌/◌, ◌≤◌, ◌==◌, Bool, true, false, not, List, [], ◌∷◌, ◌++◌, length, map, filter, take, drop, get_or, Option, Some, is_some, option_map, refl, sym, ap, ◌∙◌, inl, inr, arith, All, sum_by, eqb_tells, common_steps, length-replicate, length-map, sum_by-cons, All-head, All-tail, All-get_or, All-map, Span, Held, find_held, held_bytes, bytes_of, is_held, held_pages, pages_in_store, with_zeros, without, with_lock, FitsPage, pasted, written, AreHeldApart, apart-push, apart-without, apart-lock, apart-pasted, fits-pasted, length-paste, StoreView, held, frame_of, page_of, Row, row_of, row_pages, row_with_lock, pages_all, frame_named, AreAlike, IsAccess, NameFrames}
 
 pub row_pages-is : (hs : List Held) (id : ℕ) → row_pages (map row_of hs) id ≡ option_map held_pages (find_held hs id)

@@ -3,7 +3,7 @@ use Rattle.shm_store_tests.proofs.Names.{◌≡◌, ℕ, zero, suc, ◌<◌, tru
 use Rattle.shm_fault.specs.Store.{held}
 use Rattle.shm_store_tests.proofs.Rows.{row_pages-is, told-some, all-is, rows-zeros, rows-written}
 
--- no slot of areas that were just handed in is owned
+-- areas that were just passed in have no owned slot
 none-owned : (n slot : ℕ) → get_or {A = Option PageRef} (replicate n None) slot None ≡ None
 none-owned zero slot = refl
 none-owned (suc n) zero = refl

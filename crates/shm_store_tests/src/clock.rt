@@ -25,7 +25,7 @@ fn may_go(frames: &Frames, frame: FrameNo, locked: u32, pinned: Option<FrameNo>)
     unlocked && !held
 }
 
-// Whether a frame, other than the pinned one, has a segment that is not the locked one.
+// Whether a frame, other than the pinned one, has a page of a segment other than the locked one.
 fn some_unlocked(frames: &Frames, hand: FrameNo, locked: u32, pinned: Option<FrameNo>) -> bool
     requires { hand < length frames.now }
     ensures { result ≡ true → candidates (is_unlocked locked) pinned frames.now hand ≢ [] }
@@ -38,8 +38,8 @@ fn some_unlocked(frames: &Frames, hand: FrameNo, locked: u32, pinned: Option<Fra
     false
 }
 
-// The victim among the frames whose segment is not the locked one, or none where there is none. Each page that is asked about
-// is counted.
+// The victim among the frames whose segment is not the locked one; none if there is none. Counts the tests of
+// pages.
 fn unlocked_victim(
     frames: &mut Frames,
     hand: &mut FrameNo,
@@ -76,8 +76,8 @@ fn frames_with(alloc: Global, pages: &[(u32, bool)]) -> Result<Frames, HostMemor
     Ok(frames)
 }
 
-// Frames by their segments and bits, a hand and a pinned frame; segment 9 is locked. Then who goes, the
-// bits and the hand afterwards, and the looks.
+// Frames by their segments and bits, a hand and a pinned frame; segment 9 is locked. Then the victim, and the
+// bits, the hand and the looks afterwards.
 #[derive(Clone, Copy)]
 struct Turn {
     pages: &'static [(u32, bool)],
@@ -87,7 +87,7 @@ struct Turn {
     bits: &'static [bool],
     stands: FrameNo,
     looks: u64,
-    /// The frames that the hand comes to: each page is asked about once at most.
+    /// The frames that the hand reaches. Each page is tested at most once.
     asked: u64,
 }
 
@@ -154,7 +154,7 @@ const TURNS: &[Turn] = &[
     },
 ];
 
-// Whether the frames have these bits, and there are no others.
+// Whether the frames have exactly these bits.
 fn has_bits(frames: &Frames, bits: &[bool]) -> bool {
     for (frame, &bit) in bits.iter().enumerate() {
         if frame >= frames.count() as usize {
@@ -167,7 +167,7 @@ fn has_bits(frames: &Frames, bits: &[bool]) -> bool {
     frames.count() as usize == bits.len()
 }
 
-// Whether a turn over these frames, which are as it begins, ends as it says.
+// Whether a turn over these frames, which are in its first state, ends as expected.
 fn ends_so(frames: &mut Frames, turn: &Turn) -> bool {
     let mut hand = turn.hand;
     if hand >= frames.count() || frames.count() > 8 {

@@ -1,11 +1,11 @@
-//! Pages in memory that tell outside what they were told.
+//! Pages in memory that count the calls of their pager in a variable outside.
 use shm_pager::{Pager, PagerFault, RamPager};
 use std::alloc::{AllocError, Global};
 use std::sync::Arc;
 use std::sync::atomic::{AtomicU64, Ordering};
 
-/// Pages whose counter is told how often a slot was discarded and which was the last, and how often they were
-/// wiped and dropped.
+/// Pages with a counter. It notes how often a slot was discarded, which was the last, and how often the pages
+/// were wiped and dropped.
 pub(crate) struct CountingPager {
     inner: RamPager,
     failures: u64,
@@ -106,7 +106,7 @@ impl Counter {
         })
     }
 
-    /// How often a slot was discarded so far, and which was the last.
+    /// How many slots were discarded so far, and which was the last.
     pub(crate) fn discards(&self) -> (u64, u64) {
         (
             self.discards.load(Ordering::SeqCst),
@@ -114,7 +114,7 @@ impl Counter {
         )
     }
 
-    /// Wipes and drops so far.
+    /// The number of wipes and drops so far.
     pub(crate) fn counts(&self) -> (u64, u64) {
         (
             self.wipes.load(Ordering::SeqCst),

@@ -3,8 +3,8 @@ use shm_frames::{Frames, Looks};
 use std::process::Abort;
 use std::test::Fail;
 
-// A page comes into the free frame of least number, and its bytes were there before it; whether it did, and this many
-// are resident.
+// Puts a page into the first free frame, after its bytes. Returns whether that was possible and this many are
+// resident.
 fn comes(frames: &mut Frames, seg: u32, resident: u64) -> bool {
     let Some(frame) = frames.free_frame() else {
         return false;
@@ -18,7 +18,7 @@ fn comes(frames: &mut Frames, seg: u32, resident: u64) -> bool {
         && frames.resident() == resident
 }
 
-// Whether a frame's bits are as said. One look more.
+// Whether a frame's bits are the expected ones. Looks once more.
 fn has_bits(frames: &Frames, frame: u32, looks: &mut Looks, referenced: bool, dirty: bool) -> bool {
     frame < frames.count()
         && looks.count() < 4
@@ -26,7 +26,7 @@ fn has_bits(frames: &Frames, frame: u32, looks: &mut Looks, referenced: bool, di
         && frames.referenced(frame, looks) == referenced
 }
 
-// Sets both bits of a frame, the second one twice, if it is taken; whether it is.
+// Sets both bits of a frame, the second one twice, if it is taken. Returns whether it is.
 fn set_bits(frames: &mut Frames, frame: u32) -> bool {
     if frame >= frames.count() || frames.owner(frame).is_none() {
         return false;
@@ -37,7 +37,8 @@ fn set_bits(frames: &mut Frames, frame: u32) -> bool {
     true
 }
 
-// A frame is emptied, if it is taken; whether it is, and is the free frame of least number again, with its bytes.
+// Empties a frame, if it is taken. Returns whether it is, and is the first free frame afterwards, with its
+// bytes.
 fn empties(frames: &mut Frames, frame: u32) -> bool {
     if frame >= frames.count() || frames.owner(frame).is_none() {
         return false;
@@ -48,22 +49,22 @@ fn empties(frames: &mut Frames, frame: u32) -> bool {
         && frames.bytes(frame)[4095] == 9
 }
 
-/// What comes to pass in frames, or is asked of them.
+/// A change of frames or a question about them.
 #[derive(Clone, Copy)]
 enum Act {
-    /// A page of a segment comes, and this many are resident.
+    /// A page of a segment comes in, and this many are resident.
     Come(u32, u64),
     /// Both bits of a frame are set.
     Set(u32),
     /// A frame is emptied.
     Empty(u32),
-    /// A frame's bits, whether it is referenced and whether it is dirty.
+    /// A frame's referenced bit and its dirty bit.
     Bits(u32, bool, bool),
-    /// How many frames are resident and how many are dirty.
+    /// How many frames are resident, and how many are dirty.
     Counts(u64, u64),
 }
 
-// Does an act; whether all is as said.
+// Performs an act, and returns whether everything is as expected.
 fn answers(frames: &mut Frames, looks: &mut Looks, act: Act) -> bool {
     match act {
         Act::Come(seg, resident) => comes(frames, seg, resident),

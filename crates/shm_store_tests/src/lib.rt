@@ -1,5 +1,6 @@
-//! Tests of pagers, swap, frames, the clock and the page store, through what each crate makes public. The store has a twin here,
-//! which keeps segments as plain lists of bytes and pages nothing out: each answers the same calls by the same clauses.
+//! Tests of pagers, swap, frames, the clock and the page store, through what each crate makes public. The
+//! store has a twin here, which keeps segments as plain lists of bytes and has no paging. Both answer the
+//! same calls, under the same contracts.
 #![tactic(auto)]
 
 #[cfg(test)]

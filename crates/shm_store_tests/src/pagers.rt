@@ -1,5 +1,5 @@
-//! Worked rows on the kinds of pagers, with their expected outcomes; and that each drop runs once, and
-//! wipes.
+//! Worked rows for the kinds of pagers, with their expected results. Also tests that each pager is dropped
+//! once, and wiped.
 use crate::counting::{Counter, CountingPager};
 use shm_base::HostMemory;
 use shm_pager::{
@@ -16,7 +16,7 @@ fn write<X: Pager>(rt: &impl Abort, pager: &mut X, slot: u32, byte: u8) -> bool 
     try_write(pager, slot, &[byte; 4096]).is_ok()
 }
 
-// Whether a page of this byte is read; that the read fails, where there is none.
+// Whether a page of this byte is read; if there is none, whether the read fails.
 fn reads<X: Pager>(rt: &impl Abort, pager: &mut X, slot: u32, byte: Option<u8>) -> bool {
     assert!(rt; slot < pager.slots());
     let mut page = zeros();
@@ -36,8 +36,8 @@ fn places(alloc: Global, listed: &[u64]) -> Result<Vec<u64>, AllocError> {
     listed.to_vec(alloc)
 }
 
-/// A page of one byte that is written to a slot, and whether it is taken; the byte of the page that is read in a slot,
-/// none where the read fails; or a slot that is discarded, or all wiped.
+/// A write of a page of one byte to a slot, and whether it succeeds; a read of a slot, and the byte of its
+/// page, none if it fails; a discard of a slot; or a wipe.
 #[derive(Clone, Copy)]
 enum Access {
     Write(u32, u8, bool),
@@ -48,7 +48,7 @@ enum Access {
 
 use Access::{Discard, Read, Wipe, Write};
 
-// Makes an access; whether what comes of it is as said.
+// Makes an access, and returns whether its result is the expected one.
 fn answers<X: Pager>(rt: &impl Abort, pager: &mut X, access: Access) -> bool {
     match access {
         Write(slot, byte, is_taken) => write(rt, pager, slot, byte) == is_taken,
@@ -64,7 +64,7 @@ fn answers<X: Pager>(rt: &impl Abort, pager: &mut X, access: Access) -> bool {
     }
 }
 
-// Makes these accesses in order. The pager has counted this many failures then.
+// Makes these accesses in order. Afterwards the pager has counted this many failures.
 fn accessed<X: Pager>(rt: &impl Abort, pager: &mut X, accesses: &[Access], failures: u64) {
     for (number, &access) in accesses.iter().enumerate() {
         assert!(rt; answers(rt, pager, access), "access {number}");
@@ -72,12 +72,12 @@ fn accessed<X: Pager>(rt: &impl Abort, pager: &mut X, accesses: &[Access], failu
     assert_eq!(rt; pager.failures(), failures);
 }
 
-// The same on a pager that is dropped behind.
+// The same with a pager that is dropped afterwards.
 fn accessed_once<X: Pager>(rt: &impl Abort, mut pager: X, accesses: &[Access], failures: u64) {
     accessed(rt, &mut pager, accesses, failures);
 }
 
-// A pager in memory behind a fuse that fails these reads and writes.
+// A pager in memory inside a fuse that fails these reads and writes.
 pub(crate) fn fuse(
     alloc: Global,
     slots: u32,
@@ -98,7 +98,7 @@ pub(crate) fn mirror<X: Pager, Y: Pager>(
     Ok(MirrorPager::new(alloc, left, right).map_err(|e| e.cause)?)
 }
 
-// The same as `accessed_once` on the mirror of these sides.
+// The same as `accessed_once` with the mirror of these sides.
 fn mirrored<X: Pager, Y: Pager>(
     rt: &impl Abort,
     alloc: Global,
@@ -155,7 +155,7 @@ fn a_sparse_pager_reads_back(rt: HostRuntime) -> Result<(), Fail> {
     Ok(())
 }
 
-// Why there is no mirror of these sides, and the slots of those that come back.
+// Why there is no mirror of these sides, and the numbers of slots of those that are returned.
 fn refused<X: Pager, Y: Pager>(
     alloc: Global,
     left: X,
@@ -178,7 +178,7 @@ fn a_mirror_of_unequal_sides_is_refused(rt: HostRuntime) -> Result<(), Fail> {
     Ok(())
 }
 
-// A fuse whose first write fails, over a pager that can count no failure more.
+// A fuse whose first write fails, over a pager that can count no further failure.
 fn over_a_spent_pager(alloc: Global) -> Result<FusePager<FusePager<RamPager>>, AllocError> {
     let ram = RamPager::new(alloc, 1)?;
     let writes = places(alloc, &[1])?;
@@ -204,7 +204,7 @@ fn alone_and_mirrored<X: Pager>(rt: &impl Abort, alloc: Global, mut pager: X) ->
     mirrored(rt, alloc, (pager, right), TOLD, 1)
 }
 
-// A spent pager is not asked, by a fuse or by a mirror, but it is discarded and wiped.
+// Fuses and mirrors do not read or write a spent pager, but discard its slots and wipe it.
 #[test]
 fn a_spent_pager_is_not_asked(rt: HostRuntime) -> Result<(), Fail> {
     let alloc = rt.alloc();
@@ -224,7 +224,7 @@ const RUN: &[Access] = &[
     Read(1, Some(0)),
 ];
 
-// What every kind does, through its trait alone: it takes pages, gives them back and is wiped.
+// What every kind does, through its trait alone: it takes pages, returns them and is wiped.
 fn runs<X: Pager>(rt: &impl Abort, pager: X) {
     assert_eq!(rt; pager.slots(), 2);
     accessed_once(rt, pager, RUN, 0);
@@ -249,8 +249,8 @@ fn each_kind_runs(rt: HostRuntime) -> Result<(), Fail> {
     Ok(())
 }
 
-/// What pagers that count lie behind: a fuse, a box, or a mirror whose right side has this many slots and has counted so
-/// many failures.
+/// What contains the pagers that count: a fuse, a box, or a mirror whose right side has this many slots and
+/// failures.
 #[derive(Clone, Copy)]
 enum Behind {
     Fuse,
@@ -264,19 +264,19 @@ fn drop_in_a_fuse<X: Pager>(alloc: Global, inner: X) -> Result<(), AllocError> {
     Ok(())
 }
 
-// A box, and that in a fuse.
+// A box, and a box in a fuse.
 fn drop_in_a_box(alloc: Global, inner: CountingPager) -> Result<(), AllocError> {
     let boxed: AnyPager = Box::new(alloc, inner)?;
     drop_in_a_fuse(alloc, boxed)
 }
 
-// Whether there was one.
+// Returns whether there was a mirror.
 fn drop_in_a_mirror<X: Pager>(alloc: Global, left: X, right: X) -> bool {
     let mirror = MirrorPager::new(alloc, left, right);
     mirror.is_ok()
 }
 
-// Drops pagers of one slot behind this; whether it was made.
+// Drops pagers of one slot inside this. Returns whether it was made.
 fn is_made(alloc: Global, counter: &Counter, behind: Behind) -> Result<bool, AllocError> {
     let inner = counter.pager(1, 0)?;
     match behind {
@@ -289,7 +289,7 @@ fn is_made(alloc: Global, counter: &Counter, behind: Behind) -> Result<bool, All
     Ok(true)
 }
 
-// A mirror that finds no memory hands both sides back, so that each is dropped once all the same.
+// A mirror that gets no memory returns both sides, so each is dropped once all the same.
 const DROPS: &[(&str, Behind, u64, u64)] = &[
     ("a fuse", Behind::Fuse, 1, 1),
     ("a box in a fuse", Behind::Boxed, 1, 1),
@@ -326,7 +326,7 @@ fn discard_in_a_box(
     Ok(())
 }
 
-// Discards the last slot of this, which has as many as a pager behind it.
+// Discards the last slot of this, which has as many slots as the pager inside.
 fn discard_behind(
     rt: &impl Abort,
     alloc: Global,
@@ -349,7 +349,7 @@ fn discard_behind(
     Ok(())
 }
 
-// How often a slot is discarded then, and which was the last. One of the mirror's sides is spent.
+// How often a slot is discarded, and which was the last. One of the mirror's sides is spent.
 const DISCARDS: &[(&str, Behind, u32, (u64, u64))] = &[
     ("a fuse", Behind::Fuse, 1, (1, 1)),
     ("a box", Behind::Boxed, 2, (1, 2)),
@@ -361,7 +361,7 @@ const DISCARDS: &[(&str, Behind, u32, (u64, u64))] = &[
     ),
 ];
 
-// No clause can say it, since nobody knows what a discarded slot holds.
+// No contract can say this, since the bytes of a discarded slot are unknown.
 #[test]
 fn a_discard_reaches_the_pagers_behind(rt: HostRuntime) -> Result<(), Fail> {
     for &(name, behind, slot, discards) in DISCARDS {
@@ -375,8 +375,8 @@ fn a_discard_reaches_the_pagers_behind(rt: HostRuntime) -> Result<(), Fail> {
 /// The reads and writes of a side that fail.
 type Calls = (&'static [u64], &'static [u64]);
 
-/// An area of two slots, the accesses to it before a copy of it is made, and to each of the two then, after which each
-/// has counted this many failures.
+/// An area of two slots; the accesses to it before it is copied; and those to both afterwards, after which
+/// each has counted this many failures.
 struct Copied {
     kind: AreaKind,
     left: Calls,
@@ -387,7 +387,8 @@ struct Copied {
     failures: u64,
 }
 
-// What fails next in the area fails in the copy. The last side of the mirror that is good for a slot stays the last.
+// What will fail in the area fails in the copy. The last side of the mirror that is good for a slot stays the
+// last.
 const COPIES: &[Copied] = &[
     Copied {
         kind: AreaKind::Ram,
@@ -441,7 +442,7 @@ fn area_of(alloc: Global, case: &Copied) -> Result<AreaPager, HostMemory> {
     AreaPager::new(alloc, case.kind, 2, left, right)
 }
 
-// A copy of a pager. Where memory was out the pager is as before, and is copied once more.
+// A copy of a pager. If the host refuses memory, the pager is unchanged, and is copied again.
 fn copy_of<X: ClonePager>(pager: &X) -> Result<X, HostMemory> {
     match pager.try_clone() {
         Ok(copy) => Ok(copy),

@@ -1,4 +1,5 @@
-//! Pages in and out, flushed and moved, with their pagers, seen by their bytes and by the tally.
+//! Pages that come in, go out, are flushed and moved. The tests look at their bytes, their pagers and the
+//! tally.
 ghost use Rattle.std.specs.Prelude.{◌≡◌, ◌+◌, ◌≤◌, false, length, IfOk, OnOk, IsTrue};
 ghost use Rattle.shm_fault.specs.Held.{FitsPage, is_held, pages_in_store, with_zeros};
 ghost use Rattle.shm_slots.specs.View.{IsAreaSize, swap_slots};
@@ -24,7 +25,7 @@ fn tally_of<P: Pager>(store: &PageStore<P>) -> PageTally {
     store.tally()
 }
 
-// A segment more. Where memory was out all is as before, and it is added once more.
+// Adds a segment. If the host refuses memory, nothing changed, and the segment is added again.
 pub(crate) fn add_segment<P: Pager>(
     rt: &impl Abort,
     store: &mut PageStore<P>,
@@ -45,7 +46,7 @@ pub(crate) fn add_segment<P: Pager>(
     store.add_segment(seg, pages)
 }
 
-// A store of two frames that holds segment 0, of three pages.
+// A store of two frames with segment 0, of three pages.
 fn store_over<P: Pager>(
     rt: &impl Abort,
     alloc: Global,
@@ -124,24 +125,24 @@ fn move_off<P: Pager>(rt: &impl Abort, store: &mut PageStore<P>, area: u32) -> b
     }
 }
 
-/// What a store of three pages in two frames is asked, and what it must answer.
+/// A question to a store of three pages in two frames, with the expected answer.
 #[derive(Clone, Copy)]
 enum Ask {
-    /// Stores a byte at a place. A pager may fail.
+    /// Stores a byte. A pager may fail.
     Save(u64, u8, bool),
-    /// Loads the byte at a place; none where a pager fails.
+    /// Loads a byte; none if a pager fails.
     Load(u64, Option<u8>),
-    /// Flushes this many pages, of which this many are written and this many fail, and this many stay dirty.
+    /// Flushes at most this many pages: this many are written, this many fail, and this many stay dirty.
     Flush(u64, u64, u64, u64),
-    /// Takes an area away. It stays where a pager fails, or where it is gone.
+    /// Takes an area away. It stays if a pager fails, and can't be taken away twice.
     MoveOff(u32, bool),
-    /// How many pages are in frames, and how many in slots alone.
+    /// How many pages are in frames, and how many only in slots.
     Where(u32, u32),
 }
 
 use Ask::{Flush, Load, MoveOff, Save, Where};
 
-// Whether a flush writes this many and leaves this many dirty.
+// Whether a flush round writes this many pages and leaves this many dirty.
 fn flushes<P: Pager>(store: &mut PageStore<P>, pages: u64, report: FlushReport, dirty: u64) -> bool
     requires { HasThree store.old }
     ensures { HasThree store.new }
@@ -173,7 +174,7 @@ fn ask_all<P: Pager>(rt: &impl Abort, store: &mut PageStore<P>, name: &str, asks
     }
 }
 
-/// What a store is asked in turn, and what it counts then.
+/// Questions to a store in order, and its counts afterwards.
 #[derive(Clone, Copy)]
 struct Trial {
     name: &'static str,
@@ -208,7 +209,7 @@ fn one_area(
     Ok(pagers)
 }
 
-// Two frames are full, one of 64 slots is used.
+// Two frames are full, and one of 64 slots is used.
 const FULL: PageTally = PageTally {
     resident: 2,
     dirty: 0,
@@ -219,7 +220,7 @@ const FULL: PageTally = PageTally {
     failures: 0,
 };
 
-/// Reads and writes of one area that fail, and what it is tried by.
+/// Reads and writes of one area that fail, and the trial.
 type OneArea = (&'static [u64], &'static [u64], Trial);
 
 const IN_AND_OUT: &[OneArea] = &[
@@ -327,7 +328,7 @@ fn pages_go_out_and_come_in(rt: HostRuntime) -> Result<(), Fail> {
     Ok(())
 }
 
-/// What a store is asked before a copy of it is made, what each of the two is asked then, and what the copy counts.
+/// Questions to a store before it is copied, questions to both afterwards, and the counts of the copy.
 #[derive(Clone, Copy)]
 struct Copied<'a> {
     name: &'a str,
@@ -337,7 +338,7 @@ struct Copied<'a> {
     tally: PageTally,
 }
 
-// A copy of a store. Where memory was out the store is as before, and is copied once more.
+// A copy of a store. If the host refuses memory, the store is unchanged, and is copied again.
 fn copy_of<P: ClonePager>(store: &PageStore<P>) -> Result<PageStore<P>, HostMemory>
     ensures { IfOk result (λ copy. copy ≡ store.now) }
 {
@@ -382,7 +383,7 @@ fn tried_with_copy<P: ClonePager>(
     }
 }
 
-// Whatever was done before, and whatever will fail.
+// This holds whatever was done before, and whatever will fail.
 #[test]
 fn a_copy_goes_on_as_its_store(rt: HostRuntime) -> Result<(), Fail> {
     for (reads, writes, trial) in IN_AND_OUT {
@@ -402,7 +403,8 @@ fn a_copy_goes_on_as_its_store(rt: HostRuntime) -> Result<(), Fail> {
     Ok(())
 }
 
-// Two dirty pages and one that is nowhere; then one of the dirty ones is stored, and the third one has the other go.
+// Two dirty pages and one that was never touched. Then one of the dirty pages is stored, and the third page
+// evicts the other.
 const APART: Copied<'_> = Copied {
     name: "a copy and its store go on apart",
     before: &[Save(0, 0x2a, true), Save(4096, 0x2b, true)],
@@ -460,7 +462,7 @@ fn pages_move_where_their_area_goes(rt: HostRuntime) -> Result<(), Fail> {
     Ok(())
 }
 
-// Two areas, of which reads of the first and writes of the second fail.
+// Two areas: reads of the first and writes of the second fail.
 fn two_areas(
     alloc: Global,
     reads: &[u64],
@@ -490,7 +492,7 @@ const STAYED: Trial = Trial {
     },
 };
 
-// The first write to the other area fails, and then the first read of the area that goes.
+// The first write to the other area fails, and then the first read of the area that is taken away.
 const ROUNDS: &[(&[u64], &[u64])] = &[(&[], &[1]), (&[1], &[])];
 
 #[test]

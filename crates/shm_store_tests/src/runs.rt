@@ -1,5 +1,5 @@
-//! Long runs of calls, each made of the paged store and of plain lists side by side. After each call
-//! every byte of every segment is the same in both, whichever pagers failed.
+//! Long runs of calls. Each call is made of the paged store and of plain lists. After each, every byte of
+//! every segment is the same in both, whichever pagers failed.
 ghost use Rattle.std.specs.Prelude.{◌≡◌, ◌+◌, ◌<◌, ◌==◌, ◌||◌, length, map, filter, not, IfOk, IfSome, OnOk};
 ghost use Rattle.shm_fault.specs.Held.{FitsPage, is_held};
 ghost use Rattle.shm_fault.specs.Allowed.{IsAccess};
@@ -24,7 +24,7 @@ const SEGMENTS: u32 = 5;
 
 const MOST_PAGES: u32 = 4;
 
-// What a run knows of a segment by itself.
+// What a run itself knows of a segment.
 #[derive(Drop)]
 struct Row {
     seg: u32,
@@ -48,7 +48,7 @@ struct Pair<P: Pager> {
     rows: Vec<Row>,
 }
 
-// Numbers that look as if they came by chance.
+// A generator of numbers that look random.
 #[derive(Drop)]
 struct Dice {
     state: u64,
@@ -66,7 +66,7 @@ fn below(dice: &mut Dice, n: u32) -> u32
     (dice.state >> 33) as u32 % n
 }
 
-// How many pages a segment has, if there is one of that number.
+// How many pages a segment has, if it exists.
 fn find(rows: &Vec<Row>, seg: u32) -> Option<u32>
     ensures { result ≡ row_pages rows.now.items seg }
 {
@@ -91,7 +91,7 @@ fn all_pages(rt: &impl Abort, rows: &Vec<Row>) -> u64
     total
 }
 
-// The pages of the locked segments, this one counted among them.
+// The pages of the locked segments, and of this one.
 fn pinned_pages(rt: &impl Abort, rows: &Vec<Row>, seg: u32) -> u64
     ensures value { result ≡ pages_pinned rows.now.items seg }
     ensures small { result < 1000000 }
@@ -131,7 +131,7 @@ fn has<P: Pager>(pair: &Pair<P>, seg: u32) -> bool
     find(&pair.rows, seg).is_some()
 }
 
-// A new segment, where the areas have a slot for each page and there is none of that number.
+// Adds a segment, if the areas have a slot for each page and it does not exist yet.
 fn add<P: Pager>(
     rt: &impl Abort,
     pair: &mut Pair<P>,
@@ -171,7 +171,7 @@ fn moves<P: Pager>(store: &PageStore<P>) -> (u64, u64) {
     (tally.ins, tally.outs)
 }
 
-// Neither a segment that goes nor an area counts as a page that came in or went out.
+// Dropping a segment, or taking an area away, counts no page as coming in or going out.
 fn remove<P: Pager>(rt: &impl Abort, pair: &mut Pair<P>, seg: u32)
     requires { AreAlike pair.old.paged pair.old.plain pair.old.rows.items }
     ensures { AreAlike pair.new.paged pair.new.plain pair.new.rows.items }
@@ -186,7 +186,7 @@ fn remove<P: Pager>(rt: &impl Abort, pair: &mut Pair<P>, seg: u32)
     forget(&mut pair.rows, seg);
 }
 
-// Locks or unlocks a segment, where two frames are left to the others.
+// Locks or unlocks a segment, if two frames are left for the others.
 fn lock<P: Pager>(rt: &impl Abort, pair: &mut Pair<P>, seg: u32, locked: bool)
     requires { AreAlike pair.old.paged pair.old.plain pair.old.rows.items }
     ensures { AreAlike pair.new.paged pair.new.plain pair.new.rows.items }
@@ -203,7 +203,7 @@ fn lock<P: Pager>(rt: &impl Abort, pair: &mut Pair<P>, seg: u32, locked: bool)
     relock(&mut pair.rows, seg, locked);
 }
 
-// Takes an area away, where the others have a slot for each page. A pager may fail.
+// Takes an area away, if the others have a slot for each page. A pager may fail.
 fn move_off<P: Pager>(rt: &impl Abort, pair: &mut Pair<P>, area: u32)
     requires { AreAlike pair.old.paged pair.old.plain pair.old.rows.items }
     ensures { AreAlike pair.new.paged pair.new.plain pair.new.rows.items }
@@ -219,7 +219,7 @@ fn move_off<P: Pager>(rt: &impl Abort, pair: &mut Pair<P>, area: u32)
     assert!(rt; moves(&pair.paged) == before);
 }
 
-// A stretch of a page, where the segment has that page.
+// A span in a page, if the segment has that page.
 fn stretch<P: Pager>(pair: &Pair<P>, seg: u32, page: u32, from: u32, len: u32) -> Option<Span>
     requires { AreAlike pair.now.paged pair.now.plain pair.now.rows.items }
     ensures fit { IfSome result (FitsPage (held pair.now.paged)) }
@@ -237,7 +237,7 @@ fn stretch<P: Pager>(pair: &Pair<P>, seg: u32, page: u32, from: u32, len: u32) -
     })
 }
 
-// Notes the frame that the page of each stretch is in.
+// Notes the frame of each span's page.
 fn name_frames<P: Pager>(rt: &impl Abort, store: &PageStore<P>, spans: &mut [Span])
     ensures { spans.new ≡ map (frame_named store.now) spans.old }
 {
@@ -247,14 +247,14 @@ fn name_frames<P: Pager>(rt: &impl Abort, store: &PageStore<P>, spans: &mut [Spa
     }
 }
 
-// Whether the moves rose from these by what an access told.
+// Whether the moves rose from these by what an access reported.
 fn rose_by<P: Pager>(before: (u64, u64), store: &PageStore<P>, touched: &Touched) -> bool {
     let ins = before.0.saturating_add(touched.ins);
     let outs = before.1.saturating_add(touched.outs);
     moves(store) == (ins, outs)
 }
 
-// Reads stretches of the paged store. A pager may fail.
+// Reads spans of the paged store. A pager may fail.
 fn read<P: Pager>(rt: &impl Abort, pair: &mut Pair<P>, spans: &mut [Span], out: &mut [u8]) -> bool
     requires alike { AreAlike pair.old.paged pair.old.plain pair.old.rows.items }
     requires spans { IsAccess (FitsPage (held pair.old.paged)) spans.old (length out.old) }
@@ -273,7 +273,7 @@ fn read<P: Pager>(rt: &impl Abort, pair: &mut Pair<P>, spans: &mut [Span], out: 
     }
 }
 
-// Sees that both stores have the same bytes. Where pagers fail the paged store is asked again.
+// Checks that both stores have the same bytes. If pagers fail, the paged store is read again.
 fn compare<P: Pager>(rt: &impl Abort, pair: &mut Pair<P>, spans: &mut [Span], size: usize)
     requires alike { AreAlike pair.old.paged pair.old.plain pair.old.rows.items }
     requires spans { IsAccess (FitsPage (held pair.old.paged)) spans.old size }
@@ -292,7 +292,7 @@ fn compare<P: Pager>(rt: &impl Abort, pair: &mut Pair<P>, spans: &mut [Span], si
     panic!(rt; "no attempt to read succeeded")
 }
 
-// Writes to both stores. Where a pager fails no byte changes.
+// Writes to both stores. If a pager fails, no byte changes.
 fn write<P: Pager>(rt: &impl Abort, pair: &mut Pair<P>, spans: &mut [Span], bytes: &[u8])
     requires alike { AreAlike pair.old.paged pair.old.plain pair.old.rows.items }
     requires spans { IsAccess (FitsPage (held pair.old.paged)) spans.old (length bytes.now) }
@@ -309,7 +309,7 @@ fn write<P: Pager>(rt: &impl Abort, pair: &mut Pair<P>, spans: &mut [Span], byte
     }
 }
 
-// One access: a comparison, or a write of bytes by chance.
+// One access: a comparison, or a write of random bytes.
 fn access<P: Pager>(
     rt: &impl Abort,
     pair: &mut Pair<P>,
@@ -333,7 +333,7 @@ fn access<P: Pager>(
     write(rt, pair, spans, &bytes[..size]);
 }
 
-// A stretch by chance, most of them short.
+// A random span, which is mostly short.
 fn any_stretch<P: Pager>(pair: &Pair<P>, dice: &mut Dice) -> Option<Span>
     requires { AreAlike pair.now.paged pair.now.plain pair.now.rows.items }
     ensures { IfSome result (FitsPage (held pair.now.paged)) }
@@ -345,7 +345,7 @@ fn any_stretch<P: Pager>(pair: &Pair<P>, dice: &mut Dice) -> Option<Span>
     stretch(pair, seg, page, from, 1 + below(dice, most))
 }
 
-// An access to one stretch or to two, of one page or of two.
+// An access to one span or to two, in one page or in two.
 fn touch<P: Pager>(rt: &impl Abort, pair: &mut Pair<P>, dice: &mut Dice)
     requires { AreAlike pair.old.paged pair.old.plain pair.old.rows.items }
     ensures { AreAlike pair.new.paged pair.new.plain pair.new.rows.items }
@@ -362,7 +362,7 @@ fn touch<P: Pager>(rt: &impl Abort, pair: &mut Pair<P>, dice: &mut Dice)
     }
 }
 
-// Sees that every byte of the first pages of each segment is the same.
+// Checks that every byte of the first pages of each segment is the same.
 fn compare_pages<P: Pager>(rt: &impl Abort, pair: &mut Pair<P>, pages: u32)
     requires { AreAlike pair.old.paged pair.old.plain pair.old.rows.items }
     ensures { AreAlike pair.new.paged pair.new.plain pair.new.rows.items }
@@ -376,7 +376,7 @@ fn compare_pages<P: Pager>(rt: &impl Abort, pair: &mut Pair<P>, pages: u32)
     }
 }
 
-// One call by chance.
+// One random call.
 fn step<P: Pager>(rt: &impl Abort, pair: &mut Pair<P>, dice: &mut Dice) -> Result<(), HostMemory>
     requires { AreAlike pair.old.paged pair.old.plain pair.old.rows.items }
     ensures { OnOk result (AreAlike pair.new.paged pair.new.plain pair.new.rows.items) }
@@ -400,7 +400,7 @@ fn step<P: Pager>(rt: &impl Abort, pair: &mut Pair<P>, dice: &mut Dice) -> Resul
     Ok(())
 }
 
-// Both stores without a segment.
+// Both stores without segments.
 fn fresh<P: Pager>(rt: &impl Abort, alloc: Global, areas: Vec<P>) -> Result<Pair<P>, HostMemory>
     ensures { IfOk result (λ pair. AreAlike pair.paged pair.plain pair.rows.items) }
 {
@@ -420,8 +420,8 @@ fn fresh<P: Pager>(rt: &impl Abort, alloc: Global, areas: Vec<P>) -> Result<Pair
     }
 }
 
-// Calls by chance, where every byte is compared at the end, or after each call. Tells how many failures the pagers
-// had counted before the end.
+// Random calls; compares every byte at the end, or after each call. Returns how many failures the pagers had
+// counted before the end.
 fn steps<P: Pager>(
     rt: &impl Abort,
     pair: &mut Pair<P>,
@@ -457,7 +457,7 @@ fn run<P: Pager>(
     }
 }
 
-// Two areas whose reads and writes of these numbers fail.
+// Two areas whose reads and writes with these numbers fail.
 fn fuses(alloc: Global, reads: &[u64], writes: &[u64]) -> Result<Vec<FusePager<RamPager>>, Fail> {
     let mut areas = Vec::with_capacity(alloc, 2)?;
     areas.push(fuse(alloc, 7, reads, writes)?)?;
@@ -473,7 +473,7 @@ fn side_by_side(alloc: Global, slots: u32, reads: &[u64], writes: &[u64]) -> Res
     mirror(alloc, left, right)
 }
 
-// Two areas of two sides each, where writes of the left ones fail and reads of the right ones.
+// Two mirrored areas: writes of the left sides fail, and reads of the right ones.
 fn mirrors(alloc: Global, reads: &[u64], writes: &[u64]) -> Result<Vec<Mirror>, Fail> {
     let mut areas = Vec::with_capacity(alloc, 2)?;
     areas.push(side_by_side(alloc, 9, reads, writes)?)?;
@@ -481,12 +481,12 @@ fn mirrors(alloc: Global, reads: &[u64], writes: &[u64]) -> Result<Vec<Mirror>, 
     Ok(areas)
 }
 
-// The numbers of reads and writes that fail, single ones and neighbours.
+// The numbers of reads and writes that fail: single ones and consecutive ones.
 const BAD_READS: &[u64] = &[1, 4, 5, 40, 200, 201, 202, 700, 1500];
 
 const BAD_WRITES: &[u64] = &[2, 3, 7, 12, 20, 21, 33, 50];
 
-// How many failures a run over fuses counts.
+// The number of failures that a run over fuses counts.
 fn run_over_fuses(
     rt: &impl Abort,
     alloc: Global,

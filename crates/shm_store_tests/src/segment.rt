@@ -1,4 +1,4 @@
-//! A segment's bytes, and spans of them read and written.
+//! A segment's bytes, and reads and writes of spans of them.
 ghost use Rattle.std.specs.Prelude.{◌≡◌, ◌+◌, ◌*◌, ◌<◌, ◌≤◌, false, length, replicate, take, drop, IfOk};
 ghost use Rattle.shm_fault.specs.Held.{Held, paste};
 
@@ -6,7 +6,7 @@ use shm_base::{HostMemory, PAGE_BYTES};
 use std::alloc::Global;
 use std::marker::Model;
 
-/// A segment that is held, by its identifier.
+/// A segment of the store, by its identifier.
 #[derive(Drop)]
 pub(crate) struct Segment {
     id: u32,

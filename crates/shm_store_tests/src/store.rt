@@ -9,8 +9,8 @@ use shm_base::{HostMemory, Span};
 use std::alloc::Global;
 use std::marker::Model;
 
-/// Segments with their bytes, each under its identifier. A store is seen as the list of them. A locked
-/// segment is marked so; no page ever leaves memory here.
+/// Segments with their bytes, by identifier. Contracts see the list of them. A segment can be marked as
+/// locked; no page ever leaves memory here.
 #[derive(Drop)]
 pub struct PlainStore {
     alloc: Global,
@@ -30,7 +30,7 @@ impl Model for PlainStore {
     ghost invariant = { λ s. AreHeldApart s.segments.items };
 }
 
-/// The place of a segment that is held.
+/// The index of a segment of the store.
 fn index_of(segments: &Vec<Segment>, seg: u32) -> usize
     requires { is_held segments.now.items seg ≡ true }
     ensures within { result < length segments.now.items }
@@ -78,8 +78,8 @@ impl PlainStore {
         }
     }
 
-    /// Adds a segment of this many pages of zeros that is not locked. The memory of all its pages is taken
-    /// here; where the host refuses it the store stays as it was.
+    /// Adds a segment of this many pages of zeros that is not locked. Takes the memory of all its pages.
+    /// HostMemory: the host refused memory, and the store is unchanged.
     pub fn add_segment(&mut self, seg: u32, pages: u32) -> Result<(), HostMemory>
         requires new { is_held self.old seg ≡ false }
         requires few { pages ≤ 4096 }
@@ -91,7 +91,7 @@ impl PlainStore {
         Ok(())
     }
 
-    /// Drops a segment and gives back its memory. It takes none.
+    /// Drops a segment and returns its memory. Takes no memory.
     pub fn drop_segment(&mut self, seg: u32)
         requires { is_held self.old seg ≡ true }
         ensures { self.new ≡ without self.old seg }
@@ -109,8 +109,8 @@ impl PlainStore {
         segment.set_locked(locked);
     }
 
-    /// Reads the bytes of the spans, one after another, into `out`, which is as long as they are together.
-    /// The spans' frames are not looked at.
+    /// Reads the bytes of the spans, in order, into `out`, which is as long as all of them together. The
+    /// spans' frames are ignored.
     pub fn read(&self, spans: &[Span], out: &mut [u8])
         requires { IsAccess (FitsPage self.now) spans.now (length out.old) }
         ensures { out.new ≡ read_from self.now spans.now }
@@ -123,8 +123,8 @@ impl PlainStore {
         }
     }
 
-    /// Replaces the bytes of the spans, one span after another, by those of `bytes`, which is as long as
-    /// they are together. Where spans share a byte the later one's stays. The spans' frames are not looked at.
+    /// Replaces the bytes of the spans, in order, by those of `bytes`, which is as long as all of them
+    /// together. If spans overlap, the later one's bytes stay. The spans' frames are ignored.
     pub fn write(&mut self, spans: &[Span], bytes: &[u8])
         requires { IsAccess (FitsPage self.old) spans.now (length bytes.now) }
         ensures { self.new ≡ written self.old spans.now bytes.now }

@@ -1,4 +1,4 @@
-//! Slots taken, given back and turned off; failures counted; pagers told and dropped.
+//! Slots taken, returned and turned off; failures counted; calls of pagers, and their drops.
 ghost use Rattle.std.specs.Prelude.{◌≡◌};
 ghost use Rattle.shm_slots.specs.View.{HasSlot};
 
@@ -13,7 +13,7 @@ use std::test::Fail;
 
 const P: [u8; 4096] = [0x50; 4096];
 
-// Some page's name.
+// The name of some page.
 fn page(page: u32) -> PageRef {
     PageRef { seg: 9, page }
 }
@@ -42,13 +42,13 @@ fn owner<X: Pager>(rt: &impl Abort, swap: &Swap<X>, slot: Slot) -> Option<PageRe
     swap.owner(slot_in(rt, swap, slot.area, slot.slot))
 }
 
-// Whether the first slot of an area takes the page.
+// Whether the page can be written to the first slot of an area.
 fn writes<X: Pager>(rt: &impl Abort, swap: &mut Swap<X>, area: u32) -> bool {
     let slot = slot_in(rt, swap, area, 0);
     swap.write_slot(slot, &P).is_ok()
 }
 
-// Whether the first slot of an area has the page, where it can be read; and where not, that it can't.
+// Whether the first slot of an area has the page if it can be read; if not, whether the read fails.
 fn reads<X: Pager>(rt: &impl Abort, swap: &mut Swap<X>, area: u32, is_done: bool) -> bool {
     let slot = slot_in(rt, swap, area, 0);
     let mut page = [0; 4096];
@@ -65,7 +65,7 @@ fn give<X: Pager>(rt: &impl Abort, swap: &mut Swap<X>, slot: Slot) {
     swap.give_slot(slot);
 }
 
-// Turns an area off, once each of its slots is seen to be free.
+// Turns an area off, after checking that each of its slots is free.
 fn turn_off<X: Pager>(rt: &impl Abort, swap: &mut Swap<X>, area: u32) {
     let size = swap.size(area).unwrap_or(0);
     assert!(rt; size > 0);
@@ -77,20 +77,20 @@ fn turn_off<X: Pager>(rt: &impl Abort, swap: &mut Swap<X>, area: u32) {
     swap.turn_off(area);
 }
 
-// What a swap is asked, and what it must answer.
+// A question to a swap, with the expected answer.
 #[derive(Clone, Copy)]
 enum Wish {
     Take(Option<Slot>),
     TakeOutside(u32, Option<Slot>),
     Give(Slot),
     TurnOff(u32),
-    /// How many slots an area has, or all.
+    /// The number of slots of an area, or of all.
     Size(u32, Option<u32>),
     Capacity(u64),
-    /// The page goes to the first slot of an area, or is read there. A pager may fail.
+    /// The page is written to the first slot of an area, or read there. A pager may fail.
     Write(u32, bool),
     Read(u32, bool),
-    /// How many failures are counted, and whether maybe none was the last.
+    /// How many failures are counted, and whether no area was ever spent.
     Failures(u64, bool),
 }
 
@@ -102,7 +102,7 @@ const OTHER: Slot = Slot { area: 1, slot: 0 };
 
 const LAST: Slot = Slot { area: 1, slot: 1 };
 
-// Whether the slot that was taken for the page of this number is the wanted one, and has that owner.
+// Whether the slot that was taken for this page is the expected one, and has that owner.
 fn is_taken<X: Pager>(
     rt: &impl Abort,
     swap: &Swap<X>,
@@ -116,7 +116,8 @@ fn is_taken<X: Pager>(
     }
 }
 
-// Asks for the page of this number; whether the answer is the wanted one. A slot that is given back has no owner.
+// Asks for this page, and returns whether the answer is the expected one. A slot that is returned has no
+// owner.
 fn answers<X: Pager>(rt: &impl Abort, swap: &mut Swap<X>, number: u32, wish: Wish) -> bool {
     match wish {
         Wish::Take(want) => {
@@ -145,7 +146,7 @@ fn answers<X: Pager>(rt: &impl Abort, swap: &mut Swap<X>, number: u32, wish: Wis
     }
 }
 
-// Asks in turn, and looks how many slots are used then.
+// Asks in order, and checks how many slots are used afterwards.
 fn ask_all<X: Pager>(rt: &impl Abort, swap: &mut Swap<X>, wishes: &[(Wish, u64)]) {
     let mut number = 0u32;
     for &(wish, used) in wishes {
@@ -155,7 +156,7 @@ fn ask_all<X: Pager>(rt: &impl Abort, swap: &mut Swap<X>, wishes: &[(Wish, u64)]
     }
 }
 
-// The same of a swap over these pagers.
+// The same with a swap over these pagers.
 fn asked<X: Pager>(
     rt: &impl Abort,
     alloc: Global,
@@ -224,7 +225,7 @@ fn fuse(
     Ok(FusePager::new_at(ram, Vec::new(alloc), bad_writes, failures))
 }
 
-// Two areas of a slot, whose writes of these numbers fail, and that have counted this many failures.
+// Two areas of one slot each: their writes with these numbers fail, and they have counted this many failures.
 fn two_fuses(
     alloc: Global,
     first: (&[u64], u64),
@@ -270,7 +271,7 @@ fn a_pager_may_be_handed_in_spent(rt: HostRuntime) -> Result<(), Fail> {
     Ok(())
 }
 
-// Two pagers that tell these counters. The first has counted this many failures.
+// Two pagers that report to these counters. The first has counted this many failures.
 fn two_counted(
     alloc: Global,
     (first, other): (&Counter, &Counter),
@@ -306,7 +307,7 @@ fn pagers_are_told_and_dropped_once(rt: HostRuntime) -> Result<(), Fail> {
     Ok(())
 }
 
-// Takes the four slots of two areas, and gives back the second of each.
+// Takes the four slots of two areas, and returns the second of each.
 fn give_second_slots<X: Pager>(
     rt: &impl Abort,
     alloc: Global,
@@ -325,7 +326,7 @@ fn give_second_slots<X: Pager>(
     Ok(())
 }
 
-// Also where the area's pager is spent: it is asked no more, but told.
+// The same if the area's pager is spent: it is no longer read or written, but its slots are discarded.
 #[test]
 fn a_slot_given_back_is_discarded(rt: HostRuntime) -> Result<(), Fail> {
     let alloc = rt.alloc();
@@ -343,7 +344,7 @@ fn two_boxes(alloc: Global) -> Result<Vec<AnyPager>, AllocError> {
     Ok(pagers)
 }
 
-// A page goes to a slot and comes back.
+// A page is written to a slot and read again.
 const KEPT: &[(Wish, u64)] = &[
     (Wish::Take(Some(FIRST)), 1),
     (Wish::Write(0, true), 1),

@@ -2,7 +2,7 @@
 use Rattle.shm_text.proofs.Names.{common_steps, arith, inl, inr, ◌≡◌, ◌<◌, ◌≤◌, ◌+◌, ◌-◌, ◌∙◌, ap, sym, refl, ℕ, zero, suc, List, [], ◌∷◌, length, get_or, take, drop, true, false, eqb, min, cases_Bool, drop-length, nat_tests, length-take-le, get_or-take, take_all, take-take, drop-take, is_allowed, lines_of, line_end, first_line}
 use Rattle.shm_text.proofs.Cut.{lines_of-cut, lines_of-last}
 
--- it ends behind a byte of it that is no LF
+-- it ends after any of its bytes other than LF
 pub ends_behind : (text : List ℕ) (at : ℕ) → at ≤ line_end text → at < length text → eqb (get_or text at 0) 10 ≡ false → at + 1 ≤ line_end text
 ends_behind [] at low within other = absurd (omega arith)
 ends_behind (b ∷ text) zero low within other = rw other (omega arith)
@@ -38,7 +38,7 @@ byte_of_line text at on = get_or-take (line_end text) text at 0 (omega (arith, o
 pub no_lf : (b : ℕ) → is_allowed b ≡ true → eqb b 10 ≡ false
 no_lf b e = grind (arith, nat_tests)
 
--- a word of the line stands so in the text
+-- a word of the line is a word of the text
 pub word_of_line : (text : List ℕ) (start at : ℕ) → start ≤ at → at ≤ line_end text → take (at - start) (drop start text) ≡ take (at - start) (drop start (first_line text))
 word_of_line text start at begun on =
     let n = line_end text in
@@ -49,6 +49,6 @@ word_of_line text start at begun on =
 pub last_line : (text : List ℕ) (at : ℕ) → at ≤ line_end text → length text ≤ at → first_line text ≡ text
 last_line text at on done = take_all (line_end text) text (omega (arith, on, done))
 
--- the lines of a text are its first line and those behind it
+-- the lines of a text are its first line and those after it
 pub first_and_rest : (text : List ℕ) → 0 < length text → lines_of text ≡ first_line text ∷ lines_of (drop (min (line_end text + 1) (length text)) text)
 first_and_rest text some = grind (arith, common_steps, lines_of-cut, take_all, drop-length, lines_of-last)

@@ -11,7 +11,7 @@ short ws k h = rw length-take (grind (arith, nat_tests))
 pub early : (ws : List (List ℕ)) (i : ℕ) → i < 8 → word_at (take 8 ws) i ≡ word_at ws i
 early ws i h = grind (arith, common_steps)
 
--- the operands of a call stand among the first words
+-- the operands of a call are among the first words
 call_by-take : (verb : Verb) (ws : List (List ℕ)) (i : ℕ) → i ≤ 4 → call_by verb (take 8 ws) i ≡ call_by verb ws i
 unfolding shmget_call shmat_call xadd_call load_call store_call set_call fork_call swapoff_call
 call_by-take verbs.Shmget ws i h = rw (early ws i (omega arith), early ws (i + 1) (omega arith), early ws (i + 2) (omega arith)) refl
@@ -73,7 +73,7 @@ words_item-take seen ws =
 pub is_skipped-take : (ws : List (List ℕ)) → is_skipped (take 8 ws) ≡ is_skipped ws
 is_skipped-take ws = rw (short ws 0 (omega arith), early ws 0 (omega arith)) refl
 
--- of the lines behind the limits, one that begins with no other word is a command
+-- a line after the limits is a command, if it begins with no other word
 chosen : {A : Type 0} → (F : A → A) (limits zero process child : Bool) (declared flushed command first : A) → (limits && (not zero && (not process && not child))) ≡ true
     → (if limits then (if process || child then declared else F (if zero then flushed else command)) else first) ≡ F command
 chosen F limits zero process child declared flushed command first is = grind (arith, common_steps)
@@ -87,7 +87,7 @@ command_words seen ws is =
     (if word_at_is ws 0 (codes "limits") then limits_item ws else Err NoLimits)
     is
 
--- where the call and the pid can be read
+-- the call and the pid can be read
 pub command_said : (seen : SeenView) (ws : List (List ℕ)) (number : Number) (call : LineCall) (pid : ℕ) → is_command seen ws ≡ true
     → required_number (word_at ws 0) ≡ Ok number → call_words ws (is_some (taker ws)) ≡ Ok call → declared_pid seen number call ≡ Ok pid
     → words_item seen ws ≡ (if nat_lt seen.commands 100000 then Ok (command_of pid (taker ws) call) else Err TooMany)

@@ -4,7 +4,7 @@ use Rattle.std.proofs.Common.{Result, Ok, Err}
 use Rattle.shm_text.specs.declared.script.Item.TheVariants as items
 use Rattle.shm_text.specs.Reading.{script_of, items_of}
 
--- all is what the lines above say, and then what the lines from the n-th on say
+-- `all` is what the lines above say, and then what the lines from the n-th on say
 pub record Goes (all : Result (List Item) ScriptFault) (n : ℕ) (seen : SeenView) (lines : List (List ℕ)) (front : List Item) : Type 0 where
   pub is : all ≡ (items_of n seen lines >>= λ more. Ok (front ++ more))
 
@@ -64,7 +64,7 @@ pub short_script : (bytes : List ℕ) (script : ScriptView) → script_of bytes 
 unfolding script_of
 short_script bytes script e = short_by _ (length bytes) _ _ script refl e
 
--- the fault of a text that was cut behind the longest script is the fault of the whole text
+-- a fault in a text that is cut after the longest script is the fault of the whole text
 same_by : (long : Bool) (input front rest : List ℕ) (fault : ScriptFault) → nat_lt 1048576 (length front) ≡ long → input ≡ front ++ rest → (length front ≤ 1048576 → rest ≡ []) → script_of front ≡ Err fault → script_of input ≡ Err fault
 unfolding script_of
 same_by long input front rest fault h1 split whole e = grind (arith, common_steps, append-nil, length-append)
@@ -72,7 +72,7 @@ same_by long input front rest fault h1 split whole e = grind (arith, common_step
 pub same_fault : (input front rest : List ℕ) (fault : ScriptFault) → input ≡ front ++ rest → (length front ≤ 1048576 → rest ≡ []) → script_of front ≡ Err fault → script_of input ≡ Err fault
 same_fault input front rest fault split whole e = same_by _ input front rest fault refl split whole e
 
--- what the items make of a script
+-- the script that the items make
 pub said_wrong : (all : Result (List Item) ScriptFault) (fault : ScriptFault) → all ≡ Err fault → (all >>= script_from) ≡ Err fault
 said_wrong all fault e = ap (λ r. r >>= script_from) e
 

@@ -1,4 +1,4 @@
--- The names that the proofs cite, from below and from the words of this crate.
+-- The names that the proofs use: those of the crates below, and of the specs of this crate.
 pub use Rattle.std.proofs.Common.{Bool, List, None, Option, Some, [], ap, append-nil, append_assoc, arith, cond, drop, eqb, false, get_or, inl, inr, length, length-append, length-drop, ltb, min, pow-add, refl, rules, subst, suc, sym, take, true, zero, ℕ, ◌*◌, ◌++◌, ◌+◌, ◌-◌, ◌<◌, ◌^◌, ◌∙◌, ◌∷◌, ◌≡◌, ◌≤◌}
 pub use Rattle.std.proofs.Math.Nat.{mul-le-mul}
 pub use Rattle.std.proofs.Math.Numerals.{add-one}

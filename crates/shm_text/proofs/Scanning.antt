@@ -1,7 +1,7 @@
 -- The words of a line, cut off from left to right.
 use Rattle.shm_text.proofs.Names.{common_steps, arith, ◌≡◌, ◌≤◌, ◌<◌, ◌+◌, ◌-◌, ◌++◌, ◌∙◌, ap, sym, refl, ℕ, List, [], ◌∷◌, zero, suc, true, false, Bool, length, take, drop, append_assoc, append-nil, length-drop, get_or, eqb, All, filter, not, ◌&&◌, list_all, slice_split_at, slice_split_none, take_all, take-append-drop, drop-drop, get_or-drop, drop-cons, add-one, All-more, list_all_more, nat_tests, is_allowed, is_space, words_of, with_word}
 
--- what is taken of a list may be taken of its front before
+-- the front of a list may be taken before the whole is
 pub take-take_append : {A : Type 0} → (n : ℕ) (xs ys : List A) → take n (take n xs ++ ys) ≡ take n (xs ++ ys)
 take-take_append zero xs ys = refl
 take-take_append (suc n) [] ys = refl
@@ -64,7 +64,7 @@ and_true a b e = grind (arith, common_steps)
 and_false : (a b : Bool) → b ≡ false → false ≡ (a && b)
 and_false a b e = grind (arith, common_steps)
 
--- what the tests of a byte say
+-- what the tests of a byte mean
 pub of_word : (b : ℕ) → (is_allowed b && not (is_space b)) ≡ true → (is_allowed b ≡ true) × (is_space b ≡ false)
 of_word b e = grind (arith, nat_tests)
 
@@ -74,7 +74,7 @@ of_space b e = grind (arith, nat_tests)
 pub of_neither : (b : ℕ) → (is_allowed b && not (is_space b)) ≡ false → is_space b ≡ false → is_allowed b ≡ false
 of_neither b e space = grind (arith, nat_tests)
 
--- one byte more that is no space
+-- one more byte, which is not a space
 pub more_inside : (line : List ℕ) (start at : ℕ) → start ≤ at → at < length line → is_space (get_or line at 0) ≡ false
     → All (λ b. is_space b ≡ false) (take (at - start) (drop start line)) → All (λ b. is_space b ≡ false) (take (at + 1 - start) (drop start line))
 more_inside line start at begun within space inside =
@@ -83,13 +83,13 @@ more_inside line start at begun within space inside =
     let last : is_space (get_or (drop start line) (at - start) 0) ≡ false = rw (get_or-drop, there) space in
     rw n (All-more (λ b. is_space b ≡ false) (drop start line) (at - start) 0 (omega (arith, length-drop start line)) inside last)
 
--- one byte more that is allowed, or that is not
+-- one more byte, allowed or not
 pub more_allowed : (line : List ℕ) (at : ℕ) (allowed : Bool) → at < length line → is_allowed (get_or line at 0) ≡ true → allowed ≡ list_all is_allowed (take at line) → allowed ≡ list_all is_allowed (take (at + 1) line)
 more_allowed line at allowed within here so_far = so_far ∙ and_true (list_all is_allowed (take at line)) (is_allowed (get_or line at 0)) here ∙ sym (list_all_more is_allowed line at 0 within)
 
 pub not_allowed : (line : List ℕ) (at : ℕ) → at < length line → is_allowed (get_or line at 0) ≡ false → false ≡ list_all is_allowed (take (at + 1) line)
 not_allowed line at within here = and_false (list_all is_allowed (take at line)) (is_allowed (get_or line at 0)) here ∙ sym (list_all_more is_allowed line at 0 within)
 
--- no byte stands between a place and itself
+-- there is no byte between a place and itself
 pub none_inside : (line : List ℕ) (at : ℕ) → All (λ b. is_space b ≡ false) (take (at - at) (drop at line))
 none_inside line at = grind (arith, common_steps)

@@ -1,5 +1,5 @@
--- The calls of a line: a word, and behind it the operands. Each form says first what its words are, and
--- then their ranges, so that a bad line comes before a bad number.
+-- The calls of a line: a word, and the operands that follow it. Each form first reads its words, and then tests their ranges, so
+-- a bad line is reported before a bad number.
 use Rattle.std.specs.Prelude.{ℕ, ◌+◌, Bool, true, false, ◌==◌, ◌&&◌, not, ◌||◌, List, length, take, drop, Option, Some, None, Result, Ok, Err, codes, if◌then◌else◌}
 use Rattle.std.specs.Option.{ok_or}
 use Rattle.std.specs.Str.{bytes_eq}
@@ -24,7 +24,7 @@ process_verb_of w =
     if bytes_eq w (codes "swapoff") then Some verbs.Swapoff else
     None
 
--- the words of shmctl, and those
+-- the words of shmctl(2), or those above
 unfoldable pub control_verb_of : List ℕ → Option Verb
 control_verb_of w =
     if bytes_eq w (codes "stat") then Some verbs.Stat else
@@ -34,7 +34,7 @@ control_verb_of w =
     if bytes_eq w (codes "unlock") then Some verbs.Unlock else
     process_verb_of w
 
--- the words of calls at an address, and those
+-- the words of calls at an address, or those above
 unfoldable pub access_verb_of : List ℕ → Option Verb
 access_verb_of w =
     if bytes_eq w (codes "shmdt") then Some verbs.Shmdt else
@@ -50,7 +50,7 @@ verb_of w =
     if bytes_eq w (codes "xadd") then Some verbs.Xadd else
     access_verb_of w
 
--- how many operands stand behind it
+-- how many operands follow it
 abbrev pub operands : Verb → ℕ
 operands verbs.Shmget = 3
 operands verbs.Shmat = 3
@@ -68,14 +68,14 @@ operands verbs.Exec = 0
 operands verbs.Exit = 0
 operands verbs.Swapoff = 1
 
--- whether a variable and `=` may stand before it
+-- whether a variable and `=` may precede it
 abbrev pub may_be_taken : Verb → Bool
 may_be_taken verbs.Shmget = true
 may_be_taken verbs.Shmat = true
 may_be_taken verbs.Xadd = true
 may_be_taken _ = false
 
--- THE FORMS: the first operand stands at i
+-- THE FORMS: the first operand is at index i
 
 abbrev pub id_operand : List (List ℕ) → ℕ → Result LineId FaultKind
 id_operand ws i = id_word (word_at ws i) >>= ranged_id
@@ -165,18 +165,18 @@ call_by verbs.Exec ws i = Ok Exec
 call_by verbs.Exit ws i = Ok Exit
 call_by verbs.Swapoff ws i = swapoff_call ws i
 
--- where a call's word stands: behind the pid, and also behind a variable and `=` where one takes the answer
+-- the index of a call's word: it follows the pid, and also a variable and `=` if one takes the answer
 abbrev pub place_of : Bool → ℕ
 place_of false = 1
 place_of true = 3
 
--- the operands end the line
+-- the call of a word whose operands end the line
 abbrev pub call_with : List (List ℕ) → Bool → Verb → Result LineCall FaultKind
 call_with ws taken verb =
     if (not taken || may_be_taken verb) && (length ws == place_of taken + 1 + operands verb)
     then call_by verb ws (place_of taken + 1)
     else Err BadLine
 
--- the call of a line, whose answer a variable takes or not
+-- the call of a line; `taken` says that a variable takes its answer
 unfoldable pub call_words : List (List ℕ) → Bool → Result LineCall FaultKind
 call_words ws taken = ok_or (verb_of (word_at ws (place_of taken))) BadLine >>= call_with ws taken

@@ -1,4 +1,4 @@
--- The forms of a script's lines: which values a command line may hold.
+-- The forms of a script's lines: the values that a command line may hold.
 use Rattle.std.specs.Prelude.{ℕ, Bool, true, false, ◌&&◌, ◌==◌, nat_le, nat_lt, bit_and, is_some, Option}
 use Rattle.shm_base.specs.Bounds.{within}
 use Rattle.shm_base.specs.declared.flags.GetFlags.{GetFlags}
@@ -24,15 +24,15 @@ abbrev pub is_id : LineId → Bool
 is_id (ids.Number n) = nat_le n LAST_ID
 is_id (ids.Var v) = true
 
--- no other flags than those of shmget
+-- it has only the flags of shmget
 abbrev pub is_get_flags : GetFlags → Bool
 is_get_flags flags = bit_and flags.0 1536 == flags.0
 
--- no other flags than those of shmat
+-- it has only the flags of shmat
 abbrev pub is_at_flags : AtFlags → Bool
 is_at_flags flags = bit_and flags.0 28672 == flags.0
 
--- what the words of each call may hold
+-- the values that the words of each call may have
 abbrev pub is_call : LineCall → Bool
 is_call (Shmget key size mode flags) = nat_lt mode MODES && is_get_flags flags
 is_call (Shmat id addr flags) = is_id id && is_at_flags flags
@@ -57,7 +57,7 @@ has_answer (Shmat id addr flags) = true
 has_answer (Xadd addr add) = true
 has_answer _ = false
 
--- a variable stands before a call that has an answer
+-- only a call that has an answer may follow a variable
 abbrev pub is_answer_taken : Bool → LineCall → Bool
 is_answer_taken false call = true
 is_answer_taken true call = has_answer call

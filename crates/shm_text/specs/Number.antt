@@ -10,7 +10,7 @@ use Rattle.shm_text.specs.declared.number.Number.TheVariants.{Fits, TooLarge}
 abbrev pub number_from : ℕ → Number
 number_from n = if nat_lt n (2 ^ 64) then Fits n else TooLarge
 
--- one or more digits of a base
+-- the word is one or more digits of a base
 abbrev pub is_numeral : ℕ → List ℕ → Bool
 is_numeral radix ds = not (length ds == 0) && list_all (λ c. is_digit c radix) ds
 
@@ -26,6 +26,6 @@ fitting None = None
 fitting (Some (Fits n)) = Some n
 fitting (Some TooLarge) = None
 
--- decimal digits of a number of 64 bits
+-- decimal digits that spell a number of 64 bits
 abbrev pub decimal_of : List ℕ → Option ℕ
 decimal_of w = fitting (numeral 10 w)

@@ -1,4 +1,4 @@
--- The operands of a line: what a word says, or that it can't be read, and then its range.
+-- The operands of a line: first whether a word can be read, and then whether its number is in range.
 use Rattle.std.specs.Prelude.{ℕ, ◌+◌, ◌-◌, ◌*◌, ◌^◌, Bool, ◌==◌, ◌&&◌, ◌||◌, nat_le, List, length, drop, count_by, Option, Some, None, Result, Ok, Err, slice_index, codes, if◌then◌else◌}
 use Rattle.std.specs.List.{slice_split}
 use Rattle.std.specs.Str.{bytes_eq}
@@ -61,7 +61,7 @@ abbrev pub ranged_id : IdWord → Result LineId FaultKind
 ranged_id (id_words.Literal n) = ranged 0 LAST_ID n >>= λ n. Ok (ids.Number n)
 ranged_id (id_words.Letter v) = Ok (ids.Var v)
 
--- an address: `null`, one letter, a letter and a number behind `+`, or a number
+-- an address: `null`, one letter, a letter and a number after `+`, or a number
 abbrev pub addr_by : List ℕ → Option ℕ → Result AddrWord FaultKind
 addr_by w (Some v) =
     if length w == 1 then Ok (addr_words.Letter v) else
@@ -87,7 +87,7 @@ mode_from w = 64 * (slice_index w 0 - 48) + 8 * (slice_index w 1 - 48) + (slice_
 abbrev pub mode_word : List ℕ → Result ℕ FaultKind
 mode_word w = if is_mode w then Ok (mode_from w) else Err BadLine
 
--- what stands behind a mode: each flag of shmget at most once, in either order
+-- the flags after a mode: each flag of shmget at most once, in either order
 abbrev pub get_flags_word : List ℕ → Result GetFlags FaultKind
 get_flags_word w =
     if length w == 0 then Ok (record { 0 = 0 }) else
@@ -96,15 +96,15 @@ get_flags_word w =
     if bytes_eq w (codes ",creat,excl") || bytes_eq w (codes ",excl,creat") then Ok (record { 0 = 1536 }) else
     Err BadLine
 
--- the names of a list with commas
+-- the names in a comma-separated list
 abbrev pub names_of : List ℕ → List (List ℕ)
 names_of w = slice_split (λ b. b == 44) w
 
--- how often a name stands in such a list
+-- how often a comma-separated list has a name
 abbrev pub times : List ℕ → List ℕ → ℕ
 times w name = count_by (λ n. bytes_eq n name) (names_of w)
 
--- a list of so many of each name and of no other, with each at most once
+-- the flags of a list with these counts of each name and `all` names together: each name at most once, and no other name
 abbrev pub flags_by : ℕ → ℕ → ℕ → ℕ → Result AtFlags FaultKind
 flags_by rdonly rnd remap all =
     if nat_le rdonly 1 && nat_le rnd 1 && nat_le remap 1 && (rdonly + rnd + remap == all)

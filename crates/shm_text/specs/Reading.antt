@@ -1,4 +1,4 @@
--- What the lines of a script say, and the first fault.
+-- What the lines of a script say, and its first fault.
 use Rattle.std.specs.Prelude.{ℕ, ◌+◌, Bool, ◌==◌, ◌&&◌, ◌||◌, not, List, [], ◌∷◌, ◌++◌, length, Option, Some, None, Result, Ok, Err, IsOk, ◌≡◌, nat_le, nat_lt, ◌<◌, is_some, slice_get, slice_index, codes, if◌then◌else◌}
 use Rattle.std.specs.List.{list_all, list_any}
 use Rattle.std.specs.Str.{bytes_eq}
@@ -29,7 +29,7 @@ pub record SeenView : Type 0 where
   pub pids : List ℕ
   pub commands : ℕ
 
--- whether the word at a place is this one
+-- the word at an index is this one
 abbrev pub word_at_is : List (List ℕ) → ℕ → List ℕ → Bool
 word_at_is ws i text = bytes_eq (word_at ws i) text
 
@@ -56,7 +56,7 @@ limits_item ws = if length ws == 6 then (do
 abbrev pub is_declared : SeenView → ℕ → Bool
 is_declared seen pid = list_any (λ p. p == pid) seen.pids
 
--- a process that is not declared above, and is not the 65th
+-- a process that is not declared above and is not the 65th
 abbrev pub declared : SeenView → Declared → Result Item FaultKind
 declared seen p =
     if is_declared seen p.pid then Err Twice else
@@ -79,7 +79,7 @@ child_item seen ws = if length ws == 2 then (do
   pid ← ranged 1 LAST_PID pid
   declared seen (record { pid = pid; born = None })) else Err BadLine
 
--- a line with these first words declares a process, and stands above the commands
+-- a line with these first words declares a process, and is above all commands
 unfoldable pub declaration : SeenView → List (List ℕ) → Result Item FaultKind
 declaration seen ws =
     if not (seen.commands == 0) then Err BadLine else
@@ -95,7 +95,7 @@ command_of pid var call = items.Line (lines.Command (record { pid = pid; var = v
 abbrev pub taker : List (List ℕ) → Option ℕ
 taker ws = if (length (word_at ws 1) == 1) && word_at_is ws 2 (codes "=") then letter_of (word_at ws 1) else None
 
--- a pid that was declared above
+-- the pid was declared above
 abbrev pub known : SeenView → ℕ → Result (Unit {0}) FaultKind
 known seen pid = if is_declared seen pid then Ok tt else Err UnknownProcess
 
@@ -117,14 +117,14 @@ command seen pid var ws = do
   pid ← declared_pid seen pid call
   Ok (command_of pid var call)
 
--- a flush round of so many pages at most
+-- a flush round of at most this many pages
 unfoldable pub flush_item : List (List ℕ) → Result Item FaultKind
 flush_item ws = if (length ws == 3) && word_at_is ws 1 (codes "flush") then (do
   pages ← required_number (word_at ws 2)
   pages ← ranged 1 MOST_FLUSHED pages
   Ok (items.Line (lines.Flush pages))) else Err BadLine
 
--- the word `0` is no pid, and stands before `flush` alone
+-- the word `0` is not a pid, and may only precede `flush`
 unfoldable pub command_item : SeenView → List (List ℕ) → Result Item FaultKind
 command_item seen ws = if word_at_is ws 0 (codes "0") then flush_item ws else (do
   pid ← required_number (word_at ws 0)
@@ -132,17 +132,17 @@ command_item seen ws = if word_at_is ws 0 (codes "0") then flush_item ws else (d
 
 -- LINES
 
--- where there may be one more command or flush line
+-- one more command or flush line is allowed
 abbrev pub with_room : SeenView → Result Item FaultKind → Result Item FaultKind
 with_room seen said = said >>= λ item. if nat_lt seen.commands MOST_COMMANDS then Ok item else Err TooMany
 
--- a line behind the limits
+-- a line after the limits
 unfoldable pub body_item : SeenView → List (List ℕ) → Result Item FaultKind
 body_item seen ws =
     if word_at_is ws 0 (codes "process") || word_at_is ws 0 (codes "child") then declaration seen ws else
     with_room seen (command_item seen ws)
 
--- no words, or a first word that begins with #
+-- the line has no words, or its first word begins with #
 abbrev pub is_skipped : List (List ℕ) → Bool
 is_skipped ws = (length ws == 0) || (slice_index (word_at ws 0) 0 == 35)
 
@@ -152,7 +152,7 @@ words_item seen ws =
     if word_at_is ws 0 (codes "limits") then limits_item ws else
     Err NoLimits
 
--- a command of a process stands behind the limits, and begins with no word of another line
+-- a command of a process comes after the limits, and does not begin with a word of another kind of line
 abbrev pub is_command : SeenView → List (List ℕ) → Bool
 is_command seen ws = is_some seen.limits && (not (word_at_is ws 0 (codes "0")) && (not (word_at_is ws 0 (codes "process")) && not (word_at_is ws 0 (codes "child"))))
 
@@ -160,7 +160,7 @@ is_command seen ws = is_some seen.limits && (not (word_at_is ws 0 (codes "0")) &
 abbrev pub some_item : Result Item FaultKind → Result (Option Item) FaultKind
 some_item said = said >>= λ item. Ok (Some item)
 
--- what a line says, with what the lines above it said
+-- what a line says, after what the lines above it said
 unfoldable pub line_item : SeenView → List ℕ → Result (Option Item) FaultKind
 line_item seen line =
     if list_all is_allowed line
@@ -189,7 +189,7 @@ abbrev pub with_item : Option Item → List Item → List Item
 with_item None items = items
 with_item (Some item) items = item ∷ items
 
--- what lines from the n-th on say, or the first fault
+-- what the lines from the n-th on say, or their first fault
 unfoldable pub items_of : ℕ → SeenView → List (List ℕ) → Result (List Item) ScriptFault
 items_of n seen [] = Ok []
 items_of n seen (line ∷ more) = do
@@ -197,7 +197,7 @@ items_of n seen (line ∷ more) = do
   items ← items_of (n + 1) (seen_next seen item) more
   Ok (with_item item items)
 
--- the limits among the items, and these where there are none
+-- the last limits among the items, or `b` if there are none
 abbrev pub limits_after : Option Bounds → List Item → Option Bounds
 limits_after b [] = b
 limits_after b (items.Limits c ∷ rest) = limits_after (Some c) rest
@@ -218,7 +218,7 @@ lines_in (items.Limits b ∷ rest) = lines_in rest
 lines_in (items.Process p ∷ rest) = lines_in rest
 lines_in (items.Line l ∷ rest) = l ∷ lines_in rest
 
--- without limits the fault is that of line 1
+-- a script without limits has its fault at line 1
 abbrev pub script_by : Option Bounds → List Item → Result ScriptView ScriptFault
 script_by None items = Err (record { line = 1; kind = NoLimits })
 script_by (Some b) items = Ok (record { limits = b; processes = processes_in items; lines = lines_in items })
@@ -226,7 +226,7 @@ script_by (Some b) items = Ok (record { limits = b; processes = processes_in ite
 abbrev pub script_from : List Item → Result ScriptView ScriptFault
 script_from items = script_by (limits_after None items) items
 
--- what lines say, one after another from the first
+-- what all lines say, or their first fault
 abbrev pub script_of_lines : List (List ℕ) → Result ScriptView ScriptFault
 script_of_lines text_lines = items_of 1 nothing text_lines >>= script_from
 
@@ -234,16 +234,16 @@ script_of_lines text_lines = items_of 1 nothing text_lines >>= script_from
 abbrev pub is_wordless : List ℕ → Bool
 is_wordless line = is_skipped (words_of line)
 
--- what is wrong with a first line: a byte that is not allowed, else that it is not the limits line
+-- the fault of a first line: a byte that is not allowed, else that it is not the limits line
 abbrev pub kind_without_limits : Option (List ℕ) → FaultKind
 kind_without_limits None = NoLimits
 kind_without_limits (Some line) = if list_all is_allowed line then NoLimits else BadByte
 
--- the fault of a text without words is that of its first line, whatever stands in the others
+-- the fault of a text without words is that of its first line
 abbrev pub without_words : List (List ℕ) → ScriptFault
 without_words text_lines = record { line = 1; kind = kind_without_limits (slice_get text_lines 0) }
 
--- what the lines of a text say
+-- what the lines of a text say, or the first fault
 abbrev pub said : List (List ℕ) → Result ScriptView ScriptFault
 said text_lines = if list_all is_wordless text_lines then Err (without_words text_lines) else script_of_lines text_lines
 
@@ -251,17 +251,17 @@ said text_lines = if list_all is_wordless text_lines then Err (without_words tex
 unfoldable pub script_of : List ℕ → Result ScriptView ScriptFault
 script_of bytes = if nat_lt LONGEST_SCRIPT (length bytes) then Err (record { line = 0; kind = TooLong }) else said (lines_of bytes)
 
--- a fault that was found is that of what was read
+-- a reported fault is the first fault
 abbrev pub FaultStands : ReadRefused → Result ScriptView ScriptFault → Type 0
 FaultStands refused.HostMemory read = Unit {0}
 FaultStands (refused.Fault fault) read = read ≡ Err fault
 
--- a refusal is the script's fault, or out of memory where it has none
+-- a reported fault is the first fault; out of memory is reported only if there is no fault
 abbrev pub IsFaultOf : ReadRefused → Result ScriptView ScriptFault → Type 0
 IsFaultOf refused.HostMemory read = IsOk read
 IsFaultOf (refused.Fault fault) read = read ≡ Err fault
 
--- there is room for one more pid where an item declares one
+-- if an item declares a process, there is room for its pid
 abbrev pub HasPlace : SeenView → Item → Type 0
 HasPlace seen (items.Process p) = length seen.pids < 64
 HasPlace seen _ = Unit {0}

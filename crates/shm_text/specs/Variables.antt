@@ -1,4 +1,4 @@
--- The variables of a process, and what a line's call is with them.
+-- The variables of a process, and the call that a line makes with them.
 use Rattle.std.specs.Prelude.{ℕ, ◌+◌, ◌-◌, ◌%◌, ◌^◌, ℤ, pos, negsuc, nat_le, if◌then◌else◌, List, Option, Some, None, get_or, set, replicate}
 use Rattle.shm_base.specs.declared.call.Call.{Call}
 use Rattle.shm_base.specs.declared.call.Call.TheVariants as calls
@@ -12,7 +12,7 @@ use Rattle.shm_text.specs.declared.script.LineCall.{LineCall}
 use Rattle.shm_text.specs.declared.script.LineCall.TheVariants.{Shmget, Shmat, Shmdt, Stat, Set, Rmid, Lock, Unlock, Load, Store, Xadd, Fork, Exec, Exit, Swapoff}
 use Rattle.shm_base.specs.declared.bounds.TheConstants.{LAST_ID}
 
--- a variable is a number, or -1, which is none
+-- a variable is a number, or None, which scripts see as -1
 abbrev pub no_values : List (Option ℕ)
 no_values = replicate 26 (Some 0)
 
@@ -28,7 +28,7 @@ abbrev pub id_of : List (Option ℕ) → LineId → ℤ
 id_of values (ids.Number n) = pos n
 id_of values (ids.Var v) = id_from (value_at values v)
 
--- -1 is the last address
+-- -1 as an address is the last address
 abbrev pub addr_from : Option ℕ → ℕ
 addr_from None = 2 ^ 64 - 1
 addr_from (Some n) = n
@@ -39,7 +39,7 @@ addr_of values (addrs.Number n) = n
 addr_of values (addrs.Var v) = addr_from (value_at values v)
 addr_of values (addrs.Sum v n) = (addr_from (value_at values v) + n) % 2 ^ 64
 
--- the call that a line makes
+-- the call that a line makes with these variables
 abbrev pub call_of : List (Option ℕ) → LineCall → Call
 call_of values (Shmget key size mode flags) = calls.Shmget key size mode flags
 call_of values (Shmat id addr flags) = calls.Shmat (id_of values id) (addr_of values addr) flags
@@ -68,12 +68,12 @@ reply_number (Addr addr) = Some addr
 reply_number (Number n) = Some n
 reply_number _ = None
 
--- a call that is out of memory gives no reply
+-- a call that runs out of memory has no reply
 abbrev pub answer_in : Option Reply → Option ℕ
 answer_in None = None
 answer_in (Some r) = reply_number r
 
--- the variables once a line with this variable, or none, was answered
+-- the variables after the answer of a line, which may have a variable
 abbrev pub values_after : List (Option ℕ) → Option ℕ → Option Reply → List (Option ℕ)
 values_after values None reply = values
 values_after values (Some v) reply = set values (v - 97) (answer_in reply)

@@ -1,4 +1,4 @@
-//! The calls of a line: a word, and after it the operands.
+//! The calls of a line: a word, and the operands that follow it.
 ghost use Rattle.std.specs.Prelude.{◌≡◌, ◌≤◌, ◌<◌, ◌+◌, length, take, drop, true, IfOk};
 ghost use Rattle.shm_text.specs.Form.{is_id, is_call, has_answer, is_answer_taken};
 ghost use Rattle.shm_text.specs.Calls.{verb_of, access_verb_of, control_verb_of, process_verb_of, operands, may_be_taken, id_operand, addr_operand, shmget_call, shmat_call, xadd_call, load_call, store_call, set_call, fork_call, swapoff_call, call_by, place_of, call_words};
@@ -12,7 +12,7 @@ use crate::script::{LineAddr, LineCall, LineId};
 use crate::words::Words;
 use shm_base::{AccessLen, LAST_PID, LONGEST_ACCESS, MOST_AREAS};
 
-/// The largest number of a swap area.
+/// The number of the last swap area that a machine can have.
 const LAST_AREA: u32 = MOST_AREAS as u32 - 1;
 
 /// The word of a call.
@@ -51,7 +51,7 @@ impl Verb {
         }
     }
 
-    // The words of calls at an address, and those after them.
+    // The words `shmdt`, `load` and the other accesses, or those tried after them.
     #[tactic(auto, unfolding(crate::specs::Calls::access_verb_of))]
     fn of_access(word: &[u8]) -> Option<Verb>
         ensures { result ≡ access_verb_of word.now }
@@ -67,7 +67,7 @@ impl Verb {
         }
     }
 
-    // The words of shmctl, and those after them.
+    // The words of shmctl(2), or those tried after them.
     #[tactic(auto, unfolding(crate::specs::Calls::control_verb_of))]
     fn of_control(word: &[u8]) -> Option<Verb>
         ensures { result ≡ control_verb_of word.now }
@@ -124,7 +124,7 @@ impl Verb {
         }
     }
 
-    // Whether a variable and `=` may stand before it.
+    // Whether a variable and `=` may precede it.
     fn may_be_taken(self) -> bool
         ensures { result ≡ may_be_taken self }
     {
@@ -149,7 +149,7 @@ fn addr_operand(words: &Words<'_>, index: usize) -> Result<LineAddr, FaultKind>
     ranged_addr(addr)
 }
 
-// The part of a word that has to be a mode: its first three bytes.
+// The first three bytes of a word: those that have to be a mode.
 fn mode_part(word: &[u8]) -> &[u8]
     ensures { result.now ≡ take 3 word.now }
 {
@@ -293,7 +293,7 @@ fn swapoff_call(words: &Words<'_>, index: usize) -> Result<LineCall, FaultKind>
     Ok(LineCall::Swapoff { area })
 }
 
-// The call of a word, whose operands stand at an index and end the line.
+// The call of a word. Its operands begin at an index and end the line.
 fn call_by(verb: Verb, words: &Words<'_>, index: usize) -> Result<LineCall, FaultKind>
     requires small { index ≤ 4 }
     requires words { index + operands verb ≡ length words.now }
@@ -335,7 +335,7 @@ fn call_by(verb: Verb, words: &Words<'_>, index: usize) -> Result<LineCall, Faul
     }
 }
 
-// Where a call's word is, after a variable and `=` or not.
+// The index of a call's word: it follows the pid, or a variable and `=`.
 fn place_of(taken: bool) -> usize
     ensures value { result ≡ place_of taken }
     ensures small { result ≤ 3 }
@@ -343,7 +343,7 @@ fn place_of(taken: bool) -> usize
     if taken { 3 } else { 1 }
 }
 
-/// The call of a line, whose answer a variable takes or not. Its operands end the line.
+/// The call of a line; `taken` says that a variable takes its answer. The operands end the line.
 #[tactic(auto, unfolding(crate::specs::Calls::call_words))]
 pub(crate) fn call_words(words: &Words<'_>, taken: bool) -> Result<LineCall, FaultKind>
     ensures value { result ≡ call_words words.now taken }

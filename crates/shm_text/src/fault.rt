@@ -1,17 +1,22 @@
-//! Why a script was refused.
+//! Why a script is refused.
 ghost use Rattle.std.specs.Prelude.{Some};
 ghost use Rattle.shm_text.specs.Fault.{kind_text};
 
 use std::{error, fmt};
 use thiserror::Error;
 
-/// What is wrong with a line, in the order in which a line is looked at. `TooLong`: the script has more
-/// than 1,048,576 bytes. `BadByte`: a byte that is no tab and not 0x20 to 0x7e. `NoLimits`: the first line
-/// with words has another first word than `limits`, or there is no such line and this is line 1. `BadLine`:
-/// the words have no form of the language. `BadNumber`: a number is out of its range. `BadLimits`: the limits
-/// are refused, by the number of the first that is out of range. `UnknownProcess`: the pid of a command, or
-/// the child of a fork, is not declared above. `Twice`: a pid is declared above. `TooMany`: the 65th process,
-/// or the 100,001st command or flush line.
+/// What is wrong with a line, in the order of the tests:
+///
+/// - `TooLong`: the script has more than 1,048,576 bytes.
+/// - `BadByte`: a byte that is neither a tab nor 0x20 to 0x7e.
+/// - `NoLimits`: the first line with words does not begin with `limits`, or there is no such line and this is
+///   line 1.
+/// - `BadLine`: the words have no form of the language.
+/// - `BadNumber`: a number is out of its range.
+/// - `BadLimits`: the limits are refused, with the number of the first that is out of its range.
+/// - `UnknownProcess`: the pid of a command, or the child of a fork, is not declared above.
+/// - `Twice`: the pid is declared above.
+/// - `TooMany`: the 65th process, or the 100,001st command or flush line.
 #[derive(Clone, Copy, Debug, PartialEq, Eq)]
 pub enum FaultKind {
     TooLong,
@@ -45,7 +50,7 @@ impl fmt::Display for FaultKind {
 
 impl error::Error for FaultKind {}
 
-/// The first fault of a script: its line, counted from 1, and what is wrong with it. Line 0 is the script
+/// The first fault of a script: its line, counted from 1, and what is wrong with it. Line 0 means the script
 /// as a whole.
 #[derive(Clone, Copy, Debug, PartialEq, Eq, Error)]
 #[error("line {line}: {kind}")]
@@ -54,7 +59,7 @@ pub struct ScriptFault {
     pub kind: FaultKind,
 }
 
-/// Why no script was read: its fault, or out of memory where it has none.
+/// Why no script was read: its first fault; or the host refused memory, and the script has no fault.
 #[derive(Debug, Drop, Error)]
 pub enum ReadRefused {
     #[error("out of memory")]

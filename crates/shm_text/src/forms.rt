@@ -37,7 +37,7 @@ fn limits_item(words: &Words<'_>) -> Result<Item, FaultKind>
     }
 }
 
-// A process that is not declared above.
+// A new process. Its pid must not be declared above.
 fn declared(seen: &Seen, process: Process) -> Result<Item, FaultKind>
     ensures value { result ≡ declared seen.now process }
     ensures place { IfOk result (λ item. HasPlace seen.now item) }
@@ -118,7 +118,7 @@ fn known(seen: &Seen, pid: u32) -> Result<(), FaultKind>
     }
 }
 
-// The child of a fork has to be declared above too.
+// The child of a fork must be declared above too.
 fn known_child(seen: &Seen, call: &LineCall) -> Result<(), FaultKind>
     ensures { result ≡ known_child seen.now call.now }
 {
@@ -128,7 +128,7 @@ fn known_child(seen: &Seen, call: &LineCall) -> Result<(), FaultKind>
     }
 }
 
-// The pid of a line, whose processes have to be declared above.
+// The pid of a line. It, and the child of a fork, must be declared above.
 fn declared_pid(seen: &Seen, pid: Number, call: &LineCall) -> Result<u32, FaultKind>
     ensures value { result ≡ declared_pid seen.now pid call.now }
     ensures range { IfOk result (λ p. is_pid p ≡ true) }
@@ -160,7 +160,7 @@ fn flush_item(words: &Words<'_>) -> Result<Item, FaultKind>
     Ok(Item::Line(Line::Flush(flush_line(pages))))
 }
 
-// A flush line, where there may be one more.
+// A flush line, if one more command or flush line is allowed.
 #[tactic(auto, unfolding(crate::specs::Reading::command_item))]
 fn counted_flush(seen: &Seen, words: &Words<'_>) -> Result<Item, FaultKind>
     ensures value { result ≡ with_room seen.now (flush_item words.now) }
@@ -172,7 +172,7 @@ fn counted_flush(seen: &Seen, words: &Words<'_>) -> Result<Item, FaultKind>
     }
 }
 
-// A line that is no command of a process: the limits, a process, a flush round.
+// A line that is not a command of a process: the limits, a process, or a flush round.
 #[inline(never)]
 #[tactic(auto, unfolding(crate::specs::Reading::words_item, crate::specs::Reading::body_item, crate::specs::Reading::command_item))]
 fn other_item(seen: &Seen, words: &Words<'_>) -> Result<Item, FaultKind>
@@ -194,7 +194,7 @@ fn other_item(seen: &Seen, words: &Words<'_>) -> Result<Item, FaultKind>
     }
 }
 
-// Whether a line is a command of a process, by its first word.
+// Whether a line is a command of a process, which its first word decides.
 fn is_command(seen: &Seen, words: &Words<'_>) -> bool
     requires { 0 < length words.now }
     ensures { result ≡ is_command seen.now words.now }
@@ -202,7 +202,7 @@ fn is_command(seen: &Seen, words: &Words<'_>) -> bool
     seen.has_limits() && !words.is(0, b"0") && !words.is(0, b"process") && !words.is(0, b"child")
 }
 
-// The command of a process, whose pid is tested after the call. What it says is put together once, here.
+// The command of a process. Its pid is tested after the call. The command is put together once, here.
 #[inline(always)]
 #[tactic(auto, using(crate::proofs::FirstWords::command_words))]
 fn command(seen: &Seen, words: &Words<'_>) -> Result<Option<Item>, FaultKind>
@@ -230,7 +230,7 @@ pub(crate) fn is_skipped(words: &Words<'_>) -> bool
     words.len() == 0 || words.at(0).first() == Some(&b'#')
 }
 
-/// What the line that was read last says, with what the lines above it said.
+/// What the line that was read last says, after the lines above it.
 #[inline(always)]
 #[tactic(auto, using(crate::proofs::FirstWords::same_words), unfolding(crate::specs::Reading::line_item))]
 pub(crate) fn line_item(seen: &Seen, lines: &Lines<'_>) -> Result<Option<Item>, FaultKind>

@@ -1,4 +1,4 @@
-//! The script language: reading a script, and the variables of its processes.
+//! The script language: reads a script, and keeps the variables of its processes.
 #![tactic(auto)]
 
 mod calls;

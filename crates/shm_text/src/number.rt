@@ -3,14 +3,14 @@
 ghost use Rattle.std.specs.Prelude.{◌≡◌, ◌≤◌, ◌<◌, ◌+◌, ◌*◌, ℕ, length, MatchOption, None, Some};
 ghost use Rattle.shm_text.specs.Number.{numeral, number_of, number_from, decimal_of};
 
-/// A number, or any that passes the largest of 64 bits.
+/// A number of 64 bits, or one that is too large.
 #[derive(Clone, Copy, Debug, PartialEq, Eq)]
 pub enum Number {
     Fits(u64),
     TooLarge,
 }
 
-/// This many digits of any base spell a number of 64 bits.
+/// This many digits of any base up to 16 spell a number of 64 bits.
 const SHORT: usize = 15;
 
 /// The number that a few digits of a base spell.
@@ -65,7 +65,7 @@ fn many_digits(word: &[u8], radix: u32) -> Option<Number>
     Some(value)
 }
 
-/// The number with one digit more.
+/// The number with one more digit.
 #[inline(always)]
 fn push(value: Number, radix: u32, digit: u32) -> Number
     requires low { 2 ≤ radix }
@@ -84,7 +84,7 @@ fn push(value: Number, radix: u32, digit: u32) -> Number
     }
 }
 
-/// Decimal digits, or hexadecimal ones after `0x`.
+/// Reads decimal digits, or hexadecimal ones after `0x`.
 pub(crate) fn read_number(word: &[u8]) -> Option<Number>
     ensures { result ≡ number_of word.now }
 {
@@ -94,7 +94,7 @@ pub(crate) fn read_number(word: &[u8]) -> Option<Number>
     }
 }
 
-/// The number of 64 bits that decimal digits spell, leading zeros allowed, or none for any other word.
+/// The number of 64 bits that decimal digits spell. Leading zeros are allowed; any other word gives none.
 pub fn read_decimal(word: &[u8]) -> Option<u64>
     ensures { result ≡ decimal_of word.now }
 {

@@ -1,5 +1,5 @@
-//! The operands of a line: a word each. What can't be read at all is a bad line; ranges are tested
-//! afterwards, so that a bad line comes before a bad number.
+//! The operands of a line: one word each. Words that can't be read make a bad line; ranges are tested
+//! afterwards, so a bad line is reported before a bad number.
 ghost use Rattle.std.specs.Prelude.{◌≡◌, ◌≤◌, ◌<◌, ◌==◌, true, length, drop, Ok, IfOk, Some};
 ghost use Rattle.std.specs.Str.{bytes_eq};
 ghost use Rattle.shm_text.specs.Operand.{required_number, ranged, within_64_bits, key_word, letter_of, addr_by, id_word, addr_word, ranged_id, ranged_addr, mode_word, get_flags_word, names_of, times, at_flags_word, chunk_word};
@@ -26,7 +26,7 @@ pub(crate) enum AddrWord {
     LetterPlus(Variable, Number),
 }
 
-/// Whether a word is a text, which may be an array: `==` takes none beside a slice.
+/// Whether a word equals a text. The text may be an array, which `==` does not compare with a slice.
 #[inline(always)]
 pub(crate) fn is_word(word: &[u8], text: &[u8]) -> bool
     ensures { result ≡ bytes_eq word.now text.now }
@@ -107,7 +107,7 @@ pub(crate) fn ranged_id(word: IdWord) -> Result<LineId, FaultKind>
     }
 }
 
-// The rest of a word after its first two bytes.
+// The word without its first two bytes.
 fn behind_sign(word: &[u8]) -> &[u8]
     requires { 2 ≤ length word.now }
     ensures { result.now ≡ drop 2 word.now }
@@ -115,7 +115,7 @@ fn behind_sign(word: &[u8]) -> &[u8]
     &word[2..]
 }
 
-// A word that begins with a letter and has to be an address.
+// An address that begins with a letter: a variable, or a variable and a number after `+`.
 fn letter_addr(var: Variable, word: &[u8]) -> Result<AddrWord, FaultKind>
     requires { 0 < length word.now }
     ensures { result ≡ addr_by word.now (Some var) }
@@ -177,7 +177,7 @@ pub(crate) fn mode_word(word: &[u8]) -> Result<u16, FaultKind>
     }
 }
 
-/// What follows a mode: the flags of shmget, each at most once and after a comma.
+/// The flags of shmget after a mode: each at most once, and after a comma.
 #[tactic(auto, unfolding(bitflags::proofs::OnLiterals::bitflags_on_literals))]
 pub(crate) fn get_flags_word(word: &[u8]) -> Result<GetFlags, FaultKind>
     ensures value { result ≡ get_flags_word word.now }
@@ -196,21 +196,21 @@ pub(crate) fn get_flags_word(word: &[u8]) -> Result<GetFlags, FaultKind>
     }
 }
 
-// How many names a list with commas has.
+// How many names a comma-separated list has.
 fn names(word: &[u8]) -> usize
     ensures { result ≡ length (names_of word.now) }
 {
     word.split(|b| *b == b',').count()
 }
 
-// How often a name is in a list with commas.
+// How often a comma-separated list has a name.
 fn times(word: &[u8], name: &[u8]) -> usize
     ensures { result ≡ times word.now name.now }
 {
     word.split(|b| *b == b',').filter(|n| *n == name).count()
 }
 
-/// A word that has to be flags of shmat: `-`, or a list of names, each at most once.
+/// A word that has to be flags of shmat: `-`, or a list of names with each at most once.
 pub(crate) fn at_flags_word(word: &[u8]) -> Result<AtFlags, FaultKind>
     ensures value { result ≡ at_flags_word word.now }
     ensures form { IfOk result (λ flags. is_at_flags flags ≡ true) }

@@ -1,4 +1,4 @@
-//! Reads a script, line by line from the top.
+//! Reads a script line by line.
 ghost use Rattle.std.specs.Prelude.{◌≡◌, ◌<◌, ◌≤◌, ◌++◌, ◌/◌, [], IfOk, OnOk, IsOk, IfErr, Ok, Err, length, not, MatchOption, nat_le, is_some, min};
 ghost use Rattle.std.specs.List.{list_all};
 ghost use Rattle.shm_text.specs.Reading.{script_of_lines, script_of, without_words, is_wordless, nothing, seen_next, with_item, processes_in, lines_in, is_declared, IsFaultOf, FaultStands, HasPlaceFor};
@@ -13,8 +13,8 @@ use shm_base::{LONGEST_SCRIPT, Limits, MOST_COMMANDS, PROFILE_PROCESSES, Process
 use std::alloc::{AllocError, Global};
 use std::marker::Model;
 
-/// What the lines above a line said: whether there were limits, the declared pids, and how many command
-/// and flush lines there were.
+/// What the lines above a line said: whether there were limits, the declared pids, and the number of command
+/// and flush lines.
 #[derive(Drop)]
 pub(crate) struct Seen {
     limits: Option<Limits>,
@@ -59,7 +59,7 @@ impl Seen {
         self.pids.as_slice().iter().any(|declared| *declared == pid)
     }
 
-    /// Whether no more processes may be declared.
+    /// Whether no more processes can be declared.
     pub(crate) fn is_full(&self) -> bool
         ensures { result ≡ nat_le 64 (length self.now.pids) }
     {
@@ -81,8 +81,10 @@ impl Seen {
     }
 }
 
-/// What a script says, or its first fault. Out of memory is answered only where the script has no fault.
-/// A script has at most 1,048,576 bytes.
+/// Reads a script of at most 1,048,576 bytes (docs/SCRIPT.md).
+///
+/// - `Fault`: the script's first fault.
+/// - `HostMemory`: the host refused memory, and the script has no fault.
 #[tactic(auto, unfolding(crate::specs::Reading::script_of))]
 pub fn read_script(alloc: Global, bytes: &[u8]) -> Result<Script, ReadRefused>
     ensures read { IfOk result (λ script. script_of bytes.now ≡ Ok script) }
@@ -104,7 +106,7 @@ pub fn read_script(alloc: Global, bytes: &[u8]) -> Result<Script, ReadRefused>
     }
 }
 
-/// Whether a line has words and is no comment.
+/// Whether some line has words and is not a comment.
 fn has_words(bytes: &[u8]) -> bool
     ensures { result ≡ not (list_all is_wordless (lines_of bytes.now)) }
 {
@@ -117,7 +119,8 @@ fn has_words(bytes: &[u8]) -> bool
     false
 }
 
-/// The fault of a text without words: it has no limits line, or its first line a byte that is not allowed.
+/// The fault of a text without words: `BadByte` if its first line has a byte that is not allowed, else
+/// `NoLimits`.
 fn without_words(bytes: &[u8]) -> ScriptFault
     ensures { result ≡ without_words (lines_of bytes.now) }
 {
@@ -130,16 +133,16 @@ fn without_words(bytes: &[u8]) -> ScriptFault
     ScriptFault { line: 1, kind }
 }
 
-/// The bytes of a short line, as `1 rmid s`.
+/// The bytes of a short line such as `1 rmid s`.
 const SHORT_LINE: usize = 8;
 
-/// Without a limits line the fault is at line 1.
+/// A missing limits line is reported at line 1.
 const NO_LIMITS: ScriptFault = ScriptFault {
     line: 1,
     kind: FaultKind::NoLimits,
 };
 
-/// The first fault of a text's lines, or out of memory where they have none.
+/// The first fault of a text's lines; out of memory if they have none.
 fn fault_or_memory(bytes: &[u8]) -> ReadRefused
     requires { length bytes.now ≤ LONGEST_SCRIPT }
     ensures { IsFaultOf result (script_of_lines (lines_of bytes.now)) }
@@ -172,8 +175,8 @@ fn first_fault(bytes: &[u8]) -> Option<ScriptFault>
     }
 }
 
-// For how many lines room is made at once: for as many as this many bytes mostly have, so that few have to move, and as a
-// script may have.
+// How many lines to make room for at once: as many as a text of this length has if they are short, so that
+// the list rarely grows, and at most the 100,000 that a script may have.
 fn room_wanted(bytes: &[u8]) -> usize
     ensures { result ≡ min (length bytes.now / 8) 100000 }
 {
@@ -197,7 +200,7 @@ fn keep(
     Ok(())
 }
 
-/// What the lines of a text say, or the first fault. Where memory is out, nothing is known of the lines.
+/// What the lines of a text say, or the first fault. After HostMemory nothing is known of the lines.
 fn read_lines(alloc: Global, bytes: &[u8]) -> Result<Script, ReadRefused>
     requires { length bytes.now ≤ LONGEST_SCRIPT }
     ensures read { IfOk result (λ script. script_of_lines (lines_of bytes.now) ≡ Ok script) }

@@ -1,10 +1,10 @@
-//! What a script says, by its types.
+//! A script's values, by their types.
 ghost use Rattle.std.specs.Prelude.{◌≡◌, ◌≤◌, ◌↔◌, IsSome, IfSome};
 
 use shm_base::{AccessLen, AtFlags, Chunk, GetFlags, Limits, MOST_FLUSHED, Process};
 use std::marker::Model;
 
-/// A variable of a process: one letter, a to z. It is seen as its letter's byte.
+/// A variable of a process: one letter, a to z. Contracts see its byte.
 #[derive(Clone, Copy, Debug, PartialEq, Eq)]
 pub struct Variable {
     letter: u8,
@@ -23,7 +23,7 @@ impl Model for Variable {
 }
 
 impl Variable {
-    /// The variable of a letter, or none where the byte is not a to z.
+    /// The variable of a letter; none if the byte is not a to z.
     pub fn new(letter: u8) -> Option<Variable>
         ensures which { IsSome result ↔ (97 ≤ letter) × (letter ≤ 122) }
         ensures value { IfSome result (λ v. v ≡ letter) }
@@ -43,15 +43,14 @@ impl Variable {
     }
 }
 
-/// An identifier as a script has it: a number, or a variable.
+/// An identifier in a script: a number or a variable.
 #[derive(Clone, Copy, Debug, PartialEq, Eq)]
 pub enum LineId {
     Number(u32),
     Var(Variable),
 }
 
-/// An address as a script has it: a number, where `null` is 0, a variable, or a variable and what is
-/// added to it.
+/// An address in a script: a number (`null` is 0), a variable, or a variable and a number to add.
 #[derive(Clone, Copy, Debug, PartialEq, Eq)]
 pub enum LineAddr {
     Number(u64),
@@ -59,7 +58,7 @@ pub enum LineAddr {
     Sum(Variable, u64),
 }
 
-/// A call as a script has it: identifiers and addresses may be variables.
+/// A call in a script; identifiers and addresses may be variables.
 #[derive(Debug, Drop, PartialEq)]
 pub enum LineCall {
     Shmget {
@@ -116,8 +115,8 @@ pub enum LineCall {
     },
 }
 
-/// A command line: the process, the variable that takes the answer, and the call. It has a form of the
-/// script's language, with the ranges there.
+/// A command line: the process, the variable that takes the answer, and the call. Its numbers are within the
+/// ranges of docs/SCRIPT.md.
 #[derive(Debug, PartialEq)]
 pub struct Command {
     pub(crate) pid: u32,
@@ -152,7 +151,7 @@ impl Command {
     ghost use Rattle.std.specs.Prelude.{true};
     ghost use Rattle.shm_text.specs.Form.{is_call};
 
-    /// The process.
+    /// The pid of the process that makes the call.
     pub fn pid(&self) -> u32
         ensures value { result ≡ self.now.pid }
         ensures range { (1 ≤ result) × (result ≤ 2147483647) }
@@ -160,14 +159,13 @@ impl Command {
         self.pid
     }
 
-    /// The variable that takes the answer.
+    /// The variable that takes the answer, if the line has one.
     pub fn var(&self) -> Option<Variable>
         ensures { result ≡ self.now.var }
     {
         self.var
     }
 
-    /// The call.
     pub fn call(&self) -> &LineCall
         ensures value { result.now ≡ self.now.call }
         ensures form { is_call result.now ≡ true }
@@ -176,7 +174,7 @@ impl Command {
     }
 }
 
-/// A line that asks for a flush round of at most this many pages, 1 to 4096.
+/// A flush line: a round that writes at most this many pages, 1 to 4096.
 #[derive(Clone, Copy, Debug, PartialEq, Eq)]
 pub struct FlushLine {
     pages: u32,
@@ -195,7 +193,7 @@ impl Model for FlushLine {
 }
 
 impl FlushLine {
-    /// A round of this many pages, or none outside 1 to 4096.
+    /// A round of this many pages; none if that is not 1 to 4096.
     pub fn new(pages: u64) -> Option<FlushLine>
         ensures which { IsSome result ↔ (1 ≤ pages) × (pages ≤ 4096) }
         ensures value { IfSome result (λ f. f ≡ pages) }
@@ -208,7 +206,7 @@ impl FlushLine {
         })
     }
 
-    /// How many pages at most.
+    /// The most pages that the round writes.
     pub fn pages(self) -> u32
         ensures value { result ≡ self }
         ensures range { (1 ≤ result) × (result ≤ 4096) }
@@ -259,7 +257,7 @@ impl Model for Script {
     ghost view = { λ s. record { limits = s.limits; processes = s.processes.items; lines = s.lines.items } };
 }
 
-/// What one line says, where it says something.
+/// What one line says, if it says something.
 #[derive(Debug, Drop)]
 pub(crate) enum Item {
     Limits(Limits),

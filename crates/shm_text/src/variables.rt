@@ -9,8 +9,8 @@ use crate::script::{Command, LineAddr, LineCall, LineId, Variable};
 use shm_base::{Call, LAST_ID, Reply, ShmId};
 use std::marker::Model;
 
-/// The 26 variables of one process. Each is a number, or -1, which stands for a refusal or out of memory;
-/// as an identifier -1 was never issued, and as an address it is the last one. All begin as 0.
+/// The 26 variables of one process. Each is a number, or -1 after a refusal or out of memory. As an
+/// identifier -1 was never issued; as an address it is the last one. All begin as 0.
 pub struct Vars {
     values: [Option<u64>; 26],
 }
@@ -56,7 +56,7 @@ fn addr_in(value: Option<u64>) -> u64
 }
 
 impl Vars {
-    /// The variables of a process that begins.
+    /// The variables of a process when it begins: all are 0.
     pub fn new() -> Vars
         ensures { result ≡ no_values }
     {
@@ -91,7 +91,7 @@ impl Vars {
         }
     }
 
-    /// The call that a command line makes now.
+    /// The call that a command line makes, with the variables' present values.
     pub fn call(&self, command: &Command) -> Call
         ensures { result ≡ call_of self.now command.now.call }
     {
@@ -144,8 +144,8 @@ impl Vars {
         }
     }
 
-    /// Takes the answer of a command line, where the line has a variable: the reply's identifier, address
-    /// or number, or -1 for a refusal and, with no reply, out of memory.
+    /// Stores the answer of a command line in the line's variable, if it has one: the identifier, address or
+    /// number of the reply. A refusal stores -1, and so does out of memory, which has no reply.
     pub fn took(&mut self, command: &Command, reply: Option<&Reply>)
         ensures { self.new ≡ values_after self.old command.now.var (option_copied reply.entry) }
     {

@@ -7,10 +7,10 @@ ghost use Rattle.shm_text.specs.Words.{is_allowed, is_space, words_of, with_word
 
 use std::marker::Model;
 
-/// One word more than a line of any form has.
+/// One more word than any form has.
 pub(crate) const MOST_WORDS: usize = 8;
 
-// Whether a byte is allowed and no space.
+// Whether a byte is allowed in a line and is not a space.
 #[inline(always)]
 fn is_of_word(byte: u8) -> bool
     ensures { result ≡ is_allowed byte && not (is_space byte) }
@@ -40,7 +40,7 @@ impl<'a> Model for Words<'a> {
     ghost invariant = { λ w. w.count ≤ 8 };
 }
 
-/// Where the first line of a text ends, and whether each byte of it is allowed.
+/// Where the first line of a text ends, and whether all its bytes are allowed.
 #[derive(Clone, Copy)]
 pub(crate) struct Scanned {
     pub(crate) end: usize,
@@ -59,7 +59,7 @@ impl<'a> Words<'a> {
         }
     }
 
-    // Appends a word to the others, where it has bytes and there is room.
+    // Appends a word, if it has bytes and there is room.
     #[inline(always)]
     fn keep(&mut self, word: &'a [u8])
         ensures { self.new ≡ take MOST_WORDS (self.old ++ with_word word.now) }
@@ -74,8 +74,7 @@ impl<'a> Words<'a> {
         self.count += 1;
     }
 
-    /// Takes the first words of the first line of a text in place of those that there are. Every byte of the line is
-    /// looked at once.
+    /// Replaces the words by those of the first line of a text. Looks at each byte of the line once.
     #[inline(always)]
     pub(crate) fn take(&mut self, text: &'a [u8]) -> Scanned
         ensures end { result.end ≡ line_end text.now }
@@ -117,7 +116,7 @@ impl<'a> Words<'a> {
         requires { index < length self.now }
         ensures { result.now ≡ word_at self.now index }
     {
-        // What is read has a proof know that there are no more words than places.
+        // Reading the count tells the proof that there are no more words than places.
         let _ = &self.count;
         self.found[index]
     }

@@ -1,4 +1,4 @@
--- The entries beside one line more.
+-- The entries and one more line.
 use Rattle.std.specs.Prelude.{◌≡◌, ◌≤◌, ◌↔◌, ℕ, List, [], ◌∷◌, Option, length, drop}
 use Rattle.std.proofs.Common.{ap, refl, arith}
 use Rattle.std.proofs.lemmas.List.{drop_all, length-drop}

@@ -19,7 +19,7 @@ module _ {X : Type 0} (f : X → X) where
   still (x ∷ xs) zero d lt = refl
   still (x ∷ xs) (suc i) d lt = still xs i d (omega (arith, lt))
 
-  -- one more, where its element is written anew
+  -- one more element has its new value
   pub one_noted : (xs cur : List X) (i : ℕ) (y d : X) → i < length xs → cur ≡ noted i xs → y ≡ f (get_or cur i d) → set cur i y ≡ noted (i + 1) xs
   one_noted xs cur i y d lt is value =
       let same : y ≡ f (get_or xs i d) = value ∙ ap (λ ys. f (get_or ys i d)) is ∙ ap f (still xs i d lt) in

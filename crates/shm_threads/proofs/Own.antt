@@ -1,4 +1,4 @@
--- The entries beside the events of their process.
+-- The entries and the events of their process.
 use Rattle.std.specs.Prelude.{◌≡◌, ◌<◌, ◌≤◌, ◌↔◌, ℕ, ◌+◌, nat_le, List, [], ◌∷◌, true, is_some, length, drop, slice_get}
 use Rattle.std.proofs.Common.{zero, suc, ap, ◌∙◌, refl, sym, arith, inl, inr, eq-eqb, le-leb, leb-true}
 use Rattle.std.proofs.Math.ListN.{get_or}
@@ -16,7 +16,7 @@ some-event : (pid : ℕ) (call : Call) (a : Answer) (rest : List Event) → is_s
 some-event pid call (Replied r) rest is none = absurd (let more : length (events_of pid call (Replied r) rest) ≡ 0 = ap length none in omega (arith, more))
 some-event pid call HostMemory rest is none = absurd (cc)
 
--- an entry that is answered tells of an event
+-- an entry with a reply stands for an event
 pub told-some : (pid k : ℕ) (es : List Entry) → k < length es → is_answered (slice_get es k) ≡ true → transcript_events pid (drop k es) ≡ [] → ⊥
 told-some pid k [] lt is none = absurd (omega (arith, lt))
 told-some pid zero (e ∷ es) lt is none = some-event pid e.call e.answer (transcript_events pid es) is none
@@ -28,7 +28,7 @@ first-event :
 first-event pid call (Replied r) rest v more is eq = (ap (λ (l : List Event). (get_or l 0 v).call) eq, ap (λ (l : List Event). Replied (get_or l 0 v).reply) eq)
 first-event pid call HostMemory rest v more is eq = absurd (cc)
 
--- the first event that they tell of is that of the first of them
+-- their first event is that of the first of them
 pub told-first :
     (pid k : ℕ) (es : List Entry) (e v : Entry) (w : Event) (more : List Event)
     → k < length es → is_answered (slice_get es k) ≡ true → get_or es k v ≡ e
@@ -42,7 +42,7 @@ own-next pid i hs v lt is same =
     let first : drop i hs ≡ v ∷ drop (i + 1) hs = drop_more hs i v lt ∙ ap (λ x. x ∷ drop (i + 1) hs) (sym is) in
     rw (first, eq-eqb v.pid pid same) refl
 
--- where no event is left, just those entries agree of which none is answered
+-- if no event is left, exactly the entries without replies agree
 pub no-more-events :
     (pid k i : ℕ) (es : List Entry) (hs : List Event) → length hs ≤ i → (k < length es → is_answered (slice_get es k) ≡ true)
     → transcript_events pid (drop k es) ≡ own_part pid (drop i hs) ↔ nat_le (length es) k ≡ true

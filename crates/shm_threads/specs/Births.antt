@@ -1,4 +1,4 @@
--- Who of the processes is born and who has left.
+-- The processes that are born and those that have left.
 use Rattle.std.specs.Prelude.{◌==◌, ◌&&◌, ℕ, Bool, true, false, not, List, map, if◌then◌else◌}
 use Rattle.std.specs.List.{list_any}
 use Rattle.shm_base.specs.declared.call.Call.{Call}
@@ -17,16 +17,16 @@ with_end pid p = if p.pid == pid then record p { has_ended = true } else p
 abbrev pub is_born_in : ℕ → List ProcessState → Bool
 is_born_in pid ps = list_any (λ (p : ProcessState). p.pid == pid && p.is_born) ps
 
--- a born process that has not left may fork
+-- some process is born and has not left, so it may fork
 abbrev pub may_fork_in : List ProcessState → Bool
 may_fork_in ps = list_any (λ (p : ProcessState). p.is_born && not p.has_ended) ps
 
--- who is born and who has left once a call was answered: the child of a fork that was done is born
+-- the states of the processes after a call: the child of a successful fork is born
 abbrev pub births_after : Call → Answer → List ProcessState → List ProcessState
 births_after (Fork child) (Replied Done) ps = map (with_birth child) ps
 births_after _ _ ps = ps
 
--- whether that is news
+-- that is news for waiting threads
 abbrev pub is_birth : Call → Answer → Bool
 is_birth (Fork child) (Replied Done) = true
 is_birth _ _ = false

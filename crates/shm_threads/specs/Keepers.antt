@@ -1,4 +1,4 @@
--- What comes back of a gauge's keeper that was handed to a run.
+-- The keeper of a gauge after a run.
 use Rattle.std.specs.Prelude.{◌≡◌, ◌<◌, ◌⊎◌, false, Option, Some, None, length}
 use Rattle.shm_history.specs.Gauges.{CellName, Seat, has_gauge, reading_of}
 use Rattle.shm_history.specs.WorldState.{WorldState, tally_of}
@@ -9,11 +9,11 @@ abbrev pub cell_of : Option Seat → Option CellName
 cell_of None = None
 cell_of (Some k) = Some k.cell
 
--- the counts are the world's, or have more events than its history, or the world is too large for a gauge
+-- the counts are the world's; or they have more events than its history; or the world is too large for a gauge
 abbrev pub IsCaughtUp : WorldState → Reading → Type 0
 IsCaughtUp world counts = (counts ≡ reading_of (tally_of world)) ⊎ (length world.events < counts.events) ⊎ (has_gauge world.machine.limits ≡ false)
 
--- so it is with the keeper, if there is one
+-- the same for the keeper, if there is one
 abbrev pub HasPublished : WorldState → Option Seat → Type 0
 HasPublished world None = Unit {0}
 HasPublished world (Some k) = IsCaughtUp world k.numbers

@@ -1,4 +1,4 @@
--- What a run takes memory for before its workers start.
+-- The memory that a run takes before its workers start.
 use Rattle.std.specs.Prelude.{◌≡◌, ◌==◌, ℕ, ◌+◌, ◌≤◌, Bool, false, List, [], length, All, Vec, vec_len, vec_capacity}
 use Rattle.std.specs.declared.alloc.Global.{Global}
 use Rattle.std.specs.declared.thread.JoinHandle.{JoinHandle}

@@ -1,4 +1,4 @@
--- What transcripts say of a history.
+-- How transcripts match a history.
 use Rattle.std.specs.Prelude.{◌≡◌, ◌≢◌, ◌<◌, ◌↔◌, ◌⊎◌, ◌==◌, ℕ, List, [], ◌∷◌, map, Bool, true, false, not, ◌&&◌, is_some, if◌then◌else◌, Option, Some, None, IsNone, MatchBool, All, min}
 use Rattle.std.specs.List.{list_any}
 use Rattle.shm_base.specs.History.{own_part}
@@ -27,18 +27,18 @@ commands_of pid [] = []
 commands_of pid (Flush n ∷ ls) = commands_of pid ls
 commands_of pid (Command c ∷ ls) = if c.pid == pid then c ∷ commands_of pid ls else commands_of pid ls
 
--- that memory is out is no reply
+-- out of memory is not a reply
 abbrev pub reply_in : Answer → Option Reply
 reply_in (Replied r) = Some r
 reply_in HostMemory = None
 
--- whether a process ends by this call and answer
+-- the process ends with this call and answer
 abbrev pub is_end : Call → Answer → Bool
 is_end Exit (Replied Done) = true
 is_end _ _ = false
 
--- The entries follow the command lines from these variables: each has its line's call, with variables worked out
--- from the answers before it, and they go on to the last line or to the first exit answered ok
+-- The entries follow the command lines from these variables. Each has its line's call, with the variables that earlier answers
+-- set. They end with the last line, or with the first successful exit
 abbrev pub Follows : List (Option ℕ) → List CommandView → List Entry → Type 0
 Follows values [] [] = Unit {0}
 Follows values [] (e ∷ es) = ⊥
@@ -47,22 +47,22 @@ Follows values (c ∷ cs) (e ∷ es) =
     (e.call ≡ call_of values c.call)
     × MatchBool (is_end e.call e.answer) (es ≡ []) (Follows (values_after values c.var (reply_in e.answer)) cs es)
 
--- a call that was answered is an event of its process, and one marked out of memory is none
+-- a call with a reply is an event of its process; one that ran out of memory is not
 abbrev pub events_of : ℕ → Call → Answer → List Event → List Event
 events_of pid call (Replied r) rest = record { pid = pid; call = call; reply = r } ∷ rest
 events_of pid call HostMemory rest = rest
 
--- the events that a transcript tells of
+-- the events of a transcript
 abbrev pub transcript_events : ℕ → List Entry → List Event
 transcript_events pid [] = []
 transcript_events pid (e ∷ es) = events_of pid e.call e.answer (transcript_events pid es)
 
--- whether the entry is one that is not marked
+-- the entry exists and is not marked
 abbrev pub is_answered : Option Entry → Bool
 is_answered None = false
 is_answered (Some e) = is_some (reply_in e.answer)
 
--- whether the call is a fork of the child that was answered ok
+-- the call is a successful fork of this child
 abbrev pub is_fork_of : ℕ → Call → Reply → Bool
 is_fork_of child (Fork c) Done = c == child
 is_fork_of child _ _ = false
@@ -70,7 +70,7 @@ is_fork_of child _ _ = false
 abbrev pub is_forked : ℕ → List Event → Bool
 is_forked child history = list_any (λ (e : Event). is_fork_of child e.call e.reply) history
 
--- whether a pid is declared as that of a child
+-- the pid is declared as a child's
 abbrev pub is_child : ℕ → List Process → Bool
 is_child pid processes = list_any (λ (p : Process). p.pid == pid && not (is_some p.born)) processes
 
@@ -80,38 +80,37 @@ pid_in p = p.pid
 abbrev pub pid_of : Transcript → ℕ
 pid_of t = t.pid
 
--- the transcript follows its process's lines, or is that of a child that was never born
+-- the transcript follows its process's lines, or is empty and that of a child that was never born
 abbrev pub HasLines : ScriptView → List Event → Transcript → Type 0
 HasLines script history t =
     Follows no_values (commands_of t.pid script.lines) t.entries.items
     ⊎ ((is_child t.pid script.processes ≡ true) × (t.entries.items ≡ []) × (is_forked t.pid history ≡ false))
 
--- only a call that may take memory is marked as out of it
+-- only a call that may take memory is marked as out of memory
 abbrev pub IsMarkAllowed : Entry → Type 0
 IsMarkAllowed e = e.answer ≡ HostMemory → takes_memory e.call ≡ true
 
--- What holds of one transcript. Without its marked entries it is its process's own part of the history
+-- One transcript is right: without its marked entries it is its process's own part of the history
 pub record IsTranscript (script : ScriptView) (history : List Event) (t : Transcript) : Type 0 where
   pub lines : HasLines script history t
   pub own : transcript_events t.pid t.entries.items ≡ own_part t.pid history
   pub marks : All IsMarkAllowed t.entries.items
 
--- the lesser of a pid and the least so far
+-- the lesser of a pid and the least one so far
 abbrev pub least_of : Option ℕ → ℕ → ℕ
 least_of None pid = pid
 least_of (Some other) pid = min other pid
 
--- The event is of a declared process, which was live
+-- The event is one of a declared process that was live
 pub record IsAdmitted (processes : List Process) (e : Event) : Type 0 where
   pub declared : has_pid e.pid processes ≡ true
   pub live : e.reply ≢ Refused Esrch
 
--- one transcript for each process of the script, in its order
+-- there is one transcript for each process of the script, in its order
 abbrev pub AreListed : ScriptView → List Transcript → Type 0
 AreListed script all = map pid_of all ≡ map pid_in script.processes
 
--- What a run owes of its transcripts: there is one for each process, in the script's order, which is its process's, and
--- the history has no events of others
+-- All transcripts are right: there is one for each process, in the script's order, and the history has no events of others
 pub record AreTranscripts (script : ScriptView) (history : List Event) (all : List Transcript) : Type 0 where
   pub processes : AreListed script all
   pub each : All (IsTranscript script history) all
@@ -120,16 +119,16 @@ pub record AreTranscripts (script : ScriptView) (history : List Event) (all : Li
 abbrev pub pid_at : Event → ℕ
 pid_at e = e.pid
 
--- the elements of this pid are as they should be
+-- the elements with this pid satisfy P
 abbrev pub AllOfPid : {X : Type 0} (pid_in : X → ℕ) (P : X → Type 0) → ℕ → List X → Type 0
 AllOfPid pid_in P pid xs = All (λ x. pid_in x ≡ pid → P x) xs
 
--- none: all elements are as they should be; else this is the least pid of one that is not
+-- none: all elements satisfy P; else the least pid of one that does not
 abbrev pub IsLeastOf : {X : Type 0} (pid_in : X → ℕ) (P : X → Type 0) → List X → Option ℕ → Type 0
 IsLeastOf pid_in P xs None = All P xs
 IsLeastOf pid_in P xs (Some pid) = (AllOfPid pid_in P pid xs → ⊥) × ((lesser : ℕ) → lesser < pid → AllOfPid pid_in P lesser xs)
 
--- The transcript of this pid is its process's, and its events are of a declared process, which was live
+-- The transcript of this pid is its process's, and its events are those of a declared process that was live
 pub record Agrees (script : ScriptView) (history : List Event) (all : List Transcript) (pid : ℕ) : Type 0 where
   pub transcript : AllOfPid pid_of (IsTranscript script history) pid all
   pub events : AllOfPid pid_at (IsAdmitted script.processes) pid history
@@ -139,8 +138,8 @@ pub record IsLeastWrong (script : ScriptView) (history : List Event) (all : List
   pub wrong : Agrees script history all pid → ⊥
   pub least : (lesser : ℕ) → lesser < pid → Agrees script history all lesser
 
--- What a comparison finds: nothing exactly where the transcripts are the run's, this pid exactly where it is the least
--- that does not agree, and 0 where the list is not one transcript for each process
+-- The result of a comparison. None exactly if the transcripts are the run's; the least pid that does not agree; 0 if the list is
+-- not one transcript for each process
 pub record IsFound (script : ScriptView) (history : List Event) (all : List Transcript) (found : Option ℕ) : Type 0 where
   pub none : IsNone found ↔ AreTranscripts script history all
   pub least : AreListed script all → (pid : ℕ) → found ≡ Some pid ↔ IsLeastWrong script history all pid

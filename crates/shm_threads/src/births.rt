@@ -14,15 +14,15 @@ pub(crate) struct ProcessState {
     has_ended: bool,
 }
 
-/// A birth or an end that was noted but not yet announced to the threads that wait. It can only be used up by
-/// announcing it.
+/// A birth or an end that was noted and not yet announced to the waiting threads. Announcing it is the only
+/// way to use it up.
 #[must_use]
 pub(crate) struct News {
     is_noted: (),
 }
 
 impl News {
-    /// Wakes all threads that wait.
+    /// Wakes all waiting threads.
     pub(crate) fn announce(self, changed: &Condvar) {
         let News { is_noted: () } = self;
         changed.notify_all();
@@ -77,7 +77,7 @@ pub(crate) fn is_born(processes: &[ProcessState], pid: u32) -> bool
         .any(|process| process.pid == pid && process.is_born)
 }
 
-/// Whether a born process has not left, and so may still fork.
+/// Whether some process is born and has not left, so that it may still fork.
 pub(crate) fn may_fork(processes: &[ProcessState]) -> bool
     ensures { result ≡ may_fork_in processes.now }
 {

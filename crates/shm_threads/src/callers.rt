@@ -1,4 +1,4 @@
-//! What the threads of a run use: the gate without the lock, the world under the lock.
+//! What the threads of a run use: the gate, without the lock, and the world, under the lock.
 ghost use Rattle.std.specs.Prelude.{◌≡◌};
 ghost use Rattle.shm_threads.specs.Keepers.{cell_of};
 ghost use Rattle.shm_threads.specs.Plans.{HasRoom};
@@ -100,7 +100,7 @@ pub(crate) struct FlusherEnded {
     pub(crate) is_expired: bool,
 }
 
-/// Runs the flush lines of a run, in order, and has the keeper publish in each round.
+/// Runs the flush lines of a run in order. The keeper publishes in each round.
 pub(crate) fn run_rounds<R: Wait, G: Gate, P: Pager>(
     rt: &R,
     shared: &Shared<P>,

@@ -1,5 +1,5 @@
-//! Compares transcripts with a history. It connects the work of a run's threads with the one history kept under the
-//! lock: each worker guarantees its transcript, and this checks that the history has exactly those calls.
+//! Compares transcripts with a history. Each worker guarantees its own transcript, and the lock guards one
+//! history. This checks that the history has exactly the calls of the transcripts.
 ghost use Rattle.std.specs.Prelude.{◌≡◌, ℕ, ◌↔◌, ◌<◌, ◌≤◌, IsTrue, All, map, length, drop, true, slice_get};
 ghost use Rattle.shm_base.specs.History.{own_part};
 ghost use Rattle.shm_text.specs.Variables.{no_values};
@@ -9,10 +9,10 @@ use crate::transcript::{Answer, Entry, Transcript};
 use shm_base::{Call, Errno, Event, Process, Reply, has_pid};
 use shm_text::{Line, Script, Vars};
 
-/// The least pid with a disagreement: its transcript is not that of its process, or the history has an event of it
-/// although it is not declared or was not live. 0 if there is not exactly one transcript for each process of the
-/// script, in the script's order. None exactly if the transcripts are those of the script's processes in this
-/// history.
+/// The least pid with a disagreement: its transcript is not that of its process; or the history has an event
+/// of it, although the process is not declared or was not live. 0 if there is not exactly one transcript for
+/// each process of the script, in the script's order. None exactly if the transcripts are those of the
+/// script's processes in this history.
 pub fn disagreement(
     script: &Script,
     history: &[Event],
@@ -209,7 +209,7 @@ fn is_event(entry: &Entry, event: &Event) -> bool
     }
 }
 
-// The first entry from a place on that is not marked.
+// The index of the first entry that is not marked, from an index on.
 fn next_answered(entries: &[Entry], from: usize) -> usize
     requires { from ≤ length entries.now }
     ensures bound { result ≤ length entries.now }

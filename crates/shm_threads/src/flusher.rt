@@ -1,4 +1,4 @@
-//! The work of the flusher's thread, whoever makes its rounds.
+//! The work of the flusher's thread, independent of what makes its rounds.
 ghost use Rattle.std.specs.Prelude.{◌≡◌, [], ◌∷◌, List, Option};
 ghost use Rattle.shm_history.specs.Gauges.{CellName};
 ghost use Rattle.shm_threads.specs.Asked.{RoundAsked, Adds, May, Round, Made, RunsRounds, rounds_of};
@@ -10,7 +10,7 @@ pub(crate) trait Flusher {
     /// Whether these may be the rounds so far.
     ghost asked: { Self → List RoundAsked → Type 0 };
 
-    /// The cell that it publishes to, if it publishes.
+    /// The cell that it publishes to, if it does.
     ghost cell: { Self → Option CellName };
 
     /// Whether the n-th round may be made. False ends the flusher.
@@ -29,7 +29,7 @@ pub(crate) trait Flusher {
         ensures cell { cell self.new ≡ cell self.old };
 }
 
-/// Runs the flush lines, in order. False if the gate ended the flusher.
+/// Runs the flush lines in order. False if the gate ended the flusher.
 pub(crate) fn flush_all<F: Flusher>(flusher: &mut F, lines: &[Line]) -> bool
     ensures runs { RunsRounds (F.asked flusher.old) (F.asked flusher.new) (rounds_of lines.now) result }
     ensures cell { F.cell flusher.new ≡ F.cell flusher.old }

@@ -1,8 +1,8 @@
 //! A gate may hold a worker between its calls.
 
-/// It is called before and after each call of a worker, both times without the lock. A process's calls are counted
-/// from 1. So are the flusher's rounds; its pid is 0. A gate that waits for another worker should not wait without
-/// bound: if a thread is refused, the other worker never comes.
+/// A run calls its gate before and after each call of a worker, without the lock. The calls of a process are
+/// counted from 1. So are the flusher's rounds; its pid is 0. A gate that waits for another worker should not
+/// wait without bound: if the host refuses that worker's thread, it never arrives.
 pub trait Gate: Sync {
     /// Whether the worker may make its call. False ends the worker.
     fn before(&self, pid: u32, n: u64) -> bool;

@@ -12,11 +12,11 @@ use shm_slots::Swap;
 use shm_text::Script;
 use std::alloc::Global;
 
-/// The start of a world.
+/// The start of a world: its opening and the areas' counts of failures.
 #[derive(Drop)]
 pub(crate) struct Origin {
     pub(crate) opening: Opening,
-    // Each area's count of failures when its pager was handed in.
+    // Each area's count of failures when its pager was passed in.
     pub(crate) counts: Vec<u64>,
 }
 
@@ -31,7 +31,7 @@ impl Origin {
         Ok(Origin { opening, counts })
     }
 
-    // Whether the world started from it.
+    // Whether this is the start of the world.
     fn is_of<P: Pager>(&self, world: &World<P>) -> bool
         ensures { IsTrue result ↔ StartedFrom self.now.opening self.now.counts.items world.now }
     {
@@ -40,7 +40,7 @@ impl Origin {
     }
 }
 
-// Each area's count of failures when its pager was handed in.
+// Each area's count of failures when its pager was passed in.
 fn first_counts<P: Pager>(alloc: Global, swap: &Swap<P>) -> Result<Vec<u64>, HostMemory>
     ensures { IfOk result (λ counts. counts.items ≡ first_counts swap.now) }
 {
@@ -52,7 +52,7 @@ fn first_counts<P: Pager>(alloc: Global, swap: &Swap<P>) -> Result<Vec<u64>, Hos
     Ok(counts)
 }
 
-// Whether they are these.
+// Whether the areas have these counts.
 fn have_counts<P: Pager>(swap: &Swap<P>, counts: &[u64]) -> bool
     ensures { IsTrue result ↔ first_counts swap.now ≡ counts.now }
 {
@@ -94,8 +94,8 @@ fn are_same(one: &[Process], other: &[Process]) -> bool
     one == other
 }
 
-/// The least pid on which the history and the transcripts disagree. 0 if the world has another start, or the list of
-/// transcripts does not fit the script. None exactly if they are an outcome.
+/// The least pid on which the history and the transcripts disagree. 0 if the world has another start, or if
+/// the list of transcripts does not fit the script. None exactly if they are an outcome.
 pub(crate) fn mismatch<P: Pager>(
     origin: &Origin,
     world: &World<P>,

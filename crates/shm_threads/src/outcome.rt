@@ -12,11 +12,15 @@ pub struct Outcome<P: Pager> {
     pub transcripts: Vec<Transcript>,
 }
 
-/// Why a run has no outcome. `HostMemory`: the host refused memory before a worker was started. `GateExpired`: the
-/// gate ended a worker; it has the least such pid, 0 for the flusher. `HistoryMismatch`: a transcript and the history
-/// disagree; it has the least such pid, or 0 if the opening or the list of transcripts is wrong. `ThreadRefused`: the
-/// host refused a thread. `ThreadRefused` takes precedence over `GateExpired`, and that over `HistoryMismatch`. The
-/// world is dropped.
+/// Why a run has no outcome. The world is dropped.
+///
+/// - `HostMemory`: the host refused memory before a worker was started.
+/// - `ThreadRefused`: the host refused a thread.
+/// - `GateExpired`: the gate ended a worker: the least such pid, 0 for the flusher.
+/// - `HistoryMismatch`: a transcript and the history disagree: the least such pid, or 0 if the opening or the
+///   list of transcripts is wrong.
+///
+/// `ThreadRefused` takes precedence over `GateExpired`, and that over `HistoryMismatch`.
 #[derive(Clone, Copy, Debug, PartialEq, Eq, Error)]
 pub enum RunError {
     #[error("out of memory")]

@@ -26,21 +26,23 @@ use std::sync::Wait;
 use std::thread;
 use std::thread::{Builder, JoinHandle, Promise, Scope, Threads};
 
-/// Runs the lines of a script on a world. Each process has a worker, which is a thread of its own: it makes the
-/// process's command lines in order, up to the last one or to its exit. The world must be opened with the script's
-/// processes and have no history yet; a run on a world with a history has no outcome. Each call takes the world's
-/// lock and releases it. A child's worker waits until the child is born, or until no process that could fork it is
-/// left. If the host refuses memory for a call, the call is marked in the transcript, its variable becomes -1, and
-/// the worker continues. Another thread, the flusher, runs the flush lines in order, and takes the lock once for
-/// each round. Nothing is claimed about the order in which threads get the lock, or that a run ends: workers wait,
-/// and the gate may wait.
+/// Runs the lines of a script on a world. Each process has a worker, a thread of its own, which makes the
+/// process's command lines in order, up to the last one or to its exit. The world must be opened with the
+/// script's processes and have no history yet: a run on a world with a history has no outcome. Each call
+/// takes the world's lock and releases it. A child's worker waits until the child is born, or until no
+/// process is left that could fork it. If the host refuses memory for a call, the call is marked in the
+/// transcript, its variable becomes -1, and the worker continues. Another thread, the flusher, runs the flush
+/// lines in order, and takes the lock once for each round. Nothing is claimed about the order in which
+/// threads get the lock, or that a run ends: workers wait, and the gate may wait.
 ///
 /// The clause says about an outcome:
-/// - Its world has the opening that was handed in, and its areas had the counts of failures that were handed in.
+/// - Its world has the opening that was passed in, and its areas had the counts of failures that were passed
+///   in.
 /// - Its history is legal.
-/// - It has a transcript for each process, in the script's order. A transcript follows the process's lines, or is
-///   empty if the process is a child that was never born.
-/// - A transcript without its marked calls is the process's part of the history. Only shmget and shmat are marked.
+/// - It has a transcript for each process, in the script's order. A transcript follows the process's lines,
+///   or is empty if the process is a child that was never born.
+/// - A transcript without its marked calls is the process's part of the history. Only shmget and shmat are
+///   marked.
 /// - The history has no other pids, and no call of a process that was not live.
 pub fn run_threads<R: Threads + Wait + Sync, G: Gate, P: Pager + Send>(
     rt: &R,
@@ -56,10 +58,10 @@ pub fn run_threads<R: Threads + Wait + Sync, G: Gate, P: Pager + Send>(
     Ok(outcome)
 }
 
-/// Like `run_threads`, with a gauge. The flusher has the keeper and publishes in each round, under the lock. The run
-/// publishes once more when the workers have ended, so the keeper that comes back has stored the counts of the
-/// outcome's world, unless it had stored those of more events before. Without an outcome the keeper is dropped.
-/// Nothing is claimed about how often the gauge changes during the run.
+/// Like `run_threads`, with a gauge. The flusher has the keeper and publishes in each round, under the lock.
+/// The run publishes once more when the workers have ended. So the returned keeper has stored the counts of
+/// the outcome's world, unless it had stored those of more events before. Without an outcome the keeper is
+/// dropped. Nothing is claimed about how often the gauge changes during the run.
 pub fn run_threads_gauged<R: Threads + Wait + Sync, G: Gate, P: Pager + Send>(
     rt: &R,
     alloc: Global,
@@ -79,7 +81,7 @@ pub fn run_threads_gauged<R: Threads + Wait + Sync, G: Gate, P: Pager + Send>(
     Ok((outcome, keeper))
 }
 
-// The one body of both, with or without a keeper.
+// The body of both functions, with or without a keeper.
 fn run_with<R: Threads + Wait + Sync, G: Gate, P: Pager + Send>(
     rt: &R,
     alloc: Global,
@@ -96,7 +98,7 @@ fn run_with<R: Threads + Wait + Sync, G: Gate, P: Pager + Send>(
     run_prepared(rt, world, start, keeper, script, gate)
 }
 
-// A run on a world that has room for an event of each line, with all else that a run takes memory for.
+// A run on a world that has room for an event of each line. All other memory that a run takes is there.
 fn run_prepared<R: Threads + Wait + Sync, G: Gate, P: Pager + Send>(
     rt: &R,
     world: World<P>,
@@ -127,7 +129,7 @@ fn run_prepared<R: Threads + Wait + Sync, G: Gate, P: Pager + Send>(
     }
 }
 
-// Everything that a run takes memory for before its workers start, except the room in its world.
+// All memory that a run takes before its workers start, except the room in its world.
 #[derive(Drop)]
 struct Start {
     origin: Origin,
@@ -191,7 +193,7 @@ struct Joined {
     is_refused: bool,
 }
 
-// Why a run has no outcome, if it has none.
+// Why a run has no outcome, if so.
 fn run_error<P: Pager>(
     origin: &Origin,
     world: &World<P>,
@@ -217,7 +219,7 @@ fn run_error<P: Pager>(
     }
 }
 
-// The outcome of a run without an error, and the keeper that comes back.
+// The outcome of a run without an error, and the keeper that is returned.
 fn outcome_of<P: Pager>(world: World<P>, run: Joined) -> (Outcome<P>, Option<Keeper>)
     ensures world { result.0.world ≡ world }
     ensures transcripts { result.0.transcripts ≡ run.transcripts }
@@ -232,7 +234,7 @@ fn outcome_of<P: Pager>(world: World<P>, run: Joined) -> (Outcome<P>, Option<Kee
     (Outcome { world, transcripts }, keeper)
 }
 
-// The keeper that comes back, if there is one, has the same cell.
+// The returned keeper, if there is one, has the same cell.
 #[derive(Drop)]
 struct SameCell(Snapshot<Option<Keeper>>);
 
@@ -298,7 +300,8 @@ fn run_all<R: Threads + Wait + Sync, G: Gate, P: Pager + Send>(
     )
 }
 
-// Starts a worker for each job, until a thread is refused; says whether one was. The list has room for each.
+// Starts a worker for each job until a thread is refused, and returns whether one was. The list has room for
+// each.
 fn start_all<'s, E, R: Threads + Wait + Sync, G: Gate, P: Pager + Send>(
     scope: &Scope<'s, E>,
     rt: &'s R,
@@ -347,7 +350,8 @@ fn refused(transcripts: Vec<Transcript>) -> Joined
     }
 }
 
-// Joins the workers. Gives their transcripts, and the least pid of one that the gate ended. The list has room for each.
+// Joins the workers. Returns their transcripts, and the least pid of one that the gate ended. The list has
+// room for each.
 fn join_all<R: Threads + Wait>(
     rt: &R,
     handles: Vec<JoinHandle<Ended>>,

@@ -1,7 +1,7 @@
 //! The world under its lock, and the state of each process.
 //!
-//! The world's guarantees are invariants of its type, so they hold whenever the lock is free. To note a birth or an end gives
-//! news, which can only be used up by waking the threads that wait.
+//! The world's guarantees are invariants of its type, so they hold whenever the lock is free. Noting a birth
+//! or an end returns news, which can only be used up by waking the waiting threads.
 ghost use Rattle.std.specs.Prelude.{◌≡◌, ◌++◌, [], is_some, map};
 ghost use Rattle.shm_history.specs.WorldState.{IsRound};
 ghost use Rattle.shm_text.specs.Variables.{call_of};
@@ -24,7 +24,7 @@ struct RunState<P: Pager> {
 }
 
 impl<P: Pager> RunState<P> {
-    // Makes a command line's call. If it forks a child, that is noted as news.
+    // Makes the call of a command line. If it forks a child, notes that and returns it as news.
     fn call(&mut self, command: &Command, vars: &Vars) -> (Entry, Option<News>)
         ensures line { result.0.call ≡ call_of vars.now command.now.call }
         ensures recorded { let of = events_of command.now.pid result.0.call result.0.answer in
@@ -48,7 +48,7 @@ impl<P: Pager> RunState<P> {
         }
     }
 
-    // Notes the child that a call has forked, if it has.
+    // Notes the child that a call has forked, if any.
     fn born_by(&mut self, call: &Call, reply: &Reply) -> Option<News>
         ensures births { let after = births_after call.now (Answer.Reply reply.now) in
             self.new.processes.items ≡ after self.old.processes.items }
@@ -61,7 +61,7 @@ impl<P: Pager> RunState<P> {
         }
     }
 
-    // A flush round of at most this many pages. If there is a keeper, it publishes the counts after it.
+    // A flush round of at most this many pages. If there is a keeper, it publishes the counts afterwards.
     fn flush<R: Wait>(&mut self, rt: &R, pages: u32, keeper: &mut Option<Keeper>) -> FlushReport
         ensures round { IsRound self.old.world pages result self.new.world }
         ensures cell { cell_of keeper.new ≡ cell_of keeper.old }
@@ -74,7 +74,7 @@ impl<P: Pager> RunState<P> {
         report
     }
 
-    // Notes that a process has left, as news.
+    // Notes that a process has left, and returns it as news.
     fn end(&mut self, pid: u32) -> News
         ensures ended { self.new.processes.items ≡ map (with_end pid) self.old.processes.items }
         ensures world { self.new.world ≡ self.old.world }

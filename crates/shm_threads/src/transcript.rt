@@ -1,8 +1,8 @@
 //! The calls of a worker and their answers.
 use shm_base::{Call, Reply};
 
-/// The answer to a worker's call: the system's reply, or that the host refused memory. A call without
-/// memory changed nothing and is not in the history.
+/// The answer to a worker's call: the system's reply, or that the host refused memory. In that case the call
+/// changed nothing, and is not in the history.
 #[derive(Debug, PartialEq)]
 pub enum Answer {
     Reply(Reply),

@@ -1,7 +1,7 @@
-//! The work of a process's thread, whoever makes its calls.
+//! The work of a process's thread, independent of what makes its calls.
 //!
-//! A worker asks its caller for each step. Its contract says what it asks for and in which order; the caller may do
-//! anything.
+//! A worker asks its caller for each step. The worker's contract says what it asks for and in which order;
+//! the caller may do anything.
 ghost use Rattle.std.specs.Prelude.{◌≡◌, [], ◌∷◌, List, not};
 ghost use Rattle.shm_text.specs.Variables.{call_of};
 ghost use Rattle.shm_threads.specs.Asked.{Asked, Adds, Born, Before, Called, After, Left, RunsLines, Works};
@@ -29,11 +29,11 @@ pub(crate) trait Caller {
         ensures line { result.call ≡ call_of vars.now command.now.call }
         ensures asked { Adds (asked self.old) (Called vars.now command.now result ∷ []) (asked self.new) };
 
-    /// The process's n-th call was answered.
+    /// Called when the process's n-th call was answered.
     fn after(&mut self, n: u64)
         ensures { Adds (asked self.old) (After n ∷ []) (asked self.new) };
 
-    /// The process has left: no worker makes calls of it from now on.
+    /// Called when the process has left: no worker makes calls of it from now on.
     fn leave(&mut self)
         ensures { Adds (asked self.old) (Left ∷ []) (asked self.new) };
 }

@@ -1,6 +1,6 @@
-//! Boxes that count their drops: those of a start that is refused, and those of areas that a swapoff takes away. Each is
-//! dropped once, and none early. The test of starts holds also where the host refuses memory:
-//! `rt try --test --fail-alloc N -- boxes::a_refused_start` has the N-th allocation fail.
+//! Boxes that count their drops: those of a start that is refused, and those of areas that a swapoff takes
+//! away. Each is dropped once, and none early. The test of starts also passes if the host refuses memory: `rt
+//! try --test --fail-alloc N -- boxes::a_refused_start` makes the N-th allocation fail.
 use crate::histories::{Ask, Row, Want, answers, opened_by};
 use crate::starts::ROWS;
 use shm_base::{Errno, HostMemory, Limits, Process};
@@ -55,7 +55,7 @@ impl Drop for CountedPager {
     }
 }
 
-/// Makes such pagers, and counts those that were made and dropped.
+/// Makes such pagers, and counts those that were made and those that were dropped.
 struct Counter {
     alloc: Global,
     made: u64,
@@ -88,7 +88,7 @@ impl Counter {
         Ok(CountedPager { inner, drops })
     }
 
-    /// A box of a pager, of which these reads fail.
+    /// A box of a pager; these reads of it fail.
     fn boxed(&mut self, slots: u32, reads: &[u64]) -> Result<AnyPager, AllocError> {
         let reads = reads.to_vec(self.alloc)?;
         let pager = self.pager(slots)?;
@@ -110,7 +110,7 @@ fn boxes(alloc: Global, counter: &mut Counter, areas: &[u32]) -> Result<Vec<AnyP
     Ok(boxes)
 }
 
-// How many boxes were dropped when the start was refused; none where it was not.
+// How many boxes had been dropped when the start was refused; none if it was not.
 fn dropped<P: Pager>(
     alloc: Global,
     pagers: Vec<P>,
@@ -124,7 +124,7 @@ fn dropped<P: Pager>(
     }
 }
 
-// Starts over counted boxes; whether a refused start has dropped each once, and has no more to drop.
+// Starts over counted boxes. Returns whether a refused start has dropped each once, and drops no more later.
 fn drops_each(alloc: Global, areas: &[u32], processes: &[Process]) -> Result<bool, HostMemory> {
     let mut counter = Counter::new(alloc)?;
     let Ok(boxes) = boxes(alloc, &mut counter, areas) else {
@@ -144,7 +144,8 @@ fn a_refused_start_drops_each_box_once(rt: HostRuntime) -> Result<(), Fail> {
     Ok(())
 }
 
-/// A page is in the first area when its read fails. The next swapoff takes the area away, and a second area has to stay.
+/// A page is in the first area when its read fails. The next swapoff takes the area away, and a second area
+/// must stay.
 const SWAPOFFS: &[(Row, u64)] = &[
     ((Ask::Get(12288), Want::Id(0)), 0),
     ((Ask::At(0), Want::Addr(0x40000000)), 0),
@@ -171,7 +172,7 @@ fn boxes_of_two(
     Ok(boxes)
 }
 
-// Makes the calls; the first area's box is dropped when its swapoff is answered, and the other's never.
+// Makes the calls. The first area's box is dropped when its swapoff is answered, and the other's never.
 fn drops_when_answered<P: Pager>(
     rt: &impl Abort,
     world: &mut World<P>,

@@ -11,7 +11,7 @@ fn user(id: u32) -> Cred {
     Cred { uid: id, gid: id }
 }
 
-// User 100 as process 1, with a segment of one page that only its owner may use.
+// Process 1 of user 100, with a segment of one page that only its owner may use.
 fn machine_of_one(alloc: Global) -> Result<Machine, Fail> {
     let limits = Limits::new(16384, 4, 8, 2, 0)
         .ok()
@@ -60,8 +60,8 @@ fn ends(machine: &mut Machine, pid: u32) -> bool {
     machine.perform(pid, &Call::Exit) == Ok(())
 }
 
-// A process joins, attaches the segment and forks a child; both end and leave. The attach counts meanwhile and at the
-// end.
+// A process joins, attaches the segment and forks a child; both end and leave. Returns the attach counts
+// meanwhile and at the end.
 fn live_once(
     machine: &mut Machine,
     alloc: Global,
@@ -89,7 +89,7 @@ fn live_once(
     Ok((meanwhile, shown(machine)?.nattch))
 }
 
-// Far more processes than the 64 that there may be at a time, with few pids.
+// Many more processes than the 64 that may exist at a time, with few pids.
 #[test]
 fn pids_are_used_again(rt: HostRuntime) -> Result<(), Fail> {
     let alloc = rt.alloc();
@@ -114,7 +114,7 @@ fn at_most_64_processes(rt: HostRuntime) -> Result<(), Fail> {
     let taken = admitted(&mut machine, alloc, 64, Some(user(100)))?;
     assert!(rt; taken == Err(AdmitRefusal::PidTaken));
     assert!(rt; admitted(&mut machine, alloc, 0, None)? == Err(AdmitRefusal::BadPid));
-    // An ended process keeps its room until it is dismissed, but its own pid may have it.
+    // An ended process counts until it is dismissed, but its own pid can be used again.
     assert!(rt; ends(&mut machine, 64));
     let still = admitted(&mut machine, alloc, 65, None)?;
     assert!(rt; still == Err(AdmitRefusal::TooManyProcesses));
@@ -122,7 +122,7 @@ fn at_most_64_processes(rt: HostRuntime) -> Result<(), Fail> {
     assert!(rt; ends(&mut machine, 2));
     assert!(rt; machine.system.dismiss(2) == Ok(()));
     assert!(rt; admitted(&mut machine, alloc, 65, None)? == Ok(()));
-    // The last process took the place of the one that left, and is found there.
+    // The last process took the index of the one that left, and is found there.
     assert!(rt; attached(&mut machine, 64));
     Ok(())
 }

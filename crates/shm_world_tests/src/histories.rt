@@ -14,22 +14,22 @@ use std::test::Fail;
 
 /// A call of process 1.
 pub(crate) enum Ask {
-    /// shmget of this many bytes, with no key.
+    /// shmget of this many bytes, without a key.
     Get(u64),
-    /// shmat of an identifier, where the system chooses.
+    /// shmat of an identifier, at an address that the system chooses.
     At(i32),
-    /// Bytes at an address are written.
+    /// A store of bytes at an address.
     Store(u64, &'static [u8]),
-    /// This many bytes at an address are read.
+    /// A load of this many bytes at an address.
     Load(u64, u64),
     Exit,
-    /// An area is to be taken away.
+    /// A swapoff of an area.
     Swapoff(u32),
-    /// A segment is to be destroyed.
+    /// A removal of a segment.
     Rmid(i32),
 }
 
-/// What a call has to answer.
+/// The expected reply to a call.
 pub(crate) enum Want {
     Id(i32),
     Addr(u64),
@@ -52,7 +52,7 @@ fn opened<P: Pager>(alloc: Global, limits: Limits, pagers: Vec<P>) -> Result<Wor
     opened_by(alloc, 100, limits, pagers)
 }
 
-// A world of this user's process 1.
+// A world with process 1 of this user.
 pub(crate) fn opened_by<P: Pager>(
     alloc: Global,
     uid: u32,
@@ -114,7 +114,7 @@ fn called<P: Pager>(world: &mut World<P>, call: &Call) -> Option<Reply> {
     world.call(1, call).ok()
 }
 
-// The reply to a call. Where memory was out the history stays, and the call is made once more.
+// The reply to a call. If the host refuses memory the history is unchanged, and the call is made again.
 fn reply<P: Pager>(rt: &impl Abort, world: &mut World<P>, call: &Call) -> Option<Reply> {
     let before = world.history().len();
     if let Some(reply) = called(world, call) {
@@ -131,7 +131,7 @@ pub(crate) fn answers<P: Pager>(rt: &impl Abort, world: &mut World<P>, row: &Row
     }
 }
 
-// Each call has its reply. A message counts the rows from 0.
+// Checks the reply to each call. A message counts the rows from 0.
 fn answers_all<P: Pager>(rt: &impl Abort, world: &mut World<P>, rows: &[Row]) {
     for (at, row) in rows.iter().enumerate() {
         assert!(rt; answers(rt, world, row), "at row {at}");
@@ -180,7 +180,7 @@ const SIZES: &[Row] = &[
     (Ask::Get(8192), Want::Id(0)),
 ];
 
-// As `answers`, and the first time.
+// As `answers`, at the first attempt.
 fn answers_at_once(world: &mut World<RamPager>, row: &Row) -> bool {
     match made(row) {
         Some((call, wanted)) => called(world, &call) == Some(wanted),
@@ -208,7 +208,7 @@ fn steps_of(alloc: Global, rows: &[Row]) -> Result<Vec<Step>, Fail> {
     Ok(steps)
 }
 
-// The history has just the calls' replies.
+// The history has exactly the calls' replies.
 fn has_replies(rt: &impl Abort, world: &World<RamPager>, rows: &[Row]) {
     let history = world.history();
     assert_eq!(rt; history.len(), rows.len());
@@ -268,7 +268,7 @@ const UP_TO_THE_LAST_COUNT: &[Row] = &[
     (Ask::Load(0x40001000, 1), Want::Bytes(&[0])),
 ];
 
-// An area whose first write fails, and which can count this one failure alone.
+// An area whose first write fails, and which can count only this one failure.
 fn almost_spent(alloc: Global) -> Result<FusePager<RamPager>, Fail> {
     let writes = vec![in alloc; 1]?;
     let ram = RamPager::new(alloc, 64)?;
@@ -301,7 +301,7 @@ fn spends<P: Pager>(rt: &impl Abort, world: &mut World<P>) {
 }
 
 /// The first write counts the last failure that can be counted. Then the area is spent: the next page-out
-/// goes to it and fails without a call of its pager.
+/// chooses it, and fails without a call of its pager.
 #[test]
 fn a_spent_area(rt: HostRuntime) -> Result<(), Fail> {
     spends(&rt, &mut over_almost_spent(rt.alloc())?);
@@ -362,7 +362,7 @@ fn shows_what_is_published<R: Abort + Wait>(
     Ok(())
 }
 
-// Beside a world with no event.
+// The same with a world without events.
 fn shows_beside<R: Abort + Wait>(
     rt: &R,
     alloc: Global,
@@ -392,7 +392,7 @@ fn a_new_gauge_shows_its_world(rt: HostRuntime) -> Result<(), Fail> {
     shows_the_world(&rt, rt.alloc(), &mut world(rt.alloc(), 65536)?)
 }
 
-// A world with these frames and this SHMALL.
+// A world with this many frames and this SHMALL.
 fn large(alloc: Global, frames: u64, shmall: u64) -> Result<World<RamPager>, Fail> {
     let sizes = Sizes {
         shmmax: 65536,

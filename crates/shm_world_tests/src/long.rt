@@ -1,9 +1,9 @@
-//! A history that grows as calls come, with no room made for it before.
+//! A history that grows with its calls, without room that was made before.
 use crate::histories::world;
 use shm_base::{Call, Reply};
 use std::test::Fail;
 
-// More events than any count of 16 bits.
+// More events than a count of 16 bits can have.
 const CALLS: usize = 70_000;
 
 #[test]

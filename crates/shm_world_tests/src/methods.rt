@@ -1,4 +1,4 @@
-//! Each method on its happy path, and failures at the places and of the sides that are listed.
+//! Each method when it succeeds; and failures of the listed calls and sides.
 use bitflags::Flags;
 use shm_base::{AccessLen, AtFlags, Call, Chunk, Cred, Errno, GetFlags, Limits, Process};
 use shm_machine::{AreaConfig, AreaKind, Failure, Machine, Refusal, Side};
@@ -39,7 +39,7 @@ fn attached(machine: &mut Machine, size: u64) -> Result<u64, Refusal> {
     machine.attach(1, id, 0, AtFlags::from_bits_retain(0))
 }
 
-// What the third of three stores answers, each in a page of its own, and what it answers when it is made again.
+// The result of the third of three stores, each to a page of its own, and its result when it is made again.
 fn third_store(machine: &mut Machine) -> Result<(bool, bool), Fail> {
     if attached(machine, 12288) != Ok(0x40000000) {
         return Err("the segment is attached".into());
@@ -82,7 +82,7 @@ fn first_write(side: Side) -> Failure {
     }
 }
 
-// The third page's frame is had by writing a dirty page out, the area's first write.
+// The third page gets a frame by the eviction of a dirty page: the area's first write.
 #[test]
 fn listed_writes_fail(rt: HostRuntime) -> Result<(), Fail> {
     let alloc = rt.alloc();
@@ -106,7 +106,7 @@ fn listed_writes_fail(rt: HostRuntime) -> Result<(), Fail> {
     Ok(())
 }
 
-// Each method once; false where an answer is not what the rules say.
+// Calls each method once. Returns false if an answer is not what the rules say.
 fn each_method(machine: &mut Machine) -> Result<bool, Refusal> {
     let at = attached(machine, 8192)?;
     let Some(two) = AccessLen::new(2) else {
@@ -143,7 +143,8 @@ fn methods_answer(rt: HostRuntime) -> Result<(), Fail> {
     Ok(())
 }
 
-// 130 bytes over the border of two pages: two calls each way. A read past the piece is stopped at its second call.
+// 130 bytes over the border of two pages: two calls in each direction. A read past the piece stops at its
+// second call.
 fn each_way(machine: &mut Machine) -> Result<bool, Refusal> {
     let found = attached(machine, 8192)?;
     let at = 0x40000000;

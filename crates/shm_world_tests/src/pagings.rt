@@ -1,5 +1,5 @@
-//! How often each pager is asked: one read for each page that comes back from its slot, one write for each page that is
-//! written out, one discard for each slot that is given back, and nothing else.
+//! How often each pager is called: one read for each page that comes back from its slot, one write for each
+//! page that is written out, one discard for each slot that is returned, and nothing else.
 use crate::histories::{Ask, Row, Want, answers, opened_by};
 use shm_base::{Errno, Limits};
 use shm_history::World;
@@ -109,11 +109,12 @@ impl Asked {
 /// Reads, writes and discards.
 type Counts = (u64, u64, u64);
 
-/// A call, its reply, and how often the first area's pager and the second's were asked until then.
+/// A call, its reply, and how often the pagers of the first and the second area were called until then.
 type Asking = (Row, Counts, Counts);
 
-/// Four pages in two frames, over areas of one slot and of eight. The hand begins at the first frame; every page that is
-/// touched is referenced, so the hand clears both frames once it has gone round, and takes the one where it began.
+/// Four pages in two frames, over areas of one slot and of eight. The hand begins at the first frame. Every
+/// page that is touched is referenced, so the hand clears both bits in one round, and takes the frame where
+/// it began.
 const PAGINGS: &[Asking] = &[
     ((Ask::Get(16384), Want::Id(0)), (0, 0, 0), (0, 0, 0)),
     ((Ask::At(0), Want::Addr(0x40000000)), (0, 0, 0), (0, 0, 0)),
@@ -146,7 +147,7 @@ const PAGINGS: &[Asking] = &[
         (1, 1, 0),
         (0, 2, 0),
     ),
-    // What is resident asks nobody.
+    // A resident page needs no pager.
     (
         (Ask::Store(0x40000000, &[9]), Want::Done),
         (1, 1, 0),
@@ -158,7 +159,7 @@ const PAGINGS: &[Asking] = &[
         (1, 1, 0),
         (1, 2, 0),
     ),
-    // Page 0 is resident: it gives its slot back, and nothing is read or written.
+    // Page 0 is resident: its slot is returned, and nothing is read or written.
     ((Ask::Swapoff(0), Want::Done), (1, 1, 1), (1, 2, 0)),
     // Page 0 goes to slot 2, and page 2 is read.
     (
@@ -171,7 +172,7 @@ const PAGINGS: &[Asking] = &[
         (1, 1, 1),
         (2, 3, 0),
     ),
-    // The segment is marked, and destroyed with its last piece: its three slots are given back.
+    // The segment is marked, and destroyed with its last piece: its three slots are returned.
     ((Ask::Rmid(0), Want::Done), (1, 1, 1), (2, 3, 0)),
     ((Ask::Exit, Want::Done), (1, 1, 1), (2, 3, 3)),
 ];
@@ -209,7 +210,7 @@ const A_MOVE: &[Asking] = &[
     ),
 ];
 
-// Makes the calls, and looks at both pagers' counts after each.
+// Makes the calls, and checks both pagers' counts after each.
 fn asks(
     rt: &impl Abort,
     world: &mut World<AskedPager>,

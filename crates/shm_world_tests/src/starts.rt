@@ -5,7 +5,7 @@ use shm_pager::RamPager;
 use std::alloc::Global;
 use std::test::Fail;
 
-/// What a system is started over: the slots of its areas, and its processes; and the error that has to come.
+/// A start of a system: the slots of its areas, its processes, and the expected error.
 pub(crate) type Row = (&'static [u32], &'static [Process], Option<StartError>);
 
 fn areas_of(alloc: Global, areas: &[u32]) -> Result<Vec<RamPager>, Fail> {

@@ -1,4 +1,4 @@
--- The cause of a search without an answer is that of the program's stop.
+-- The cause of a search without a result is the cause of the program's stop.
 use Rattle.std.specs.Prelude.{◌≡◌, ℕ, Bool, true, false, List}
 use Rattle.std.proofs.Common.{subst, sym}
 use Rattle.shm_base.specs.State.{Machine}
@@ -29,7 +29,7 @@ pub cause_stop :
 cause_stop script areas machine most error is h =
     from-first script areas most error (subst (λ (m : Machine). IsCause script (fresh m) most error) is h)
 
--- a machine without a reply is no bound
+-- a machine without a reply is not at the bound
 pub engine_cause : (script : ScriptView) (areas : List ℕ) (error : EngineError) → IsCauseIn (engine_stop error) areas script
 engine_cause script areas engines.HostMemory = tt
 engine_cause script areas engines.PagerFailed = tt
@@ -41,7 +41,7 @@ pub sampled :
 sampled script areas machine seed runs rest text at are =
     (rest, subst (λ (m : Machine). AreSamples script (fresh m) runs (answers_from seed) rest text) at are)
 
--- what is listed without identifiers and addresses
+-- what is listed if identifiers and addresses are masked
 pub masked-text :
     (masked : Bool) (script : ScriptView) (first : Run) (others : List Finding) (text : List ℕ)
     → masked ≡ true → AreMaskedOutcomes script first others → text ≡ outcomes_text true script others → IsTextOf masked script first text

@@ -1,4 +1,4 @@
--- A verdict that the program writes, and why it writes none.
+-- The verdict that the program writes, or why it writes none.
 use Rattle.std.specs.Prelude.{◌≡◌, ℕ, Bool, true, false, List, Ok, Err}
 use Rattle.shm_text.specs.Script.{ScriptView}
 use Rattle.shm_program.specs.declared.fault.RunFault.TheVariants.{HostMemory}
@@ -21,7 +21,7 @@ abbrev pub is_legal : Verdict → Bool
 is_legal (Legal events) = true
 is_legal (Illegal stuck) = false
 
--- the text of a right verdict on the log, and whether it is legal
+-- the text of a correct verdict on the log, and whether the log is legal
 abbrev pub IsJudgedText : List ℕ → Bool → ScriptView → List ℕ → List ℕ → Type 0
 IsJudgedText log legal script areas text =
     (entries : List Entry)
@@ -31,7 +31,7 @@ IsJudgedText log legal script areas text =
     × (is_legal verdict ≡ legal)
     × (text ≡ verdict_text script (log_of script entries) verdict))
 
--- a log's refusal, as a stop
+-- why a log was not read, as a stop
 abbrev pub log_stop : LogRefused → Stop
 log_stop (refusals.Fault fault) = BadLog fault
 log_stop refusals.HostMemory = Fault HostMemory
@@ -41,7 +41,7 @@ abbrev pub doubt_of : SearchError → ℕ → Stop
 doubt_of (searches.Engine e) most = engine_stop e
 doubt_of searches.Bound most = Doubt most
 
--- the log's first fault; or the log has more beginnings than the bound, no two of them alike
+-- the log's first fault; or the log has more beginnings than the bound, all of them different
 abbrev pub IsStopIn : Stop → List ℕ → List ℕ → ScriptView → Type 0
 IsStopIn (BadLog fault) log areas script = entries_of script log ≡ Err fault
 IsStopIn (Doubt most) log areas script = (entries : List Entry) × (entries_of script log ≡ Ok entries) × AreMore script (log_of script entries) (start script areas) most

@@ -1,4 +1,4 @@
--- What the program writes, and why it does not.
+-- What the program writes, or why it writes nothing.
 use Rattle.std.specs.Prelude.{◌≡◌, ℕ, Bool, true, false, List}
 use Rattle.shm_text.specs.Script.{ScriptView}
 use Rattle.shm_outcomes.specs.Masking.{AreMaskedOutcomes}
@@ -6,7 +6,7 @@ use Rattle.shm_outcomes.specs.Schedules.{Run, start}
 use Rattle.shm_outcomes.specs.Search.{Finding, AreOutcomes}
 use Rattle.shm_outcomes.specs.Text.{outcomes_text}
 
--- every outcome, each once; without identifiers and addresses, if they are masked
+-- every outcome once; or every masked outcome once
 abbrev pub AreListed : Bool → ScriptView → Run → List Finding → Type 0
 AreListed true script first found = AreMaskedOutcomes script first found
 AreListed false script first found = AreOutcomes script first found
@@ -15,6 +15,6 @@ AreListed false script first found = AreOutcomes script first found
 abbrev pub IsTextOf : Bool → ScriptView → Run → List ℕ → Type 0
 IsTextOf masks script first text = (found : List Finding) × AreListed masks script first found × (text ≡ outcomes_text masks script found)
 
--- the text of every outcome that the script has over swap areas of these sizes, each once, with a schedule that has it
+-- the text of every outcome of the script over swap areas of these sizes, each once, with a schedule that has it
 abbrev pub IsOutcomesText : Bool → ScriptView → List ℕ → List ℕ → Type 0
 IsOutcomesText masks script areas text = IsTextOf masks script (start script areas) text

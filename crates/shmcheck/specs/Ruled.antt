@@ -1,11 +1,11 @@
--- The rules of Linux that a script's machine has.
+-- The rules of Linux with which a script's machine is opened.
 use Rattle.std.specs.Prelude.{ℕ, List}
 use Rattle.shm_base.specs.declared.flags.Rules.{Rules}
 use Rattle.shm_text.specs.Script.{ScriptView}
 use Rattle.shmcheck.specs.declared.ruling.RuleSet.{RuleSet}
 use Rattle.shmcheck.specs.declared.ruling.RuleSet.TheVariants.{Profile, Linux}
 
--- none, or all of them
+-- none of the rules, or all of them
 abbrev pub rules_of : RuleSet → Rules
 rules_of Profile = record { 0 = 0 }
 rules_of Linux = record { 0 = 2047 }
@@ -14,6 +14,6 @@ rules_of Linux = record { 0 = 2047 }
 abbrev pub under : RuleSet → ScriptView → ScriptView
 under set script = record script { limits = record script.limits { rules = rules_of set } }
 
--- what is written of the script as it is opened with these rules
+-- the text of the script when it is opened with these rules
 abbrev pub WithRules : RuleSet → (ScriptView → List ℕ → List ℕ → Type 0) → ScriptView → List ℕ → List ℕ → Type 0
 WithRules set IsText script = IsText (under set script)

@@ -8,10 +8,10 @@ use Rattle.shm_text.specs.Script.{ScriptView}
 use Rattle.shm_outcomes.specs.Sampling.{AreSamples}
 use Rattle.shm_outcomes.specs.Schedules.{start}
 
--- what xoshiro256++ answers from a seed on
+-- the numbers that xoshiro256++ gives from this seed
 abbrev pub answers_from : ℕ → Stream
 answers_from seed = stream_of (steps_u64_high plus_plus) (of_seed (splitmix_seed 32 seed))
 
--- the text of so many runs of the script over swap areas of these sizes, drawn by what the seed's generator answers
+-- the text of this many runs of the script over swap areas of these sizes, drawn by the numbers of the seed's generator
 abbrev pub IsSamplesText : ℕ → ℕ → ScriptView → List ℕ → List ℕ → Type 0
 IsSamplesText seed runs script areas text = (rest : Stream) × AreSamples script (start script areas) runs (answers_from seed) rest text

@@ -1,4 +1,4 @@
--- Why the program stops: its text, its exit status, and what it says of the input.
+-- Why the program stops: its message, its exit status, and what it says about the input.
 use Rattle.std.specs.Prelude.{◌≡◌, ℕ, List, ◌++◌, codes, Ok}
 use Rattle.std.specs.Fmt.{decimal}
 use Rattle.std.specs.Io.KnownBytes.{Keeps}
@@ -35,7 +35,7 @@ stop_text LogUnread = codes "the log can't be read"
 stop_text (BadLog fault) = codes "log line " ++ (decimal fault.line ++ (codes ": " ++ kind_name fault.kind))
 stop_text (Doubt most) = codes "undecided: more than " ++ (decimal most ++ codes " beginnings of the log")
 
--- 1 is a fault of the log, 5 the bound
+-- 1 for a fault of the log, 5 at the bound
 abbrev pub stop_status : Stop → ℕ
 stop_status Usage = 2
 stop_status (Fault fault) = exit_status fault
@@ -45,33 +45,33 @@ stop_status LogUnread = 3
 stop_status (BadLog fault) = 1
 stop_status (Doubt most) = 5
 
--- words that were not read: the host refused memory, or a word is no text
+-- the words could not be read: the host refused memory, or a word is not valid UTF-8
 abbrev pub io_stop : ErrorKind → Stop
 io_stop OutOfMemory = Fault HostMemory
 io_stop _ = Usage
 
--- why a machine gives no reply, as a stop
+-- why a machine gave no reply, as a stop
 abbrev pub engine_stop : EngineError → Stop
 engine_stop engines.HostMemory = Fault HostMemory
 engine_stop engines.PagerFailed = PagerFailed
 
--- why a search has no answer, as a stop
+-- why a search has no result, as a stop
 abbrev pub stop_of : SearchError → ℕ → Stop
 stop_of (Engine e) most = engine_stop e
 stop_of searches.Bound most = Bound most
 
--- at the bound the script has more runs, of which no two are alike
+-- at the bound the script has more runs than it, all of them different
 abbrev pub IsCauseIn : Stop → List ℕ → ScriptView → Type 0
 IsCauseIn (Bound most) areas script = AreMoreRuns script (start script areas) most
 IsCauseIn _ areas script = Unit {0}
 
--- the same of an input; a script fault is the input's
+-- the same for an input; a script fault is that of the input
 abbrev pub IsStopOf : Stop → List ℕ → List ℕ → Type 0
 IsStopOf (Bound most) areas input = (script : ScriptView) × (script_of input ≡ Ok script) × AreMoreRuns script (start script areas) most
 IsStopOf (Fault fault) areas input = IsCause fault areas input
 IsStopOf _ areas input = Unit {0}
 
--- nothing is written, but by a writer that failed
+-- nothing is written, unless the writer failed
 abbrev pub WritesNothing : Stop → Option (List ℕ) → Option (List ℕ) → Type 0
 WritesNothing (Fault fault) old new = IsSilent fault old new
 WritesNothing _ old new = Keeps old new

@@ -6,10 +6,11 @@ use std::alloc::Global;
 use std::env;
 use std::rt::Env;
 
-/// From how many runs a search goes on at most, if the command line does not say.
+/// The most runs from which a search continues, unless the command line gives another number.
 const MOST: u64 = 1_000_000;
 
-/// From how many runs a search goes on at most, which rules the machine has, and whether identifiers and addresses are masked.
+/// The most runs from which a search continues, the rules of the machine, and whether identifiers and
+/// addresses are masked.
 #[derive(Clone, Copy)]
 pub(crate) struct Options {
     pub most: u64,
@@ -17,7 +18,7 @@ pub(crate) struct Options {
     pub masked: bool,
 }
 
-/// Which runs are drawn: by which seed, how many, and which rules the machine has.
+/// The runs to sample: the seed, the number of runs, and the rules of the machine.
 #[derive(Clone, Copy)]
 pub(crate) struct Draws {
     pub seed: u64,
@@ -25,7 +26,7 @@ pub(crate) struct Draws {
     pub rules: RuleSet,
 }
 
-/// What the program is asked for: every outcome, a verdict on the log in a file, or runs that are drawn.
+/// What the program is to do: list every outcome, judge the log in a file, or sample runs.
 #[derive(Drop)]
 pub(crate) enum Asked {
     Outcomes(Options),
@@ -33,14 +34,14 @@ pub(crate) enum Asked {
     Sample(Draws),
 }
 
-/// What the command line asks for.
+/// Reads the command line.
 pub(crate) fn read_command<R: Env + AllocGlobal>(rt: &R, alloc: Global) -> Result<Asked, Stop> {
     let args = env::args(rt)?;
     let words: Vec<String> = args.collect(alloc)?;
     read_words(alloc, &words)
 }
 
-// What the words say, the first of which is the program's name.
+// Reads the words, of which the first is the program's name.
 fn read_words(alloc: Global, words: &[String]) -> Result<Asked, Stop> {
     if words.len() < 2 {
         return Err(Stop::Usage);
@@ -65,7 +66,7 @@ fn read_judge(alloc: Global, words: &[String]) -> Result<Asked, Stop> {
     Ok(Asked::Judge(log, options))
 }
 
-// A seed, then options in any order; of one that comes twice the last counts.
+// Reads a seed, and then options in any order. If an option is given twice, the last one counts.
 fn read_draws(words: &[String]) -> Result<Draws, Stop> {
     let Some(seed) = words.first() else {
         return Err(Stop::Usage);
@@ -100,7 +101,7 @@ fn with_draw(draws: Draws, name: &str, value: &str) -> Result<Draws, Stop> {
     }
 }
 
-// Options in any order; of one that comes twice the last counts.
+// Reads options in any order. If an option is given twice, the last one counts.
 fn read_options(words: &[String]) -> Result<Options, Stop> {
     let mut options = Options {
         most: MOST,

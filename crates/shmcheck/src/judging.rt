@@ -1,4 +1,4 @@
-//! A verdict: a script comes from a reader, with a log of what a system answered to it, and the verdict goes to a writer.
+//! Judging: reads a script and a log of what a system answered to it, and writes the verdict.
 ghost use Rattle.std.specs.Prelude.{◌≡◌, length, map, IfErr, IfOk, IfSome, OnOk};
 ghost use Rattle.std.specs.Io.KnownBytes.{IsAtEnd};
 ghost use Rattle.shm_program.specs.Runs.{Prints, IsWritten};
@@ -18,8 +18,9 @@ use shm_text::Script;
 use std::alloc::Global;
 use std::io::{Read, Write};
 
-/// Writes a verdict on a log of the script that the reader gives, opened with these rules over swap areas behind these pagers,
-/// and says whether it is legal. Before the first byte is written the verdict is there.
+/// Judges a log of the script that the reader gives. Opens the script with these rules over swap areas with
+/// these pagers, writes the verdict, and returns whether the log is legal. The verdict is complete before the
+/// first byte is written.
 pub(crate) fn judge_script<R: Read, W: Write, P: ClonePager>(
     alloc: Global,
     reader: &mut R,
@@ -85,7 +86,7 @@ fn is_legal(verdict: &Verdict) -> bool
     }
 }
 
-// Why a log is not read.
+// Why a log was not read.
 fn unread(error: LogRefused) -> Stop
     ensures { result ≡ log_stop error }
 {

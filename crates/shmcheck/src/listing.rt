@@ -1,4 +1,4 @@
-//! Every outcome of a script: a script comes from a reader, and its outcomes go to a writer.
+//! Listing: reads a script, and writes every outcome that it can have.
 ghost use Rattle.std.specs.Prelude.{◌≡◌, length, map, OnOk, IfErr, IfOk, IfSome};
 ghost use Rattle.std.specs.Io.KnownBytes.{Appends, IsAtEnd};
 ghost use Rattle.shm_program.specs.Faults.{stopped_as};
@@ -21,8 +21,8 @@ use shm_text::Script;
 use std::alloc::{AllocError, Global};
 use std::io::{Read, Write};
 
-/// Writes every outcome of the script that the reader gives, opened with these rules over swap areas behind these pagers.
-/// Before the first byte is written all outcomes are there.
+/// Writes every outcome of the script that the reader gives, opened with these rules over swap areas with
+/// these pagers. All outcomes are found before the first byte is written.
 pub(crate) fn list_outcomes<R: Read, W: Write, P: ClonePager>(
     alloc: Global,
     reader: &mut R,
@@ -72,7 +72,7 @@ fn list_script<W: Write, P: ClonePager>(
     }
 }
 
-// The text of these outcomes, or of what they are without identifiers and addresses.
+// The text of these outcomes, or of the masked ones.
 fn text_of(
     alloc: Global,
     masked: bool,
@@ -90,7 +90,7 @@ fn text_of(
     Ok(text)
 }
 
-// Why a script does not open.
+// Why a script was not opened.
 pub(crate) fn refused(error: StartError) -> RunFault
     ensures { result ≡ stopped_as error }
 {
@@ -100,7 +100,7 @@ pub(crate) fn refused(error: StartError) -> RunFault
     }
 }
 
-// Why a search has no answer.
+// Why a search has no result.
 pub(crate) fn stopped(error: SearchError, most: u64) -> Stop
     ensures { result ≡ stop_of error most }
 {

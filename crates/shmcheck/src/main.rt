@@ -1,5 +1,5 @@
-//! The checker: a script of processes and calls goes in on standard input. Every outcome that it can have comes out, or a
-//! verdict on a log of what a system answered, or runs that are drawn.
+//! The checker: reads a script of processes and calls from standard input. It writes every outcome that the
+//! script can have, or a verdict on a log of what a system answered, or sampled runs.
 #![tactic(auto)]
 
 mod command;
@@ -20,13 +20,13 @@ use std::rt::{Env, Files};
 use std::{fs, io};
 use stop::Stop;
 
-// The swap area is one of memory.
+// The swap area keeps its pages in memory.
 const AREA: SwapWord = SwapWord::Sparse(64);
 
-/// The exit status where no schedule has the log's replies.
+/// The exit status if no schedule has the log's replies.
 const ILLEGAL: u8 = 6;
 
-// The whole file.
+// Reads a whole file.
 fn read_file<R: Files + AllocGlobal>(rt: &R, path: &str) -> Result<Vec<u8>, Stop> {
     match fs::read(rt, path) {
         Ok(text) => Ok(text),
@@ -60,7 +60,7 @@ fn list<R: Input + Print + AllocGlobal>(
     Ok(0)
 }
 
-// Writes runs that are drawn.
+// Writes sampled runs.
 fn sample<R: Input + Print + AllocGlobal>(rt: &R, alloc: Global, draws: Draws) -> Result<u8, Stop> {
     let pagers = areas_of(alloc, &[AREA])?;
     let (mut reader, mut writer) = (rt.reader(), io::writer(rt));

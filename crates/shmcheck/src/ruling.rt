@@ -1,4 +1,4 @@
-//! The rules of Linux that a script's machine has.
+//! The rules of Linux with which a script's machine is opened.
 ghost use Rattle.std.specs.Prelude.{◌≡◌};
 ghost use Rattle.shmcheck.specs.Ruled.{rules_of, under};
 
@@ -21,7 +21,7 @@ fn rules_of(set: RuleSet) -> Rules
     }
 }
 
-/// The script's machine is opened with these rules.
+/// Sets the rules with which the script's machine is opened.
 pub(crate) fn put_rules(script: &mut Script, set: RuleSet)
     ensures { script.new ≡ under set script.old }
 {

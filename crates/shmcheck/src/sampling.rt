@@ -1,4 +1,4 @@
-//! Runs of a script that are drawn: the script comes from a reader, and its runs go to a writer.
+//! Sampling: reads a script, and writes runs with randomly drawn schedules.
 ghost use Rattle.std.specs.Prelude.{◌≡◌, length, map, OnOk, IfErr, IfSome};
 ghost use Rattle.std.specs.Io.KnownBytes.{IsAtEnd};
 ghost use Rattle.shm_program.specs.Runs.{Prints, IsWritten};
@@ -19,8 +19,9 @@ use shm_text::Script;
 use std::alloc::Global;
 use std::io::{Read, Write};
 
-/// Writes runs of the script that the reader gives, opened with these rules over swap areas behind these pagers. The seed's
-/// generator draws each process that goes on. Before the first byte is written all runs are there.
+/// Writes runs of the script that the reader gives, opened with these rules over swap areas with these
+/// pagers. A generator with this seed draws which process continues. All runs are made before the first byte
+/// is written.
 pub(crate) fn sample_runs<R: Read, W: Write, P: ClonePager>(
     alloc: Global,
     reader: &mut R,

@@ -11,8 +11,9 @@ use shm_program::RunFault;
 use std::alloc::{AllocError, AllocFailed};
 use std::{fmt, io};
 
-/// Why the program stops: wrong words on the command line, a fault of the run, a pager that failed, or more schedules than
-/// the bound. Of a log also: its file can't be read, a line has a fault, or it has more beginnings than the bound.
+/// Why the program stops: wrong words on the command line; a fault of the run; a pager that failed; or more
+/// schedules than the bound. For a log also: its file can't be read, a line has a fault, or it has more
+/// beginnings than the bound.
 #[derive(Clone, Copy, Debug, PartialEq, Eq)]
 pub(crate) enum Stop {
     Usage,
@@ -25,8 +26,8 @@ pub(crate) enum Stop {
 }
 
 impl Stop {
-    /// The exit status: 1 for a fault of the log, 2 for usage, 5 at the bound, 3 for a pager or a file that can't be read, else
-    /// that of the fault.
+    /// The exit status: 1 for a fault of the log, 2 for usage, 5 at the bound, 3 for a pager or a file that
+    /// can't be read, otherwise that of the fault.
     pub(crate) fn status(self) -> u8
         ensures { result ≡ stop_status self }
     {
@@ -109,7 +110,7 @@ impl From<EngineError> for Stop {
     }
 }
 
-// A word that is no text is a usage fault.
+// A word that is not valid UTF-8 is a usage error.
 impl From<io::Error> for Stop {
     ghost from_gives = { λ e r. r ≡ io_stop (error_kind e) };
 

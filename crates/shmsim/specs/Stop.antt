@@ -1,4 +1,4 @@
--- Why the program stops: its text and its exit status.
+-- Why the program stops: its message and its exit status.
 use Rattle.std.specs.Prelude.{ℕ, List, codes}
 use Rattle.std.specs.declared.io.ErrorKind.{ErrorKind}
 use Rattle.std.specs.declared.io.ErrorKind.TheVariants.{OutOfMemory}
@@ -17,12 +17,12 @@ abbrev pub stop_status : Stop → ℕ
 stop_status Usage = 2
 stop_status (Fault fault) = exit_status fault
 
--- words that were not read: the host refused memory, or a word is no text
+-- the words could not be read: the host refused memory, or a word is not valid UTF-8
 abbrev pub io_stop : ErrorKind → Stop
 io_stop OutOfMemory = Fault HostMemory
 io_stop _ = Usage
 
--- words that were refused: `clap` was out of memory, or they are no words of the program
+-- the words were refused: the host refused memory, or they are not those of the program
 abbrev pub clap_stop : Refusal → Stop
 clap_stop refusals.OutOfMemory = Fault HostMemory
 clap_stop _ = Usage

@@ -60,7 +60,7 @@ impl From<HostMemory> for Stop {
     }
 }
 
-// A word that is not valid UTF-8 is a usage fault.
+// A word that is not valid UTF-8 is a usage error.
 impl From<io::Error> for Stop {
     ghost from_gives = { λ e r. r ≡ io_stop (error_kind e) };
 
@@ -72,7 +72,7 @@ impl From<io::Error> for Stop {
     }
 }
 
-// Words that `clap` refuses are a usage fault.
+// Words that `clap` refuses are a usage error.
 impl From<Error> for Stop {
     ghost from_gives = { λ e r. r ≡ clap_stop (kind_of e) };
 
@@ -84,7 +84,7 @@ impl From<Error> for Stop {
     }
 }
 
-/// How a script is run: its lines in file order, or a thread for each process.
+/// How the script is run: its lines in file order, or a thread for each process.
 #[derive(Clone, Copy, Debug, PartialEq, Eq)]
 pub(crate) enum Mode {
     Serial,
@@ -101,7 +101,7 @@ pub(crate) fn read_command<R: Env + AllocGlobal>(
     read_words(alloc, &words)
 }
 
-// The meaning of the words; the first word is the program's name.
+// The mode and the areas that the words name. The first word is the program's name.
 fn read_words(alloc: Global, words: &[String]) -> Result<(Mode, Vec<SwapWord>), Stop> {
     let matches = matched(alloc, words)?;
     read_matches(alloc, &matches)

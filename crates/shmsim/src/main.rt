@@ -1,4 +1,5 @@
-//! The simulator: it reads a script of processes and calls from standard input and writes each reply.
+//! The simulator: it reads a script of processes and calls from standard input, runs it, and writes each
+//! reply.
 #![tactic(auto)]
 
 mod command;

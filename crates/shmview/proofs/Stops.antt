@@ -35,7 +35,7 @@ stops (Ok done) input asked areas script read stop = tt
 stops (Err s) None asked areas script read stop = tt
 stops (Err s) (Some bytes) asked areas script read stop = stop_of s asked areas script bytes read stop
 
--- the input was not read, or is no script
+-- the input was not read, or is not a script
 pub early_stop : (fault : RunFault) (input : Option (List ℕ)) (asked : Option Steps) (areas : List ℕ) → IfSome input (λ bytes. (over : List ℕ) → IsCause fault over bytes) → is_serial fault ≡ true → IfSome input (λ bytes. IsStopOf (Fault fault) asked areas bytes)
 early_stop fault None asked areas cause serial = tt
 early_stop fault (Some bytes) asked areas cause serial = (cause areas, serial)

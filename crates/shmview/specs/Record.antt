@@ -23,26 +23,26 @@ use Rattle.shmview.specs.declared.steps.Steps.{Steps}
 abbrev pub call_made : List HolderView → CommandView → Call
 call_made hs c = call_of (values_of hs c.pid) c.call
 
--- what a line does to the variables and to the world, and how that is told
+-- one line: its effect on the variables and the world, and its action in the record
 abbrev pub HasRun : List HolderView → WorldState → Line → Action → List HolderView → WorldState → Type 0
 HasRun hs w (Command c) action after next =
     (reply : Reply) × (action ≡ actions.Call (event c.pid (call_made hs c) reply)) × IsCalled w c.pid (call_made hs c) reply next × (after ≡ with_answer hs c (Some reply))
 HasRun hs w (Flush pages) action after next =
     (report : FlushReport) × (action ≡ actions.Flush pages report) × IsRound w pages report next × (after ≡ hs)
 
--- the record of a step that is shown, and nothing of another
+-- the record of a step, if the step is to be shown
 abbrev pub shown_text : Steps → ℕ → Action → WorldState → List ℕ
 shown_text steps n action w = if has_step steps n then step_text n action w else []
 
--- the lines lead from a world through others, whose memory shows their machine exactly, and these are the records of
--- their steps, the first of which has a number
+-- the lines lead from a world through others, whose memories show their machines exactly; the text has the records of their
+-- steps, numbered from n
 abbrev pub Leads : Steps → List HolderView → ℕ → WorldState → List Line → List ℕ → Type 0
 Leads steps hs n w [] text = text ≡ []
 Leads steps hs n w (line ∷ lines) text =
     (action : Action) × (after : List HolderView) × (next : WorldState) × (rest : List ℕ) × HasRun hs w line action after next × IsWorldSound next × Leads steps after (n + 1) next lines rest × (text ≡ shown_text steps n action next ++ rest)
 
--- the record of a run of a script over these areas: step 0 is the world as it opens, over the swap areas as they were handed
--- in, and each line is a step. Where no steps are asked for the script has at most 2,000 lines
+-- the record of a run of a script over these areas. Step 0 is the world when it opens, over the swap areas as they were passed
+-- in, and each line is a step. If no steps are chosen, the script has at most 2,000 lines
 pub record IsRecord (swap : SwapView) (asked : Option Steps) (script : ScriptView) (areas : List ℕ) (text : List ℕ) : Type 0 where
   pub world : WorldState
   pub is_world : IsWorldOf IsWorldSound script areas world

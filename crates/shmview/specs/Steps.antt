@@ -1,4 +1,4 @@
--- Which steps are shown.
+-- The steps that are shown.
 use Rattle.std.specs.Prelude.{ℕ, ◌+◌, ◌&&◌, ◌==◌, nat_le, position, take, drop, if◌then◌else◌, Bool, List, Option, Some, None}
 use Rattle.shm_text.specs.Number.{decimal_of}
 use Rattle.shmview.specs.declared.steps.Steps.{Steps}
@@ -19,11 +19,11 @@ abbrev pub steps_by : List ℕ → Option ℕ → Option Steps
 steps_by w None = None
 steps_by w (Some i) = steps_between (decimal_of (take i w)) (decimal_of (drop (i + 1) w))
 
--- `FROM-TO`, FROM not above TO
+-- `FROM-TO`, with FROM not above TO
 abbrev pub steps_of : List ℕ → Option Steps
 steps_of w = steps_by w (hyphen w)
 
--- all steps of a run that is not too long, where none are asked for
+-- the chosen steps; or all, from 0 to 2000
 abbrev pub steps_asked : Option Steps → Steps
 steps_asked None = record { from = 0; to = 2000 }
 steps_asked (Some s) = s

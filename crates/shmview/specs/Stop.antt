@@ -1,4 +1,4 @@
--- Why the program stops: its text, its exit status, and what that says of its input.
+-- Why the program stops: its message, its exit status, and what it says about its input.
 use Rattle.std.specs.Prelude.{ℕ, ◌≡◌, ◌<◌, true, List, ◌++◌, codes, length, Option, None, Ok}
 use Rattle.std.specs.Fmt.{decimal}
 use Rattle.std.specs.declared.io.ErrorKind.{ErrorKind}
@@ -23,30 +23,30 @@ stop_status Usage = 2
 stop_status (TooLong steps) = 2
 stop_status (Fault fault) = exit_status fault
 
--- words that were not read: the host refused memory, or a word is no text
+-- the words could not be read: the host refused memory, or a word is not valid UTF-8
 abbrev pub io_stop : ErrorKind → Stop
 io_stop OutOfMemory = Fault HostMemory
 io_stop _ = Usage
 
--- the script has so many lines, more than 2,000, and no steps were asked for
+-- the script has this many lines, more than 2,000, and no steps were chosen
 pub record IsTooLong (asked : Option Steps) (script : ScriptView) (n : ℕ) : Type 0 where
   pub all : asked ≡ None
   pub lines : n ≡ length script.lines
   pub long : 2000 < n
 
--- what a stop says of an input that was read as this script
+-- what a stop says about an input that was read as this script
 abbrev pub IsStopIn : Stop → Option Steps → List ℕ → ScriptView → Type 0
 IsStopIn Usage asked areas script = ⊥
 IsStopIn (TooLong n) asked areas script = IsTooLong asked script n
 IsStopIn (Fault fault) asked areas script = ((input : List ℕ) → script_of input ≡ Ok script → IsCause fault areas input) × (is_serial fault ≡ true)
 
--- what a stop says of its input
+-- what a stop says about its input
 abbrev pub IsStopOf : Stop → Option Steps → List ℕ → List ℕ → Type 0
 IsStopOf Usage asked areas input = ⊥
 IsStopOf (TooLong n) asked areas input = (script : ScriptView) × (script_of input ≡ Ok script) × IsTooLong asked script n
 IsStopOf (Fault fault) asked areas input = IsCause fault areas input × (is_serial fault ≡ true)
 
--- nothing is written, but by a writer that failed
+-- nothing is written, unless the writer failed
 abbrev pub WritesNothing : Stop → Option (List ℕ) → Option (List ℕ) → Type 0
 WritesNothing (Fault fault) old new = IsSilent fault old new
 WritesNothing _ old new = Keeps old new

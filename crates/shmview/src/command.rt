@@ -16,7 +16,7 @@ pub(crate) fn read_command<R: Env + AllocGlobal>(
     read_words(alloc, &words)
 }
 
-// What the words say, the first of which is the program's name.
+// The steps and the areas that the words name. The first word is the program's name.
 fn read_words(alloc: Global, words: &[String]) -> Result<(Option<Steps>, Vec<SwapWord>), Stop> {
     if words.len() < 3 || words[1].as_str() != "--steps" {
         return Ok((None, swaps_in(alloc, words.get(1..).unwrap_or(&[]))?));

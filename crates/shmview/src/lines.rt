@@ -39,7 +39,7 @@ fn run_line<P: Pager>(
     }
 }
 
-// Appends the record of a step to a text, if the step is one of those to show.
+// Appends the record of a step to a text, if the step is to be shown.
 fn push_shown<P: Pager>(
     alloc: Global,
     text: &mut String,
@@ -52,7 +52,7 @@ fn push_shown<P: Pager>(
         (string_bytes text.new ≡ string_bytes text.old ++ shown_text steps number action.now world.now) }
     ensures sound { IsWorldSound world.now }
 {
-    // The laws of the history hold of each world that is shown.
+    // Calling this tells the proof that the laws hold for each world that is shown.
     let _sound = lawful(world);
     if steps.is_among(number) {
         push_step(alloc, text, number, action, world)?;
@@ -83,7 +83,7 @@ fn push_lines<P: Pager>(
     Ok(())
 }
 
-/// The record of a script's run in the world that it opened: of the world at the start, and of each step.
+/// The record of a script's run in the world that it opened: the world at the start, and each step.
 pub(crate) fn record<P: Pager>(
     alloc: Global,
     steps: Steps,

@@ -4,14 +4,14 @@ ghost use Rattle.shmview.specs.Steps.{has_step, hyphen, steps_of, steps_asked};
 
 use shm_text::read_decimal;
 
-/// The steps from one number to another, both included. Step 0 is the machine as it opens.
+/// The steps from one number to another, both included. Step 0 is the machine when it opens.
 #[derive(Clone, Copy, Debug, PartialEq, Eq)]
 pub(crate) struct Steps {
     pub(crate) from: u64,
     pub(crate) to: u64,
 }
 
-/// The most steps of a run that is shown whole.
+/// The most steps of a run that is shown as a whole.
 pub(crate) const MOST_STEPS: u64 = 2000;
 
 impl Steps {
@@ -40,7 +40,7 @@ fn hyphen(word: &[u8]) -> Option<usize>
     word.iter().position(|b| *b == b'-')
 }
 
-/// A word for steps: `FROM-TO`, in decimal digits, FROM not above TO.
+/// Reads a word for steps: `FROM-TO` in decimal digits, with FROM not above TO.
 pub(crate) fn read_steps(word: &[u8]) -> Option<Steps>
     ensures { result ≡ steps_of word.now }
 {

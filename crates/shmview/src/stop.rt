@@ -10,8 +10,8 @@ use shm_program::RunFault;
 use std::alloc::{AllocError, AllocFailed};
 use std::{fmt, io};
 
-/// Why the program stops: wrong words on the command line; a run of this many steps, over 2,000, without chosen steps;
-/// or a fault of the run.
+/// Why the program stops: wrong words on the command line; a run of this many steps, over 2,000, without
+/// chosen steps; or a fault of the run.
 #[derive(Clone, Copy, Debug, PartialEq, Eq)]
 pub(crate) enum Stop {
     Usage,
@@ -70,7 +70,7 @@ impl From<HostMemory> for Stop {
     }
 }
 
-// A word that is not valid UTF-8 is a usage fault.
+// A word that is not valid UTF-8 is a usage error.
 impl From<io::Error> for Stop {
     ghost from_gives = { λ e r. r ≡ io_stop (error_kind e) };
 

@@ -1,4 +1,4 @@
-//! A run to look at: reads a script, runs its lines in file order, and writes the record of each step.
+//! The viewer's run: reads a script, runs its lines in file order, and writes the record of each step.
 ghost use Rattle.std.specs.Prelude.{◌≡◌, ◌⊎◌, ◌≤◌, [], length, map, None, OnOk, IfErr, IfSome, MatchOption};
 ghost use Rattle.std.specs.Io.KnownBytes.{Appends, IsAtEnd};
 ghost use Rattle.shm_program.specs.Runs.{Prints, IsWritten, IsOpening, IsFresh, handed_in};
@@ -17,10 +17,10 @@ use shm_text::Script;
 use std::alloc::Global;
 use std::io::{Read, Write};
 
-/// Reads a script, runs it over swap areas with these pagers, and writes the record of each chosen step. Without chosen
-/// steps it writes all, and the script may have at most 2,000 lines. The whole output is made before its first byte is
-/// written, so nothing is written unless the writer fails. It stops as a serial run does, and also for too many steps
-/// once the script is read.
+/// Reads a script, runs it over swap areas with these pagers, and writes the record of each chosen step.
+/// Without chosen steps it writes all, and the script may have at most 2,000 lines. It makes the whole output
+/// before it writes the first byte, so it writes nothing unless the writer fails. It stops for the same
+/// reasons as a serial run, and if there are too many steps, which it tests after it has read the script.
 #[tactic(auto, using(crate::proofs::Stops::nothing_written))]
 pub(crate) fn view<R: Read, W: Write, P: Pager>(
     alloc: Global,
@@ -102,7 +102,7 @@ fn view_in<W: Write, P: Pager>(
         (λ s. (s ≡ Stop.Fault RunFault.HostMemory) ⊎ (s ≡ Stop.Fault RunFault.WriteFailed)) }
     ensures silent { IfErr result (λ s. WritesNothing s (W.contents writer.old) (W.contents writer.new)) }
 {
-    // The laws hold of the world before its first step, too.
+    // Calling this tells the proof that the laws hold before the first step too.
     let _sound = lawful(world);
     match record(alloc, Steps::asked(asked), world, script) {
         Ok(text) => write_text(writer, text.as_bytes()),

@@ -4,7 +4,7 @@ use Rattle.shm_areas.specs.Edit.{taken_between}
 use Rattle.shm_areas.proofs.Origins.{taken_from}
 use Rattle.shm_areas.proofs.taking.take_named.Given as goal
 
--- what comes of it is the same from each place on
+-- the final list is the same from each index on
 abbrev pub invariant-loop-k : goal.invariant-loop-k
 invariant-loop-k l =
     record {

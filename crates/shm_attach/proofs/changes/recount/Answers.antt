@@ -6,7 +6,7 @@ use Rattle.shm_attach.proofs.changes.recount.Goals as goal
 pub parts_outside-parts-requires-clause-fit : goal.parts_outside-parts-requires-clause-fit
 parts_outside-parts-requires-clause-fit c = fit_at lowest_address c.args.met.now c.loop-piece.piece-index nothing c.requires.fit (omega arith)
 
--- the piece that is met is counted still
+-- the piece that is met is still counted
 counted_still : (c : After-parts_outside-parts) → 0 < counted c.loop-piece.tables (get_or c.args.met.now c.loop-piece.piece-index nothing).seg
 counted_still c = grind (arith, common_steps, drop-bare, one_more)
 

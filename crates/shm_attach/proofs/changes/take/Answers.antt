@@ -51,7 +51,7 @@ cut-requires-clause-few c =
     let room = rw c.in-Range.is at c.requires.room in
     rw (shown at, most_at-value c.args.processes.now.entries c.args.index c.index_mut.result.now (stands at)) at room
 
--- what the met pieces are recounted to is what all are
+-- the new counts of the met pieces are those of all pieces
 cut_counts : (from to a b id : ℕ) (met own : List Piece) → bare_all met ≡ filter (meets from to) (bare_all own)
     → b + pieces_of id (bare_all met) ≡ a + pieces_of id (cut from to (bare_all met)) → b + pieces_of id (bare_all own) ≡ a + pieces_of id (cut from to (bare_all own))
 cut_counts from to a b id met own same counts =

@@ -4,7 +4,7 @@ use Rattle.shm_attach.specs.Failing.{first_absent}
 use Rattle.shm_attach.specs.Table.{AllTrue}
 use Rattle.shm_attach.proofs.failing.absent_in.Given as goal
 
--- the first without a frame is among those that are left
+-- the first address without a frame is among the remaining ones
 abbrev pub invariant-loop-left : goal.invariant-loop-left
 invariant-loop-left l =
     (frame : ℕ → ℕ → Option ℕ) → AllTrue frame l.tables.slab → first_absent frame (bare_all l.space.pieces) l.at l.left ≡ first_absent frame (bare_all l.space.pieces) l.addr l.len

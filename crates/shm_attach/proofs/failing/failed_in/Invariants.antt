@@ -3,7 +3,7 @@ use Rattle.shm_areas.specs.Arranged.{bare_all}
 use Rattle.shm_attach.specs.Failing.{first_failed}
 use Rattle.shm_attach.proofs.failing.failed_in.Given as goal
 
--- the first that fails is among those that are left
+-- the first address that fails is among the remaining ones
 abbrev pub invariant-loop-left : goal.invariant-loop-left
 invariant-loop-left l = first_failed l.write (bare_all l.space.pieces) l.at l.left ≡ first_failed l.write (bare_all l.space.pieces) l.addr l.len
 

@@ -82,7 +82,7 @@ renew-requires-clause-can c =
     part_replaces es c.args.tables.now i c.in-Some.piece c.part_between-part.result c.args.writable c.args.at c.low_end-low.result c.high_end-high.result
     c.requires.there c.requires.live c.requires.most (table b) (low b) (high b) c.part_between-part.ensures.flat c.part_between-part.ensures.key room
 
--- it lacks the protection, and may have it
+-- it lacks the protection, and may get it
 turnable : (c : After-high_end-high) → IsTurnable c.args.writable c.args.at (bare c.in-Some.piece) (pieces_at (runners_view c.args.processes.now.entries) c.args.index)
 turnable c =
     let may : c.args.writable ≡ true → c.in-Some.piece.may_write ≡ true =
@@ -116,7 +116,7 @@ returns-clause-now c =
     let i = c.args.index in
     subst (λ (ps : List Piece). AreNow es fs c.args.tables.now c.renew.new.tables i ps) (sym (pieces-now es fs c.args.tables.now c.renew.new.tables i _ c.requires.there c.renew.ensures)) c.renew.ensures
 
--- the pieces that a part leaves
+-- the pieces after the part is in
 left : (c : After-high_end-high) (q : Stored) → bare q ≡ part_between c.args.writable c.low_end-low.result c.high_end-high.result (bare c.in-Some.piece)
     → inserted (bare q) (cut q.base (end_of (bare q)) (pieces_at (runners_view c.args.processes.now.entries) c.args.index))
     ≡ turned c.args.writable c.args.at c.args.to (bare c.in-Some.piece) (pieces_at (runners_view c.args.processes.now.entries) c.args.index)
@@ -143,7 +143,7 @@ returns-clause-own c =
       pages = λ seg page all. turned-has seg page c.args.writable c.args.at c.args.to p ps arranged (found b) c.requires.range.order c.requires.range.from_page c.requires.range.to_page all;
     }
 
--- the segment that is named where the piece is split
+-- the segment that is named if the piece is split
 split : (c : After-high_end-high) (left : ℕ) (o : Option ℕ) → left ≡ length (cut c.low_end-low.result c.high_end-high.result (bare_all c.space_at-space.result.now.pieces))
     → option_to_list o ≡ split_in c.in-Some.piece.seg (length c.space_at-space.result.now.pieces) (left + 1)
     → option_to_list o

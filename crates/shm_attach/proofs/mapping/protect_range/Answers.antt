@@ -30,7 +30,7 @@ protect_piece-requires-clause-live c =
 
 -- A PIECE
 
--- what the whole comes to, by the piece that was looked at
+-- the final result, by that of this piece
 whole : (c : After-protect_piece)
     → protected_between c.args.processes.now.entries c.args.index c.args.writable c.args.from c.args.to
     ≡ noted c.loop-at.lost.segments

@@ -3,7 +3,7 @@ use Rattle.shm_base.specs.Mapping.{protects_from}
 use Rattle.shm_attach.specs.Mapping.{protected_between, AreNow, KeepsOwn, noted}
 use Rattle.shm_attach.proofs.mapping.protect_range.Given as goal
 
--- there are pages enough that are not looked at, and what they come to is what the whole comes to
+-- enough pages are left, and their result gives the final one
 abbrev pub invariant-loop-at : goal.invariant-loop-at
 invariant-loop-at l =
     record {

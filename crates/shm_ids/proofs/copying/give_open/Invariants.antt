@@ -4,7 +4,7 @@ use Rattle.shm_ids.specs.Sound.{is_open}
 use Rattle.shm_ids.specs.Table.{entry_at}
 use Rattle.shm_ids.proofs.copying.give_open.Given as goal
 
--- of the indexes below this one, those that are free were given back
+-- the free ones of the indexes below this one were returned
 abbrev pub invariant-loop-index : goal.invariant-loop-index
 invariant-loop-index g l =
     ((i : ℕ) → is_taken l.indexes i ≡ (if nat_lt i l.index then not (is_open (entry_at l.entries.items i)) else nat_lt i (length l.entries.items)))

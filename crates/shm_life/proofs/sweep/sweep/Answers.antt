@@ -22,7 +22,7 @@ loop-seg-preserved g c =
       among-next rs t.table u.table c.args.lost.now c.loop-seg.seg-index 0 c.loop-seg-test.true c.loop-seg.invariant.1 e.fewer,
     )
 
--- all were looked at
+-- all were tested
 none : (g : Over) (c : After-loop-seg g) → OrphansAmong [] c.args.spaces.now.runners c.loop-seg.segments.table
 none g c =
     let over : drop c.loop-seg.seg-index c.args.lost.now ≡ [] = drop_all c.loop-seg.seg-index c.args.lost.now c.loop-seg-test.false in

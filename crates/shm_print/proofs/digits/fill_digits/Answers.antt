@@ -11,7 +11,7 @@ loop-at-init c = (
   ap (digits_onto 64 16 false c.args.number) (drop_of_length-le c.args.room.now {i = 64} (omega (arith, c.told-room))) ∙ digits_whole c.args.number,
 )
 
--- the digit stands before those that are there
+-- the digit is before those that are there
 pub loop-at-preserved : goal.loop-at-preserved
 loop-at-preserved c =
     let l = c.loop-at in

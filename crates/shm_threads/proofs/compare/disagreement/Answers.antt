@@ -6,7 +6,7 @@ use Rattle.shm_threads.proofs.LeastWrong.{with_broken, none_broken, found}
 use Rattle.shm_threads.proofs.compare.disagreement.Goals as goal
 use Rattle.shm_threads.proofs.compare.disagreement.Goals.{After-first_broken-broken}
 
--- what both searches found, of the script and the list that were handed in
+-- what both searches found, for the script and the list that were passed in
 stranger : (c : After-first_broken-broken) → IsLeastOf pid_at (IsAdmitted c.args.script.now.processes) c.args.history.now c.first_stranger-stranger.result
 stranger c =
     let Of : List Process → Type 0 = λ ps. IsLeastOf pid_at (IsAdmitted ps) c.args.history.now c.first_stranger-stranger.result in

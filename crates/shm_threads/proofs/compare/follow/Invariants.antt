@@ -3,7 +3,7 @@ use Rattle.shm_text.specs.Variables.{no_values}
 use Rattle.shm_threads.specs.Transcripts.{Follows, commands_of}
 use Rattle.shm_threads.proofs.compare.follow.Given as goal
 
--- what is left follows just where the whole does
+-- the rest follows exactly if the whole does
 abbrev pub invariant-loop-line : goal.invariant-loop-line
 invariant-loop-line l =
     (l.next ≤ length l.entries)

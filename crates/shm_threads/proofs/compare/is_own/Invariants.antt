@@ -3,7 +3,7 @@ use Rattle.shm_base.specs.History.{own_part}
 use Rattle.shm_threads.specs.Transcripts.{transcript_events}
 use Rattle.shm_threads.proofs.compare.is_own.Given as goal
 
--- what is left agrees just where the whole does
+-- the rest agrees exactly if the whole does
 abbrev pub invariant-loop-event : goal.invariant-loop-event
 invariant-loop-event l =
     (l.next ≤ length l.entries)

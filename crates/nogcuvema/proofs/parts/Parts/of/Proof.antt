@@ -1,4 +1,4 @@
--- `of`: what `into_raw_with_allocator` hands out becomes what the parts own.
+-- `of`: the parts own what `into_raw_with_allocator` returns.
 use Rattle.nogcuvema.proofs.Names.{refl, sym, subst, ap, ◌∙◌, List, [], ◌∷◌, ◌++◌, Ura, Fn, Args, Dict, a_type, dcons, dnil, inst_fn, Val, vstruct, of_list, SProp, ent, id⊢, never, fst∗, ftrue, fsep, WpFn, Tables, Memory, Routine, Logic, sem, Fun, fact, tables, fm_of, Item, ⋆, ‵, raw, ◌⊛◌, some, later, ◌$◌, ◌∵◌, !, qed, by, move, use1, join, split, split3, pick, rewrite, fsplit, fjoin, fpick, feq_l, suffices, await, done, whole, sub, agg, stop, fld, no_more, and_then, of_opd, returns, enter, alloc_all, pass_all, free_all, look_at, get, get_in, sets, lands_as, no, bounded, Ptr, block_ptr, null_ptr, ptr_val, in_a_block, plain, heard, nothing, only, Tuple, calls_at, Ended, Clauses, triple_of, Triple, Contract, says, Stays, stay_dropped, walk_of, ends_at, token, handle_tells, Goes-blank, box_owns, proved_at, Bx, D, τ, R, P, B, word, box_typed, box_out, box_in}
 use Rattle.std.proofs.Common.{◌≡◌}
 use mir.Raw.{raw as bare}
@@ -35,7 +35,7 @@ module _ (E : Bx) (glue : Dict) where
     abbrev Opens : Contract 𝓤
     Opens = triple_of 𝓛 (opening.signature E.row E.al.row E.al.g E.al.d E.al.drops glue) (opening.spec E.row E.al.row E.al.g E.al.d E.al.drops glue 𝓛 at_mem run)
 
-    -- what the call gives back: the pointer beside the handle, and the block that it leads to
+    -- the result of the call: the pointer, the handle, and the block that it points to
     abbrev opened : (boxed : D E) (ts : Item 𝓤) → Val → Item 𝓤
     opened boxed ts u =
         later (some (λ (r : Ptr × E.al.row.Denot).

@@ -5,7 +5,7 @@ use Rattle.shm_areas.specs.declared.hints.Passed.{Passed}
 use Rattle.shm_areas.specs.declared.hints.TheConstants.{MOST_HINTS}
 use Rattle.shm_areas.proofs.hints.Hints.lower.Given as goal
 
--- what was put in holds of what is left, if all that was known held before
+-- the kept hints hold of the remaining pieces, if all hints held before
 abbrev pub invariant-loop-passed : goal.invariant-loop-passed
 invariant-loop-passed l =
     record {

@@ -14,14 +14,14 @@ least_gap-requires-clause-arranged c =
     let rest : take (length ps - n) (drop n ps) ≡ drop n ps = take_all (length ps - n) (drop n ps) (omega (arith, length-drop n ps)) in
     rw rest (arranged-drop lowest_address n ps (rw own c.self.invariant.0.arranged))
 
--- where the walk begins
+-- where the search begins
 start : (c : After-run_in-run) → IsPassed c.args.pages c.start-start.result c.self.inside.pieces.items
 start c = rw (← c.self.view_is) at c.start-start.ensures
 
 pub least_gap-requires-clause-from : goal.least_gap-requires-clause-from
 least_gap-requires-clause-from c = (start (goal.at.least_gap-requires-clause-from c).After-run_in-run).high
 
--- the walk finds what one from the first address on does
+-- the search finds what one from the first address on would
 found : (c : After-least_gap) → IsPassed c.args.pages c.start-start.result c.self.inside.pieces.items → c.least_gap.result ≡ gap_from c.args.pages first_chosen (bare_all c.self.inside.pieces.items)
 found c begins =
     let n = c.run_in-run.result.first in

@@ -17,9 +17,9 @@ loop-piece-init c =
     (rw (← own)
     (origin_of-drop c.args.addr n ps (rw (← other) c.count_below-start.ensures.bound) (rw (← other) c.count_below-start.ensures.below)))
 
--- WHERE A PIECE LIES TOO FAR ABOVE
+-- A PIECE IS TOO FAR ABOVE
 
--- none that is left has the origin
+-- no remaining piece has the origin
 none : (c : Then-piece-to) → find (λ (p : Piece). has_origin c.args.addr (bare p)) (drop c.loop-piece.piece-index (take (length c.deref-2.result.now - c.count_below-start.result) (drop c.count_below-start.result c.deref-2.result.now))) ≡ None
 none c =
     let n = c.count_below-start.result in

@@ -61,7 +61,7 @@ invariant_of-self-2 g c =
       ap (λ (l : LostView). l.most) c.note.ensures ∙ c.self.invariant.2,
     )
 
--- WHAT IT ENSURES
+-- THE POSTCONDITIONS
 
 pub returns-clause-lost : goal.returns-clause-lost
 returns-clause-lost g c = grind (arith, common_steps, seg-met)

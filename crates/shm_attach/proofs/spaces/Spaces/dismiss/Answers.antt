@@ -18,7 +18,7 @@ out c =
     out_there c.self.inside.processes.entries c.swap_remove_index.new.self.entries c.in-Some.found.index (leaver c) c.swap_remove_index.result c.swap_remove_index.ensures.entry
     c.swap_remove_index.ensures.entries (there c)
 
--- it is not live, and so has no piece
+-- it is not live, so it has no piece
 idle : (c : After-swap_remove_index) → is_live (life_view c.in-Some.found.life) ≡ false
 idle c = asleep c.in-Some.found.life c.in_default-life.not-Live
 

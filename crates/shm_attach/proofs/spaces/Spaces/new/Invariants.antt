@@ -1,7 +1,7 @@
 use Rattle.shm_attach.proofs.Names.{most_at, length, ◌<◌, ℕ, ◌≡◌, map, take, runner_at_start, runners_view}
 use Rattle.shm_attach.proofs.spaces.Spaces.new.Given as goal
 
--- the processes so far stand in their order
+-- the processes so far are in order
 abbrev pub invariant-loop-process : goal.invariant-loop-process
 invariant-loop-process l =
     record {

@@ -37,7 +37,7 @@ protect_range-requires-clause-most c =
     let most = c.self.invariant.1.each c.args.caller.now.index (within (goal.at.protect_range-requires-clause-most c).After-self) in
     omega (arith, most, c.self.invariant.1.bound)
 
--- what the pages come to is what the bytes come to
+-- the result for the pages is that for the bytes
 whole : (c : In-Some) → protected_between c.self.inside.processes.entries c.args.caller.now.index c.args.writable c.args.addr c.in-Some.to
     ≡ protected_by c.args.self.now c.args.caller.now c.args.writable c.args.addr c.args.len
 whole c =

@@ -5,7 +5,7 @@ use Rattle.shm_attach.proofs.tables.Tables.reserve.Given.{Over}
 use Rattle.shm_attach.proofs.tables.Tables.reserve.Goals.{After-replace}
 use Rattle.shm_attach.proofs.tables.Tables.reserve.Goals as goal
 
--- a piece of all pages would have the table
+-- a piece of all pages, which would have the table
 abbrev whole : (g : Over) (c : After-replace g) → Piece
 whole g c = record { base = 0; seg = c.args.seg; first_page = 0; pages = c.args.pages; writable = false; may_write = false; key = c.in-Some.key }
 

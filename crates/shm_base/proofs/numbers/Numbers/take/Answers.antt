@@ -24,7 +24,7 @@ returns-in-Some-clause-taken c =
     let m = moved (goal.at.returns-in-Some-clause-taken c).In-Some in
     rw (← c.self.view_is) (taken_from _ c.in-Some.least.0 _ c.self.invariant.0 m)
 
--- no number was given back, so the first that was never taken is the least
+-- no number was returned, so the first that was never taken is the least
 none : (c : In-None) → numbers_in (heap_items c.self.inside.returned) ≡ []
 none c = none_in (heap_items c.self.inside.returned) (omega (arith, c.in-None.ensures.none, c.self.inside.returned.data.ok.0))
 

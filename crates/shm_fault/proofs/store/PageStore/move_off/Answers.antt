@@ -11,7 +11,7 @@ use Rattle.shm_fault.proofs.store.PageStore.move_off.Given as given
 use Rattle.shm_fault.proofs.store.PageStore.move_off.Goals as goal
 use Rattle.shm_fault.proofs.store.PageStore.move_off.Goals.{After-unwrap_or-count, After-self-2, In_default, After-turn_off}
 
--- the slots that are looked at are all that the area has
+-- all slots of the area are visited
 count : (g : given.Over) (c : After-unwrap_or-count g) → c.unwrap_or-count.result ≡ length (area_at c.args.self.now.swap c.args.area).pages
 count g c = grind (arith, nat_tests, common_steps, c.args.self.now.swap, c.size.result, c.args.area, c.self.view_is, c.size.ensures, c.requires.there, c.unwrap_or-count.ensures)
 

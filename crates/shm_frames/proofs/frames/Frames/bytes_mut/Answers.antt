@@ -17,7 +17,7 @@ reach-requires-clause-entries c = let o = goal.at.reach-requires-clause-entries 
 pub reach-requires-clause-bytes : goal.reach-requires-clause-bytes
 reach-requires-clause-bytes c = let o = goal.at.reach-requires-clause-bytes c in omega (arith, there o.After-self, c.self.invariant.2)
 
--- the frames, as they are shown once this one has an entry
+-- the frames after this one has an entry
 reached : (c : After-reach) → c.args.frame < c.self.inside.count → AreFramesShown c.reach.new.table.items c.reach.new.pages.items c.self.inside.count c.args.self.now
 reached c in_count = rw (c.reach.ensures.table, c.reach.ensures.pages) (reach-shown (shown c.self.inside c.self.invariant.0 c.self.view_is) c.args.frame in_count)
 

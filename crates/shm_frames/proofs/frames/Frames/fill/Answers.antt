@@ -22,7 +22,7 @@ at_entry : (before after : List FrameState) (i : ℕ) → after ≡ padded befor
 at_entry before after i e = rw e (within-padded before (i + 1) i free_entry (omega arith))
 
 module _ (c : After-index_mut-entry) (in_count : c.args.frame < c.self.inside.count) where
-  -- the frames, as they are shown once this one has an entry
+  -- the frames after this one has an entry
   reached : AreFramesShown c.reach.new.table.items c.reach.new.pages.items c.self.inside.count c.args.self.now
   reached = rw (c.reach.ensures.table, c.reach.ensures.pages) (reach-shown (shown c.self.inside c.self.invariant.0 c.self.view_is) c.args.frame in_count)
 

@@ -36,7 +36,7 @@ overflow_add-self c =
     changed-more c.self.invariant.3 t (is_at o.After-index_mut-entry t) c.args.dirty in
     rw (c.from.ensures, c.from-2.ensures) (omega (arith, m, c.self.invariant.0.within, c.self.invariant.0.few))
 
--- what is kept, but for the marks
+-- the invariant, except for the marks
 module _ (c : After-from-2) (t : c.args.frame < length c.self.inside.table.items) (at : c.index_mut-entry.result.now ≡ state_at c.self.inside.table.items c.args.frame) where
   abbrev now : FrameState
   now = record c.index_mut-entry.result.now { dirty = c.args.dirty }

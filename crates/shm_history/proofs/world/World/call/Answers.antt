@@ -8,7 +8,7 @@ use Rattle.shm_history.proofs.Histories.{history_more}
 use Rattle.shm_history.proofs.Counted.{counted_more}
 use Rattle.shm_history.proofs.world.World.call.Goals as goal
 
--- the reply stands in the event behind a history that led to the machine
+-- the reply is in the event after a history that led to the machine
 pub invariant_of-self-2 : goal.invariant_of-self-2
 invariant_of-self-2 g c =
     let old : List Event = c.self.inside.history.items in

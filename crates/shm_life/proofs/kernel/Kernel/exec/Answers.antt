@@ -5,7 +5,7 @@ use Rattle.shm_life.proofs.kernel.Kernel.exec.Given.{Over}
 use Rattle.shm_life.proofs.kernel.Kernel.exec.Goals as goal
 use Rattle.shm_life.proofs.kernel.Kernel.exec.Goals.{After-lost}
 
--- all is well but for the segments that lost pieces, which are live
+-- everything is sound except for the segments that lost pieces, which are live
 left : (g : Over) (c : After-lost g) → All (IsLive c.self.inside.segments.table) c.lost.result.now
     × IsWellBut c.lost.result.now c.self.inside.limits c.self.inside.segments.table c.exec.new.self.runners c.exec.new.self.translations c.self.inside.segments.memory
 left g c =

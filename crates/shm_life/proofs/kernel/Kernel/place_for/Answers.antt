@@ -15,7 +15,7 @@ wish g c = elim c.if-addr-eq0.branch [ then-addr-eq0 w ↦ search rules | else-a
 ranged : (g : Over) (c : After-branch-base g) → IfOk c.if-addr-eq0.wish (IsRange c.pages-pages.result)
 ranged g c = elim c.if-addr-eq0.branch [ then-addr-eq0 w ↦ search rules | else-addr-eq0 w ↦ search rules ]
 
--- behind the first tests it is as the wish for a base comes out
+-- after the first tests, the base that was wished for decides
 asked : (g : Over) (c : After-branch-base g)
     → placed c.args.self.now.flat (caller_seen c.args.caller.now c.args.self.now.flat.runners) c.args.id c.args.addr c.args.flags
     ≡ placed_at c.in_ok-found.found.seg c.pages-pages.result (if_few c.self.inside.limits (bare_all c.space-space.result.now.pieces) c.pages-pages.result c.if-addr-eq0.wish)

@@ -41,7 +41,7 @@ drop_segment-requires g c =
     let n = next g at.After-self in
     record { there = rw (zeros g at.In_ok-add_segment n, n.is) (ap is_some (find-zeros_same (held c.self.inside.store) (id_of c.self.inside.table n.i) (pages_of c.args.head.size) n.new)) }
 
--- what was added is gone again
+-- what was added is dropped again
 dropped : (g : Over) (c : After-drop_segment g) (n : IsNext (held c.self.inside.store) c.self.inside.table (to_z w32 (of_z w32 c.args.id))) → c.drop_segment.new.self ≡ c.self.inside.store
 dropped g c n =
     let s = c.self.inside.store in

@@ -1,7 +1,7 @@
 use Rattle.shm_text.proofs.Names.{◌≡◌, ◌≤◌, ◌-◌, ◌++◌, take, drop, false, All, list_all, is_allowed, is_space, words_of, line_end, first_line}
 use Rattle.shm_text.proofs.words.Words.take.Given as goal
 
--- the first words of the line are those that were kept, and then those from `start` on, where a word is open
+-- the first words of the line are the kept ones and, while a word is open, those from `start` on
 abbrev pub invariant-loop-at : goal.invariant-loop-at
 invariant-loop-at l = record {
   begun : l.start ≤ l.at;
