@@ -1,4 +1,4 @@
--- The locked instructions of a guest: an exchange, and a compare and exchange, of some bytes in one step. Neither is a call. As
+-- The locked instructions of a guest: an exchange, and a compare and exchange, of some bytes in one step. Neither is a `Call`. As
 -- `xadd` does, both need bytes that may be written.
 use Rattle.std.specs.Prelude.{ℕ, Bool, true, false, ◌&&◌, ◌==◌, if◌then◌else◌, List, [], ◌∷◌, length, Option, Some, None}
 use Rattle.shm_base.specs.State.{Machine}
