@@ -219,7 +219,7 @@ fn go_on_alone(
 }
 
 #[test]
-fn a_copy_goes_on_alone(rt: HostRuntime) -> Result<(), HostMemory> {
+fn a_copy_is_independent(rt: HostRuntime) -> Result<(), HostMemory> {
     let store = bare_store(rt.alloc())?;
     let mut source = family(rt.alloc(), 256)?;
     answers_all(&rt, &mut source, &store, BEFORE);

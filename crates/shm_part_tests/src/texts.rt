@@ -10,7 +10,7 @@ fn tells(alloc: Global, error: &impl Display, wanted: &str) -> bool {
 }
 
 #[test]
-fn errors_are_told(rt: HostRuntime) {
+fn errors_are_reported(rt: HostRuntime) {
     let alloc = rt.alloc();
     assert!(rt; tells(alloc, &LookRefused::Removed, "the identifier was removed"));
     assert!(rt;

@@ -1,8 +1,8 @@
 //! Gauged runs with a reader, which waits for no lock.
 ghost use Rattle.std.specs.Prelude.{◌≡◌};
 
-use crate::behind::{Rule, Ruled, comes_to, script, world_over};
 use crate::runs::{COUNTER, COUNTS, late, repeated};
+use crate::shared::{Rule, Ruled, comes_to, script, world_over};
 use shm_history::{Gauge, Keeper, ReaderSeat, Reading, World, gauge};
 use shm_pager::{Pager, PagerFault, RamPager};
 use shm_text::Script;
@@ -170,7 +170,7 @@ fn over_memory<R: Threads + Wait + Sync, G: Gate>(
 }
 
 #[test]
-fn readings_beside_four_that_count(rt: HostRuntime) -> Result<(), Fail> {
+fn readings_while_four_count(rt: HostRuntime) -> Result<(), Fail> {
     let text = repeated(rt.alloc(), COUNTER, COUNTS, 50)?;
     let (gate, readings) = (Ruled::by(Rule::Open), Readings::none());
     let ending = over_memory(&rt, rt.alloc(), &text, &gate, &readings, 100_000)?;

@@ -1,5 +1,5 @@
 //! Whole runs: whatever the schedule, they end as expected.
-use crate::behind::{Rule, Ruled, fault_behind, script, seen_by, seen_over};
+use crate::shared::{Rule, Ruled, fault_behind, script, seen_by, seen_over};
 use shm_base::{Chunk, Reply, Tally};
 use shm_text::{FlushLine, Line, Script};
 use shm_threads::RunError;
@@ -229,7 +229,7 @@ fn many_processes(alloc: Global) -> Result<Vec<u8>, Fail> {
 }
 
 #[test]
-fn as_many_processes_as_there_may_be(rt: HostRuntime) -> Result<(), Fail> {
+fn as_many_processes_as_allowed(rt: HostRuntime) -> Result<(), Fail> {
     let text = many_processes(rt.alloc())?;
     let seen = seen_by(&rt, rt.alloc(), &text, Rule::Open)?;
     assert_eq!(rt; seen.events, 64);
@@ -343,7 +343,7 @@ fn counted_late<R: Threads + Wait + Sync>(
 }
 
 #[test]
-fn a_round_behind_the_last_call(rt: HostRuntime) -> Result<(), Fail> {
+fn a_round_after_the_last_call(rt: HostRuntime) -> Result<(), Fail> {
     for (pages, tally) in ROUNDS {
         assert!(rt;
             counted_late(&rt, rt.alloc(), *pages)? == *tally,

@@ -406,12 +406,12 @@ fn each_call_fails_around_a_swapoff(rt: HostRuntime) -> Result<(), Fail> {
 }
 
 #[test]
-fn each_call_fails_beside_threads(rt: HostRuntime) -> Result<(), Fail> {
+fn each_call_fails_with_threads(rt: HostRuntime) -> Result<(), Fail> {
     each_call_fails(&rt, rt.alloc(), true, false)
 }
 
 #[test]
-fn each_call_fails_beside_threads_around_a_swapoff(rt: HostRuntime) -> Result<(), Fail> {
+fn each_call_fails_with_threads_around_a_swapoff(rt: HostRuntime) -> Result<(), Fail> {
     each_call_fails(&rt, rt.alloc(), true, true)
 }
 
@@ -426,11 +426,11 @@ fn each_side_fails_around_a_swapoff(rt: HostRuntime) -> Result<(), Fail> {
 }
 
 #[test]
-fn each_side_fails_beside_threads(rt: HostRuntime) -> Result<(), Fail> {
+fn each_side_fails_with_threads(rt: HostRuntime) -> Result<(), Fail> {
     each_side_fails(&rt, rt.alloc(), true, false)
 }
 
 #[test]
-fn each_side_fails_beside_threads_around_a_swapoff(rt: HostRuntime) -> Result<(), Fail> {
+fn each_side_fails_with_threads_around_a_swapoff(rt: HostRuntime) -> Result<(), Fail> {
     each_side_fails(&rt, rt.alloc(), true, true)
 }

@@ -206,7 +206,7 @@ fn alone_and_mirrored<X: Pager>(rt: &impl Abort, alloc: Global, mut pager: X) ->
 
 // Fuses and mirrors do not read or write a spent pager, but discard its slots and wipe it.
 #[test]
-fn a_spent_pager_is_not_asked(rt: HostRuntime) -> Result<(), Fail> {
+fn a_spent_pager_is_not_called(rt: HostRuntime) -> Result<(), Fail> {
     let alloc = rt.alloc();
     alone_and_mirrored(&rt, alloc, over_a_spent_pager(alloc)?)
 }
@@ -363,7 +363,7 @@ const DISCARDS: &[(&str, Behind, u32, (u64, u64))] = &[
 
 // No contract can say this, since the bytes of a discarded slot are unknown.
 #[test]
-fn a_discard_reaches_the_pagers_behind(rt: HostRuntime) -> Result<(), Fail> {
+fn a_discard_reaches_the_inner_pagers(rt: HostRuntime) -> Result<(), Fail> {
     for &(name, behind, slot, discards) in DISCARDS {
         let counter = Counter::new(rt.alloc())?;
         discard_behind(&rt, rt.alloc(), &counter, behind, slot)?;
@@ -463,7 +463,7 @@ fn go_on_apart<X: ClonePager>(
 }
 
 #[test]
-fn an_area_of_each_kind_and_its_copy_go_on_apart(rt: HostRuntime) -> Result<(), Fail> {
+fn an_area_of_each_kind_and_its_copy_are_independent(rt: HostRuntime) -> Result<(), Fail> {
     for case in COPIES {
         let mut area = area_of(rt.alloc(), case)?;
         go_on_apart(&rt, &mut area, case)?;
