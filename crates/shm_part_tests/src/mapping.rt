@@ -206,7 +206,7 @@ const CHANGES: &[Act] = &[
 ];
 
 /// Changes of a copy do not affect its source, nor the other way round.
-fn go_on_alone(
+fn change_independently(
     rt: &impl Abort,
     source: &mut Spaces,
     copy: &mut Spaces,
@@ -224,7 +224,7 @@ fn a_copy_is_independent(rt: HostRuntime) -> Result<(), HostMemory> {
     let mut source = family(rt.alloc(), 256)?;
     answers_all(&rt, &mut source, &store, BEFORE);
     match source.try_clone() {
-        Ok(mut copy) => go_on_alone(&rt, &mut source, &mut copy, &store),
+        Ok(mut copy) => change_independently(&rt, &mut source, &mut copy, &store),
         Err(_) => answers_all(&rt, &mut source, &store, AS_IT_WAS),
     }
     Ok(())
