@@ -43,7 +43,8 @@ pub extern "C" fn nog_load(
     bytes: &mut [u8],
 ) -> u32
     ensures answers { let load = call.Load addr (length bytes.old) in
-        AnswersWhere (within 1 64 (length bytes.old)) handle.old.kept.value pid load (reply.Bytes bytes.new) result handle.new.kept.value }
+        AnswersWhere (within 1 64 (length bytes.old)) handle.old.kept.value pid load
+        (reply.Bytes bytes.new) result handle.new.kept.value }
     ensures bytes { result ≢ 0 → bytes.new ≡ bytes.old }
 {
     if !is_size(bytes.len()) {
@@ -78,7 +79,8 @@ pub extern "C" fn nog_store(
     addr: u64,
     bytes: &[u8],
 ) -> u32
-    ensures { AnswersWhere (within 1 64 (length bytes.now)) handle.old.kept.value pid (call.Store addr bytes.now) reply.Done result handle.new.kept.value }
+    ensures { AnswersWhere (within 1 64 (length bytes.now)) handle.old.kept.value pid
+        (call.Store addr bytes.now) reply.Done result handle.new.kept.value }
 {
     if !is_size(bytes.len()) {
         return OUT_OF_RANGE;
@@ -94,7 +96,8 @@ pub extern "C" fn nog_store(
 #[tactic(auto, using(crate::proofs::Answering::refused))]
 #[inline(always)]
 fn add_to(machine: &mut Machine, pid: u32, addr: u64, add: u64, before: &mut u64) -> u32
-    ensures answers { AnswersFor machine.old pid (call.Xadd addr add) (reply.Number before.new) result machine.new }
+    ensures answers { AnswersFor machine.old pid (call.Xadd addr add)
+        (reply.Number before.new) result machine.new }
     ensures before { result ≢ 0 → before.new ≡ before.old }
 {
     match machine.add(pid, addr, add) {
@@ -117,7 +120,8 @@ pub extern "C" fn nog_add(
     add: u64,
     before: &mut u64,
 ) -> u32
-    ensures answers { AnswersThrough handle.old.kept.value pid (call.Xadd addr add) (reply.Number before.new) result handle.new.kept.value }
+    ensures answers { AnswersThrough handle.old.kept.value pid (call.Xadd addr add)
+        (reply.Number before.new) result handle.new.kept.value }
     ensures before { result ≢ 0 → before.new ≡ before.old }
 {
     let Some(mut machine) = handle.take(alloc) else {

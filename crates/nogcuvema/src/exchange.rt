@@ -15,7 +15,8 @@ use std::alloc::Global;
 fn exchange(machine: &mut Machine, pid: u32, addr: u64, bytes: &[u8], before: &mut [u8]) -> u32
     requires size { (1 ≤ length bytes.now) × (length bytes.now ≤ 64) }
     requires before { length before.old ≡ length bytes.now }
-    ensures answers { ExchangesFor (λ (s : Flat). exchanges s pid addr bytes.now) machine.old before.new result machine.new }
+    ensures answers { ExchangesFor (λ (s : Flat). exchanges s pid addr bytes.now)
+        machine.old before.new result machine.new }
     ensures before { result ≢ 0 → before.new ≡ before.old }
 {
     match machine.exchange(pid, addr, bytes, before) {
@@ -35,7 +36,8 @@ fn compare(
 ) -> u32
     requires size { (1 ≤ length bytes.now) × (length bytes.now ≤ 64) }
     requires before { length before.old ≡ length bytes.now }
-    ensures answers { ExchangesFor (λ (s : Flat). compares s pid addr expected.now bytes.now) machine.old before.new result machine.new }
+    ensures answers { ExchangesFor (λ (s : Flat). compares s pid addr expected.now bytes.now)
+        machine.old before.new result machine.new }
     ensures before { result ≢ 0 → before.new ≡ before.old }
 {
     match machine.compare_exchange(pid, addr, expected, bytes, before) {
@@ -55,7 +57,8 @@ pub extern "C" fn nog_exchange(
     before: &mut [u8],
 ) -> u32
     ensures answers { let fit = within 1 64 (length bytes.now) && (length before.old == length bytes.now) in
-        ExchangesWhere fit (λ (s : Flat). exchanges s pid addr bytes.now) handle.old.kept.value before.new result handle.new.kept.value }
+        ExchangesWhere fit (λ (s : Flat). exchanges s pid addr bytes.now)
+        handle.old.kept.value before.new result handle.new.kept.value }
     ensures before { result ≢ 0 → before.new ≡ before.old }
 {
     if !is_size(bytes.len()) || before.len() != bytes.len() {
@@ -81,7 +84,8 @@ pub extern "C" fn nog_compare_exchange(
     before: &mut [u8],
 ) -> u32
     ensures answers { let fit = within 1 64 (length bytes.now) && (length before.old == length bytes.now) && (length expected.now == length bytes.now) in
-        ExchangesWhere fit (λ (s : Flat). compares s pid addr expected.now bytes.now) handle.old.kept.value before.new result handle.new.kept.value }
+        ExchangesWhere fit (λ (s : Flat). compares s pid addr expected.now bytes.now)
+        handle.old.kept.value before.new result handle.new.kept.value }
     ensures before { result ≢ 0 → before.new ≡ before.old }
 {
     if !is_size(bytes.len()) || before.len() != bytes.len() || expected.len() != bytes.len() {

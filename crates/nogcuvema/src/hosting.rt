@@ -62,7 +62,8 @@ fn recredited(machine: &mut Machine, pid: u32, cred: Cred) -> u32
 /// gives its place to it. Not counted as a call.
 #[unsafe(no_mangle)]
 pub extern "C" fn nog_admit(alloc: Global, handle: &mut Handle, process: &NogProcess) -> u32
-    ensures { HostedThrough (AdmitsBy (process_of process.now)) handle.old.kept.value result handle.new.kept.value }
+    ensures { HostedThrough (AdmitsBy (process_of process.now))
+        handle.old.kept.value result handle.new.kept.value }
 {
     let Some(mut machine) = handle.take(alloc) else {
         return CLOSED;
@@ -95,7 +96,8 @@ pub extern "C" fn nog_set_user(
     uid: u32,
     gid: u32,
 ) -> u32
-    ensures { HostedThrough (RecreditsBy pid (record { uid = uid; gid = gid })) handle.old.kept.value result handle.new.kept.value }
+    ensures { HostedThrough (RecreditsBy pid (record { uid = uid; gid = gid }))
+        handle.old.kept.value result handle.new.kept.value }
 {
     let Some(mut machine) = handle.take(alloc) else {
         return CLOSED;

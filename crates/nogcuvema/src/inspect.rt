@@ -18,7 +18,8 @@ pub extern "C" fn nog_flush(
     pages: u64,
     flushed: &mut NogFlushed,
 ) -> u32
-    ensures machine { FlushedTo handle.old.kept.value pages (report_by flushed.new) result handle.new.kept.value }
+    ensures machine { FlushedTo handle.old.kept.value pages (report_by flushed.new) result
+        handle.new.kept.value }
     ensures flushed { result ≢ 0 → flushed.new ≡ flushed.old }
 {
     let Some(mut machine) = handle.take(alloc) else {
@@ -32,7 +33,9 @@ pub extern "C" fn nog_flush(
 /// The counts of the machine.
 #[unsafe(no_mangle)]
 pub extern "C" fn nog_tally_of(alloc: Global, handle: &mut Handle, tally: &mut NogTally) -> u32
-    ensures machine { Reads handle.old.kept.value (λ m. Counts m.system.calls m.system.machine m.system.memory (tally_by tally.new)) result handle.new.kept.value }
+    ensures machine { Reads handle.old.kept.value
+        (λ m. Counts m.system.calls m.system.machine m.system.memory (tally_by tally.new))
+        result handle.new.kept.value }
     ensures tally { result ≢ 0 → tally.new ≡ tally.old }
 {
     let Some(machine) = handle.take(alloc) else {
@@ -46,7 +49,8 @@ pub extern "C" fn nog_tally_of(alloc: Global, handle: &mut Handle, tally: &mut N
 /// How many indexes of the table of segments were ever used.
 #[unsafe(no_mangle)]
 pub extern "C" fn nog_indexes(alloc: Global, handle: &mut Handle, indexes: &mut u32) -> u32
-    ensures machine { Reads handle.old.kept.value (λ m. indexes.new ≡ length m.system.machine.table) result handle.new.kept.value }
+    ensures machine { Reads handle.old.kept.value (λ m. indexes.new ≡ length m.system.machine.table)
+        result handle.new.kept.value }
     ensures indexes { result ≢ 0 → indexes.new ≡ indexes.old }
 {
     let Some(machine) = handle.take(alloc) else {
@@ -60,7 +64,8 @@ pub extern "C" fn nog_indexes(alloc: Global, handle: &mut Handle, indexes: &mut 
 /// How many calls were answered.
 #[unsafe(no_mangle)]
 pub extern "C" fn nog_calls(alloc: Global, handle: &mut Handle, calls: &mut u64) -> u32
-    ensures machine { Reads handle.old.kept.value (λ m. calls.new ≡ m.system.calls) result handle.new.kept.value }
+    ensures machine { Reads handle.old.kept.value (λ m. calls.new ≡ m.system.calls)
+        result handle.new.kept.value }
     ensures calls { result ≢ 0 → calls.new ≡ calls.old }
 {
     let Some(machine) = handle.take(alloc) else {

@@ -15,7 +15,8 @@ use std::alloc::Global;
 /// Sums over all segments, and the highest index that has one (SHM_INFO).
 #[unsafe(no_mangle)]
 pub extern "C" fn nog_info(alloc: Global, handle: &mut Handle, usage: &mut NogUsage) -> u32
-    ensures machine { Reads handle.old.kept.value (λ m. Uses m.system usage.new) result handle.new.kept.value }
+    ensures machine { Reads handle.old.kept.value (λ m. Uses m.system usage.new)
+        result handle.new.kept.value }
     ensures usage { result ≢ 0 → usage.new ≡ usage.old }
 {
     let Some(machine) = handle.take(alloc) else {
@@ -85,7 +86,8 @@ pub extern "C" fn nog_piece_at(
     index: u32,
     piece: &mut NogPiece,
 ) -> u32
-    ensures machine { AnswersPiece handle.old.kept.value pid index (piece_by piece.new) result handle.new.kept.value }
+    ensures machine { AnswersPiece handle.old.kept.value pid index (piece_by piece.new)
+        result handle.new.kept.value }
     ensures piece { result ≢ 0 → piece.new ≡ piece.old }
 {
     let Some(machine) = handle.take(alloc) else {
@@ -140,7 +142,8 @@ pub extern "C" fn nog_failed_at(
     is_write: u32,
     at: &mut u64,
 ) -> u32
-    ensures machine { AnswersFailed handle.old.kept.value pid addr len (not (is_write == 0)) at.new result handle.new.kept.value }
+    ensures machine { AnswersFailed handle.old.kept.value pid addr len (not (is_write == 0))
+        at.new result handle.new.kept.value }
     ensures at { result ≢ 0 → at.new ≡ at.old }
 {
     let Some(machine) = handle.take(alloc) else {

@@ -64,7 +64,8 @@ pub extern "C" fn nog_protect(
     len: u64,
     is_writable: u32,
 ) -> u32
-    ensures { HostedThrough (ProtectsBy pid addr len (not (is_writable == 0))) handle.old.kept.value result handle.new.kept.value }
+    ensures { HostedThrough (ProtectsBy pid addr len (not (is_writable == 0)))
+        handle.old.kept.value result handle.new.kept.value }
 {
     let Some(mut machine) = handle.take(alloc) else {
         return CLOSED;

@@ -211,7 +211,8 @@ pub extern "C" fn nog_open(
     failures: &[NogFailure],
     processes: &[NogProcess],
 ) -> u32
-    ensures { OpenedTo handle.old.kept.value limits.now areas.now failures.now processes.now result handle.new.kept.value }
+    ensures { OpenedTo handle.old.kept.value limits.now areas.now failures.now processes.now
+        result handle.new.kept.value }
 {
     let machine = match machine_of(alloc, limits, areas, failures, processes) {
         Ok(machine) => machine,

@@ -17,7 +17,8 @@ pub struct Kept {
 }
 
 impl Model for Kept {
-    ghost also_owns = { λ k. owned (⟦<Global as Allocator>⟧.dealloc_token (record { memory = record { seal = tt } })) k.at k.value };
+    ghost also_owns = { λ k. owned
+        (⟦<Global as Allocator>⟧.dealloc_token (record { memory = record { seal = tt } })) k.at k.value };
 }
 
 impl Kept {

@@ -37,7 +37,8 @@ fn perform(alloc: Global, handle: &mut Handle, pid: u32, call: &Call) -> u32
 /// shmdt(2): detaches what is left of one attach.
 #[unsafe(no_mangle)]
 pub extern "C" fn nog_detach(alloc: Global, handle: &mut Handle, pid: u32, addr: u64) -> u32
-    ensures { AnswersThrough handle.old.kept.value pid (call.Shmdt addr) reply.Done result handle.new.kept.value }
+    ensures { AnswersThrough handle.old.kept.value pid (call.Shmdt addr) reply.Done
+        result handle.new.kept.value }
 {
     perform(alloc, handle, pid, &Call::Shmdt { addr })
 }
@@ -53,7 +54,8 @@ pub extern "C" fn nog_set(
     gid: u32,
     mode: u32,
 ) -> u32
-    ensures { AnswersWhere (nat_lt mode 65536) handle.old.kept.value pid (call.Set id uid gid mode) reply.Done result handle.new.kept.value }
+    ensures { AnswersWhere (nat_lt mode 65536) handle.old.kept.value pid
+        (call.Set id uid gid mode) reply.Done result handle.new.kept.value }
 {
     if mode > u32::from(u16::MAX) {
         return OUT_OF_RANGE;
@@ -66,7 +68,8 @@ pub extern "C" fn nog_set(
 /// last piece.
 #[unsafe(no_mangle)]
 pub extern "C" fn nog_remove(alloc: Global, handle: &mut Handle, pid: u32, id: i32) -> u32
-    ensures { AnswersThrough handle.old.kept.value pid (call.Rmid id) reply.Done result handle.new.kept.value }
+    ensures { AnswersThrough handle.old.kept.value pid (call.Rmid id) reply.Done
+        result handle.new.kept.value }
 {
     perform(alloc, handle, pid, &Call::Rmid { id })
 }
@@ -74,7 +77,8 @@ pub extern "C" fn nog_remove(alloc: Global, handle: &mut Handle, pid: u32, id: i
 /// shmctl(2), SHM_LOCK: the pages of a segment stay resident once they are.
 #[unsafe(no_mangle)]
 pub extern "C" fn nog_lock(alloc: Global, handle: &mut Handle, pid: u32, id: i32) -> u32
-    ensures { AnswersThrough handle.old.kept.value pid (call.Lock id) reply.Done result handle.new.kept.value }
+    ensures { AnswersThrough handle.old.kept.value pid (call.Lock id) reply.Done
+        result handle.new.kept.value }
 {
     perform(alloc, handle, pid, &Call::Lock { id })
 }
@@ -82,7 +86,8 @@ pub extern "C" fn nog_lock(alloc: Global, handle: &mut Handle, pid: u32, id: i32
 /// shmctl(2), SHM_UNLOCK: the pages of a segment may leave their frames again.
 #[unsafe(no_mangle)]
 pub extern "C" fn nog_unlock(alloc: Global, handle: &mut Handle, pid: u32, id: i32) -> u32
-    ensures { AnswersThrough handle.old.kept.value pid (call.Unlock id) reply.Done result handle.new.kept.value }
+    ensures { AnswersThrough handle.old.kept.value pid (call.Unlock id) reply.Done
+        result handle.new.kept.value }
 {
     perform(alloc, handle, pid, &Call::Unlock { id })
 }
@@ -90,7 +95,8 @@ pub extern "C" fn nog_unlock(alloc: Global, handle: &mut Handle, pid: u32, id: i
 /// fork(2): a declared child is born, with the pieces and the ids of the process.
 #[unsafe(no_mangle)]
 pub extern "C" fn nog_fork(alloc: Global, handle: &mut Handle, pid: u32, child: u32) -> u32
-    ensures { AnswersThrough handle.old.kept.value pid (call.Fork child) reply.Done result handle.new.kept.value }
+    ensures { AnswersThrough handle.old.kept.value pid (call.Fork child) reply.Done
+        result handle.new.kept.value }
 {
     perform(alloc, handle, pid, &Call::Fork { child })
 }
@@ -114,7 +120,8 @@ pub extern "C" fn nog_exit(alloc: Global, handle: &mut Handle, pid: u32) -> u32
 /// swapoff(2): takes a swap area away.
 #[unsafe(no_mangle)]
 pub extern "C" fn nog_swapoff(alloc: Global, handle: &mut Handle, pid: u32, area: u32) -> u32
-    ensures { AnswersThrough handle.old.kept.value pid (call.Swapoff area) reply.Done result handle.new.kept.value }
+    ensures { AnswersThrough handle.old.kept.value pid (call.Swapoff area) reply.Done
+        result handle.new.kept.value }
 {
     perform(alloc, handle, pid, &Call::Swapoff { area })
 }

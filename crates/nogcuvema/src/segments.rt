@@ -23,7 +23,8 @@ fn get(
     flags: u16,
     id: &mut i32,
 ) -> u32
-    ensures answers { AnswersFor machine.old pid (call.Shmget key size mode (record { 0 = flags })) (reply.Id id.new) result machine.new }
+    ensures answers { AnswersFor machine.old pid (call.Shmget key size mode (record { 0 = flags }))
+        (reply.Id id.new) result machine.new }
     ensures id { result ≢ 0 → id.new ≡ id.old }
 {
     match machine.get(pid, key, size, mode, GetFlags::from_bits_retain(flags)) {
@@ -47,7 +48,8 @@ pub extern "C" fn nog_get(
     flags: u32,
     id: &mut i32,
 ) -> u32
-    ensures answers { AnswersWhere (nat_lt mode 65536 && nat_lt flags 65536) handle.old.kept.value pid (call.Shmget key size mode (record { 0 = flags })) (reply.Id id.new) result handle.new.kept.value }
+    ensures answers { AnswersWhere (nat_lt mode 65536 && nat_lt flags 65536) handle.old.kept.value pid
+        (call.Shmget key size mode (record { 0 = flags })) (reply.Id id.new) result handle.new.kept.value }
     ensures id { result ≢ 0 → id.new ≡ id.old }
 {
     if mode > u32::from(u16::MAX) || flags > u32::from(u16::MAX) {
@@ -63,7 +65,8 @@ pub extern "C" fn nog_get(
 
 #[tactic(auto, using(crate::proofs::Answering::refused))]
 fn attach(machine: &mut Machine, pid: u32, id: i32, addr: u64, flags: u16, at: &mut u64) -> u32
-    ensures answers { AnswersFor machine.old pid (call.Shmat id addr (record { 0 = flags })) (reply.Addr at.new) result machine.new }
+    ensures answers { AnswersFor machine.old pid (call.Shmat id addr (record { 0 = flags }))
+        (reply.Addr at.new) result machine.new }
     ensures at { result ≢ 0 → at.new ≡ at.old }
 {
     match machine.attach(pid, id, addr, AtFlags::from_bits_retain(flags)) {
@@ -87,7 +90,8 @@ pub extern "C" fn nog_attach(
     flags: u32,
     at: &mut u64,
 ) -> u32
-    ensures answers { AnswersWhere (nat_lt flags 65536) handle.old.kept.value pid (call.Shmat id addr (record { 0 = flags })) (reply.Addr at.new) result handle.new.kept.value }
+    ensures answers { AnswersWhere (nat_lt flags 65536) handle.old.kept.value pid
+        (call.Shmat id addr (record { 0 = flags })) (reply.Addr at.new) result handle.new.kept.value }
     ensures at { result ≢ 0 → at.new ≡ at.old }
 {
     if flags > u32::from(u16::MAX) {
@@ -103,7 +107,8 @@ pub extern "C" fn nog_attach(
 
 #[tactic(auto, using(crate::proofs::Answering::refused))]
 fn stat(machine: &mut Machine, pid: u32, id: i32, segment: &mut NogSegment) -> u32
-    ensures answers { AnswersFor machine.old pid (call.Stat id) (reply.Stat (shown_by segment.new)) result machine.new }
+    ensures answers { AnswersFor machine.old pid (call.Stat id)
+        (reply.Stat (shown_by segment.new)) result machine.new }
     ensures place { result ≡ 0 → (segment.new.id ≡ id) × (segment.new.index ≡ index_of id) }
     ensures segment { result ≢ 0 → segment.new ≡ segment.old }
 {
@@ -125,7 +130,8 @@ pub extern "C" fn nog_stat(
     id: i32,
     segment: &mut NogSegment,
 ) -> u32
-    ensures answers { AnswersThrough handle.old.kept.value pid (call.Stat id) (reply.Stat (shown_by segment.new)) result handle.new.kept.value }
+    ensures answers { AnswersThrough handle.old.kept.value pid (call.Stat id)
+        (reply.Stat (shown_by segment.new)) result handle.new.kept.value }
     ensures place { result ≡ 0 → (segment.new.id ≡ id) × (segment.new.index ≡ index_of id) }
     ensures segment { result ≢ 0 → segment.new ≡ segment.old }
 {

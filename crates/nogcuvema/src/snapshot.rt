@@ -11,7 +11,8 @@ use std::alloc::Global;
 /// call.
 #[unsafe(no_mangle)]
 pub extern "C" fn nog_snapshot(alloc: Global, handle: &mut Handle, copy: &mut Handle) -> u32
-    ensures { CopiesTo handle.old.kept.value copy.old.kept.value result handle.new.kept.value copy.new.kept.value }
+    ensures { CopiesTo handle.old.kept.value copy.old.kept.value result
+        handle.new.kept.value copy.new.kept.value }
 {
     let Some(machine) = handle.take(alloc) else {
         return CLOSED;

@@ -37,7 +37,8 @@ pub extern "C" fn nog_read(
     bytes: &mut [u8],
     done: &mut u64,
 ) -> u32
-    ensures { ReadThrough handle.old.kept.value pid addr bytes.old done.old result bytes.new done.new handle.new.kept.value }
+    ensures { ReadThrough handle.old.kept.value pid addr bytes.old done.old result
+        bytes.new done.new handle.new.kept.value }
 {
     let Some(mut machine) = handle.take(alloc) else {
         return CLOSED;
@@ -67,7 +68,8 @@ pub extern "C" fn nog_write(
     bytes: &[u8],
     done: &mut u64,
 ) -> u32
-    ensures { WrittenThrough handle.old.kept.value pid addr bytes.now done.old result done.new handle.new.kept.value }
+    ensures { WrittenThrough handle.old.kept.value pid addr bytes.now done.old result
+        done.new handle.new.kept.value }
 {
     let Some(mut machine) = handle.take(alloc) else {
         return CLOSED;
@@ -108,7 +110,8 @@ pub extern "C" fn nog_copy(
     len: u64,
     done: &mut u64,
 ) -> u32
-    ensures { CopiedThrough handle.old.kept.value (from, from_addr) (to, to_addr) len done.old result done.new handle.new.kept.value }
+    ensures { CopiedThrough handle.old.kept.value (from, from_addr) (to, to_addr) len done.old result
+        done.new handle.new.kept.value }
 {
     let Some(mut machine) = handle.take(alloc) else {
         return CLOSED;

@@ -58,10 +58,12 @@ impl Model for Chunk {
 
     ghost inverse = { λ xs. record { bytes = xs ++ replicate (64 - length xs) 0; len = length xs } };
 
-    ghost invariant = { λ c. (1 ≤ c.len) × (c.len ≤ 64) × (length c.bytes ≡ 64) × (c.bytes ≡ take c.len c.bytes ++ replicate (64 - c.len) 0) };
+    ghost invariant = { λ c. (1 ≤ c.len) × (c.len ≤ 64) × (length c.bytes ≡ 64)
+        × (c.bytes ≡ take c.len c.bytes ++ replicate (64 - c.len) 0) };
 
     ghost inverse_ok = { λ c h i. record {
-      bytes = (ap (λ k. take c.len c.bytes ++ replicate (64 - k) 0) (length-take-le c.len c.bytes (omega (arith, h.1, h.2))) ∙ sym h.3) i;
+      bytes = (ap (λ k. take c.len c.bytes ++ replicate (64 - k) 0)
+          (length-take-le c.len c.bytes (omega (arith, h.1, h.2))) ∙ sym h.3) i;
       len = length-take-le c.len c.bytes (omega (arith, h.1, h.2)) i;
     } };
 }

@@ -86,11 +86,41 @@ impl Model for Limits {
 
     ghost Value = { Bounds };
 
-    ghost view = { λ l. record { shmmax = l.shmmax; shmmni = l.shmmni; shmall = l.shmall; frames = l.frames; memlock = l.memlock; most_pieces = l.most_pieces; most_processes = l.most_processes; most_slots = l.most_slots; rules = l.rules } };
+    ghost view = { λ l. record {
+      shmmax = l.shmmax;
+      shmmni = l.shmmni;
+      shmall = l.shmall;
+      frames = l.frames;
+      memlock = l.memlock;
+      most_pieces = l.most_pieces;
+      most_processes = l.most_processes;
+      most_slots = l.most_slots;
+      rules = l.rules;
+    } };
 
-    ghost inverse = { λ b. record { shmmax = b.shmmax; shmmni = b.shmmni; shmall = b.shmall; frames = b.frames; memlock = b.memlock; most_pieces = b.most_pieces; most_processes = b.most_processes; most_slots = b.most_slots; rules = b.rules } };
+    ghost inverse = { λ b. record {
+      shmmax = b.shmmax;
+      shmmni = b.shmmni;
+      shmall = b.shmall;
+      frames = b.frames;
+      memlock = b.memlock;
+      most_pieces = b.most_pieces;
+      most_processes = b.most_processes;
+      most_slots = b.most_slots;
+      rules = b.rules;
+    } };
 
-    ghost invariant = { λ l. AreBounds (record { shmmax = l.shmmax; shmmni = l.shmmni; shmall = l.shmall; frames = l.frames; memlock = l.memlock; most_pieces = l.most_pieces; most_processes = l.most_processes; most_slots = l.most_slots; rules = l.rules }) };
+    ghost invariant = { λ l. AreBounds (record {
+      shmmax = l.shmmax;
+      shmmni = l.shmmni;
+      shmall = l.shmall;
+      frames = l.frames;
+      memlock = l.memlock;
+      most_pieces = l.most_pieces;
+      most_processes = l.most_processes;
+      most_slots = l.most_slots;
+      rules = l.rules;
+    }) };
 }
 
 impl Limits {

@@ -40,10 +40,18 @@ impl Model for Numbers {
 
     ghost Value = { NumbersView };
 
-    ghost view = { λ t. record { fresh = t.fresh; returned = map (λ r. r.0) (heap_items t.returned); room = t.room } };
+    ghost view = { λ t. record {
+      fresh = t.fresh;
+      returned = map (λ r. r.0) (heap_items t.returned);
+      room = t.room;
+    } };
 
     ghost invariant = { λ t.
-        AreNumbersSound (record { fresh = t.fresh; returned = map (λ r. r.0) (heap_items t.returned); room = t.room })
+        AreNumbersSound (record {
+          fresh = t.fresh;
+          returned = map (λ r. r.0) (heap_items t.returned);
+          room = t.room;
+        })
         × IsHeap (λ x y. nat_cmp y.0 x.0) (heap_items t.returned)
         × (t.room ≤ heap_capacity t.returned) };
 }

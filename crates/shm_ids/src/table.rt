@@ -366,7 +366,8 @@ impl<T: Drop> IdTable<T> {
 
     /// The row at an index: identifier, key and value.
     pub fn row_at(&self, index: usize) -> Option<(ShmId, u32, &T)>
-        ensures { option_map (λ r. (r.0, (r.1, r.2.now))) result ≡ row_listed index (entry_at self.now index) }
+        ensures { option_map (λ r. (r.0, (r.1, r.2.now))) result
+            ≡ row_listed index (entry_at self.now index) }
     {
         match self.entries.get(index) {
             Some(entry) => entry.listed(index),

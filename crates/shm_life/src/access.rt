@@ -169,7 +169,8 @@ impl<P: Pager> Kernel<P> {
     fn add_spans(&mut self, spans: &[Span], add: u64) -> Result<u64, Errno>
         requires spans { IsAccess (SpanFits self.old.flat.table) spans.now 8 }
         requires frames { NameFrames self.old.memory spans.now }
-        ensures number { IfOk result (λ n. n ≡ loaded_number self.old.flat.table (span_places false spans.now)) }
+        ensures number { IfOk result (λ n.
+            n ≡ loaded_number self.old.flat.table (span_places false spans.now)) }
         ensures written { let after = added_at self.old.flat.table (span_places false spans.now) add in
             OnOk result (self.new.flat ≡ record self.old.flat { table = after }) }
         ensures same { OnErr result (self.new.flat ≡ self.old.flat) }

@@ -48,7 +48,8 @@ impl Machine {
     /// Adds to eight little-endian bytes of attached memory, modulo 2^64, and returns the old number.
     #[inline(always)]
     pub fn add(&mut self, pid: u32, addr: u64, add: u64) -> Result<u64, Refusal>
-        ensures { Answered self.old.system pid (call.Xadd addr add) (as_reply reply.Number result) self.new.system }
+        ensures { Answered self.old.system pid (call.Xadd addr add)
+            (as_reply reply.Number result) self.new.system }
     {
         if self.system.calls() == u64::MAX {
             return Err(Refusal::Spent);

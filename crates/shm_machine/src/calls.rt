@@ -18,7 +18,8 @@ impl Machine {
         mode: u16,
         flags: GetFlags,
     ) -> Result<ShmId, Refusal>
-        ensures { Answered self.old.system pid (call.Shmget key size mode flags) (as_reply (λ i. reply.Id i) result) self.new.system }
+        ensures { Answered self.old.system pid (call.Shmget key size mode flags)
+            (as_reply (λ i. reply.Id i) result) self.new.system }
     {
         match self.answer(
             pid,
@@ -37,7 +38,8 @@ impl Machine {
 
     /// shmat(2): the address at which the segment is attached.
     pub fn attach(&mut self, pid: u32, id: ShmId, addr: u64, flags: AtFlags) -> Result<u64, Refusal>
-        ensures { Answered self.old.system pid (call.Shmat id addr flags) (as_reply (λ a. reply.Addr a) result) self.new.system }
+        ensures { Answered self.old.system pid (call.Shmat id addr flags)
+            (as_reply (λ a. reply.Addr a) result) self.new.system }
     {
         match self.answer(pid, &Call::Shmat { id, addr, flags }) {
             Ok(Reply::Addr(at)) => Ok(at),
@@ -48,7 +50,8 @@ impl Machine {
 
     /// Reads bytes of attached memory.
     pub fn load(&mut self, pid: u32, addr: u64, len: AccessLen) -> Result<Chunk, Refusal>
-        ensures answered { Answered self.old.system pid (call.Load addr len) (as_reply (λ b. reply.Bytes b) result) self.new.system }
+        ensures answered { Answered self.old.system pid (call.Load addr len)
+            (as_reply (λ b. reply.Bytes b) result) self.new.system }
         ensures length { IfOk result (λ b. length b ≡ len) }
     {
         let mut bytes = [0; LONGEST_ACCESS];
@@ -60,7 +63,8 @@ impl Machine {
 
     /// shmctl(2), IPC_STAT: shows the segment.
     pub fn stat(&mut self, pid: u32, id: ShmId) -> Result<ShmidDs, Refusal>
-        ensures { Answered self.old.system pid (call.Stat id) (as_reply (λ s. reply.Stat s) result) self.new.system }
+        ensures { Answered self.old.system pid (call.Stat id)
+            (as_reply (λ s. reply.Stat s) result) self.new.system }
     {
         match self.answer(pid, &Call::Stat { id }) {
             Ok(Reply::Stat(shown)) => Ok(shown),

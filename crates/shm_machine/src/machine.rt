@@ -49,7 +49,8 @@ impl Machine {
     ) -> Result<Machine, StartError>
         ensures opened { IfOk result (λ m. IsOpened limits areas.now processes.now m.system) }
         ensures ok { OnOk result (start_error limits (sizes_of areas.now) processes.now ≡ None) }
-        ensures err { IfErr result (λ e. (e ≡ start.HostMemory) ⊎ (start_error limits (sizes_of areas.now) processes.now ≡ Some e)) }
+        ensures err { IfErr result (λ e. (e ≡ start.HostMemory)
+            ⊎ (start_error limits (sizes_of areas.now) processes.now ≡ Some e)) }
     {
         if let Some(error) = first_area_error(&limits, areas, |area| area.slots) {
             return Err(error);

@@ -83,7 +83,8 @@ fn pager_for(
     failures: &[Failure],
 ) -> Result<AreaPager, HostMemory>
     ensures blank { IfOk result (λ p. pager_seen area_pages failed_in p ≡ blank area.now.slots) }
-    ensures kind { IfOk result (λ p. IsOfKind area.now.kind area.now.slots (calls_at index Side.Left false failures.now) (calls_at index Side.Left true failures.now) p) }
+    ensures kind { IfOk result (λ p. IsOfKind area.now.kind area.now.slots
+        (calls_at index Side.Left false failures.now) (calls_at index Side.Left true failures.now) p) }
 {
     let left = failing(alloc, failures, index, Side::Left)?;
     let right = failing(alloc, failures, index, Side::Right)?;
@@ -97,7 +98,8 @@ pub(crate) fn pagers_for(
     failures: &[Failure],
 ) -> Result<Vec<AreaPager>, HostMemory>
     requires { length areas.now ≤ 8 }
-    ensures { IfOk result (λ v. map (pager_seen area_pages failed_in) v.items ≡ map (λ a. blank a.slots) areas.now) }
+    ensures { IfOk result (λ v.
+        map (pager_seen area_pages failed_in) v.items ≡ map (λ a. blank a.slots) areas.now) }
 {
     let mut pagers = Vec::new(alloc);
     for (index, area) in areas.iter().enumerate() {

@@ -19,7 +19,8 @@ pub struct Progress {
 
 // The address after the bytes that were done. Sigsegv: it is 2^64 or more, where no piece can be.
 fn next_address(addr: u64, done: usize) -> Result<u64, Refusal>
-    ensures { MatchResult result (λ a. a ≡ addr + done) (λ e. (2 ^ 64 ≤ addr + done) × (e ≡ Refusal.Refused Errno.Sigsegv)) }
+    ensures { MatchResult result (λ a. a ≡ addr + done)
+        (λ e. (2 ^ 64 ≤ addr + done) × (e ≡ Refusal.Refused Errno.Sigsegv)) }
 {
     addr.checked_add(done as u64)
         .ok_or(Refusal::Refused(Errno::Sigsegv))
@@ -38,7 +39,8 @@ impl Machine {
     fn read_on(&mut self, pid: u32, addr: u64, done: usize, part: &mut [u8]) -> Result<(), Refusal>
         requires { (1 ≤ length part.old) × (length part.old ≤ PAGE_SIZE) }
         ensures read { let load = call.Load (addr + done) (length part.old) in
-            MatchResult result (λ _. Replied self.old.system pid load (reply.Bytes part.new) self.new.system) (λ e. StoppedAt self.old.system pid (addr + done) load e self.new.system) }
+            MatchResult result (λ _. Replied self.old.system pid load (reply.Bytes part.new) self.new.system)
+            (λ e. StoppedAt self.old.system pid (addr + done) load e self.new.system) }
         ensures kept { OnErr result (part.new ≡ part.old) }
     {
         let at = next_address(addr, done)?;
@@ -49,7 +51,8 @@ impl Machine {
     fn write_on(&mut self, pid: u32, addr: u64, done: usize, bytes: &[u8]) -> Result<(), Refusal>
         requires { (1 ≤ length bytes.now) × (length bytes.now ≤ PAGE_SIZE) }
         ensures { let store = call.Store (addr + done) bytes.now in
-            MatchResult result (λ _. Replied self.old.system pid store reply.Done self.new.system) (λ e. StoppedAt self.old.system pid (addr + done) store e self.new.system) }
+            MatchResult result (λ _. Replied self.old.system pid store reply.Done self.new.system)
+            (λ e. StoppedAt self.old.system pid (addr + done) store e self.new.system) }
     {
         let at = next_address(addr, done)?;
         self.store(pid, at, bytes)

@@ -50,6 +50,7 @@ pub trait Engine: Drop {
     /// failed.
     fn call(&mut self, pid: u32, call: &Call) -> Result<Reply, EngineError>
         requires room { calls self.old < 2 ^ 64 - 1 }
-        ensures step { IfOk result (λ r. step (flat self.old) (calls self.old + 1) pid call.now ≡ record { reply = r; state = flat self.new }) }
+        ensures step { IfOk result (λ r. step (flat self.old) (calls self.old + 1) pid call.now
+            ≡ record { reply = r; state = flat self.new }) }
         ensures calls { OnOk result (calls self.new ≡ calls self.old + 1) };
 }

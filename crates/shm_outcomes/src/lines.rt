@@ -36,7 +36,8 @@ fn next_own(events: &[Event], pid: u32, from: usize) -> usize
     requires { from ≤ length events.now }
     ensures bound { result ≤ length events.now }
     ensures same { own_part pid (drop result events.now) ≡ own_part pid (drop from events.now) }
-    ensures own { result < length events.now → (e : FlatEvent) → e ≡ slice_index_or events.now result e → e.pid ≡ pid }
+    ensures own { result < length events.now
+        → (e : FlatEvent) → e ≡ slice_index_or events.now result e → e.pid ≡ pid }
 {
     let mut next = from;
     while next < events.len() && events[next].pid != pid {

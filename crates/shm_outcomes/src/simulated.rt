@@ -39,10 +39,13 @@ impl<P: ClonePager> Simulated<P> {
     /// The system that a script opens over the pagers. Fails with the first start error; the pagers are
     /// dropped then.
     pub fn open(alloc: Global, script: &Script, pagers: Vec<P>) -> Result<Simulated<P>, StartError>
-        ensures machine { IfOk result (λ s. s.machine ≡ (start script.now (map (λ p. length (P.content p)) pagers.items)).machine) }
+        ensures machine { IfOk result (λ s.
+            s.machine ≡ (start script.now (map (λ p. length (P.content p)) pagers.items)).machine) }
         ensures calls { IfOk result (λ s. s.calls ≡ 0) }
-        ensures ok { OnOk result (start_error script.now.limits (map (λ p. length (P.content p)) pagers.items) script.now.processes ≡ None) }
-        ensures err { IfErr result (λ e. IsFirstError e (start_error script.now.limits (map (λ p. length (P.content p)) pagers.items) script.now.processes)) }
+        ensures ok { OnOk result (start_error script.now.limits
+            (map (λ p. length (P.content p)) pagers.items) script.now.processes ≡ None) }
+        ensures err { IfErr result (λ e. IsFirstError e (start_error script.now.limits
+            (map (λ p. length (P.content p)) pagers.items) script.now.processes)) }
     {
         match System::start(alloc, script.limits, pagers, &script.processes) {
             Ok(system) => Ok(Simulated { system }),

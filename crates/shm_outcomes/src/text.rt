@@ -202,7 +202,8 @@ fn put_processes(
     script: &Script,
     events: &[Event],
 ) -> Result<(), AllocError>
-    ensures { OnOk result (text.new.items ≡ text.old.items ++ flat_map (process_text masks events.now) script.now.processes) }
+    ensures { OnOk result (text.new.items
+        ≡ text.old.items ++ flat_map (process_text masks events.now) script.now.processes) }
 {
     for process in &script.processes {
         put_process(alloc, text, masks, events, process)?;
@@ -218,7 +219,8 @@ fn put_finding(
     number: u64,
     finding: &Finding,
 ) -> Result<(), AllocError>
-    ensures { OnOk result (text.new.items ≡ text.old.items ++ finding_text masks script.now number finding.now) }
+    ensures { OnOk result (text.new.items
+        ≡ text.old.items ++ finding_text masks script.now number finding.now) }
 {
     put(text, b"outcome ")?;
     put_number(alloc, text, number)?;

@@ -69,9 +69,13 @@ impl Model for SparsePager {
 
     ghost Value = { PagerView };
 
-    ghost view = { λ s. record { pages = padded (map page_behind s.pages.items) s.slots zero_page; failed = s.failed } };
+    ghost view = { λ s. record {
+      pages = padded (map page_behind s.pages.items) s.slots zero_page;
+      failed = s.failed;
+    } };
 
-    ghost invariant = { λ s. (length s.pages.items ≤ s.slots) × (s.slots ≤ vec_capacity s.pages) × NoZeros s.pages.items };
+    ghost invariant = { λ s. (length s.pages.items ≤ s.slots) × (s.slots ≤ vec_capacity s.pages)
+        × NoZeros s.pages.items };
 }
 
 fn is_zero(page: &[u8; PAGE_BYTES]) -> bool

@@ -139,7 +139,7 @@ const MIRRORED: &[(&str, Calls<'_>, Calls<'_>, (bool, bool, bool))] = &[
 ];
 
 #[test]
-fn each_side_of_a_mirrored_area_fails_where_it_is_told(rt: HostRuntime) -> Result<(), Fail> {
+fn each_side_of_a_mirrored_area_fails_as_listed(rt: HostRuntime) -> Result<(), Fail> {
     for &(name, left, right, done) in MIRRORED {
         let mirrored = area(rt.alloc(), AreaKind::Mirror, left, right)?;
         assert!(rt; written_and_read(&rt, mirrored) == done, "{name}");

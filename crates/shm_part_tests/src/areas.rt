@@ -285,7 +285,7 @@ fn a_cut_leaves_two_parts(rt: HostRuntime) -> Result<(), HostMemory> {
 }
 
 // Holes of one page are skipped, and a hole of two that a cut makes among them is found.
-fn chooses_behind_holes(rt: &impl Abort, space: &mut Space) {
+fn chooses_after_holes(rt: &impl Abort, space: &mut Space) {
     for k in 0..40u64 {
         assert!(rt; put(space, 0x40000000 + 0x2000 * k, 0, 1), "at {k}");
     }
@@ -302,6 +302,6 @@ fn chooses_behind_holes(rt: &impl Abort, space: &mut Space) {
 #[test]
 fn small_holes_are_passed(rt: HostRuntime) -> Result<(), HostMemory> {
     let mut space = Space::new(rt.alloc(), 256)?;
-    chooses_behind_holes(&rt, &mut space);
+    chooses_after_holes(&rt, &mut space);
     Ok(())
 }

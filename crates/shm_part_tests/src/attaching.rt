@@ -316,7 +316,7 @@ const PARTS: &[Act] = &[
 ];
 
 #[test]
-fn parts_of_one_attach_go_together(rt: HostRuntime) -> Result<(), HostMemory> {
+fn parts_of_one_attach_are_detached_together(rt: HostRuntime) -> Result<(), HostMemory> {
     in_a_family(&rt, rt.alloc(), PARTS)
 }
 
@@ -404,7 +404,7 @@ const ABSENT: &[Act] = &[
 ];
 
 #[test]
-fn the_first_absent_page_is_told(rt: HostRuntime) -> Result<(), HostMemory> {
+fn the_first_absent_page_is_returned(rt: HostRuntime) -> Result<(), HostMemory> {
     in_a_family(&rt, rt.alloc(), ABSENT)
 }
 
@@ -420,7 +420,7 @@ const GONE: &[Act] = &[
 ];
 
 #[test]
-fn a_gone_segment_has_no_frames(rt: HostRuntime) -> Result<(), HostMemory> {
+fn a_destroyed_segment_has_no_frames(rt: HostRuntime) -> Result<(), HostMemory> {
     in_a_family(&rt, rt.alloc(), GONE)
 }
 

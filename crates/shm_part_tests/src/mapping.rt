@@ -206,7 +206,7 @@ const CHANGES: &[Act] = &[
 ];
 
 /// Changes of a copy do not affect its source, nor the other way round.
-fn go_on_alone(
+fn change_independently(
     rt: &impl Abort,
     source: &mut Spaces,
     copy: &mut Spaces,
@@ -219,12 +219,12 @@ fn go_on_alone(
 }
 
 #[test]
-fn a_copy_goes_on_alone(rt: HostRuntime) -> Result<(), HostMemory> {
+fn a_copy_is_independent(rt: HostRuntime) -> Result<(), HostMemory> {
     let store = bare_store(rt.alloc())?;
     let mut source = family(rt.alloc(), 256)?;
     answers_all(&rt, &mut source, &store, BEFORE);
     match source.try_clone() {
-        Ok(mut copy) => go_on_alone(&rt, &mut source, &mut copy, &store),
+        Ok(mut copy) => change_independently(&rt, &mut source, &mut copy, &store),
         Err(_) => answers_all(&rt, &mut source, &store, AS_IT_WAS),
     }
     Ok(())

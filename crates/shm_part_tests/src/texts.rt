@@ -5,23 +5,23 @@ use shm_pager::{MirrorCause, PagerFault};
 use std::alloc::Global;
 use std::fmt::Display;
 
-fn tells(alloc: Global, error: &impl Display, wanted: &str) -> bool {
+fn prints(alloc: Global, error: &impl Display, wanted: &str) -> bool {
     format!(in alloc; "{error}").is_ok_and(|text| text.as_str() == wanted)
 }
 
 #[test]
-fn errors_are_told(rt: HostRuntime) {
+fn errors_are_reported(rt: HostRuntime) {
     let alloc = rt.alloc();
-    assert!(rt; tells(alloc, &LookRefused::Removed, "the identifier was removed"));
+    assert!(rt; prints(alloc, &LookRefused::Removed, "the identifier was removed"));
     assert!(rt;
-        tells(
+        prints(
             alloc,
             &LookRefused::Invalid,
             "the identifier was never issued"
         )
     );
-    assert!(rt; tells(alloc, &MirrorCause::Unequal, "the two sides differ in size"));
-    assert!(rt; tells(alloc, &MirrorCause::HostMemory, "out of memory"));
-    assert!(rt; tells(alloc, &PagerFault, "a pager failed"));
-    assert!(rt; tells(alloc, &Segv, "address not mapped, or not writable"));
+    assert!(rt; prints(alloc, &MirrorCause::Unequal, "the two sides differ in size"));
+    assert!(rt; prints(alloc, &MirrorCause::HostMemory, "out of memory"));
+    assert!(rt; prints(alloc, &PagerFault, "a pager failed"));
+    assert!(rt; prints(alloc, &Segv, "address not mapped, or not writable"));
 }

@@ -48,7 +48,8 @@ fn push_id(text: &mut String, word: &str, id: ShmId) -> Result<(), AllocError>
 
 // Appends a word and an address to a text.
 fn push_at(text: &mut String, word: &str, addr: u64) -> Result<(), AllocError>
-    ensures { OnOk result (string_bytes text.new ≡ string_bytes text.old ++ (word.now ++ printed.address_text addr)) }
+    ensures { OnOk result (string_bytes text.new
+        ≡ string_bytes text.old ++ (word.now ++ printed.address_text addr)) }
 {
     text.push_str(word)?;
     push_address(text, addr)
@@ -160,7 +161,8 @@ fn push_reply(text: &mut String, reply: &Reply) -> Result<(), AllocError>
 
 // Appends an event's place in the history and its process to a text.
 fn push_place(text: &mut String, place: u64, pid: u32) -> Result<(), AllocError>
-    ensures { OnOk result (string_bytes text.new ≡ string_bytes text.old ++ (decimal place ++ (codes " " ++ (decimal pid ++ codes " ")))) }
+    ensures { OnOk result (string_bytes text.new
+        ≡ string_bytes text.old ++ (decimal place ++ (codes " " ++ (decimal pid ++ codes " ")))) }
 {
     push_number(text, place)?;
     push_counted(text, " ", u64::from(pid))?;
@@ -170,7 +172,8 @@ fn push_place(text: &mut String, place: u64, pid: u32) -> Result<(), AllocError>
 /// Appends the line of an event to a text: its place in the history from 1, the process, the call and the
 /// reply. AllocError: the host refused memory, and the text may have a part of the line.
 pub fn push_event(text: &mut String, place: u64, event: &Event) -> Result<(), AllocError>
-    ensures { OnOk result (string_bytes text.new ≡ string_bytes text.old ++ printed.event_text place event.now) }
+    ensures { OnOk result (string_bytes text.new
+        ≡ string_bytes text.old ++ printed.event_text place event.now) }
 {
     push_place(text, place, event.pid)?;
     push_call(text, &event.call)?;

@@ -246,7 +246,7 @@ fn marked(alloc: Global, id: ShmId) -> Result<Vec<Transcript>, Fail> {
 }
 
 #[test]
-fn a_marked_call_is_no_event(rt: HostRuntime) -> Result<(), Fail> {
+fn a_marked_call_is_not_an_event(rt: HostRuntime) -> Result<(), Fail> {
     let alloc = rt.alloc();
     let script = script(alloc, MARKED)?;
     // its variable is -1

@@ -1,6 +1,6 @@
 //! When a run calls its gate, and how a run ends if its gate ends a worker.
-use crate::behind::{Rule, Ruled, fault_by, run_behind, seen_by};
 use crate::runs::{FAMILY, TURNED, TWO};
+use crate::shared::{Rule, Ruled, fault_by, run_with_gate, seen_by};
 use shm_base::Reply;
 use shm_threads::RunError;
 use std::test::Fail;
@@ -19,9 +19,9 @@ process 2 100 100\n\
 2 exit\n";
 
 #[test]
-fn a_gate_is_asked_before_and_told_after_each(rt: HostRuntime) -> Result<(), Fail> {
+fn a_gate_is_called_before_and_after_each_call(rt: HostRuntime) -> Result<(), Fail> {
     let gate = Ruled::by(Rule::Open);
-    let seen = run_behind(&rt, rt.alloc(), ROUNDS, &gate)??;
+    let seen = run_with_gate(&rt, rt.alloc(), ROUNDS, &gate)??;
     assert_eq!(rt; seen.events, 6);
     // the flusher's two rounds and the three calls of each process, and nothing out of order
     assert!(rt; gate.counts() == [2, 2, 3, 3, 3, 3, 0]);
@@ -37,8 +37,8 @@ process 2 100 100\n\
 2 shmget 5 0 600\n";
 
 #[test]
-fn a_gate_is_told_behind_the_answer(rt: HostRuntime) -> Result<(), Fail> {
-    let seen = seen_by(&rt, rt.alloc(), LOOK, Rule::WhileTold)?;
+fn a_gate_is_called_after_the_answer(rt: HostRuntime) -> Result<(), Fail> {
+    let seen = seen_by(&rt, rt.alloc(), LOOK, Rule::DuringAfter)?;
     assert!(rt; seen.last == Some((2, Reply::Id(0))));
     Ok(())
 }

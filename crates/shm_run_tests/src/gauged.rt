@@ -1,8 +1,8 @@
 //! Gauged runs with a reader, which waits for no lock.
 ghost use Rattle.std.specs.Prelude.{◌≡◌};
 
-use crate::behind::{Rule, Ruled, comes_to, script, world_over};
 use crate::runs::{COUNTER, COUNTS, late, repeated};
+use crate::shared::{Rule, Ruled, comes_to, script, world_over};
 use shm_history::{Gauge, Keeper, ReaderSeat, Reading, World, gauge};
 use shm_pager::{Pager, PagerFault, RamPager};
 use shm_text::Script;
@@ -131,7 +131,7 @@ struct Ending {
 }
 
 /// Runs a gauged script with a reader on a thread of its own, which reads at least this many times.
-fn beside_a_reader<R: Threads + Wait + Sync, G: Gate, P: Pager + Send>(
+fn with_a_reader<R: Threads + Wait + Sync, G: Gate, P: Pager + Send>(
     rt: &R,
     alloc: Global,
     script: &Script,
@@ -166,11 +166,11 @@ fn over_memory<R: Threads + Wait + Sync, G: Gate>(
 ) -> Result<Ending, Fail> {
     let script = script(alloc, text)?;
     let pager = RamPager::new(alloc, 64)?;
-    beside_a_reader(rt, alloc, &script, pager, gate, readings, least)
+    with_a_reader(rt, alloc, &script, pager, gate, readings, least)
 }
 
 #[test]
-fn readings_beside_four_that_count(rt: HostRuntime) -> Result<(), Fail> {
+fn readings_while_four_count(rt: HostRuntime) -> Result<(), Fail> {
     let text = repeated(rt.alloc(), COUNTER, COUNTS, 50)?;
     let (gate, readings) = (Ruled::by(Rule::Open), Readings::none());
     let ending = over_memory(&rt, rt.alloc(), &text, &gate, &readings, 100_000)?;
@@ -220,7 +220,7 @@ fn read_after_each<R: Threads + Wait + Sync>(
     let text = late(alloc, rounds)?;
     let readings = Readings::none();
     let gate = UntilRead {
-        behind: Ruled::by(Rule::Behind(4)),
+        behind: Ruled::by(Rule::AfterCalls(4)),
         readings: &readings,
         pages: *rounds.first().ok_or("a round")?,
     };
@@ -317,7 +317,7 @@ fn over_a_waiting_pager<R: Threads + Wait + Sync>(
         has_waited: false,
     };
     let gate = Ruled::by(rule);
-    beside_a_reader(rt, alloc, &script, pager, &gate, &readings, 0)
+    with_a_reader(rt, alloc, &script, pager, &gate, &readings, 0)
 }
 
 #[test]
@@ -331,7 +331,7 @@ fn readings_while_a_call_holds_the_lock(rt: HostRuntime) -> Result<(), Fail> {
 #[test]
 fn readings_while_the_flusher_holds_the_lock(rt: HostRuntime) -> Result<(), Fail> {
     let text = late(rt.alloc(), &[2])?;
-    let ending = over_a_waiting_pager(&rt, rt.alloc(), &text, Rule::Behind(4))?;
+    let ending = over_a_waiting_pager(&rt, rt.alloc(), &text, Rule::AfterCalls(4))?;
     assert!(rt; ending.fault.is_none());
     assert_eq!(rt; (ending.events, ending.late), (4, 0));
     Ok(())

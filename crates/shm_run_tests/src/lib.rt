@@ -2,8 +2,6 @@
 #![tactic(auto)]
 
 #[cfg(test)]
-mod behind;
-#[cfg(test)]
 mod disagreements;
 #[cfg(test)]
 mod gates;
@@ -13,3 +11,5 @@ mod gauged;
 mod refused;
 #[cfg(test)]
 mod runs;
+#[cfg(test)]
+mod shared;

@@ -1,6 +1,6 @@
 //! A run of which the host refuses one allocation: none of its calls is lost or made twice, and no thread
 //! waits forever. `rt try --test --fail-alloc N -- refused::` makes the N-th allocation fail.
-use crate::behind::{Noted, Rule, Ruled, ended};
+use crate::shared::{Noted, Rule, Ruled, ended};
 use shm_history::{System, World};
 use shm_pager::RamPager;
 use shm_text::{Script, read_script};

@@ -1,5 +1,5 @@
 //! Whole runs: whatever the schedule, they end as expected.
-use crate::behind::{Rule, Ruled, fault_behind, script, seen_by, seen_over};
+use crate::shared::{Rule, Ruled, fault_with_gate, script, seen_by, seen_over};
 use shm_base::{Chunk, Reply, Tally};
 use shm_text::{FlushLine, Line, Script};
 use shm_threads::RunError;
@@ -229,7 +229,7 @@ fn many_processes(alloc: Global) -> Result<Vec<u8>, Fail> {
 }
 
 #[test]
-fn as_many_processes_as_there_may_be(rt: HostRuntime) -> Result<(), Fail> {
+fn as_many_processes_as_allowed(rt: HostRuntime) -> Result<(), Fail> {
     let text = many_processes(rt.alloc())?;
     let seen = seen_by(&rt, rt.alloc(), &text, Rule::Open)?;
     assert_eq!(rt; seen.events, 64);
@@ -262,7 +262,7 @@ fn makes_rounds<R: Threads + Wait + Sync>(
     (most, fault): (u64, Option<RunError>),
 ) -> Result<bool, Fail> {
     let gate = Ruled::by(Rule::Rounds(most));
-    let ended = fault_behind(rt, alloc, script, &gate)?;
+    let ended = fault_with_gate(rt, alloc, script, &gate)?;
     Ok(ended == fault && gate.rounds() == most)
 }
 
@@ -339,11 +339,11 @@ fn counted_late<R: Threads + Wait + Sync>(
     pages: u64,
 ) -> Result<Tally, Fail> {
     let text = late(alloc, &[pages])?;
-    Ok(seen_by(rt, alloc, &text, Rule::Behind(4))?.tally)
+    Ok(seen_by(rt, alloc, &text, Rule::AfterCalls(4))?.tally)
 }
 
 #[test]
-fn a_round_behind_the_last_call(rt: HostRuntime) -> Result<(), Fail> {
+fn a_round_after_the_last_call(rt: HostRuntime) -> Result<(), Fail> {
     for (pages, tally) in ROUNDS {
         assert!(rt;
             counted_late(&rt, rt.alloc(), *pages)? == *tally,
@@ -375,7 +375,7 @@ fn wide(alloc: Global) -> Result<Vec<u8>, Fail> {
 fn a_round_of_many_pages(rt: HostRuntime) -> Result<(), Fail> {
     let alloc = rt.alloc();
     let text = wide(alloc)?;
-    let seen = seen_over(&rt, alloc, &text, 128, Rule::Behind(67))?;
+    let seen = seen_over(&rt, alloc, &text, 128, Rule::AfterCalls(67))?;
     assert_eq!(rt; seen.events, 67);
     assert_eq!(rt; (seen.tally.resident, seen.tally.dirty), (65, 0));
     assert_eq!(rt; (seen.tally.used, seen.tally.outs), (65, 65));

@@ -5,12 +5,12 @@
 //! `-without-it` leaves out the call to which memory was refused.
 #![tactic(auto)]
 
-mod asked;
-mod asks;
+mod counting;
 #[cfg(test)]
 mod ends;
 #[cfg(test)]
 mod flat;
+mod pager_calls;
 #[cfg(test)]
 mod rows;
 mod stop;
@@ -20,7 +20,7 @@ mod sweeps;
 mod threaded;
 mod twins;
 
-use asks::asks;
+use pager_calls::asks;
 use shm_program::{SwapWord, read_swaps, whole_script};
 use shm_text::Script;
 use std::alloc::Global;

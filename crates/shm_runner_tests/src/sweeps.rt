@@ -116,7 +116,7 @@ fn fuse(alloc: Global, slots: u32, read: u64, write: u64) -> Result<FusePager<Ra
     Ok(FusePager::new(ram, at(alloc, read)?, at(alloc, write)?))
 }
 
-fn behind_threads<R: Threads + Wait + Sync, P: Pager + Send>(
+fn with_threads<R: Threads + Wait + Sync, P: Pager + Send>(
     rt: &R,
     alloc: Global,
     script: &Script,
@@ -154,7 +154,7 @@ fn ran<R: Threads + Wait + Sync, P: Pager + Send>(
 ) -> Result<World<P>, Fail> {
     let mut world = opened(alloc, script, pagers)?;
     if threaded {
-        return behind_threads(rt, alloc, script, world);
+        return with_threads(rt, alloc, script, world);
     }
     run_lines(alloc, &mut world, script)?;
     Ok(world)
@@ -406,12 +406,12 @@ fn each_call_fails_around_a_swapoff(rt: HostRuntime) -> Result<(), Fail> {
 }
 
 #[test]
-fn each_call_fails_beside_threads(rt: HostRuntime) -> Result<(), Fail> {
+fn each_call_fails_with_threads(rt: HostRuntime) -> Result<(), Fail> {
     each_call_fails(&rt, rt.alloc(), true, false)
 }
 
 #[test]
-fn each_call_fails_beside_threads_around_a_swapoff(rt: HostRuntime) -> Result<(), Fail> {
+fn each_call_fails_with_threads_around_a_swapoff(rt: HostRuntime) -> Result<(), Fail> {
     each_call_fails(&rt, rt.alloc(), true, true)
 }
 
@@ -426,11 +426,11 @@ fn each_side_fails_around_a_swapoff(rt: HostRuntime) -> Result<(), Fail> {
 }
 
 #[test]
-fn each_side_fails_beside_threads(rt: HostRuntime) -> Result<(), Fail> {
+fn each_side_fails_with_threads(rt: HostRuntime) -> Result<(), Fail> {
     each_side_fails(&rt, rt.alloc(), true, false)
 }
 
 #[test]
-fn each_side_fails_beside_threads_around_a_swapoff(rt: HostRuntime) -> Result<(), Fail> {
+fn each_side_fails_with_threads_around_a_swapoff(rt: HostRuntime) -> Result<(), Fail> {
     each_side_fails(&rt, rt.alloc(), true, true)
 }

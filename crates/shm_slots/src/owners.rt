@@ -39,7 +39,8 @@ impl Model for Owners {
 
     ghost view = { λ o. padded o.slots.items o.count None };
 
-    ghost invariant = { λ o. (length o.slots.items ≤ o.count) × (o.count ≤ vec_capacity o.slots) × (o.count < 2 ^ 32)
+    ghost invariant = { λ o. (length o.slots.items ≤ o.count) × (o.count ≤ vec_capacity o.slots)
+        × (o.count < 2 ^ 32)
         × AreOwnersSound (padded o.slots.items o.count None) o.numbers o.used };
 }
 

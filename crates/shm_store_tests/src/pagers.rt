@@ -186,7 +186,7 @@ fn over_a_spent_pager(alloc: Global) -> Result<FusePager<FusePager<RamPager>>, A
     Ok(FusePager::new(spent, Vec::new(alloc), writes))
 }
 
-const NOT_ASKED: &[Access] = &[Write(0, 0x50, false), Read(0, None)];
+const NOT_CALLED: &[Access] = &[Write(0, 0x50, false), Read(0, None)];
 
 const TOLD: &[Access] = &[
     Write(0, 0x50, true),
@@ -199,14 +199,14 @@ const TOLD: &[Access] = &[
 
 // The pager alone, and then as the left side of a mirror.
 fn alone_and_mirrored<X: Pager>(rt: &impl Abort, alloc: Global, mut pager: X) -> Result<(), Fail> {
-    accessed(rt, &mut pager, NOT_ASKED, 2);
+    accessed(rt, &mut pager, NOT_CALLED, 2);
     let right = RamPager::new(alloc, 1)?;
     mirrored(rt, alloc, (pager, right), TOLD, 1)
 }
 
 // Fuses and mirrors do not read or write a spent pager, but discard its slots and wipe it.
 #[test]
-fn a_spent_pager_is_not_asked(rt: HostRuntime) -> Result<(), Fail> {
+fn a_spent_pager_is_not_called(rt: HostRuntime) -> Result<(), Fail> {
     let alloc = rt.alloc();
     alone_and_mirrored(&rt, alloc, over_a_spent_pager(alloc)?)
 }
@@ -327,7 +327,7 @@ fn discard_in_a_box(
 }
 
 // Discards the last slot of this, which has as many slots as the pager inside.
-fn discard_behind(
+fn discard_through(
     rt: &impl Abort,
     alloc: Global,
     counter: &Counter,
@@ -363,10 +363,10 @@ const DISCARDS: &[(&str, Behind, u32, (u64, u64))] = &[
 
 // No contract can say this, since the bytes of a discarded slot are unknown.
 #[test]
-fn a_discard_reaches_the_pagers_behind(rt: HostRuntime) -> Result<(), Fail> {
+fn a_discard_reaches_the_inner_pagers(rt: HostRuntime) -> Result<(), Fail> {
     for &(name, behind, slot, discards) in DISCARDS {
         let counter = Counter::new(rt.alloc())?;
-        discard_behind(&rt, rt.alloc(), &counter, behind, slot)?;
+        discard_through(&rt, rt.alloc(), &counter, behind, slot)?;
         assert!(rt; counter.discards() == discards, "{name}");
     }
     Ok(())
@@ -450,7 +450,7 @@ fn copy_of<X: ClonePager>(pager: &X) -> Result<X, HostMemory> {
     }
 }
 
-fn go_on_apart<X: ClonePager>(
+fn change_independently<X: ClonePager>(
     rt: &impl Abort,
     pager: &mut X,
     case: &Copied,
@@ -463,10 +463,10 @@ fn go_on_apart<X: ClonePager>(
 }
 
 #[test]
-fn an_area_of_each_kind_and_its_copy_go_on_apart(rt: HostRuntime) -> Result<(), Fail> {
+fn an_area_of_each_kind_and_its_copy_are_independent(rt: HostRuntime) -> Result<(), Fail> {
     for case in COPIES {
         let mut area = area_of(rt.alloc(), case)?;
-        go_on_apart(&rt, &mut area, case)?;
+        change_independently(&rt, &mut area, case)?;
     }
     Ok(())
 }

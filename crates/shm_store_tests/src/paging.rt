@@ -385,7 +385,7 @@ fn tried_with_copy<P: ClonePager>(
 
 // This holds whatever was done before, and whatever will fail.
 #[test]
-fn a_copy_goes_on_as_its_store(rt: HostRuntime) -> Result<(), Fail> {
+fn a_copy_continues_as_its_store(rt: HostRuntime) -> Result<(), Fail> {
     for (reads, writes, trial) in IN_AND_OUT {
         for done in 0..trial.asks.len() {
             let (before, rest) = trial.asks.split_at(done);
@@ -429,7 +429,7 @@ const APART: Copied<'_> = Copied {
 };
 
 #[test]
-fn a_copy_and_its_store_go_on_apart(rt: HostRuntime) -> Result<(), Fail> {
+fn a_copy_and_its_store_are_independent(rt: HostRuntime) -> Result<(), Fail> {
     let areas = one_area(rt.alloc(), &[], &[])?;
     tried_with_copy(&rt, rt.alloc(), areas, &APART)?;
     Ok(())
@@ -456,7 +456,7 @@ const MOVED: Trial = Trial {
 };
 
 #[test]
-fn pages_move_where_their_area_goes(rt: HostRuntime) -> Result<(), Fail> {
+fn pages_move_when_their_area_is_turned_off(rt: HostRuntime) -> Result<(), Fail> {
     let alloc = rt.alloc();
     tried(&rt, alloc, two_rams(alloc)?, &MOVED)?;
     Ok(())
@@ -496,7 +496,7 @@ const STAYED: Trial = Trial {
 const ROUNDS: &[(&[u64], &[u64])] = &[(&[], &[1]), (&[1], &[])];
 
 #[test]
-fn an_area_stays_where_a_pager_fails(rt: HostRuntime) -> Result<(), Fail> {
+fn an_area_stays_if_a_pager_fails(rt: HostRuntime) -> Result<(), Fail> {
     for (reads, writes) in ROUNDS {
         let areas = two_areas(rt.alloc(), reads, writes)?;
         tried(&rt, rt.alloc(), areas, &STAYED)?;

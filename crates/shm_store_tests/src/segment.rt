@@ -26,7 +26,8 @@ impl Segment {
     /// This many pages of zeros, not locked.
     pub(crate) fn zeros(alloc: Global, id: u32, pages: u32) -> Result<Segment, HostMemory>
         requires { pages ≤ 4096 }
-        ensures { IfOk result (λ s. s ≡ record { id = id; locked = false; bytes = replicate (4096 * pages) 0 }) }
+        ensures { IfOk result (λ s.
+            s ≡ record { id = id; locked = false; bytes = replicate (4096 * pages) 0 }) }
     {
         let bytes = vec![in alloc; 0u8; PAGE_BYTES * pages as usize]?;
         Ok(Segment {

@@ -209,7 +209,7 @@ const AREA_GONE: &[(Wish, u64)] = &[
 ];
 
 #[test]
-fn numbers_stay_where_an_area_goes(rt: HostRuntime) -> Result<(), Fail> {
+fn numbers_stay_when_an_area_is_turned_off(rt: HostRuntime) -> Result<(), Fail> {
     let alloc = rt.alloc();
     asked(&rt, alloc, two_rams(alloc, 2, 3)?, AREA_GONE)?;
     Ok(())
@@ -254,7 +254,7 @@ const SPENT_ON_THE_WAY: &[(Wish, u64)] = &[
 ];
 
 #[test]
-fn a_spent_area_is_not_asked(rt: HostRuntime) -> Result<(), Fail> {
+fn a_spent_area_is_not_called(rt: HostRuntime) -> Result<(), Fail> {
     let alloc = rt.alloc();
     let pagers = two_fuses(alloc, (&[1], u64::MAX - 1), (&[2], 5))?;
     asked(&rt, alloc, pagers, SPENT_ON_THE_WAY)?;
@@ -264,7 +264,7 @@ fn a_spent_area_is_not_asked(rt: HostRuntime) -> Result<(), Fail> {
 const SPENT_BEFORE: &[(Wish, u64)] = &[(Wish::Failures(0, false), 0)];
 
 #[test]
-fn a_pager_may_be_handed_in_spent(rt: HostRuntime) -> Result<(), Fail> {
+fn a_pager_may_be_spent_from_the_start(rt: HostRuntime) -> Result<(), Fail> {
     let alloc = rt.alloc();
     let pagers = two_fuses(alloc, (&[], 0), (&[], u64::MAX))?;
     asked(&rt, alloc, pagers, SPENT_BEFORE)?;
@@ -298,7 +298,7 @@ fn turned_off<X: Pager>(
 }
 
 #[test]
-fn pagers_are_told_and_dropped_once(rt: HostRuntime) -> Result<(), Fail> {
+fn pagers_are_dropped_once(rt: HostRuntime) -> Result<(), Fail> {
     let alloc = rt.alloc();
     let counter = Counter::new(alloc)?;
     let pagers = two_counted(alloc, (&counter, &counter), 1, 0)?;
@@ -328,7 +328,7 @@ fn give_second_slots<X: Pager>(
 
 // The same if the area's pager is spent: it is no longer read or written, but its slots are discarded.
 #[test]
-fn a_slot_given_back_is_discarded(rt: HostRuntime) -> Result<(), Fail> {
+fn a_freed_slot_is_discarded(rt: HostRuntime) -> Result<(), Fail> {
     let alloc = rt.alloc();
     let first = Counter::new(alloc)?;
     let other = Counter::new(alloc)?;

@@ -19,7 +19,8 @@ fn few_digits(word: &[u8], radix: u32) -> Option<u64>
     requires few { length word.now ≤ SHORT }
     requires low { 2 ≤ radix }
     requires high { radix ≤ 16 }
-    ensures { MatchOption result (numeral radix word.now ≡ None) (λ n. numeral radix word.now ≡ Some (Number.Fits n)) }
+    ensures { MatchOption result (numeral radix word.now ≡ None)
+        (λ n. numeral radix word.now ≡ Some (Number.Fits n)) }
 {
     if word.is_empty() {
         return None;

@@ -156,7 +156,8 @@ fn fault_or_memory(bytes: &[u8]) -> ReadRefused
 /// The first fault of a text's lines. Takes no memory.
 fn first_fault(bytes: &[u8]) -> Option<ScriptFault>
     requires { length bytes.now ≤ LONGEST_SCRIPT }
-    ensures { MatchOption result (IsOk (script_of_lines (lines_of bytes.now))) (λ f. script_of_lines (lines_of bytes.now) ≡ Err f) }
+    ensures { MatchOption result (IsOk (script_of_lines (lines_of bytes.now)))
+        (λ f. script_of_lines (lines_of bytes.now) ≡ Err f) }
 {
     let mut seen = Seen::new();
     let mut lines = Lines::of(bytes);
@@ -189,7 +190,8 @@ fn keep(
     kept: &mut Vec<Line>,
     item: Option<Item>,
 ) -> Result<(), AllocError>
-    ensures processes { OnOk result (processes.new.items ≡ processes.old.items ++ processes_in (with_item item [])) }
+    ensures processes { OnOk result
+        (processes.new.items ≡ processes.old.items ++ processes_in (with_item item [])) }
     ensures lines { OnOk result (kept.new.items ≡ kept.old.items ++ lines_in (with_item item [])) }
 {
     match item {

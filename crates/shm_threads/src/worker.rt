@@ -50,7 +50,8 @@ pub(crate) fn work<C: Caller>(caller: &mut C, lines: &[Line], mut transcript: Tr
     requires { HasRoom lines.now transcript }
     ensures pid { result.transcript.pid ≡ transcript.pid }
     ensures works { let own = commands_of transcript.pid lines.now in
-        Works (C.asked caller.old) (C.asked caller.new) own result.transcript.entries.items (not result.is_expired) }
+        Works (C.asked caller.old) (C.asked caller.new) own result.transcript.entries.items
+        (not result.is_expired) }
 {
     let is_expired = caller.born() && !run_lines(caller, lines, &mut transcript);
     caller.leave();

@@ -144,7 +144,7 @@ fn another_user_is_granted(rt: HostRuntime) -> Result<(), Fail> {
 }
 
 #[test]
-fn times_are_the_hosts(rt: HostRuntime) -> Result<(), Fail> {
+fn times_come_from_the_host(rt: HostRuntime) -> Result<(), Fail> {
     let mut machine = machine_of_one(rt.alloc())?;
     machine.system.set_time(Some(1_700_000_000));
     assert!(rt; attached(&mut machine, 1));

@@ -188,7 +188,7 @@ fn text_of(alloc: Global, refusal: Refusal) -> Result<String, AllocError> {
 }
 
 #[test]
-fn refusals_are_told(rt: HostRuntime) {
+fn refusals_are_reported(rt: HostRuntime) {
     let texts = [
         (Refusal::Refused(Errno::Enoent), "refused: ENOENT"),
         (Refusal::HostMemory, "out of memory"),

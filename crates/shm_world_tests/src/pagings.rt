@@ -253,11 +253,11 @@ fn asks_over_two(rt: &impl Abort, alloc: Global, rows: &[Asking]) -> Result<(), 
 }
 
 #[test]
-fn each_page_asks_once(rt: HostRuntime) -> Result<(), Fail> {
+fn each_page_calls_its_pager_once(rt: HostRuntime) -> Result<(), Fail> {
     asks_over_two(&rt, rt.alloc(), PAGINGS)
 }
 
 #[test]
-fn a_move_asks_once(rt: HostRuntime) -> Result<(), Fail> {
+fn a_move_calls_each_pager_once(rt: HostRuntime) -> Result<(), Fail> {
     asks_over_two(&rt, rt.alloc(), A_MOVE)
 }

@@ -64,7 +64,7 @@ pub(crate) const ROWS: &[Row] = &[
 ];
 
 #[test]
-fn the_first_error_that_holds(rt: HostRuntime) -> Result<(), Fail> {
+fn the_first_error_that_applies(rt: HostRuntime) -> Result<(), Fail> {
     for (at, row) in ROWS.iter().enumerate() {
         assert!(rt; start(rt.alloc(), row.0, row.1)? == row.2, "at row {at}");
     }

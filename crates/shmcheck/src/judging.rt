@@ -31,7 +31,8 @@ pub(crate) fn judge_script<R: Read, W: Write, P: ClonePager>(
 ) -> Result<bool, Stop>
     ensures ok { let areas = map (λ p. length (P.content p)) pagers.items in
         IfOk result (λ legal. IfSome (R.remaining reader.old) (λ input.
-        Prints (WithRules options.rules (IsJudgedText log.now legal)) (W.contents writer.old) (W.contents writer.new) areas input)) }
+        Prints (WithRules options.rules (IsJudgedText log.now legal))
+        (W.contents writer.old) (W.contents writer.new) areas input)) }
     ensures whole { OnOk result (IsAtEnd (R.remaining reader.new)) }
 {
     match whole_script(alloc, reader) {
@@ -53,7 +54,8 @@ fn judge_in<W: Write, P: ClonePager>(
     most: u64,
 ) -> Result<bool, Stop>
     ensures ok { let areas = map (λ p. length (P.content p)) pagers.items in
-        IfOk result (λ legal. IsWritten (IsJudgedText log.now legal script.now areas) (W.contents writer.old) (W.contents writer.new)) }
+        IfOk result (λ legal. IsWritten (IsJudgedText log.now legal script.now areas)
+        (W.contents writer.old) (W.contents writer.new)) }
     ensures cause { let areas = map (λ p. length (P.content p)) pagers.items in
         IfErr result (λ s. IsStopIn s log.now areas script.now) }
 {

@@ -32,7 +32,8 @@ pub(crate) fn list_outcomes<R: Read, W: Write, P: ClonePager>(
 ) -> Result<(), Stop>
     ensures ok { let areas = map (λ p. length (P.content p)) pagers.items in
         OnOk result (IfSome (R.remaining reader.old) (λ input.
-        Prints (WithRules options.rules (IsOutcomesText options.masked)) (W.contents writer.old) (W.contents writer.new) areas input)) }
+        Prints (WithRules options.rules (IsOutcomesText options.masked))
+        (W.contents writer.old) (W.contents writer.new) areas input)) }
     ensures whole { OnOk result (IsAtEnd (R.remaining reader.new)) }
 {
     match whole_script(alloc, reader) {
@@ -53,7 +54,8 @@ fn list_script<W: Write, P: ClonePager>(
     options: Options,
 ) -> Result<(), Stop>
     ensures ok { let areas = map (λ p. length (P.content p)) pagers.items in
-        OnOk result (IsWritten (IsOutcomesText options.masked script.now areas) (W.contents writer.old) (W.contents writer.new)) }
+        OnOk result (IsWritten (IsOutcomesText options.masked script.now areas)
+        (W.contents writer.old) (W.contents writer.new)) }
     ensures cause { let areas = map (λ p. length (P.content p)) pagers.items in
         IfErr result (λ s. IsCauseIn s areas script.now) }
 {

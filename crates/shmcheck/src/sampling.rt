@@ -31,7 +31,8 @@ pub(crate) fn sample_runs<R: Read, W: Write, P: ClonePager>(
 ) -> Result<(), Stop>
     ensures ok { let areas = map (λ p. length (P.content p)) pagers.items in
         OnOk result (IfSome (R.remaining reader.old) (λ input.
-        Prints (WithRules draws.rules (IsSamplesText draws.seed draws.runs)) (W.contents writer.old) (W.contents writer.new) areas input)) }
+        Prints (WithRules draws.rules (IsSamplesText draws.seed draws.runs))
+        (W.contents writer.old) (W.contents writer.new) areas input)) }
     ensures whole { OnOk result (IsAtEnd (R.remaining reader.new)) }
 {
     match whole_script(alloc, reader) {
@@ -52,7 +53,8 @@ fn sample_script<W: Write, P: ClonePager>(
     draws: Draws,
 ) -> Result<(), Stop>
     ensures ok { let areas = map (λ p. length (P.content p)) pagers.items in
-        OnOk result (IsWritten (IsSamplesText draws.seed draws.runs script.now areas) (W.contents writer.old) (W.contents writer.new)) }
+        OnOk result (IsWritten (IsSamplesText draws.seed draws.runs script.now areas)
+        (W.contents writer.old) (W.contents writer.new)) }
     ensures cause { let areas = map (λ p. length (P.content p)) pagers.items in
         IfErr result (λ s. IsCauseIn s areas script.now) }
 {

@@ -1,5 +1,5 @@
 //! How often the lines of a script call each area's pager, in file order.
-use crate::asked::{AskedPager, Asks};
+use crate::counting::{AskedPager, Asks};
 use crate::stop::Stop;
 use shm_history::World;
 use shm_pager::Pager;

@@ -49,9 +49,9 @@ pub(crate) enum Rule {
     /// Holds process 1 after its first call until process 2 has made one.
     ChildFirst,
     /// Has process 2 make its call while process 1's gate is in `after`.
-    WhileTold,
+    DuringAfter,
     /// Holds the flusher's first round until process 1 has made this many calls.
-    Behind(u64),
+    AfterCalls(u64),
     /// Holds process 1 before its first call until all children probably wait, and before its third until
     /// another process has made a call.
     Waited,
@@ -179,15 +179,15 @@ impl Gate for Ruled {
             Rule::Rounds(most) => pid != 0 || n <= most,
             Rule::Meet => comes_to(&self.turn(3u32.wrapping_sub(pid)).asked, n),
             Rule::ChildFirst => pid != 1 || n == 1 || comes_to(&self.second.told, 1),
-            Rule::WhileTold => pid == 1 || comes_to(&self.first.told, 1),
-            Rule::Behind(calls) => pid != 0 || comes_to(&self.first.told, calls),
+            Rule::DuringAfter => pid == 1 || comes_to(&self.first.told, 1),
+            Rule::AfterCalls(calls) => pid != 0 || comes_to(&self.first.told, calls),
             Rule::Waited => pid != 1 || self.has_waited(n),
         }
     }
 
     fn after(&self, pid: u32, n: u64) {
         self.note(self.turn(pid).tell(n));
-        if matches!(self.rule, Rule::WhileTold) && pid == 1 {
+        if matches!(self.rule, Rule::DuringAfter) && pid == 1 {
             let _in_time = comes_to(&self.second.told, 1);
         }
     }
@@ -307,7 +307,7 @@ fn run_over<R: Threads + Wait + Sync, G: Gate>(
 }
 
 /// Why such a run has no outcome.
-pub(crate) fn fault_behind<R: Threads + Wait + Sync, G: Gate>(
+pub(crate) fn fault_with_gate<R: Threads + Wait + Sync, G: Gate>(
     rt: &R,
     alloc: Global,
     script: &Script,
@@ -317,7 +317,7 @@ pub(crate) fn fault_behind<R: Threads + Wait + Sync, G: Gate>(
 }
 
 /// The observations after a run of a text, or why it has no outcome.
-pub(crate) fn run_behind<R: Threads + Wait + Sync, G: Gate>(
+pub(crate) fn run_with_gate<R: Threads + Wait + Sync, G: Gate>(
     rt: &R,
     alloc: Global,
     text: &[u8],
@@ -334,7 +334,7 @@ pub(crate) fn seen_by<R: Threads + Wait + Sync>(
     text: &[u8],
     rule: Rule,
 ) -> Result<Noted, Fail> {
-    Ok(run_behind(rt, alloc, text, &Ruled::by(rule))??)
+    Ok(run_with_gate(rt, alloc, text, &Ruled::by(rule))??)
 }
 
 /// The observations after a run by this rule over an area of this many slots.
@@ -356,5 +356,5 @@ pub(crate) fn fault_by<R: Threads + Wait + Sync>(
     text: &[u8],
     rule: Rule,
 ) -> Result<Option<RunError>, Fail> {
-    Ok(run_behind(rt, alloc, text, &Ruled::by(rule))?.err())
+    Ok(run_with_gate(rt, alloc, text, &Ruled::by(rule))?.err())
 }
