@@ -1,7 +1,8 @@
 -- A script with its lines in the order of a schedule makes the calls and replies of the schedule's run, in file order.
-use Rattle.std.proofs.Common.{◌≡◌, ◌≢◌, ℕ, ◌+◌, ◌==◌, ◌&&◌, ◌||◌, ◌++◌, Bool, true, false, List, [], ◌∷◌, map, length, Option, Some, None, cond, if◌then◌else◌, inl, inr, refl, sym, ap, subst, ◌∙◌, arith, eq-eqb, ne_eqb, append-nil, append_assoc, length-append}
+use Rattle.std.proofs.Common.{◌≡◌, ◌≢◌, ℕ, ◌+◌, ◌==◌, ◌&&◌, ◌||◌, ◌++◌, Bool, true, false, List, [], ◌∷◌, map, length, take, Option, Some, None, cond, if◌then◌else◌, inl, inr, refl, sym, ap, subst, ◌∙◌, arith, eq-eqb, ne_eqb, append-nil, append_assoc, length-append}
 use Rattle.std.specs.List.{list_any}
 use Rattle.std.proofs.lemmas.Bool.{and_parts, cases_Bool, cases_eq}
+use Rattle.std.proofs.Math.Seq.{take-append_seam}
 use Rattle.std.proofs.lemmas.List.{map-append}
 use Rattle.std.proofs.lemmas.List.Elements.{filter-append}
 use Rattle.std.proofs.lemmas.Option.{none-some, same_Some}
@@ -17,12 +18,13 @@ use Rattle.shm_text.specs.Script.{ScriptView}
 use Rattle.shm_text.specs.Variables.{call_of, no_values, values_after}
 use Rattle.shm_text.specs.declared.script.Line.{Line}
 use Rattle.shm_text.specs.declared.script.Line.TheVariants.{Command, Flush}
+use Rattle.shm_threads.specs.Transcripts.{commands_of}
 use Rattle.shm_program.specs.Runs.{opening_of}
 use Rattle.shm_program.specs.Values.{HolderView, fresh_holder, values_of, with_values}
 use Rattle.shm_outcomes.specs.Schedules.{Leads, Run, after, is_live, next, next_call, replies_to, reply_of, start}
 use Rattle.shm_outcomes.proofs.Walking.{made-by}
 use Rattle.shm_runner.specs.Flat.{flat_end, flat_events, holders_after, line_step}
-use Rattle.shm_runner.specs.Ordered.{first_line, in_order, ordered, serial_events, without_first}
+use Rattle.shm_runner.specs.Ordered.{AreOrdered, first_line, in_order, ordered, pids_of, serial_events, without_first}
 use Rattle.shm_runner.proofs.Asking.{skipped}
 
 -- THE LINES THAT ARE LEFT
@@ -88,6 +90,65 @@ others p q apart values (Command c ∷ ls) replies =
       | inl own ↦ rw (eq-eqb c.pid p own) (sym (skipped q values c ls replies (ne_eqb c.pid q (λ e. apart (sym own ∙ e)))))
       | inr other ↦ rw (ne_eqb c.pid p other) (under p q c values ls replies (λ later more. others p q apart later ls more))
     ]
+
+-- THE LINES IN ORDER
+
+commands-append : (q : ℕ) (xs ys : List Line) → commands_of q (xs ++ ys) ≡ commands_of q xs ++ commands_of q ys
+commands-append q [] ys = refl
+commands-append q (Flush pages ∷ xs) ys = commands-append q xs ys
+commands-append q (Command c ∷ xs) ys =
+    elim (cases_Bool (c.pid == q)) [
+      | inl own ↦ rw own (ap (λ (l : List CommandView). c ∷ l) (commands-append q xs ys))
+      | inr other ↦ rw other (commands-append q xs ys)
+    ]
+
+first-other : (p q : ℕ) → p ≢ q → (ls : List Line) → commands_of q (first_line p ls) ≡ []
+first-other p q apart [] = refl
+first-other p q apart (Flush pages ∷ ls) = first-other p q apart ls
+first-other p q apart (Command c ∷ ls) =
+    elim (cases_eq c.pid p) [
+      | inl own ↦ rw (eq-eqb c.pid p own, ne_eqb c.pid q (λ e. apart (sym own ∙ e))) refl
+      | inr other ↦ rw (ne_eqb c.pid p other) (first-other p q apart ls)
+    ]
+
+-- the first line of a process and the others have all commands
+commands-split : (p q : ℕ) (ls : List Line) → commands_of q ls ≡ commands_of q (first_line p ls) ++ commands_of q (without_first p ls)
+commands-split p q [] = refl
+commands-split p q (Flush pages ∷ ls) = commands-split p q ls
+commands-split p q (Command c ∷ ls) =
+    elim (cases_eq c.pid p) [
+      | inl first ↦
+          elim (cases_Bool (c.pid == q)) [
+            | inl own ↦ rw (eq-eqb c.pid p first, own) refl
+            | inr other ↦ rw (eq-eqb c.pid p first, other) refl
+          ]
+      | inr later ↦
+          elim (cases_eq c.pid q) [
+            | inl own ↦
+                let none = first-other p q (λ e. later (own ∙ sym e)) ls in
+                let same : commands_of q ls ≡ commands_of q (without_first p ls) = commands-split p q ls ∙ ap (λ (l : List CommandView). l ++ commands_of q (without_first p ls)) none in
+                rw (ne_eqb c.pid p later, eq-eqb c.pid q own, none) (ap (λ (l : List CommandView). c ∷ l) same)
+            | inr other ↦ rw (ne_eqb c.pid p later, ne_eqb c.pid q other) (commands-split p q ls)
+          ]
+    ]
+
+-- a process's lines in the order of a schedule are the first of its lines
+first-commands : (schedule : List ℕ) (ls : List Line) (q : ℕ) → (left : List CommandView) × (commands_of q ls ≡ commands_of q (in_order schedule ls) ++ left)
+first-commands [] ls q = (commands_of q ls, refl)
+first-commands (p ∷ schedule) ls q =
+    let more = first-commands schedule (without_first p ls) q in
+    let later = in_order schedule (without_first p ls) in (
+      more.0,
+      commands-split p q ls ∙ ap (λ (l : List CommandView). commands_of q (first_line p ls) ++ l) more.1
+          ∙ sym (append_assoc (commands_of q (first_line p ls)) (commands_of q later) more.0)
+          ∙ ap (λ (l : List CommandView). l ++ more.0) (sym (commands-append q (first_line p ls) later)),
+    )
+
+own-order : (schedule : List ℕ) (ls : List Line) (q : ℕ) → commands_of q (in_order schedule ls) ≡ take (length (commands_of q (in_order schedule ls))) (commands_of q ls)
+own-order schedule ls q =
+    let news = commands_of q (in_order schedule ls) in
+    let all = first-commands schedule ls q in
+    sym (ap (take (length news)) all.1 ∙ take-append_seam news all.0)
 
 -- THE VARIABLES
 
@@ -181,15 +242,16 @@ module _ (script : ScriptView) where
             ∙ ap (λ (v : List (Option ℕ)). next_call q v (without_first c.pid left) replies) (sym there)
       ]
 
-  -- what the lines that are left make of the flat machine is what a schedule leads to
-  record Makes (run : Run) (hs : List HolderView) (ls : List Line) (new : Run) : Type 0 where
+  -- what these lines make of the flat machine is what the schedule of their pids leads to
+  record Makes (schedule : List ℕ) (run : Run) (hs : List HolderView) (ls : List Line) (new : Run) : Type 0 where
+    pids : pids_of ls ≡ schedule
     events : new.events ≡ run.events ++ flat_events (length run.events + 1) run.machine hs ls
     machine : new.machine ≡ flat_end (length run.events + 1) run.machine hs ls
 
   -- one line more
-  makes-more : (c : CommandView) (run : Run) (hs : List HolderView) (ls : List Line) (new : Run)
-      → Makes (after run c.pid (call_of (values_of hs c.pid) c.call)) (holders_after run.machine (length run.events + 1) hs c) ls new → Makes run hs (Command c ∷ ls) new
-  makes-more c run hs ls new made =
+  makes-more : (schedule : List ℕ) (c : CommandView) (run : Run) (hs : List HolderView) (ls : List Line) (new : Run)
+      → Makes schedule (after run c.pid (call_of (values_of hs c.pid) c.call)) (holders_after run.machine (length run.events + 1) hs c) ls new → Makes (c.pid ∷ schedule) run hs (Command c ∷ ls) new
+  makes-more schedule c run hs ls new made =
       let n = length run.events + 1 in
       let call = call_of (values_of hs c.pid) c.call in
       let step = line_step run.machine n hs c in
@@ -197,6 +259,7 @@ module _ (script : ScriptView) where
       let longer : length (run.events ++ one ∷ []) + 1 ≡ n + 1 = let sum = length-append run.events (one ∷ []) in omega (arith, sum) in
       let later = holders_after run.machine n hs c in
       record {
+        pids = ap (λ (l : List ℕ). c.pid ∷ l) made.pids;
         events =
             made.events ∙ append_assoc run.events (one ∷ []) (flat_events (length (run.events ++ one ∷ []) + 1) step.state later ls)
             ∙ ap (λ (k : ℕ). run.events ++ one ∷ flat_events k step.state later ls) longer;
@@ -204,8 +267,8 @@ module _ (script : ScriptView) where
       }
 
   serially : (schedule : List ℕ) (run new : Run) (hs : List HolderView) (left : List Line) → Asks run.events hs left → Known hs → Leads script schedule run new
-      → Makes run hs (in_order schedule left) new
-  serially [] run new hs left asks known leads = record { events = ap (λ (r : Run). r.events) (sym leads) ∙ sym (append-nil run.events); machine = ap (λ (r : Run). r.machine) (sym leads) }
+      → Makes schedule run hs (in_order schedule left) new
+  serially [] run new hs left asks known leads = record { pids = refl; events = ap (λ (r : Run). r.events) (sym leads) ∙ sym (append-nil run.events); machine = ap (λ (r : Run). r.machine) (sym leads) }
   serially (pid ∷ schedule) run new hs left asks known (mid, went, leads) =
       let made = made-by (next script run pid) run pid mid went in
       let call = made.0 in
@@ -227,14 +290,24 @@ module _ (script : ScriptView) where
       (subst (λ (r : Run). Leads script schedule r new) here leads) in
       let lines : Command c ∷ in_order schedule (without_first c.pid left) ≡ first_line pid left ++ in_order schedule (without_first pid left) =
       ap (λ (l : List Line). l ++ in_order schedule (without_first c.pid left)) (sym t.first) ∙ ap (λ (p : ℕ). first_line p left ++ in_order schedule (without_first p left)) t.own in
-      subst (λ (l : List Line). Makes run hs l new) lines (makes-more c run hs (in_order schedule (without_first c.pid left)) new more)
+      subst (λ (l : List Line). Makes (pid ∷ schedule) run hs l new) lines
+      (subst (λ (p : ℕ). Makes (p ∷ schedule) run hs (Command c ∷ in_order schedule (without_first c.pid left)) new) t.own
+      (makes-more schedule c run hs (in_order schedule (without_first c.pid left)) new more))
 
--- from the start
-pub as-serial : (script : ScriptView) (areas : List ℕ) (schedule : List ℕ) (end : Run) → Leads script schedule (start script areas) end
-    → (serial_events (ordered schedule script) areas ≡ end.events) × (flat_end 1 (start_of (opening_of script areas)) (map fresh_holder script.processes) (in_order schedule script.lines) ≡ end.machine)
+-- the serial run of the lines in the order of a schedule, from the start
+pub record Serially (script : ScriptView) (areas : List ℕ) (schedule : List ℕ) (end : Run) : Type 0 where
+  pub lines : AreOrdered schedule script.lines (in_order schedule script.lines)
+  pub events : serial_events (ordered schedule script) areas ≡ end.events
+  pub machine : flat_end 1 (start_of (opening_of script areas)) (map fresh_holder script.processes) (in_order schedule script.lines) ≡ end.machine
+
+pub as-serial : (script : ScriptView) (areas : List ℕ) (schedule : List ℕ) (end : Run) → Leads script schedule (start script areas) end → Serially script areas schedule end
 as-serial script areas schedule end leads =
     let hs = map fresh_holder script.processes in
     let made = serially script schedule (start script areas) end hs script.lines
     (λ pid replies. ap (λ (v : List (Option ℕ)). next_call pid v script.lines replies) (sym (values-fresh script.processes pid)))
     (λ pid declared. holder-fresh script.processes pid ∙ declared) leads in
-    (sym made.events, sym made.machine)
+    record {
+      lines = record { pids = made.pids; own = own-order schedule script.lines };
+      events = sym made.events;
+      machine = sym made.machine;
+    }

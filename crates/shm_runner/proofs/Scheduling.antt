@@ -174,13 +174,15 @@ are_scheduled script w all legal clear =
       schedule = (walked, ended);
       listed = λ found list. list.complete (schedule_of w.events) (run_of w.events w.machine) (walked, ended);
       masked = λ found list. list.complete (schedule_of w.events) (run_of w.events w.machine) (walked, ended);
-      serial = serial.0;
-      printed = ap (λ (es : List Event). events_text 1 es ++ listing_of (flat_end 1 start hs lines)) serial.0 ∙ ap (λ (m : Machine). events_text 1 w.events ++ listing_of m) serial.1;
+      serial = record { lines = serial.lines; replies = serial.events };
+      printed = ap (λ (es : List Event). events_text 1 es ++ listing_of (flat_end 1 start hs lines)) serial.events ∙ ap (λ (m : Machine). events_text 1 w.events ++ listing_of m) serial.machine;
     }
 
 -- the run of a schedule is that of the script with its lines in that order
 serial-by : (script : ScriptView) (areas : List ℕ) (events : List Event) (end : Run) → IsSchedule script (start script areas) (schedule_of events) end → end.events ≡ events → IsSerial script areas events
-serial-by script areas events end schedule same = (as-serial script areas (schedule_of events) end schedule.0).0 ∙ same
+serial-by script areas events end schedule same =
+    let serial = as-serial script areas (schedule_of events) end schedule.0 in
+    record { lines = serial.lines; replies = serial.events ∙ same }
 
 pub found_serial : (script : ScriptView) (areas : List ℕ) (found : List Finding) → AreOutcomes script (start script areas) found → AreSerial script areas found
 found_serial script areas found list k d lt = let f = list.sound k d lt in serial-by script areas _ f.0 f.1 f.2

@@ -15,15 +15,16 @@ use Rattle.shm_print.specs.Text.{events_text}
 use Rattle.shm_report.specs.Listing.{listing_of}
 use Rattle.shm_runner.specs.Flat.{flat_text}
 use Rattle.shm_runner.specs.Marks.{have_mark}
-use Rattle.shm_runner.specs.Ordered.{ordered, serial_events}
+use Rattle.shm_runner.specs.Ordered.{AreOrdered, in_order, ordered, serial_events}
 
 -- the calls with their replies, and the machine that they led to
 abbrev pub run_of : List Event → Machine → Run
 run_of events machine = record { machine = machine; events = events }
 
 -- the script with its lines in the order of the events has the same calls and replies in file order
-abbrev pub IsSerial : ScriptView → List ℕ → List Event → Type 0
-IsSerial script areas events = serial_events (ordered (schedule_of events) script) areas ≡ events
+pub record IsSerial (script : ScriptView) (areas : List ℕ) (events : List Event) : Type 0 where
+  pub lines : AreOrdered (schedule_of events) script.lines (in_order (schedule_of events) script.lines)
+  pub replies : serial_events (ordered (schedule_of events) script) areas ≡ events
 
 -- The history is that of a schedule of the script, over swap areas of these sizes, and ends where no process can go on. So
 -- each list of all outcomes has its outcome, and a serial run of the lines in that order makes the same history and prints

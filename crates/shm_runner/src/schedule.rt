@@ -23,7 +23,6 @@ pub fn scheduled<'a, P: Pager>(outcome: &'a Outcome<P>, script: &Script) -> &'a 
     outcome.world.history()
 }
 
-#[tactic(auto, using(crate::proofs::Scheduling::found_serial, crate::proofs::Scheduling::masked_serial))]
 /// What `shm_outcomes::outcomes` or `shm_outcomes::masked_outcomes` found of the script. A serial run of the script's lines
 /// in the order of a finding's schedule has the finding's calls and replies.
 pub fn rerun<'a>(found: &'a [Finding], script: &Script) -> &'a [Finding]
