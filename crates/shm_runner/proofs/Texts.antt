@@ -1,11 +1,11 @@
 -- The text of a world, as that of a script's run.
-use Rattle.std.proofs.Common.{◌≡◌, refl, inl, inr, ℕ, Bool, true, false, List, Option, map, Ok}
+use Rattle.std.proofs.Common.{◌≡◌, ◌∙◌, refl, subst, inl, inr, ℕ, Bool, true, false, List, Option, map, Ok}
 use Rattle.std.specs.Prelude.{IfSome, OnOk, IfErr, Result, Err}
 use Rattle.std.specs.Io.KnownBytes.{Appends, IsAtEnd}
 use Rattle.shm_slots.specs.View.{SwapView, AreCountsOf, AreUntouched, first_counts}
 use Rattle.shm_slots.specs.Cause.{GoesOn}
 use Rattle.shm_slots.proofs.Starts.{goes_on_from}
-use Rattle.shm_history.specs.WorldState.{WorldState}
+use Rattle.shm_history.specs.WorldState.{WorldState, failures_in}
 use Rattle.shm_text.specs.Script.{ScriptView}
 use Rattle.shm_text.specs.Reading.{script_of}
 use Rattle.shm_threads.specs.declared.transcript.Transcript.{Transcript}
@@ -16,7 +16,10 @@ use Rattle.shm_runner.specs.Output.{IsOutput, RunsInOrder, world_text}
 use Rattle.shm_runner.proofs.Flatness.{flat_printed, flat_unfailing, none_unfailing}
 use Rattle.shm_program.proofs.Texts.{shown}
 use Rattle.shm_threads.specs.Transcripts.{AreTranscripts}
-use Rattle.shm_runner.specs.Threaded.{IsThreadedOutput, IsAllOrNothing, have_mark}
+use Rattle.shm_runner.specs.Marks.{have_mark}
+use Rattle.shm_runner.specs.Scheduled.{IsScheduled}
+use Rattle.shm_runner.specs.Threaded.{IsThreadedOutput, IsAllOrNothing}
+use Rattle.shm_runner.proofs.Scheduling.{are_scheduled}
 use Rattle.shm_program.specs.declared.fault.RunFault.{RunFault}
 
 -- what is known of a world that is printed, other than the order of its history
@@ -42,7 +45,9 @@ module _ {P : Type 0} (failed : P → ℕ) (swap : SwapView) (script : ScriptVie
       → IsWritten (IsThreadedOutput failed swap marked script areas) old new
   text_of marked w transcripts old new k began run marks written =
       let unfailing = none_unfailing failed script areas w k.is_world k.counted in
-      (world_text w, record { world = w; transcripts = transcripts; is_world = k.is_world; began = began; counted = k.counted; unfailing = unfailing; is_run = run; marks = marks; printed = refl }, written)
+      let scheduled : marked ≡ false → failures_in w.events ≡ 0 → IsScheduled script areas w.events w.machine = λ clear none. subst (λ (sizes : List ℕ). IsScheduled script sizes w.events w.machine) k.is_world.over
+      (are_scheduled script w transcripts k.is_world.sound.legal (record { opened = k.is_world.opened; run = run; unmarked = marks ∙ clear; unfailing = none })) in
+      (world_text w, record { world = w; transcripts = transcripts; is_world = k.is_world; began = began; counted = k.counted; unfailing = unfailing; is_run = run; marks = marks; scheduled = scheduled; printed = refl }, written)
 
   pub threaded_text : (result : Result (Unit {0}) RunFault) (w : WorldState) (transcripts : List Transcript) (old new : Option (List ℕ)) → Known failed script areas w → GoesOn swap w.memory.swap → AreTranscripts script w.events transcripts → OnOk result ((have_mark transcripts ≡ false) × Appends old new (world_text w))
       → OnOk result (IsWritten (IsThreadedOutput failed swap false script areas) old new)

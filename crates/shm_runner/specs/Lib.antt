@@ -1,4 +1,7 @@
 pub mod Output
 pub mod Flat
+pub mod Ordered
+pub mod Marks
+pub mod Scheduled
 pub mod Threaded
 pub mod Faults

@@ -1,36 +1,24 @@
 -- The output of a run with threads, and what its faults say about its input.
 use Rattle.std.specs.Prelude.{◌≡◌, ◌⊎◌, ℕ, Bool, true, false, List, Option, Result, OnOk, IfErr, IfSome}
-use Rattle.std.specs.List.{list_any}
 use Rattle.std.specs.Io.KnownBytes.{IsAtEnd}
 use Rattle.shm_slots.specs.View.{SwapView, AreCountsOf}
 use Rattle.shm_slots.specs.Cause.{GoesOn}
 use Rattle.shm_history.specs.WorldState.{WorldState, failures_in}
 use Rattle.shm_text.specs.Script.{ScriptView}
 use Rattle.shm_threads.specs.Transcripts.{AreTranscripts}
-use Rattle.shm_threads.specs.declared.transcript.Answer.{Answer}
-use Rattle.shm_threads.specs.declared.transcript.Answer.TheVariants as answers
-use Rattle.shm_threads.specs.declared.transcript.Entry.{Entry}
 use Rattle.shm_threads.specs.declared.transcript.Transcript.{Transcript}
 use Rattle.shm_program.specs.Runs.{IsWorldOf, IsSilent, IsCause, Prints}
 use Rattle.shm_laws.specs.Worlds.{IsWorldSound}
+use Rattle.shm_runner.specs.Marks.{have_mark}
 use Rattle.shm_runner.specs.Output.{NeverFails, world_text}
+use Rattle.shm_runner.specs.Scheduled.{IsScheduled}
 use Rattle.shm_program.specs.declared.fault.RunFault.{RunFault}
 use Rattle.shm_program.specs.declared.fault.RunFault.TheVariants.{HostMemory}
 
--- a call for which the host refused memory
-abbrev pub is_marked : Answer → Bool
-is_marked (answers.Reply r) = false
-is_marked answers.HostMemory = true
-
-abbrev pub has_mark : List Entry → Bool
-has_mark entries = list_any (λ (e : Entry). is_marked e.answer) entries
-
-abbrev pub have_mark : List Transcript → Bool
-have_mark transcripts = list_any (λ (t : Transcript). has_mark t.entries.items) transcripts
-
 -- The text of the world of a run of the script's processes, each in its own order, over the swap areas as they were passed in;
 -- and whether one of its calls is marked as out of memory. Its counts began there, and each is a count of a pager. With pagers
--- that never fail, no reply reports a failure
+-- that never fail, no reply reports a failure. If no call is marked and no reply reports a failure, the run is that of a
+-- schedule of the script
 pub record IsThreadedOutput {P : Type 0} (failed : P → ℕ) (swap : SwapView) (marked : Bool) (script : ScriptView) (areas : List ℕ) (text : List ℕ) : Type 0 where
   pub world : WorldState
   pub transcripts : List Transcript
@@ -40,6 +28,7 @@ pub record IsThreadedOutput {P : Type 0} (failed : P → ℕ) (swap : SwapView) 
   pub unfailing : NeverFails failed → failures_in world.events ≡ 0
   pub is_run : AreTranscripts script world.events transcripts
   pub marks : have_mark transcripts ≡ marked
+  pub scheduled : marked ≡ false → failures_in world.events ≡ 0 → IsScheduled script areas world.events world.machine
   pub printed : text ≡ world_text world
 
 -- nothing is written; or everything is, if a call of the run was out of memory

@@ -5,7 +5,8 @@ ghost use Rattle.shm_slots.specs.View.{AreCountsOf, AreUntouched};
 ghost use Rattle.shm_program.specs.Runs.{IsCauseIn, IsOpening, IsWritten, handed_in};
 ghost use Rattle.shm_laws.specs.Worlds.{IsWorldSound};
 ghost use Rattle.shm_runner.specs.Output.{world_text};
-ghost use Rattle.shm_runner.specs.Threaded.{is_marked, has_mark, have_mark, IsThreadedOutput, IsThreadedRun, IsAllOrNothing};
+ghost use Rattle.shm_runner.specs.Marks.{is_marked, has_mark, have_mark};
+ghost use Rattle.shm_runner.specs.Threaded.{IsThreadedOutput, IsThreadedRun, IsAllOrNothing};
 
 use crate::fault::run_fault;
 use crate::world::write_world;

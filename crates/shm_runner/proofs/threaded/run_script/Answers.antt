@@ -1,6 +1,6 @@
 use Rattle.std.proofs.Common.{◌≡◌, ap, sym, subst, inl, map, length}
 use Rattle.shm_pager.specs.Pages.{pager_seen}
-use Rattle.shm_slots.specs.View.{SwapView, AreUntouched}
+use Rattle.shm_slots.specs.View.{AreUntouched}
 use Rattle.shm_slots.proofs.Starts.{untouched_new}
 use Rattle.shm_fault.specs.Store.{StoreView}
 use Rattle.shm_program.specs.Runs.{handed_in}
