@@ -4,12 +4,16 @@
 //! first eligible frame whose bit is clear: that one is the victim. Where all bits were set, the victim
 //! is the first eligible frame, whose bit is clear by then. Frames that are not eligible keep their
 //! bits. What becomes of the victim's page is the caller's part.
-ghost use Rattle.std.specs.Prelude.{◌≡◌, ◌≢◌, ◌+◌, ◌-◌, ◌*◌, ◌<◌, ◌≤◌, ◌^◌, [], Bool, length};
+//!
+//! The hand steps over blocks in which no frame's owner may go (`Skips`), and marks those that it looked through.
+ghost use Rattle.std.specs.Prelude.{ℕ, ◌≡◌, true, false, ◌≢◌, ◌+◌, ◌-◌, ◌*◌, ◌<◌, ◌≤◌, ◌^◌, [], Bool, length};
 ghost use Rattle.shm_base.specs.declared.paging.PageRef.{PageRef};
-ghost use Rattle.shm_clock.specs.Clock.{ring_at, may_go, candidates, victim_of, unset_all, passed_by, looked_at, next, IsClockVictim};
+ghost use Rattle.shm_frames.specs.Frame.{frame_at};
+ghost use Rattle.shm_clock.specs.Clock.{ring_at, owner_passes, may_go, candidates, victim_of, unset_all, passed_by, looked_at, next, IsClockVictim};
+ghost use Rattle.shm_clock.specs.Skips.{AreSkipped};
 
 use shm_base::{FrameNo, PageRef};
-use shm_frames::{Frames, Looks};
+use shm_frames::{BLOCK_FRAMES, Frames, Looks, Skips};
 
 // The frame some steps on from the hand, round the ring of the frames.
 fn frame_after(hand: FrameNo, step: u32, count: u32) -> FrameNo
@@ -22,6 +26,21 @@ fn frame_after(hand: FrameNo, step: u32, count: u32) -> FrameNo
         hand + step
     } else {
         step - (count - hand)
+    }
+}
+
+// Whether a frame has an owner that may go.
+fn passes<E: Fn(PageRef) -> bool>(frames: &Frames, frame: FrameNo, eligible: &E) -> bool
+    ghost passes: { PageRef → Bool }
+    requires there { frame < length frames.now }
+    requires callable { E.IsAlwaysCallable eligible.now }
+    requires answers { (page : PageRef) (answer : Bool)
+        → E.post eligible.now page answer → answer ≡ passes page }
+    ensures { result ≡ owner_passes passes (frame_at frames.now frame).owner }
+{
+    match frames.owner(frame) {
+        Some(page) => eligible(page),
+        None => false,
     }
 }
 
@@ -43,11 +62,68 @@ fn may_go<E: Fn(PageRef) -> bool>(
         Some(other) => other == frame,
         None => false,
     };
-    let passed = match frames.owner(frame) {
-        Some(page) => eligible(page),
-        None => false,
-    };
+    let passed = passes(frames, frame, eligible);
     passed && !is_pinned
+}
+
+// The first of these frames whose owner may go; the last where none may.
+fn next_passing<E: Fn(PageRef) -> bool>(
+    frames: &Frames,
+    first: FrameNo,
+    last: FrameNo,
+    eligible: &E,
+) -> FrameNo
+    ghost passes: { PageRef → Bool }
+    requires there { last ≤ length frames.now }
+    requires order { first ≤ last }
+    requires callable { E.IsAlwaysCallable eligible.now }
+    requires answers { (page : PageRef) (answer : Bool)
+        → E.post eligible.now page answer → answer ≡ passes page }
+    ensures on { first ≤ result }
+    ensures within { result ≤ last }
+    ensures over { (i : ℕ) → first ≤ i → i < result → owner_passes passes (frame_at frames.now i).owner ≡ false }
+    ensures stop { result < last → owner_passes passes (frame_at frames.now result).owner ≡ true }
+{
+    for frame in first..last {
+        if passes(frames, frame, eligible) {
+            return frame;
+        }
+    }
+    last
+}
+
+// How far the hand steps on from a frame that may not be taken: over blocks that are skipped, or to the next frame
+// of its block whose owner may go. A block that this looks through as a whole is skipped from now on.
+#[inline(never)]
+fn stride<E: Fn(PageRef) -> bool>(
+    frames: &Frames,
+    frame: FrameNo,
+    eligible: &E,
+    skips: &mut Skips,
+) -> u32
+    ghost passes: { PageRef → Bool }
+    requires there { frame < length frames.now }
+    requires callable { E.IsAlwaysCallable eligible.now }
+    requires answers { (page : PageRef) (answer : Bool)
+        → E.post eligible.now page answer → answer ≡ passes page }
+    requires skipped { AreSkipped passes frames.now skips.old }
+    ensures on { 1 ≤ result }
+    ensures within { frame + result ≤ length frames.now }
+    ensures over { (i : ℕ) → frame < i → i < frame + result
+        → owner_passes passes (frame_at frames.now i).owner ≡ false }
+    ensures skipped { AreSkipped passes frames.now skips.new }
+{
+    let count = frames.count();
+    let open = skips.next(frame).min(count as usize) as u32;
+    if open > frame {
+        return open - frame;
+    }
+    let end = frame + (BLOCK_FRAMES - frame % BLOCK_FRAMES).min(count - frame);
+    let next = next_passing(frames, frame + 1, end, eligible);
+    if next == end && frame % BLOCK_FRAMES == 0 && !passes(frames, frame, eligible) {
+        skips.mark(frame);
+    }
+    next - frame
 }
 
 // The victim, found by one turn of the hand at most, which clears the bits that it passes.
@@ -57,6 +133,7 @@ fn turn<E: Fn(PageRef) -> bool>(
     eligible: &E,
     pinned: Option<FrameNo>,
     looks: &mut Looks,
+    skips: &mut Skips,
 ) -> FrameNo
     ghost passes: { PageRef → Bool }
     requires hand { hand < length frames.old }
@@ -65,6 +142,7 @@ fn turn<E: Fn(PageRef) -> bool>(
         → E.post eligible.now page answer → answer ≡ passes page }
     requires one { candidates passes pinned frames.old hand ≢ [] }
     requires countable { looks.old + length frames.old < 2 ^ 64 }
+    requires skipped { AreSkipped passes frames.old skips.old }
     ensures victim { result ≡ victim_of frames.old (candidates passes pinned frames.old hand) }
     ensures bits { let going = candidates passes pinned frames.old hand in
         frames.new ≡ unset_all frames.old (passed_by frames.old going) }
@@ -72,10 +150,12 @@ fn turn<E: Fn(PageRef) -> bool>(
     ensures looks { looks.new ≤ looks.old + length frames.old }
     ensures counted { let going = candidates passes pinned frames.old hand in
         looks.new ≡ looks.old + looked_at frames.old going result }
+    ensures skipped { AreSkipped passes frames.new skips.new }
 {
     let count = frames.count();
     let mut first = None;
-    for step in 0..count {
+    let mut step = 0;
+    while step < count {
         let frame = frame_after(hand, step, count);
         if may_go(frames, frame, eligible, pinned) {
             if !frames.referenced(frame, looks) {
@@ -83,6 +163,9 @@ fn turn<E: Fn(PageRef) -> bool>(
             }
             frames.set_referenced(frame, false);
             first = Some(first.unwrap_or(frame));
+            step += 1;
+        } else {
+            step += stride(frames, frame, eligible, skips).min(count - step);
         }
     }
     match first {
@@ -95,13 +178,15 @@ fn turn<E: Fn(PageRef) -> bool>(
 /// The hand is then at the number after the victim, and at 0 after the last.
 ///
 /// There has to be an eligible frame other than the pinned one. Each frame's referenced bit is looked
-/// at once at most: those of the frames that are passed, and the victim's where it is clear.
+/// at once at most: those of the frames that are passed, and the victim's where it is clear. Blocks in
+/// `skips` are stepped over; what the marks say has to be so of `eligible`.
 pub fn victim<E: Fn(PageRef) -> bool>(
     frames: &mut Frames,
     hand: &mut FrameNo,
     eligible: &E,
     pinned: Option<FrameNo>,
     looks: &mut Looks,
+    skips: &mut Skips,
 ) -> FrameNo
     ghost passes: { PageRef → Bool }
     requires hand { hand.old < length frames.old }
@@ -110,6 +195,7 @@ pub fn victim<E: Fn(PageRef) -> bool>(
         → E.post eligible.now page answer → answer ≡ passes page }
     requires one { candidates passes pinned frames.old hand.old ≢ [] }
     requires countable { looks.old + length frames.old < 2 ^ 64 }
+    requires skipped { AreSkipped passes frames.old skips.old }
 
     // The rule as a list of frames: who is taken, which bits become clear, and where the hand is.
     ensures victim { result ≡ victim_of frames.old (candidates passes pinned frames.old hand.old) }
@@ -123,9 +209,10 @@ pub fn victim<E: Fn(PageRef) -> bool>(
     ensures looks { looks.new ≤ looks.old + length frames.old }
     ensures counted { let going = candidates passes pinned frames.old hand.old in
         looks.new ≡ looks.old + looked_at frames.old going result }
+    ensures skipped { AreSkipped passes frames.new skips.new }
 {
     let count = frames.count();
-    let frame = turn(frames, *hand, eligible, pinned, looks);
+    let frame = turn(frames, *hand, eligible, pinned, looks, skips);
     *hand = if frame + 1 < count { frame + 1 } else { 0 };
     frame
 }
