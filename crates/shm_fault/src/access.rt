@@ -37,18 +37,33 @@ impl InFrames {
     };
 }
 
-// Copies bytes. A number of 1, 2, 4 or 8 bytes moves in one instruction, with no call.
+// Copies fewer than 8 bytes. A number of 1, 2 or 4 bytes moves in one instruction, with no call.
+#[inline(always)]
+fn copy_few(from: &[u8], to: &mut [u8])
+    requires { length from.now ≡ length to.old }
+    ensures { to.new ≡ from.now }
+{
+    match to.len() {
+        4 => to.copy_from_slice(&from[..4]),
+        1 => to.copy_from_slice(&from[..1]),
+        2 => to.copy_from_slice(&from[..2]),
+        _ => to.copy_from_slice(from),
+    }
+}
+
+// Copies bytes. A number of 1, 2, 4 or 8 bytes moves in one instruction, with no call. The comparison between the
+// sizes keeps the compiler from making a table of jumps, which takes more instructions.
 #[inline(always)]
 fn copy_bytes(from: &[u8], to: &mut [u8])
     requires { length from.now ≡ length to.old }
     ensures { to.new ≡ from.now }
 {
-    match to.len() {
-        8 => to.copy_from_slice(&from[..8]),
-        4 => to.copy_from_slice(&from[..4]),
-        2 => to.copy_from_slice(&from[..2]),
-        1 => to.copy_from_slice(&from[..1]),
-        _ => to.copy_from_slice(from),
+    if to.len() == 8 {
+        to.copy_from_slice(&from[..8]);
+    } else if to.len() < 8 {
+        copy_few(from, to);
+    } else {
+        to.copy_from_slice(from);
     }
 }
 

@@ -15,6 +15,7 @@ impl<P: ClonePager> PageStore<P> {
             segs: self.segs.try_clone()?,
             frames: self.frames.try_clone()?,
             hand: self.hand,
+            skips: self.skips.try_clone()?,
             swap: self.swap.try_clone()?,
             ins: self.ins,
             outs: self.outs,

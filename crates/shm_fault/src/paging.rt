@@ -6,6 +6,7 @@ ghost use Rattle.shm_slots.specs.View.{HasSlot, IsFirstFree};
 ghost use Rattle.shm_slots.specs.Cause.{total};
 ghost use Rattle.shm_frames.specs.Frame.{frame_at, OwnedBelow};
 ghost use Rattle.shm_clock.specs.Clock.{may_go, candidates, victim_of, passed_by, unset_all, next, IsClockVictim};
+ghost use Rattle.shm_clock.specs.Skips.{AreSkipped};
 ghost use Rattle.shm_fault.specs.Segs.{rec_by, HasPage};
 ghost use Rattle.shm_fault.specs.Store.{Still, slot_bytes};
 ghost use Rattle.shm_fault.specs.Sound.{IsStoreSound};
@@ -19,7 +20,7 @@ use crate::store::PageStore;
 use crate::touched::{PageMove, Touched};
 use shm_base::{FrameNo, PageRef, Slot};
 use shm_clock::victim;
-use shm_frames::{Frames, Looks};
+use shm_frames::{Frames, Looks, Skips};
 use shm_pager::{Pager, PagerFault};
 use shm_slots::Swap;
 
@@ -47,11 +48,13 @@ fn choose(
     segs: &PageTables,
     frames: &mut Frames,
     hand: &mut FrameNo,
+    skips: &mut Skips,
     pinned: Option<FrameNo>,
 ) -> FrameNo
     requires hand { hand.old < length frames.old }
     requires few { length frames.old ≤ MOST_FRAMES }
     requires one { candidates (unlocked segs.now) pinned frames.old hand.old ≢ [] }
+    requires skipped { AreSkipped (unlocked segs.now) frames.old skips.old }
     ensures clock { let may = may_go (unlocked segs.now) pinned frames.old in
         IsClockVictim may hand.old frames.old result frames.new }
     ensures victim { let going = candidates (unlocked segs.now) pinned frames.old hand.old in
@@ -59,10 +62,11 @@ fn choose(
     ensures bits { let going = candidates (unlocked segs.now) pinned frames.old hand.old in
         frames.new ≡ unset_all frames.old (passed_by frames.old going) }
     ensures hand { hand.new ≡ next (length frames.old) result }
+    ensures skipped { AreSkipped (unlocked segs.now) frames.new skips.new }
 {
     let near = table_at(segs, frames, *hand);
     let eligible = |page: PageRef| !segs.is_locked(near, page.seg);
-    victim(frames, hand, &eligible, pinned, &mut Looks::new())
+    victim(frames, hand, &eligible, pinned, &mut Looks::new(), skips)
 }
 
 // Puts a page's bytes into a frame: those in its slot, read straight there, or zeros.
@@ -186,7 +190,13 @@ impl<P: Pager> PageStore<P> {
         requires full { OwnedBelow self.old.frames (length self.old.frames) }
         ensures { NamesVictim pinned self.old self.new result }
     {
-        choose(&self.segs, &mut self.frames, &mut self.hand, pinned)
+        choose(
+            &self.segs,
+            &mut self.frames,
+            &mut self.hand,
+            &mut self.skips,
+            pinned,
+        )
     }
 
     // Writes a frame if it is dirty, and tells whether it was.
@@ -245,6 +255,7 @@ impl<P: Pager> PageStore<P> {
         ensures rest { self.new ≡ record self.old { segs = self.new.segs; frames = self.new.frames } }
         ensures visits { (pinned : Option ℕ) → Visits page pinned self.old self.new }
     {
+        self.skips.forget(frame);
         self.frames.fill(frame, page);
         self.frames.set_referenced(frame, true);
         let place = self.segs.page_in(table, page);

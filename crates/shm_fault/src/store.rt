@@ -13,7 +13,7 @@ ghost use Rattle.shm_fault.specs.Placing.{places, IsTallyOf};
 use crate::page_tables::PageTables;
 use crate::touched::PageTally;
 use shm_base::{FrameNo, HostMemory, PageRef};
-use shm_frames::Frames;
+use shm_frames::{Frames, Skips};
 use shm_pager::Pager;
 use shm_slots::Swap;
 use std::alloc::Global;
@@ -25,6 +25,9 @@ pub struct PageStore<P: Pager> {
     pub(crate) frames: Frames,
     // Where the clock's hand is.
     pub(crate) hand: FrameNo,
+    // Blocks of frames that the hand steps over, because all their pages are locked. Whoever unlocks a segment, or
+    // gives a frame to a page, has to forget them.
+    pub(crate) skips: Skips,
     pub(crate) swap: Swap<P>,
     // Pager reads for faults, and pager writes for evictions and flushes.
     pub(crate) ins: u64,
@@ -37,6 +40,7 @@ impl<P: Pager> Drop for PageStore<P> {
             segs: _,
             frames: _,
             hand: _,
+            skips: _,
             swap: _,
             ins: _,
             outs: _,
@@ -47,12 +51,15 @@ impl<P: Pager> Drop for PageStore<P> {
 impl<P: Pager> Model for PageStore<P> {
     ghost use Rattle.shm_fault.specs.Store.{StoreView};
     ghost use Rattle.shm_fault.specs.Sound.{IsStoreSound};
+    ghost use Rattle.shm_fault.specs.Goes.{unlocked};
+    ghost use Rattle.shm_clock.specs.Skips.{AreSkipped};
 
     ghost Value = { StoreView };
 
     ghost view = { λ s. record { segs = s.segs; frames = s.frames; hand = s.hand; swap = s.swap; ins = s.ins; outs = s.outs } };
 
-    ghost invariant = { λ s. IsStoreSound (record { segs = s.segs; frames = s.frames; hand = s.hand; swap = s.swap; ins = s.ins; outs = s.outs }) };
+    ghost invariant = { λ s. IsStoreSound (record { segs = s.segs; frames = s.frames; hand = s.hand; swap = s.swap; ins = s.ins; outs = s.outs })
+        × AreSkipped (unlocked s.segs) s.frames s.skips };
 }
 
 impl<P: Pager> PageStore<P> {
@@ -65,11 +72,13 @@ impl<P: Pager> PageStore<P> {
         ensures frames { IfOk result (λ s. (length s.frames ≡ frames) × ((f : ℕ) → IsFrameBlank s.frames f)) }
         ensures sound { IfOk result IsStoreSound }
     {
+        let skips = Skips::new(alloc, frames)?;
         let frames = Frames::new(alloc, frames)?;
         Ok(PageStore {
             segs: PageTables::new(alloc),
             frames,
             hand: 0,
+            skips,
             swap,
             ins: 0,
             outs: 0,
@@ -118,6 +127,7 @@ impl<P: Pager> PageStore<P> {
         ensures sound { IsStoreSound self.new }
     {
         self.segs.set_locked(seg, locked);
+        self.skips.forget_all();
     }
 
     /// How many pages are in frames.
