@@ -1,12 +1,13 @@
 -- Blocks that the hand steps over.
-use Rattle.std.proofs.Common.{◌≡◌, ◌≢◌, ◌⊎◌, ℕ, zero, suc, ◌+◌, ◌*◌, ◌-◌, ◌/◌, ◌%◌, ◌<◌, ◌≤◌, List, length, get_or, set, Bool, true, false, not, ◌&&◌, Option, true≢false, refl, sym, ap, ◌∙◌, inl, inr, arith, length-set}
+use Rattle.std.proofs.Common.{◌≡◌, ◌≢◌, ◌⊎◌, ℕ, zero, suc, ◌+◌, ◌*◌, ◌-◌, ◌/◌, ◌%◌, ◌<◌, ◌≤◌, List, length, get_or, set, replicate, Bool, true, false, not, ◌&&◌, Option, true≢false, refl, sym, ap, ◌∙◌, inl, inr, arith, length-set}
 use Rattle.std.specs.Prelude.{min}
 use Rattle.std.proofs.lemmas.Grind.{common_steps}
 use Rattle.std.proofs.lemmas.Bool.{cases_lt, cases_eq}
-use Rattle.std.proofs.lemmas.List.{get_or_past, get_or-set_other}
+use Rattle.std.proofs.lemmas.List.{length-replicate, get_or_past, get_or-set_other}
 use Rattle.shm_base.specs.declared.paging.PageRef.{PageRef}
 use Rattle.shm_frames.specs.Frame.{Frame, no_frame, frame_at}
 use Rattle.shm_clock.specs.Clock.{ring_at, owner_passes, is_pinned, may_go, unset}
+use Rattle.shm_frames.specs.Skips.{is_skipped}
 use Rattle.shm_clock.specs.Skips.{AreSkipped}
 use Rattle.shm_clock.proofs.Ring.{ring_at-low, ring_at-high}
 use Rattle.shm_clock.proofs.Bits.{unset-at}
@@ -74,3 +75,18 @@ module _ (passes : PageRef → Bool) (pinned : Option ℕ) (hand : ℕ) (before 
             let there : ring_at hand (length before) j ≡ i + (j - step) = ring_at-on hand (length before) step j on past (omega (arith, less, fits)) less_n ∙ rw (← at) refl in
             rw there (not-first (owner_passes passes (frame_at now (i + (j - step))).owner) (is_pinned pinned (i + (j - step))) (rest (i + (j - step)) (omega (arith, past, ne)) near))
       ])
+
+get_or-same : (n i : ℕ) → get_or (replicate n false) i false ≡ false
+get_or-same zero i = refl
+get_or-same (suc n) zero = refl
+get_or-same (suc n) (suc i) = get_or-same n i
+
+-- where no block is skipped
+pub skipped-none : (passes : PageRef → Bool) (frames : List Frame) (blocks : ℕ) → length frames / 64 < blocks → AreSkipped passes frames (replicate blocks false)
+skipped-none passes frames blocks room = record {
+  room = rw (length-replicate blocks false) room;
+  stay = λ i skip. absurd (true≢false (sym skip ∙ none i));
+}
+  where
+    none : (i : ℕ) → is_skipped (replicate blocks false) i ≡ false
+    none i = get_or-same blocks (i / 64)

@@ -60,21 +60,6 @@ module _ (passes : PageRef → Bool) (frames : List Frame) (skips : List Bool) (
   skipped-emptied None = s
   skipped-emptied (Some f) = skipped-set f (record no_frame { bytes = (frame_at frames f).bytes }) (inr refl)
 
-get_or-same : (n i : ℕ) → get_or (replicate n false) i false ≡ false
-get_or-same zero i = refl
-get_or-same (suc n) zero = refl
-get_or-same (suc n) (suc i) = get_or-same n i
-
--- no block is skipped
-pub skipped-none : (passes : PageRef → Bool) (frames : List Frame) (blocks : ℕ) → length frames / 64 < blocks → AreSkipped passes frames (replicate blocks false)
-skipped-none passes frames blocks room = record {
-  room = rw (length-replicate blocks false) room;
-  stay = λ i skip. absurd (true≢false (sym skip ∙ none i));
-}
-  where
-    none : (i : ℕ) → is_skipped (replicate blocks false) i ≡ false
-    none i = get_or-same blocks (i / 64)
-
 -- a segment is added, which is not locked
 pub locked-added : (gs : List SegRec) (id pages k : ℕ) → locked_by (gs ++ new_seg id pages ∷ []) k ≡ locked_by gs k
 locked-added [] id pages k = elim (cases_eq id k) [ inl e ↦ rw (eq-eqb id k e) refl | inr ne ↦ rw (ne_eqb id k ne) refl ]

@@ -1,5 +1,5 @@
 use Rattle.shm_fault.proofs.Names.{◌<◌, ◌+◌, ◌/◌, [], length, arith, IsStoreSound, fresh_store, unlocked}
-use Rattle.shm_fault.proofs.Skipped.{skipped-none}
+use Rattle.shm_clock.proofs.Skipping.{skipped-none}
 use Rattle.shm_fault.proofs.Whole.{sound-fresh}
 use Rattle.shm_fault.proofs.store.PageStore.new.Given as given
 use Rattle.shm_fault.proofs.store.PageStore.new.Goals as goal

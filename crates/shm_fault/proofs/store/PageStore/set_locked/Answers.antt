@@ -1,7 +1,7 @@
 use Rattle.shm_fault.proofs.Names.{ap, PageRec, IsStoreSound, length, unlocked}
 use Rattle.shm_fault.specs.Store.{frame_of}
 use Rattle.shm_fault.proofs.Seen.{seen}
-use Rattle.shm_fault.proofs.Skipped.{skipped-none}
+use Rattle.shm_clock.proofs.Skipping.{skipped-none}
 use Rattle.shm_fault.proofs.Whole.{few-locked, sound-locked, held-locked, rec-locked}
 use Rattle.shm_fault.proofs.store.PageStore.set_locked.Given as given
 use Rattle.shm_fault.proofs.store.PageStore.set_locked.Goals as goal
