@@ -1,5 +1,5 @@
 //! The store, made and looked at.
-ghost use Rattle.std.specs.Prelude.{◌≡◌, ℕ, [], ◌∷◌, ◌++◌, ◌+◌, ◌-◌, ◌≤◌, ◌^◌, true, false, length, map, min, None, IfOk, OnOk, OnErr};
+ghost use Rattle.std.specs.Prelude.{◌≡◌, ℕ, [], ◌∷◌, ◌++◌, ◌+◌, ◌-◌, ◌≤◌, ◌^◌, true, false, length, map, min, replicate, None, IfOk, OnOk, OnErr};
 ghost use Rattle.shm_fault.specs.Held.{is_held, pages_in_store, locked_pages_in_store, with_zeros, with_lock};
 ghost use Rattle.shm_slots.specs.View.{swap_slots, owner_of, AreCountsOf};
 ghost use Rattle.shm_slots.specs.Cause.{total};
@@ -60,6 +60,15 @@ impl<P: Pager> Model for PageStore<P> {
 
     ghost invariant = { λ s. IsStoreSound (record { segs = s.segs; frames = s.frames; hand = s.hand; swap = s.swap; ins = s.ins; outs = s.outs })
         × AreSkipped (unlocked s.segs) s.frames s.skips };
+}
+
+// Locks or unlocks a segment. No block is skipped then, because pages may leave that had to stay.
+fn set_lock(segs: &mut PageTables, skips: &mut Skips, seg: u32, locked: bool)
+    ensures segs { segs.new ≡ map (with_seg_lock seg locked) segs.old }
+    ensures skips { skips.new ≡ replicate (length skips.old) false }
+{
+    segs.set_locked(seg, locked);
+    skips.forget_all();
 }
 
 impl<P: Pager> PageStore<P> {
@@ -126,8 +135,7 @@ impl<P: Pager> PageStore<P> {
         ensures still { Still self.old self.new }
         ensures sound { IsStoreSound self.new }
     {
-        self.segs.set_locked(seg, locked);
-        self.skips.forget_all();
+        set_lock(&mut self.segs, &mut self.skips, seg, locked);
     }
 
     /// How many pages are in frames.
