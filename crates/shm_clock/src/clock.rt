@@ -1,11 +1,11 @@
 //! Second chance replacement, as a hand that turns over the frames.
 //!
-//! The hand passes eligible frames whose referenced bit is set and clears that bit. It stops at the
-//! first eligible frame whose bit is clear: that one is the victim. Where all bits were set, the victim
-//! is the first eligible frame, whose bit is clear by then. Frames that are not eligible keep their
-//! bits. What becomes of the victim's page is the caller's part.
+//! The hand passes eligible frames whose referenced bit is set, and clears that bit. It stops at the first
+//! eligible frame whose bit is clear: the victim. If all bits were set, the victim is the first eligible
+//! frame, whose bit is clear by then. Other frames keep their bits. The caller evicts the victim's page.
 //!
-//! The hand steps over blocks in which no frame's owner may go (`Skips`), and marks those that it looked through.
+//! The hand skips blocks of frames whose pages have to stay ([`Skips`]). It marks a block once it has looked
+//! through all of it and found no page that may go.
 ghost use Rattle.std.specs.Prelude.{ℕ, ◌≡◌, true, false, ◌≢◌, ◌+◌, ◌-◌, ◌*◌, ◌<◌, ◌≤◌, ◌^◌, [], Bool, length};
 ghost use Rattle.shm_base.specs.declared.paging.PageRef.{PageRef};
 ghost use Rattle.shm_frames.specs.Frame.{frame_at};
@@ -15,7 +15,7 @@ ghost use Rattle.shm_clock.specs.Skips.{AreSkipped};
 use shm_base::{FrameNo, PageRef};
 use shm_frames::{BLOCK_FRAMES, Frames, Looks, Skips};
 
-// The frame some steps on from the hand, round the ring of the frames.
+// The frame that is this many steps after the hand, round the ring of the frames.
 fn frame_after(hand: FrameNo, step: u32, count: u32) -> FrameNo
     requires hand { hand < count }
     requires step { step < count }
@@ -29,7 +29,7 @@ fn frame_after(hand: FrameNo, step: u32, count: u32) -> FrameNo
     }
 }
 
-// Whether a frame has an owner that may go.
+// Whether a frame has a page that may go. Pinned frames are not considered.
 fn passes<E: Fn(PageRef) -> bool>(frames: &Frames, frame: FrameNo, eligible: &E) -> bool
     ghost passes: { PageRef → Bool }
     requires there { frame < length frames.now }
@@ -44,7 +44,7 @@ fn passes<E: Fn(PageRef) -> bool>(frames: &Frames, frame: FrameNo, eligible: &E)
     }
 }
 
-// Whether a frame's page may leave it.
+// Whether a frame has a page that may go, and is not pinned.
 fn may_go<E: Fn(PageRef) -> bool>(
     frames: &Frames,
     frame: FrameNo,
@@ -66,7 +66,7 @@ fn may_go<E: Fn(PageRef) -> bool>(
     passed && !is_pinned
 }
 
-// The first of these frames whose owner may go; the last where none may.
+// The first frame from `first` up to `last` whose page may go; `last` if there is none.
 fn next_passing<E: Fn(PageRef) -> bool>(
     frames: &Frames,
     first: FrameNo,
@@ -81,7 +81,8 @@ fn next_passing<E: Fn(PageRef) -> bool>(
         → E.post eligible.now page answer → answer ≡ passes page }
     ensures on { first ≤ result }
     ensures within { result ≤ last }
-    ensures over { (i : ℕ) → first ≤ i → i < result → owner_passes passes (frame_at frames.now i).owner ≡ false }
+    ensures over { (i : ℕ) → first ≤ i → i < result
+        → owner_passes passes (frame_at frames.now i).owner ≡ false }
     ensures stop { result < last → owner_passes passes (frame_at frames.now result).owner ≡ true }
 {
     for frame in first..last {
@@ -92,8 +93,9 @@ fn next_passing<E: Fn(PageRef) -> bool>(
     last
 }
 
-// How far the hand steps on from a frame that may not be taken: over blocks that are skipped, or to the next frame
-// of its block whose owner may go. A block that this looks through as a whole is skipped from now on.
+// How far the hand moves from a frame that is not eligible: past the blocks that are skipped, or to the next
+// frame of its block whose page may go. If it looks through a whole block and finds no such frame, it marks
+// the block.
 #[inline(never)]
 fn stride<E: Fn(PageRef) -> bool>(
     frames: &Frames,
@@ -126,7 +128,7 @@ fn stride<E: Fn(PageRef) -> bool>(
     next - frame
 }
 
-// The victim, found by one turn of the hand at most, which clears the bits that it passes.
+// Finds the victim in at most one turn of the hand, which clears the bits that it passes.
 fn turn<E: Fn(PageRef) -> bool>(
     frames: &mut Frames,
     hand: FrameNo,
@@ -174,12 +176,12 @@ fn turn<E: Fn(PageRef) -> bool>(
     }
 }
 
-/// The frame whose page has to go. `eligible` says of a page whether it may; the pinned frame stays.
-/// The hand is then at the number after the victim, and at 0 after the last.
+/// Chooses the frame whose page has to go. `eligible` says whether a page may go; the pinned frame stays. The
+/// hand is then at the frame after the victim, or at 0 if the victim is the last frame.
 ///
-/// There has to be an eligible frame other than the pinned one. Each frame's referenced bit is looked
-/// at once at most: those of the frames that are passed, and the victim's where it is clear. Blocks in
-/// `skips` are stepped over; what the marks say has to be so of `eligible`.
+/// Precondition: there is an eligible frame other than the pinned one, and no page in the blocks of `skips`
+/// is eligible. Each referenced bit is looked at once at most: those of the frames that are passed, and the
+/// victim's if it is clear.
 pub fn victim<E: Fn(PageRef) -> bool>(
     frames: &mut Frames,
     hand: &mut FrameNo,

@@ -25,8 +25,7 @@ pub struct PageStore<P: Pager> {
     pub(crate) frames: Frames,
     // Where the clock's hand is.
     pub(crate) hand: FrameNo,
-    // Blocks of frames that the hand steps over, because all their pages are locked. Whoever unlocks a segment, or
-    // gives a frame to a page, has to forget them.
+    // The blocks of frames that the hand skips, because no page in them may go.
     pub(crate) skips: Skips,
     pub(crate) swap: Swap<P>,
     // Pager reads for faults, and pager writes for evictions and flushes.
@@ -62,7 +61,7 @@ impl<P: Pager> Model for PageStore<P> {
         × AreSkipped (unlocked s.segs) s.frames s.skips };
 }
 
-// Locks or unlocks a segment. No block is skipped then, because pages may leave that had to stay.
+// Locks or unlocks a segment. It also removes all marks of skipped blocks, because unlocked pages may go.
 fn set_lock(segs: &mut PageTables, skips: &mut Skips, seg: u32, locked: bool)
     ensures segs { segs.new ≡ map (with_seg_lock seg locked) segs.old }
     ensures skips { skips.new ≡ replicate (length skips.old) false }
@@ -72,8 +71,8 @@ fn set_lock(segs: &mut PageTables, skips: &mut Skips, seg: u32, locked: bool)
 }
 
 impl<P: Pager> PageStore<P> {
-    /// A store that holds no segment, over this number of frames and the swap, none of whose slots is owned. The
-    /// memory of the frames is reserved here, and touched when a frame is first used.
+    /// A store without segments, over this number of frames and the swap, none of whose slots is owned. It
+    /// reserves the memory of the frames, which is touched when a frame is first used.
     pub fn new(alloc: Global, frames: u32, swap: Swap<P>) -> Result<PageStore<P>, HostMemory>
         requires frames { (2 ≤ frames) × (frames ≤ MOST_FRAMES) }
         requires free { (area slot : ℕ) → owner_of swap area slot ≡ None }
@@ -94,23 +93,23 @@ impl<P: Pager> PageStore<P> {
         })
     }
 
-    /// The frame that a page is in; none where it is not resident, or no such page is there.
+    /// The frame that a page is in; none if the page is not resident or does not exist.
     pub fn frame(&self, seg: u32, page: u32) -> Option<FrameNo>
         ensures { result ≡ frame_of self.now seg page }
     {
         self.segs.page(PageRef { seg, page }).frame
     }
 
-    /// How many of the first pages of a segment may be in a frame. Those after them were never touched.
+    /// How many of the first pages of a segment may be in a frame. Later pages were never touched.
     pub fn touched(&self, seg: u32) -> u32
         ensures { (page : ℕ) → result ≤ page → frame_of self.now seg page ≡ None }
     {
         self.segs.touched(seg)
     }
 
-    /// One more segment, of this many pages of zeros, which is not locked. All room that it will ever need is
-    /// taken here; out of memory is the one refusal, and changes nothing. All pages have to be at most the
-    /// slots.
+    /// Adds a segment of this many pages of zeros, which is not locked. It takes all memory that the segment
+    /// will ever need. HostMemory: the host refused memory, and nothing changed. Precondition: all pages
+    /// together are at most the slots.
     pub fn add_segment(&mut self, seg: u32, pages: u32) -> Result<(), HostMemory>
         requires new { is_held (held self.old) seg ≡ false }
         requires room { pages_in_store (held self.old) + pages ≤ swap_slots self.old.swap }
@@ -125,7 +124,7 @@ impl<P: Pager> PageStore<P> {
     }
 
     /// Locks or unlocks a segment. No page moves: a page of a locked segment stays resident once it is.
-    /// The pages of locked segments and 2 are at most the frames.
+    /// Precondition: there are at least 2 frames more than pages of locked segments.
     pub fn set_locked(&mut self, seg: u32, locked: bool)
         requires there { is_held (held self.old) seg ≡ true }
         requires few { let after = with_lock (held self.old) seg true in
@@ -146,14 +145,14 @@ impl<P: Pager> PageStore<P> {
         self.frames.resident() as u32
     }
 
-    /// How many pages are in a slot and in no frame. A page that is in both is not counted. Walks all pages.
+    /// How many pages are in a slot and in no frame. Walks all pages.
     pub fn swapped(&self) -> u32
         ensures { result ≡ swapped self.now }
     {
         self.segs.swapped()
     }
 
-    /// The counts of the pages as they are, of the slots, and of what the pagers did.
+    /// Counts the pages in frames, the slots, and what the pagers did.
     pub fn tally(&self) -> PageTally
         ensures resident { result.resident ≡ resident self.now }
         ensures dirty { result.dirty ≡ dirty self.now }

@@ -1,9 +1,9 @@
 //! Blocks of frames that the clock's hand skips.
 //!
-//! The hand passes the frames of locked segments whenever it turns. So that it need not look at each of them again, a
-//! block of 64 frames is marked once none of its pages may leave. A caller forgets a mark when a frame of the block
-//! gets a page, and all marks when pages may leave that had to stay. Memory is reserved once, and no mark is written
-//! before its block or a later one is skipped.
+//! The hand passes the frames of locked segments in each turn. A mark on a block of 64 frames says that no
+//! page of the block may go, so the hand does not look at them one by one again. The caller forgets a block's
+//! mark when a frame of the block gets a page, and all marks when it unlocks a segment. Memory is reserved
+//! once, and no mark is written before its block or a later one is skipped.
 ghost use Rattle.std.specs.Prelude.{◌≡◌, ℕ, ◌+◌, ◌/◌, ◌<◌, ◌≤◌, false, true, length, set, replicate, vec_capacity, IfOk};
 ghost use Rattle.shm_pager.specs.Padded.{padded};
 ghost use Rattle.shm_frames.specs.Skips.{is_skipped};
@@ -13,10 +13,10 @@ use shm_base::{FrameNo, HostMemory};
 use std::alloc::Global;
 use std::marker::Model;
 
-/// How many frames have one mark.
+/// How many frames share one mark.
 pub const BLOCK_FRAMES: u32 = BLOCK as u32;
 
-/// The blocks of 64 frames that the clock's hand skips. They are seen as a list of marks, one for each block.
+/// The blocks of 64 frames that the clock's hand skips. Contracts see a list of marks, one for each block.
 pub struct Skips {
     // Whether each of the first blocks is skipped. The blocks after these are not.
     marks: Vec<bool>,
@@ -40,11 +40,12 @@ impl Model for Skips {
 
     ghost view = { λ a. padded a.marks.items a.blocks false };
 
-    ghost invariant = { λ a. (length a.marks.items ≤ a.blocks) × (a.blocks ≤ vec_capacity a.marks) × (a.blocks < 2 ^ 32) };
+    ghost invariant = { λ a. (length a.marks.items ≤ a.blocks) × (a.blocks ≤ vec_capacity a.marks)
+        × (a.blocks < 2 ^ 32) };
 }
 
 impl Skips {
-    /// No block of this many frames is skipped. Memory for all marks is reserved here, and none of it is touched.
+    /// Skips no block of this many frames. Reserves the memory for all marks, and touches none of it.
     pub fn new(alloc: Global, frames: u32) -> Result<Skips, HostMemory>
         ensures { IfOk result (λ skips. skips ≡ replicate (frames / 64 + 1) false) }
     {
@@ -55,7 +56,7 @@ impl Skips {
         })
     }
 
-    /// The same marks once more, with memory for all of them.
+    /// A copy of the marks, with memory for all of them.
     pub fn try_clone(&self) -> Result<Skips, HostMemory>
         ensures { IfOk result (λ copy. copy ≡ self.now) }
     {
@@ -80,7 +81,7 @@ impl Skips {
         from.max(self.marks.len() * BLOCK)
     }
 
-    /// Skips the block of a frame.
+    /// Marks the block of a frame as skipped.
     pub fn mark(&mut self, frame: FrameNo)
         requires { frame / 64 < length self.old }
         ensures { self.new ≡ set self.old (frame / 64) true }
@@ -88,7 +89,7 @@ impl Skips {
         mark(&mut self.marks, frame);
     }
 
-    /// Skips the block of a frame no longer: the frame has another owner now.
+    /// Removes the mark of a frame's block.
     pub fn forget(&mut self, frame: FrameNo)
         ensures { self.new ≡ set self.old (frame / 64) false }
     {
@@ -98,7 +99,7 @@ impl Skips {
         }
     }
 
-    /// Skips no block any longer.
+    /// Removes all marks.
     pub fn forget_all(&mut self)
         ensures { self.new ≡ replicate (length self.old) false }
     {
