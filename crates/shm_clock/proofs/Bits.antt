@@ -23,7 +23,7 @@ and-false : (b : Bool) → (b && false) ≡ false
 and-false true = refl
 and-false false = refl
 
-unset-at : (frames : List Frame) (k i : ℕ) → frame_at (unset frames k) i ≡ with_bit (frame_at frames i) (not (nat_eq k i))
+pub unset-at : (frames : List Frame) (k i : ℕ) → frame_at (unset frames k) i ≡ with_bit (frame_at frames i) (not (nat_eq k i))
 unset-at frames k i = grind (arith, common_steps)
 
 either : (b c d : Bool) → ((b && not c) && not d) ≡ (b && not (c || d))

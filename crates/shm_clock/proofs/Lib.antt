@@ -4,3 +4,4 @@ pub mod Bits
 pub mod Rule
 pub mod Turning
 pub mod Eligible
+pub mod Skipping

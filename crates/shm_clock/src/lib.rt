@@ -1,4 +1,4 @@
-//! The clock: which page has to leave its frame when a frame is wanted and none is free.
+//! The clock: it chooses the page that leaves its frame, if a frame is wanted and none is free.
 #![tactic(auto)]
 
 mod clock;

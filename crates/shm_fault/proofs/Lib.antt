@@ -34,3 +34,4 @@ mod Copies
 mod Order
 mod Untouched
 mod Locks
+pub mod Skipped

@@ -1,7 +1,7 @@
-//! Reads and writes of bytes. The pages of an access come in first, in the order of its spans, and
-//! the first stays while the second comes in; only then are bytes read or changed. `after_access` says
-//! where each page is then and which bits are set, and `Stops` says it where a pager failed. A page that
-//! comes in is clean; a write makes the frames of its pages dirty, whatever bytes it puts there.
+//! Reads and writes of bytes. The pages of an access come in first, in the order of its spans, and the first
+//! stays while the second comes in. Only then are bytes read or changed. `after_access` says where each page
+//! is then and which bits are set; `Stops` says it after a pager failed. A page that comes in is clean. A
+//! write makes the frames of its pages dirty, even if it writes the bytes that were there.
 ghost use Rattle.std.specs.Prelude.{◌≡◌, ℕ, ◌+◌, ◌<◌, ◌≤◌, [], ◌∷◌, length, map, set, true, Some, is_ok, IfOk, OnOk, OnErr, All, IsSome};
 ghost use Rattle.shm_base.specs.declared.paging.Span.{Span as SpanValue};
 ghost use Rattle.shm_base.specs.declared.paging.TheConstants.{PAGE_BYTES};
@@ -22,7 +22,7 @@ use shm_base::{FrameNo, PAGE_SIZE, PageRef, Span};
 use shm_frames::Frames;
 use shm_pager::{Pager, PagerFault};
 
-/// The frames that the pages of one or two spans are in; the same twice where there is one.
+/// The frames that the pages of one or two spans are in; the same frame twice for one span.
 #[derive(Clone, Copy)]
 pub(crate) struct InFrames {
     pub(crate) first: FrameNo,
@@ -37,22 +37,37 @@ impl InFrames {
     };
 }
 
-// Copies bytes. A number of 1, 2, 4 or 8 bytes moves in one instruction, with no call.
+// Copies fewer than 8 bytes. A number of 1, 2 or 4 bytes moves in one instruction, with no call.
+#[inline(always)]
+fn copy_few(from: &[u8], to: &mut [u8])
+    requires { length from.now ≡ length to.old }
+    ensures { to.new ≡ from.now }
+{
+    match to.len() {
+        4 => to.copy_from_slice(&from[..4]),
+        1 => to.copy_from_slice(&from[..1]),
+        2 => to.copy_from_slice(&from[..2]),
+        _ => to.copy_from_slice(from),
+    }
+}
+
+// Copies bytes. A number of 1, 2, 4 or 8 bytes moves in one instruction, with no call. The comparison between
+// the sizes keeps the compiler from making a table of jumps, which takes more instructions.
 #[inline(always)]
 fn copy_bytes(from: &[u8], to: &mut [u8])
     requires { length from.now ≡ length to.old }
     ensures { to.new ≡ from.now }
 {
-    match to.len() {
-        8 => to.copy_from_slice(&from[..8]),
-        4 => to.copy_from_slice(&from[..4]),
-        2 => to.copy_from_slice(&from[..2]),
-        1 => to.copy_from_slice(&from[..1]),
-        _ => to.copy_from_slice(from),
+    if to.len() == 8 {
+        to.copy_from_slice(&from[..8]);
+    } else if to.len() < 8 {
+        copy_few(from, to);
+    } else {
+        to.copy_from_slice(from);
     }
 }
 
-// Has an owned frame be dirty. One that is dirty stays as it is.
+// Makes an owned frame dirty.
 #[inline(always)]
 fn make_dirty(frames: &mut Frames, frame: FrameNo)
     requires there { frame < length frames.old }
@@ -64,7 +79,7 @@ fn make_dirty(frames: &mut Frames, frame: FrameNo)
     }
 }
 
-// Puts bytes into a frame.
+// Writes bytes into a frame.
 #[inline(always)]
 fn paste_into(frames: &mut Frames, frame: FrameNo, from: usize, bytes: &[u8])
     requires there { frame < length frames.old }
@@ -92,7 +107,7 @@ impl<P: Pager> PageStore<P> {
         }
     }
 
-    // At which place the table of a page is. While nothing moved nobody asks, and the first may do.
+    // The place of a page's table. While nothing moved nobody uses it, and 0 will do.
     fn table_now(&self, page: PageRef, touched: &Touched) -> usize {
         if !touched.moved.is_empty() {
             return self.segs.find(page.seg);
@@ -100,8 +115,8 @@ impl<P: Pager> PageStore<P> {
         0
     }
 
-    // The frame that the page of a span is in: the one that the span names, as long as nothing moved. The page's
-    // table may be at `near`.
+    // The frame that the page of a span is in. It is the one that the span names, as long as nothing moved.
+    // The page's table may be at `near`.
     fn frame_now(
         &self,
         span: &Span,
@@ -138,8 +153,8 @@ impl<P: Pager> PageStore<P> {
         })
     }
 
-    // Brings in the pages of two spans. Where that of the first fails the second is not tried. It takes the
-    // spans by value, so that those of an access to one page can stay in registers.
+    // Brings in the pages of two spans. If the first fails, the second is not tried. It takes the spans by
+    // value, so that those of an access to one page can stay in registers.
     #[inline(never)]
     fn bring_two(
         &mut self,
@@ -170,7 +185,7 @@ impl<P: Pager> PageStore<P> {
         })
     }
 
-    // Brings in the pages of at most two spans, the first page first, and answers their frames.
+    // Brings in the pages of at most two spans, the first page first, and returns their frames.
     #[inline(always)]
     pub(crate) fn bring_spans(
         &mut self,
@@ -210,7 +225,7 @@ impl<P: Pager> PageStore<P> {
         copy_bytes(&bytes[from..from + out.len()], out);
     }
 
-    // Puts bytes into the frame that the page of a span is in.
+    // Writes bytes into the frame that the page of a span is in.
     #[inline(always)]
     fn store(&mut self, span: &Span, frame: FrameNo, bytes: &[u8])
         requires fit { FitsPage (held self.old) span.now }
@@ -247,7 +262,7 @@ impl<P: Pager> PageStore<P> {
         }
     }
 
-    // Puts bytes into the frames that the pages of spans are in.
+    // Writes bytes into the frames that the pages of spans are in.
     #[inline(always)]
     pub(crate) fn store_spans(&mut self, spans: &[Span], here: InFrames, bytes: &[u8])
         requires spans { IsAccess (FitsPage (held self.old)) spans.now (length bytes.now) }
@@ -272,14 +287,14 @@ impl<P: Pager> PageStore<P> {
         }
     }
 
-    /// Reads the bytes of at most two spans, one after another. A page that is not resident comes in,
-    /// for which another may have to leave its frame; the first page stays while the second comes in. Where
-    /// the first fails the second is not tried. No pager is asked for more than that. What is counted, and
-    /// which pages moved, goes into `touched`, which begins as [`Touched::none`]; `Accessed` says what.
+    /// Reads the bytes of at most two spans, one after another. A page that is not resident comes in, for
+    /// which another may have to leave its frame. The first page stays while the second comes in. If the
+    /// first fails, the second is not tried. The pagers do nothing else. `touched` begins as
+    /// [`Touched::none`]; it gets the counts and the pages that moved (`Accessed`).
     ///
-    /// An error is a pager's, whose count then rose or stood at its last value before. `out` is as it was
-    /// then. Each span lies in one page of a segment that is held and names the frame that the
-    /// page is in, and their lengths sum up to that of `out`.
+    /// PagerFault: a pager failed, whose count rose in the call or was at its maximum before; `out` is
+    /// unchanged. Precondition: each span lies in one page of a held segment and names the frame that the
+    /// page is in, and the lengths add up to that of `out`.
     #[inline(always)]
     pub fn read_with(
         &mut self,
@@ -298,7 +313,7 @@ impl<P: Pager> PageStore<P> {
         Ok(())
     }
 
-    /// As [`PageStore::read_with`], with an answer that counts and names.
+    /// As [`PageStore::read_with`]; it returns the counts and the pages that moved.
     pub fn read(&mut self, spans: &[Span], out: &mut [u8]) -> Result<Touched, PagerFailed>
         requires spans { IsAccess (FitsPage (held self.old)) spans.now (length out.old) }
         requires frames { NameFrames self.old spans.now }
@@ -311,9 +326,9 @@ impl<P: Pager> PageStore<P> {
         }
     }
 
-    /// Replaces the bytes of at most two spans, in their order, once all their pages are resident;
-    /// their frames are dirty then. Pages come in as for [`PageStore::read_with`], and on an error no byte of
-    /// any segment has changed.
+    /// Replaces the bytes of at most two spans, in their order, once all their pages are resident. Their
+    /// frames are dirty then. Pages come in as for [`PageStore::read_with`]. On an error no byte of any
+    /// segment has changed.
     #[inline(always)]
     pub fn write_with(
         &mut self,
@@ -332,7 +347,7 @@ impl<P: Pager> PageStore<P> {
         Ok(())
     }
 
-    /// As [`PageStore::write_with`], with an answer that counts and names.
+    /// As [`PageStore::write_with`]; it returns the counts and the pages that moved.
     pub fn write(&mut self, spans: &[Span], bytes: &[u8]) -> Result<Touched, PagerFailed>
         requires spans { IsAccess (FitsPage (held self.old)) spans.now (length bytes.now) }
         requires frames { NameFrames self.old spans.now }
@@ -347,8 +362,8 @@ impl<P: Pager> PageStore<P> {
     }
 
     /// Adds to the eight little-endian bytes of at most two spans, modulo 2^64, once all their pages are
-    /// resident; `old` is then the number before the addition, and unknown after an error. Pages come in
-    /// once, as for [`PageStore::read_with`], and on an error no byte of any segment has changed.
+    /// resident. `old` is then the number before the addition; after an error it is arbitrary. Pages come in
+    /// once, as for [`PageStore::read_with`]. On an error no byte of any segment has changed.
     #[inline(always)]
     pub fn add_with(
         &mut self,

@@ -6,6 +6,7 @@ ghost use Rattle.shm_slots.specs.View.{HasSlot, IsFirstFree};
 ghost use Rattle.shm_slots.specs.Cause.{total};
 ghost use Rattle.shm_frames.specs.Frame.{frame_at, OwnedBelow};
 ghost use Rattle.shm_clock.specs.Clock.{may_go, candidates, victim_of, passed_by, unset_all, next, IsClockVictim};
+ghost use Rattle.shm_clock.specs.Skips.{AreSkipped};
 ghost use Rattle.shm_fault.specs.Segs.{rec_by, HasPage};
 ghost use Rattle.shm_fault.specs.Store.{Still, slot_bytes};
 ghost use Rattle.shm_fault.specs.Sound.{IsStoreSound};
@@ -19,11 +20,11 @@ use crate::store::PageStore;
 use crate::touched::{PageMove, Touched};
 use shm_base::{FrameNo, PageRef, Slot};
 use shm_clock::victim;
-use shm_frames::{Frames, Looks};
+use shm_frames::{Frames, Looks, Skips};
 use shm_pager::{Pager, PagerFault};
 use shm_slots::Swap;
 
-// A frame that its page has left, and whether the page was written for that.
+// A frame that its page left, and whether the page was written for that.
 #[derive(Clone, Copy)]
 struct Evicted {
     frame: FrameNo,
@@ -31,7 +32,7 @@ struct Evicted {
     written: bool,
 }
 
-// At which place the table of the page under the hand is, if a segment is locked.
+// The place of the table of the page under the hand, if a segment is locked.
 fn table_at(segs: &PageTables, frames: &Frames, hand: FrameNo) -> usize
     requires { hand < length frames.now }
 {
@@ -41,17 +42,20 @@ fn table_at(segs: &PageTables, frames: &Frames, hand: FrameNo) -> usize
     }
 }
 
-// The frame whose page has to go, by the clock, among those of segments that are not locked. No table is looked for
-// to pass the frames of the segment that the hand begins at.
+// The frame whose page has to go, by the clock, among the pages of segments that are not locked. The hand
+// skips blocks of locked pages. To pass other frames of the segment that the hand begins at, no table is
+// looked for.
 fn choose(
     segs: &PageTables,
     frames: &mut Frames,
     hand: &mut FrameNo,
+    skips: &mut Skips,
     pinned: Option<FrameNo>,
 ) -> FrameNo
     requires hand { hand.old < length frames.old }
     requires few { length frames.old ≤ MOST_FRAMES }
     requires one { candidates (unlocked segs.now) pinned frames.old hand.old ≢ [] }
+    requires skipped { AreSkipped (unlocked segs.now) frames.old skips.old }
     ensures clock { let may = may_go (unlocked segs.now) pinned frames.old in
         IsClockVictim may hand.old frames.old result frames.new }
     ensures victim { let going = candidates (unlocked segs.now) pinned frames.old hand.old in
@@ -59,13 +63,14 @@ fn choose(
     ensures bits { let going = candidates (unlocked segs.now) pinned frames.old hand.old in
         frames.new ≡ unset_all frames.old (passed_by frames.old going) }
     ensures hand { hand.new ≡ next (length frames.old) result }
+    ensures skipped { AreSkipped (unlocked segs.now) frames.new skips.new }
 {
     let near = table_at(segs, frames, *hand);
     let eligible = |page: PageRef| !segs.is_locked(near, page.seg);
-    victim(frames, hand, &eligible, pinned, &mut Looks::new())
+    victim(frames, hand, &eligible, pinned, &mut Looks::new(), skips)
 }
 
-// Puts a page's bytes into a frame: those in its slot, read straight there, or zeros.
+// Fills a frame with a page's bytes: those of its slot, read straight into the frame, or zeros.
 fn fill_from<P: Pager>(
     frames: &mut Frames,
     swap: &mut Swap<P>,
@@ -86,7 +91,7 @@ fn fill_from<P: Pager>(
 }
 
 impl<P: Pager> PageStore<P> {
-    // At which place the page table of a frame's page is, which may be `near`.
+    // The place of the page table of a frame's page, which may be `near`.
     pub(crate) fn table_of(&self, frame: FrameNo, near: usize) -> usize
         requires there { frame < length self.now.frames }
         requires owned { IsSome (frame_at self.now.frames frame).owner }
@@ -95,8 +100,8 @@ impl<P: Pager> PageStore<P> {
             .find_near(near, self.frames.resident_page(frame).seg)
     }
 
-    // The slot of the page in a dirty frame. Where it has none it gets the least free one of the
-    // lowest-numbered area that has one.
+    // The slot of the page in a dirty frame. If it has none, it gets the lowest free slot of the first area
+    // that has one.
     fn slot_for(&mut self, frame: FrameNo, table: usize) -> Slot
         requires there { frame < length self.old.frames }
         requires owned { IsSome (frame_at self.old.frames frame).owner }
@@ -132,7 +137,7 @@ impl<P: Pager> PageStore<P> {
         slot
     }
 
-    // Writes a frame to the slot of its page. Where that fails the frame stays dirty.
+    // Writes a frame to the slot of its page. If that fails, the frame stays dirty.
     fn write_back(&mut self, frame: FrameNo, slot: Slot) -> Result<(), PagerFault>
         requires there { frame < length self.old.frames }
         requires owned { IsSome (frame_at self.old.frames frame).owner }
@@ -146,9 +151,9 @@ impl<P: Pager> PageStore<P> {
         Ok(())
     }
 
-    /// Writes a dirty frame to the slot of its page, or to the least free slot of the lowest-numbered
-    /// area that has one. Where the write fails the frame stays dirty, and the page keeps that slot. The page's
-    /// table was found at `table`.
+    /// Writes a dirty frame to the slot of its page, or to the lowest free slot of the first area that has
+    /// one. If the write fails, the frame stays dirty and the page keeps that slot. The page's table was
+    /// found at `table`.
     pub(crate) fn page_out(&mut self, frame: FrameNo, table: usize) -> Result<(), PagerFault>
         requires there { frame < length self.old.frames }
         requires owned { IsSome (frame_at self.old.frames frame).owner }
@@ -159,7 +164,7 @@ impl<P: Pager> PageStore<P> {
         self.write_back(frame, slot)
     }
 
-    // The page in a clean frame leaves it.
+    // Takes the page out of a clean frame.
     fn vacate(&mut self, frame: FrameNo, table: usize) -> PageRef
         requires there { frame < length self.old.frames }
         requires owned { IsSome (frame_at self.old.frames frame).owner }
@@ -180,16 +185,22 @@ impl<P: Pager> PageStore<P> {
         page
     }
 
-    // The frame whose page has to go where none is free. Referenced bits may become clear, but not that
-    // of the pinned frame.
+    // The frame whose page has to go if none is free. Referenced bits may become clear, but not that of the
+    // pinned frame.
     fn turn(&mut self, pinned: Option<FrameNo>) -> FrameNo
         requires full { OwnedBelow self.old.frames (length self.old.frames) }
         ensures { NamesVictim pinned self.old self.new result }
     {
-        choose(&self.segs, &mut self.frames, &mut self.hand, pinned)
+        choose(
+            &self.segs,
+            &mut self.frames,
+            &mut self.hand,
+            &mut self.skips,
+            pinned,
+        )
     }
 
-    // Writes a frame if it is dirty, and tells whether it was.
+    // Writes a frame if it is dirty, and returns whether it was.
     fn clean(&mut self, frame: FrameNo, table: usize) -> Result<bool, PagerFault>
         requires there { frame < length self.old.frames }
         requires owned { IsSome (frame_at self.old.frames frame).owner }
@@ -202,8 +213,8 @@ impl<P: Pager> PageStore<P> {
         Ok(true)
     }
 
-    // Makes a frame free by having its page leave it. Where the page's write fails, the page stays. The hand
-    // stands behind that frame then, also after a failure. The page's table may be at `near`.
+    // Makes a frame free: its page leaves it. If the page's write fails, the page stays. The hand is then
+    // after that frame, also after a failure. The page's table may be at `near`.
     fn evict(&mut self, pinned: Option<FrameNo>, near: usize) -> Result<Evicted, PagerFault>
         requires full { OwnedBelow self.old.frames (length self.old.frames) }
         ensures { Evicts pinned self.old self.new result }
@@ -219,7 +230,7 @@ impl<P: Pager> PageStore<P> {
         })
     }
 
-    // Puts a page's bytes into a free frame. Where the read fails the frame stays free.
+    // Fills a free frame with a page's bytes. If the read fails, the frame stays free.
     fn load(&mut self, frame: FrameNo, slot: Option<Slot>) -> Result<(), PagerFault>
         requires there { frame < length self.old.frames }
         requires free { (frame_at self.old.frames frame).owner ≡ None }
@@ -231,7 +242,8 @@ impl<P: Pager> PageStore<P> {
         Ok(())
     }
 
-    // Gives a free frame that has a page's bytes to the page, which keeps its slot or none.
+    // Gives a free frame that has a page's bytes to the page, which keeps its slot if it has one. The frame's
+    // block is not skipped any more, because the page may be one that may go.
     fn settle(&mut self, frame: FrameNo, page: PageRef, table: usize)
         requires there { frame < length self.old.frames }
         requires free { (frame_at self.old.frames frame).owner ≡ None }
@@ -245,6 +257,7 @@ impl<P: Pager> PageStore<P> {
         ensures rest { self.new ≡ record self.old { segs = self.new.segs; frames = self.new.frames } }
         ensures visits { (pinned : Option ℕ) → Visits page pinned self.old self.new }
     {
+        self.skips.forget(frame);
         self.frames.fill(frame, page);
         self.frames.set_referenced(frame, true);
         let place = self.segs.page_in(table, page);
@@ -258,7 +271,7 @@ impl<P: Pager> PageStore<P> {
         );
     }
 
-    // Brings a page, whose table was found at `table`, into a free frame. Where the read fails the page stays
+    // Brings a page, whose table was found at `table`, into a free frame. If the read fails, the page stays
     // where it is.
     fn come_in(
         &mut self,
@@ -283,7 +296,7 @@ impl<P: Pager> PageStore<P> {
         Ok(())
     }
 
-    // A free frame: the one of least number, or the one of the page that has to go, whose table may be at `near`.
+    // A free frame: the first one, or that of the page that has to go, whose table may be at `near`.
     fn take_frame(
         &mut self,
         pinned: Option<FrameNo>,
@@ -303,8 +316,8 @@ impl<P: Pager> PageStore<P> {
         Ok(evicted.frame)
     }
 
-    // Brings in a page that is not resident, whose table may be at `near`. Each of the two tables that this takes
-    // is looked for once.
+    // Brings in a page that is not resident, whose table may be at `near`. It looks for each of the two
+    // tables once.
     #[inline(never)]
     fn fault(
         &mut self,
@@ -340,8 +353,8 @@ impl<P: Pager> PageStore<P> {
         self.frames.set_referenced(frame, true);
     }
 
-    /// Visits a page: it is resident afterwards, with its referenced bit set. `known` is its frame where it
-    /// is resident, its table may be at `near`, and the pinned frame stays as it is.
+    /// Visits a page: it is resident afterwards, with its referenced bit set. `known` is its frame if it is
+    /// resident, its table may be at `near`, and the pinned frame stays as it is.
     #[inline(always)]
     pub(crate) fn visit(
         &mut self,

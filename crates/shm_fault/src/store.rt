@@ -1,5 +1,5 @@
 //! The store, made and looked at.
-ghost use Rattle.std.specs.Prelude.{◌≡◌, ℕ, [], ◌∷◌, ◌++◌, ◌+◌, ◌-◌, ◌≤◌, ◌^◌, true, false, length, map, min, None, IfOk, OnOk, OnErr};
+ghost use Rattle.std.specs.Prelude.{◌≡◌, ℕ, [], ◌∷◌, ◌++◌, ◌+◌, ◌-◌, ◌≤◌, ◌^◌, true, false, length, map, min, replicate, None, IfOk, OnOk, OnErr};
 ghost use Rattle.shm_fault.specs.Held.{is_held, pages_in_store, locked_pages_in_store, with_zeros, with_lock};
 ghost use Rattle.shm_slots.specs.View.{swap_slots, owner_of, AreCountsOf};
 ghost use Rattle.shm_slots.specs.Cause.{total};
@@ -13,7 +13,7 @@ ghost use Rattle.shm_fault.specs.Placing.{places, IsTallyOf};
 use crate::page_tables::PageTables;
 use crate::touched::PageTally;
 use shm_base::{FrameNo, HostMemory, PageRef};
-use shm_frames::Frames;
+use shm_frames::{Frames, Skips};
 use shm_pager::Pager;
 use shm_slots::Swap;
 use std::alloc::Global;
@@ -25,6 +25,8 @@ pub struct PageStore<P: Pager> {
     pub(crate) frames: Frames,
     // Where the clock's hand is.
     pub(crate) hand: FrameNo,
+    // The blocks of frames that the hand skips, because no page in them may go.
+    pub(crate) skips: Skips,
     pub(crate) swap: Swap<P>,
     // Pager reads for faults, and pager writes for evictions and flushes.
     pub(crate) ins: u64,
@@ -37,6 +39,7 @@ impl<P: Pager> Drop for PageStore<P> {
             segs: _,
             frames: _,
             hand: _,
+            skips: _,
             swap: _,
             ins: _,
             outs: _,
@@ -47,17 +50,29 @@ impl<P: Pager> Drop for PageStore<P> {
 impl<P: Pager> Model for PageStore<P> {
     ghost use Rattle.shm_fault.specs.Store.{StoreView};
     ghost use Rattle.shm_fault.specs.Sound.{IsStoreSound};
+    ghost use Rattle.shm_fault.specs.Goes.{unlocked};
+    ghost use Rattle.shm_clock.specs.Skips.{AreSkipped};
 
     ghost Value = { StoreView };
 
     ghost view = { λ s. record { segs = s.segs; frames = s.frames; hand = s.hand; swap = s.swap; ins = s.ins; outs = s.outs } };
 
-    ghost invariant = { λ s. IsStoreSound (record { segs = s.segs; frames = s.frames; hand = s.hand; swap = s.swap; ins = s.ins; outs = s.outs }) };
+    ghost invariant = { λ s. IsStoreSound (record { segs = s.segs; frames = s.frames; hand = s.hand; swap = s.swap; ins = s.ins; outs = s.outs })
+        × AreSkipped (unlocked s.segs) s.frames s.skips };
+}
+
+// Locks or unlocks a segment. It also removes all marks of skipped blocks, because unlocked pages may go.
+fn set_lock(segs: &mut PageTables, skips: &mut Skips, seg: u32, locked: bool)
+    ensures segs { segs.new ≡ map (with_seg_lock seg locked) segs.old }
+    ensures skips { skips.new ≡ replicate (length skips.old) false }
+{
+    segs.set_locked(seg, locked);
+    skips.forget_all();
 }
 
 impl<P: Pager> PageStore<P> {
-    /// A store that holds no segment, over this number of frames and the swap, none of whose slots is owned. The
-    /// memory of the frames is reserved here, and touched when a frame is first used.
+    /// A store without segments, over this number of frames and the swap, none of whose slots is owned. It
+    /// reserves the memory of the frames, which is touched when a frame is first used.
     pub fn new(alloc: Global, frames: u32, swap: Swap<P>) -> Result<PageStore<P>, HostMemory>
         requires frames { (2 ≤ frames) × (frames ≤ MOST_FRAMES) }
         requires free { (area slot : ℕ) → owner_of swap area slot ≡ None }
@@ -65,34 +80,36 @@ impl<P: Pager> PageStore<P> {
         ensures frames { IfOk result (λ s. (length s.frames ≡ frames) × ((f : ℕ) → IsFrameBlank s.frames f)) }
         ensures sound { IfOk result IsStoreSound }
     {
+        let skips = Skips::new(alloc, frames)?;
         let frames = Frames::new(alloc, frames)?;
         Ok(PageStore {
             segs: PageTables::new(alloc),
             frames,
             hand: 0,
+            skips,
             swap,
             ins: 0,
             outs: 0,
         })
     }
 
-    /// The frame that a page is in; none where it is not resident, or no such page is there.
+    /// The frame that a page is in; none if the page is not resident or does not exist.
     pub fn frame(&self, seg: u32, page: u32) -> Option<FrameNo>
         ensures { result ≡ frame_of self.now seg page }
     {
         self.segs.page(PageRef { seg, page }).frame
     }
 
-    /// How many of the first pages of a segment may be in a frame. Those after them were never touched.
+    /// How many of the first pages of a segment may be in a frame. Later pages were never touched.
     pub fn touched(&self, seg: u32) -> u32
         ensures { (page : ℕ) → result ≤ page → frame_of self.now seg page ≡ None }
     {
         self.segs.touched(seg)
     }
 
-    /// One more segment, of this many pages of zeros, which is not locked. All room that it will ever need is
-    /// taken here; out of memory is the one refusal, and changes nothing. All pages have to be at most the
-    /// slots.
+    /// Adds a segment of this many pages of zeros, which is not locked. It takes all memory that the segment
+    /// will ever need. HostMemory: the host refused memory, and nothing changed. Precondition: all pages
+    /// together are at most the slots.
     pub fn add_segment(&mut self, seg: u32, pages: u32) -> Result<(), HostMemory>
         requires new { is_held (held self.old) seg ≡ false }
         requires room { pages_in_store (held self.old) + pages ≤ swap_slots self.old.swap }
@@ -107,7 +124,7 @@ impl<P: Pager> PageStore<P> {
     }
 
     /// Locks or unlocks a segment. No page moves: a page of a locked segment stays resident once it is.
-    /// The pages of locked segments and 2 are at most the frames.
+    /// Precondition: there are at least 2 frames more than pages of locked segments.
     pub fn set_locked(&mut self, seg: u32, locked: bool)
         requires there { is_held (held self.old) seg ≡ true }
         requires few { let after = with_lock (held self.old) seg true in
@@ -117,7 +134,7 @@ impl<P: Pager> PageStore<P> {
         ensures still { Still self.old self.new }
         ensures sound { IsStoreSound self.new }
     {
-        self.segs.set_locked(seg, locked);
+        set_lock(&mut self.segs, &mut self.skips, seg, locked);
     }
 
     /// How many pages are in frames.
@@ -128,14 +145,14 @@ impl<P: Pager> PageStore<P> {
         self.frames.resident() as u32
     }
 
-    /// How many pages are in a slot and in no frame. A page that is in both is not counted. Walks all pages.
+    /// How many pages are in a slot and in no frame. Walks all pages.
     pub fn swapped(&self) -> u32
         ensures { result ≡ swapped self.now }
     {
         self.segs.swapped()
     }
 
-    /// The counts of the pages as they are, of the slots, and of what the pagers did.
+    /// Counts the pages in frames, the slots, and what the pagers did.
     pub fn tally(&self) -> PageTally
         ensures resident { result.resident ≡ resident self.now }
         ensures dirty { result.dirty ≡ dirty self.now }

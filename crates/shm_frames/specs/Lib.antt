@@ -1,3 +1,4 @@
 pub mod Frame
 pub mod Table
 pub mod Lends
+pub mod Skips

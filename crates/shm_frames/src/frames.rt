@@ -79,7 +79,7 @@ impl FrameState {
 }
 
 // How many frames share one mark.
-const BLOCK: usize = 64;
+pub(crate) const BLOCK: usize = 64;
 
 ghost use Rattle.shm_frames.specs.Table.{free_entry, state_at, has_owner, UsedBelow, AreMarked, CleanFrom};
 
@@ -176,7 +176,7 @@ fn least_free(table: &Vec<FrameState>, first: FrameNo, resident: u32) -> FrameNo
 }
 
 // Marks the block of a frame.
-fn mark(marks: &mut Vec<bool>, frame: FrameNo)
+pub(crate) fn mark(marks: &mut Vec<bool>, frame: FrameNo)
     requires { frame / 64 < vec_capacity marks.old }
     ensures marks { marks.new.items ≡ set (padded marks.old.items (frame / 64 + 1) false) (frame / 64) true }
     ensures room { vec_capacity marks.new ≡ vec_capacity marks.old }
@@ -230,7 +230,7 @@ fn dirty_from(table: &Vec<FrameState>, marks: &mut Vec<bool>, from: FrameNo) -> 
 }
 
 // A copy of the items, with room for `room` of them.
-fn copied<T: Copy>(items: &Vec<T>, room: u32) -> Result<Vec<T>, AllocError>
+pub(crate) fn copied<T: Copy>(items: &Vec<T>, room: u32) -> Result<Vec<T>, AllocError>
     ensures items { IfOk result (λ copy. copy.items ≡ items.now.items) }
     ensures room { IfOk result (λ copy. room ≤ vec_capacity copy) }
 {

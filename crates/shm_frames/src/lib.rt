@@ -7,6 +7,8 @@
 
 mod frames;
 mod looks;
+mod skips;
 
 pub use frames::Frames;
 pub use looks::Looks;
+pub use skips::{BLOCK_FRAMES, Skips};

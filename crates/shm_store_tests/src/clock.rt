@@ -1,10 +1,11 @@
-ghost use Rattle.std.specs.Prelude.{◌≡◌, ◌+◌, ◌<◌, ◌≤◌, ◌^◌, length, IfSome, true, ◌≢◌, []};
+ghost use Rattle.std.specs.Prelude.{◌≡◌, ◌+◌, ◌<◌, ◌≤◌, ◌^◌, length, IfOk, IfSome, true, ◌≢◌, []};
 ghost use Rattle.shm_clock.specs.Clock.{may_go, candidates};
+ghost use Rattle.shm_clock.specs.Skips.{AreSkipped};
 ghost use Rattle.shm_store_tests.specs.Unlocked.{is_unlocked};
 
 use shm_base::{FrameNo, HostMemory, PageRef};
 use shm_clock::victim;
-use shm_frames::{Frames, Looks};
+use shm_frames::{Frames, Looks, Skips};
 use std::alloc::Global;
 use std::process::Abort;
 use std::sync::atomic::{AtomicU64, Ordering};
@@ -47,10 +48,13 @@ fn unlocked_victim(
     pinned: Option<FrameNo>,
     looks: &mut Looks,
     asked: &AtomicU64,
+    skips: &mut Skips,
 ) -> Option<FrameNo>
     requires hand { hand.old < length frames.old }
     requires countable { looks.old + length frames.old < 2 ^ 64 }
+    requires skipped { AreSkipped (is_unlocked locked) frames.old skips.old }
     ensures unlocked { IfSome result (λ frame. may_go (is_unlocked locked) pinned frames.old frame ≡ true) }
+    ensures skipped { AreSkipped (is_unlocked locked) frames.new skips.new }
 {
     if !some_unlocked(frames, *hand, locked, pinned) {
         return None;
@@ -59,7 +63,7 @@ fn unlocked_victim(
         asked.fetch_add(1, Ordering::SeqCst);
         page.seg != locked
     };
-    Some(victim(frames, hand, &unlocked, pinned, looks))
+    Some(victim(frames, hand, &unlocked, pinned, looks, skips))
 }
 
 // Frames in order, each with a page of a segment and a bit.
@@ -87,7 +91,7 @@ struct Turn {
     bits: &'static [bool],
     stands: FrameNo,
     looks: u64,
-    /// The frames that the hand reaches. Each page is tested at most once.
+    /// The most pages that are asked about. The hand asks about a page twice if the frame before its own may not be taken.
     asked: u64,
 }
 
@@ -140,7 +144,7 @@ const TURNS: &[Turn] = &[
         bits: &[true, false, false, true],
         stands: 2,
         looks: 2,
-        asked: 4,
+        asked: 5,
     },
     Turn {
         pages: &[(9, false), (1, false)],
@@ -167,14 +171,24 @@ fn has_bits(frames: &Frames, bits: &[bool]) -> bool {
     frames.count() as usize == bits.len()
 }
 
+// No block of the frames is skipped.
+fn none_skipped(alloc: Global, frames: &Frames) -> Result<Skips, HostMemory>
+    ensures { IfOk result (AreSkipped (is_unlocked 9) frames.now) }
+{
+    let skips = Skips::new(alloc, frames.count())?;
+    Ok(skips)
+}
+
 // Whether a turn over these frames, which are in its first state, ends as expected.
-fn ends_so(frames: &mut Frames, turn: &Turn) -> bool {
+fn ends_so(frames: &mut Frames, skips: &mut Skips, turn: &Turn) -> bool
+    requires skipped { AreSkipped (is_unlocked 9) frames.old skips.old }
+{
     let mut hand = turn.hand;
     if hand >= frames.count() || frames.count() > 8 {
         return false;
     }
     let (mut looks, asked) = (Looks::new(), AtomicU64::new(0));
-    let victim = unlocked_victim(frames, &mut hand, 9, turn.pinned, &mut looks, &asked);
+    let victim = unlocked_victim(frames, &mut hand, 9, turn.pinned, &mut looks, &asked, skips);
     victim == turn.victim
         && asked.load(Ordering::SeqCst) <= turn.asked
         && hand == turn.stands
@@ -190,7 +204,8 @@ fn makes_turn(
 ) -> Result<(), HostMemory> {
     assert!(rt; turn.pages.len() <= 8);
     let mut frames = frames_with(alloc, turn.pages)?;
-    assert!(rt; ends_so(&mut frames, turn), "turn {number}");
+    let mut skips = none_skipped(alloc, &frames)?;
+    assert!(rt; ends_so(&mut frames, &mut skips, turn), "turn {number}");
     Ok(())
 }
 
@@ -199,5 +214,43 @@ fn turns_of_the_hand(rt: HostRuntime) -> Result<(), Fail> {
     for (number, turn) in TURNS.iter().enumerate() {
         makes_turn(&rt, rt.alloc(), number, turn)?;
     }
+    Ok(())
+}
+
+// Two blocks of frames of the locked segment, and two frames of another; the bit of the last is set.
+fn locked_frames(alloc: Global) -> Result<Frames, HostMemory> {
+    let mut frames = Frames::new(alloc, 130)?;
+    for page in 0..130 {
+        if let Some(frame) = frames.free_frame() {
+            let seg = if frame < 128 { 9 } else { 1 };
+            frames.fill(frame, PageRef { seg, page });
+            frames.set_referenced(frame, frame == 129);
+        }
+    }
+    Ok(frames)
+}
+
+// How many pages a turn asks about.
+fn asked_by(frames: &mut Frames, hand: &mut FrameNo, skips: &mut Skips) -> u64
+    requires skipped { AreSkipped (is_unlocked 9) frames.old skips.old }
+    ensures skipped { AreSkipped (is_unlocked 9) frames.new skips.new }
+{
+    if *hand >= frames.count() {
+        return 0;
+    }
+    let (mut looks, asked) = (Looks::new(), AtomicU64::new(0));
+    let _ = unlocked_victim(frames, hand, 9, None, &mut looks, &asked, skips);
+    asked.load(Ordering::SeqCst)
+}
+
+#[test]
+fn blocks_of_locked_frames_are_asked_about_in_the_first_turn(rt: HostRuntime) -> Result<(), Fail> {
+    let mut frames = locked_frames(rt.alloc())?;
+    let mut skips = none_skipped(rt.alloc(), &frames)?;
+    let mut hand = 0;
+    assert!(rt; asked_by(&mut frames, &mut hand, &mut skips) >= 128);
+    assert!(rt; hand == 129);
+    assert!(rt; asked_by(&mut frames, &mut hand, &mut skips) <= 3);
+    assert!(rt; hand == 129);
     Ok(())
 }

@@ -2,6 +2,7 @@ use Rattle.std.proofs.lemmas.Result.{MatchResult-from_err}
 use Rattle.shm_fault.proofs.Names.{◌≡◌, None, Some, refl, ap, sym, HasSlot, owner_of, PageRec, rec_by, HasPage, SameOwned, with_rec}
 use Rattle.shm_fault.specs.Store.{frame_of}
 use Rattle.shm_fault.proofs.Seen.{seen}
+use Rattle.shm_fault.proofs.Skipped.{skipped-with}
 use Rattle.shm_fault.proofs.Sound.{slot-own}
 use Rattle.shm_fault.proofs.Pages.{by-still, has-slot, still-with}
 use Rattle.shm_fault.proofs.Changes.{Keeps}
@@ -22,29 +23,30 @@ kept : (g : given.Over) (c : After-set_page g) → Keeps (seen c.self.inside) (r
 kept g c =
     let e = c.relocate.ensures in
     rw c.set_page.ensures
-    (keeps-carried (seen c.self.inside) c.self.invariant c.args.page c.args.slot c.in_ok-to.to c.relocate.new.swap (rw (← c.self.view_is) at c.requires.place) c.in_ok-to.ensures.ok e.sound e.same_sizes e.goes_on)
+    (keeps-carried (seen c.self.inside) c.self.invariant.0 c.args.page c.args.slot c.in_ok-to.to c.relocate.new.swap (rw (← c.self.view_is) at c.requires.place) c.in_ok-to.ensures.ok e.sound e.same_sizes e.goes_on)
 
 own : (g : given.Over) (c : After-self g) → HasSlot c.self.inside.swap c.args.slot.area c.args.slot.slot × (owner_of c.self.inside.swap c.args.slot.area c.args.slot.slot ≡ Some c.args.page)
-own g c = slot-own (seen c.self.inside) c.self.invariant c.args.page c.args.slot (ap (λ (p : PageRec). p.slot) (place g c))
+own g c = slot-own (seen c.self.inside) c.self.invariant.0 c.args.page c.args.slot (ap (λ (p : PageRec). p.slot) (place g c))
 
 -- the slots are owned as they were
 failed : (g : given.Over) (c : After-relocate g) → SameOwned c.self.inside.swap c.relocate.new.swap → Keeps (seen c.self.inside) (record (seen c.self.inside) { swap = c.relocate.new.swap })
 failed g c same =
     let e = c.relocate.ensures in
-    keeps-owned (seen c.self.inside) c.self.invariant c.relocate.new.swap same e.sound e.same_sizes e.goes_on
+    keeps-owned (seen c.self.inside) c.self.invariant.0 c.relocate.new.swap same e.sound e.same_sizes e.goes_on
 
 pub relocate-requires-clause-there : goal.relocate-requires-clause-there
 relocate-requires-clause-there g c = (own g (goal.at.relocate-requires-clause-there g c).After-self).0
 
 pub relocate-requires-clause-room : goal.relocate-requires-clause-room
 relocate-requires-clause-room g c =
-    has-room (seen c.self.inside) c.self.invariant c.args.slot c.args.page (own g (goal.at.relocate-requires-clause-room g c).After-self).1 (rw (← c.self.view_is) at c.requires.room)
+    has-room (seen c.self.inside) c.self.invariant.0 c.args.slot c.args.page (own g (goal.at.relocate-requires-clause-room g c).After-self).1 (rw (← c.self.view_is) at c.requires.room)
 
 pub set_page-requires : goal.set_page-requires
 set_page-requires g c = has g (goal.at.set_page-requires g c).After-self
 
 pub invariant_of-self-2 : goal.invariant_of-self-2
-invariant_of-self-2 g c = (kept g c).sound
+invariant_of-self-2 g c =
+    let i = c.self.inside in ((kept g c).sound, rw c.set_page.ensures (skipped-with i.segs c.args.page _ i.frames i.skips c.self.invariant.1))
 
 pub returns-clause-goes : goal.returns-clause-goes
 returns-clause-goes g c = rw (← c.self.view_is) (kept g c).goes
@@ -63,7 +65,7 @@ pub returns-clause-sound : goal.returns-clause-sound
 returns-clause-sound g c = (kept g c).sound
 
 pub invariant_of-self : goal.invariant_of-self
-invariant_of-self g c = (failed g (goal.at.invariant_of-self g c).After-relocate c.in_err-to.ensures.err).sound
+invariant_of-self g c = ((failed g (goal.at.invariant_of-self g c).After-relocate c.in_err-to.ensures.err).sound, c.self.invariant.1)
 
 pub returns-in_err-to-clause-goes : goal.returns-in_err-to-clause-goes
 returns-in_err-to-clause-goes g c = rw (← c.self.view_is) (failed g (goal.at.returns-in_err-to-clause-goes g c).After-relocate c.in_err-to.ensures.err).goes

@@ -14,7 +14,7 @@ slot_there s r has (Some k) e = has k e
 pub load-requires-clause-slot : goal.load-requires-clause-slot
 load-requires-clause-slot g c =
     rw (c.page_in-slot.ensures, ← c.self.view_is)
-    (slot_there (seen c.self.inside) c.args.page (λ k e. (slot-own (seen c.self.inside) c.self.invariant c.args.page k e).0) (rec_by c.self.inside.segs c.args.page).slot refl)
+    (slot_there (seen c.self.inside) c.args.page (λ k e. (slot-own (seen c.self.inside) c.self.invariant.0 c.args.page k e).0) (rec_by c.self.inside.segs c.args.page).slot refl)
 
 pub settle-requires-clause-there : goal.settle-requires-clause-there
 settle-requires-clause-there g c = rw (c.load.ensures.visits c.args.page None).goes.size c.requires.there

@@ -1,6 +1,7 @@
-use Rattle.shm_fault.proofs.Names.{◌≡◌, ◌≢◌, ◌≤◌, ◌+◌, ◌-◌, ℕ, ap, arith, PageRec, PageRef, StoreView, count_by_id, rec_by, HasPage, NowhereFrom, Dropped}
+use Rattle.shm_fault.proofs.Names.{◌≡◌, ◌≢◌, ◌≤◌, ◌+◌, ◌-◌, ℕ, ap, arith, PageRec, PageRef, StoreView, count_by_id, rec_by, HasPage, NowhereFrom, Dropped, IsStoreSound, but}
 use Rattle.shm_fault.specs.Store.{frame_of}
 use Rattle.shm_fault.proofs.Seen.{seen}
+use Rattle.shm_fault.proofs.Skipped.{skipped-but}
 use Rattle.shm_fault.proofs.Pages.{count-same}
 use Rattle.shm_fault.proofs.Drops.{dropped-none, dropped-more, dropped-rest, StayNowhere, nowhere-more, IsDropped, drops}
 use Rattle.shm_fault.proofs.Forgets.{segment-gone}
@@ -30,12 +31,12 @@ whole g c =
     let last : n ≡ c.touched-touched.result = omega (arith, c.loop-page-test.false, c.loop-page.auto.page-end) in
     let same = count-same s.segs t.segs c.args.seg d.shape in
     let sum : n + (count - n) ≡ count = omega (arith, few, last) in
-    rw sum at (dropped-rest c.args.seg n (count - n) s t c.self-2.invariant.apart (λ page le. stay page (rest page (omega (arith, le, last)))) (omega (arith, few, last, same)) d)
+    rw sum at (dropped-rest c.args.seg n (count - n) s t c.self-2.invariant.0.apart (λ page le. stay page (rest page (omega (arith, le, last)))) (omega (arith, few, last, same)) d)
 
 done : (g : given.Over) (c : After-remove g) → IsDropped c.args.seg c.args.self.now (record (seen c.self-2.inside) { segs = c.remove.new.self })
 done g c =
     let s = c.args.self.now in
-    rw c.remove.ensures (drops c.args.seg (count_by_id s.segs c.args.seg) s (seen c.self-2.inside) c.self-2.invariant (whole g c) (omega arith))
+    rw c.remove.ensures (drops c.args.seg (count_by_id s.segs c.args.seg) s (seen c.self-2.inside) c.self-2.invariant.0 (whole g c) (omega arith))
 
 pub forget-requires : goal.forget-requires
 forget-requires g c = has g (goal.at.forget-requires g c).In-loop-page
@@ -52,7 +53,10 @@ loop-page-preserved g c =
     )
 
 pub invariant_of-self : goal.invariant_of-self
-invariant_of-self g c = (done g c).sound
+invariant_of-self g c =
+    let t = seen c.self-2.inside in
+    let sound : IsStoreSound (record t { segs = but c.args.seg t.segs }) = rw c.remove.ensures at (done g c).sound in
+    ((done g c).sound, rw c.remove.ensures (skipped-but t c.args.seg c.self-2.inside.skips sound c.self-2.invariant.1))
 
 pub loop-page-init : goal.loop-page-init
 loop-page-init g c = rw (← c.self.view_is) (dropped-none c.args.seg (seen c.self.inside), λ page none. none)

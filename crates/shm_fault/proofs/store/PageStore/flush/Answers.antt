@@ -24,7 +24,7 @@ past g c last le clean =
     rw (same g c) (rw sum at (flushed-past c.args.n s from (last - from) t c.loop-from.report.written c.loop-from.report.failed (λ i past lt. off i past (omega (arith, lt, le))) c.loop-from.invariant.0))
 
 pub loop-from-init : goal.loop-from-init
-loop-from-init g c = rw (← c.self.view_is) (flushed-none c.args.n (seen c.self.inside) c.self.invariant, omega arith)
+loop-from-init g c = rw (← c.self.view_is) (flushed-none c.args.n (seen c.self.inside) c.self.invariant.0, omega arith)
 
 pub loop-from-preserved : goal.loop-from-preserved
 loop-from-preserved g c =

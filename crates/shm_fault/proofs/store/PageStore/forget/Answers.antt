@@ -1,5 +1,6 @@
-use Rattle.shm_fault.proofs.Names.{◌≡◌, ◌∙◌, sym, arith, common_steps, refl, no_page, rec_by, with_rec, Given, IsSteady, AtRest}
+use Rattle.shm_fault.proofs.Names.{◌≡◌, ◌∙◌, sym, arith, common_steps, refl, no_page, rec_by, with_rec, Given, IsSteady, AtRest, unlocked}
 use Rattle.shm_fault.proofs.Seen.{seen}
+use Rattle.shm_fault.proofs.Skipped.{skipped-emptied, skipped-with}
 use Rattle.shm_fault.proofs.Sound.{frame-own, slot-own, GoesOn-refl}
 use Rattle.shm_fault.proofs.Drops.{with-is, with-same, Forgets, forgets}
 use Rattle.shm_fault.proofs.Forgets.{forget-is, forget-nowhere}
@@ -15,16 +16,21 @@ done g c =
     let e = c.free_slot.ensures in
     let slot : Given i.swap (rec_by i.segs c.args.page).slot c.free_slot.new.swap = rw c.page_in-place.ensures at e.given in
     rw (c.set_page.ensures, c.empty_frame.ensures, c.page_in-place.ensures)
-    (forgets (seen i) c.self.invariant c.args.page (rw (← c.self.view_is) at c.requires) c.free_slot.new.swap slot e.sound e.steady)
+    (forgets (seen i) c.self.invariant.0 c.args.page (rw (← c.self.view_is) at c.requires) c.free_slot.new.swap slot e.sound e.steady)
 
 pub empty_frame-requires : goal.empty_frame-requires
-empty_frame-requires g c = λ f e. (frame-own (seen c.self.inside) c.self.invariant c.args.page f (rw c.page_in-place.ensures at e)).0
+empty_frame-requires g c = λ f e. (frame-own (seen c.self.inside) c.self.invariant.0 c.args.page f (rw c.page_in-place.ensures at e)).0
 
 pub free_slot-requires-clause-there : goal.free_slot-requires-clause-there
-free_slot-requires-clause-there g c = λ k e. (slot-own (seen c.self.inside) c.self.invariant c.args.page k (rw c.page_in-place.ensures at e)).0
+free_slot-requires-clause-there g c = λ k e. (slot-own (seen c.self.inside) c.self.invariant.0 c.args.page k (rw c.page_in-place.ensures at e)).0
 
 pub invariant_of-self : goal.invariant_of-self
-invariant_of-self g c = (done g c).sound
+invariant_of-self g c =
+    let i = c.self.inside in (
+      (done g c).sound,
+      rw (c.set_page.ensures, c.empty_frame.ensures)
+          (skipped-with i.segs c.args.page _ _ i.skips (skipped-emptied (unlocked i.segs) i.frames i.skips c.self.invariant.1 c.page_in-place.result.frame)),
+    )
 
 pub returns : goal.returns
 returns g c =
@@ -48,7 +54,7 @@ returns-then-eq g c =
     let s = seen c.self.inside in
     let place : c.page_in-place.result ≡ no_page = nowhere _ c.page_in-place.result (sym c.eq.ensures ∙ c.if-eq.true) in
     let at : rec_by s.segs c.args.page ≡ no_page = sym c.page_in-place.ensures ∙ place in
-    let same : with_rec s.segs c.args.page no_page ≡ s.segs = with-is s.segs c.args.page no_page c.self.invariant.apart at in
+    let same : with_rec s.segs c.args.page no_page ≡ s.segs = with-is s.segs c.args.page no_page c.self.invariant.0.apart at in
     let steady : IsSteady s.swap s.swap = record { goes_on = GoesOn-refl s.swap; failures = refl; same_sizes = refl } in
     let rest : AtRest s s = record { hand = refl; ins = refl; outs = refl } in
     rw (← c.self.view_is) (record {

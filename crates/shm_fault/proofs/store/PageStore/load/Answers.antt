@@ -1,9 +1,11 @@
 use Rattle.std.proofs.lemmas.Result.{MatchResult-from_err}
-use Rattle.shm_fault.proofs.Names.{ℕ, refl, arith, common_steps, nat_tests, frame_at}
+use Rattle.shm_fault.proofs.Names.{ℕ, refl, arith, common_steps, nat_tests, frame_at, inl, unlocked}
 use Rattle.shm_fault.proofs.Seen.{seen}
+use Rattle.shm_fault.proofs.Skipped.{skipped-set}
 use Rattle.shm_fault.proofs.Visits.{IsStep, step-load}
 use Rattle.shm_fault.proofs.Placed.{owners-kept}
 use Rattle.shm_fault.proofs.Places.{same-places}
+use Rattle.shm_clock.specs.Skips.{AreSkipped}
 use Rattle.shm_fault.proofs.store.PageStore.load.Given as given
 use Rattle.shm_fault.proofs.store.PageStore.load.Goals as goal
 use Rattle.shm_fault.proofs.store.PageStore.load.Goals.{After-fill_from}
@@ -14,13 +16,22 @@ step g c ins =
     let e = c.fill_from.ensures in
     let bytes = (frame_at c.fill_from.new.frames c.args.frame).bytes in
     rw e.frames
-    (step-load (seen c.self.inside) c.self.invariant c.args.frame bytes (rw (← c.self.view_is) at c.requires.free) c.fill_from.new.swap ins e.kept (e.sound c.self.invariant.swap) e.sizes e.goes_on)
+    (step-load (seen c.self.inside) c.self.invariant.0 c.args.frame bytes (rw (← c.self.view_is) at c.requires.free) c.fill_from.new.swap ins e.kept (e.sound c.self.invariant.0.swap) e.sizes e.goes_on)
+
+skipped : (g : given.Over) (c : After-fill_from g) → AreSkipped (unlocked c.self.inside.segs) c.fill_from.new.frames c.self.inside.skips
+skipped g c =
+    let i = c.self.inside in
+    rw c.fill_from.ensures.frames (skipped-set (unlocked i.segs) i.frames i.skips c.self.invariant.1 c.args.frame (record (frame_at i.frames c.args.frame) { bytes = (frame_at c.fill_from.new.frames c.args.frame).bytes }) (inl refl))
 
 pub invariant_of-self-2 : goal.invariant_of-self-2
-invariant_of-self-2 g c = (step g (goal.at.invariant_of-self-2 g c).After-fill_from c.saturating_add-self-inside.result).sound
+invariant_of-self-2 g c =
+    let o = (goal.at.invariant_of-self-2 g c).After-fill_from in
+    ((step g o c.saturating_add-self-inside.result).sound, skipped g o)
 
 pub invariant_of-self : goal.invariant_of-self
-invariant_of-self g c = (step g (goal.at.invariant_of-self g c).After-fill_from c.self.inside.ins).sound
+invariant_of-self g c =
+    let o = (goal.at.invariant_of-self g c).After-fill_from in
+    ((step g o c.self.inside.ins).sound, skipped g o)
 
 pub returns : goal.returns
 returns g c =

@@ -57,10 +57,10 @@ turn_off-requires-clause-free g c =
     λ i lt. cleaned-free c.args.area c.loop-slot.slot c.args.self.now (seen c.self-2.inside) (cleaned g o.After-self-2) c.requires.there (omega (arith, all, c.loop-slot-test.false)) i
 
 pub invariant_of-self : goal.invariant_of-self
-invariant_of-self g c = (done g c).0
+invariant_of-self g c = ((done g c).0, c.self-2.invariant.1)
 
 pub loop-slot-init : goal.loop-slot-init
-loop-slot-init g c = rw (← c.self.view_is) (cleaned-none c.args.area (seen c.self.inside) c.self.invariant)
+loop-slot-init g c = rw (← c.self.view_is) (cleaned-none c.args.area (seen c.self.inside) c.self.invariant.0)
 
 pub returns-in_default : goal.returns-in_default
 returns-in_default g c =
@@ -70,7 +70,7 @@ returns-in_default g c =
     let e = c.clear_slot.ensures in
     let before = c.loop-slot.invariant in
     let all = count g o.After-unwrap_or-count in
-    let owned : length (area_at s.swap c.args.area).owners ≡ length (area_at s.swap c.args.area).pages = rw (← c.self.view_is) (c.self.invariant.swap.each c.args.area).owned in
+    let owned : length (area_at s.swap c.args.area).owners ≡ length (area_at s.swap c.args.area).pages = rw (← c.self.view_is) (c.self.invariant.0.swap.each c.args.area).owned in
     let still = still-err g o.In_default in
     record {
       held = e.goes.bytes ∙ before.goes.bytes;

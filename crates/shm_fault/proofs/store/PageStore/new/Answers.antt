@@ -1,4 +1,5 @@
-use Rattle.shm_fault.proofs.Names.{IsStoreSound, fresh_store}
+use Rattle.shm_fault.proofs.Names.{◌<◌, ◌+◌, ◌/◌, [], length, arith, IsStoreSound, fresh_store, unlocked}
+use Rattle.shm_clock.proofs.Skipping.{skipped-none}
 use Rattle.shm_fault.proofs.Whole.{sound-fresh}
 use Rattle.shm_fault.proofs.store.PageStore.new.Given as given
 use Rattle.shm_fault.proofs.store.PageStore.new.Goals as goal
@@ -10,7 +11,11 @@ sound g c =
     (rw c.swap.view_is at c.swap.invariant) (λ k. c.requires.free k.area k.slot)
 
 pub invariant_of-result : goal.invariant_of-result
-invariant_of-result g c = rw c.new-2.ensures (sound g (goal.at.invariant_of-result g c).In_ok-frames)
+invariant_of-result g c =
+    let o = (goal.at.invariant_of-result g c).In_ok-frames in
+    let frames = c.in_ok-frames.frames in
+    let room : length frames / 64 < c.args.frames / 64 + 1 = rw c.in_ok-frames.ensures.size (omega arith) in
+    rw (c.new-3.ensures, c.in_ok-skips.ensures) (sound g o, skipped-none (unlocked []) frames (c.args.frames / 64 + 1) room)
 
 pub returns-clause-sound : goal.returns-clause-sound
-returns-clause-sound g c = rw c.new-2.ensures (sound g (goal.at.returns-clause-sound g c).In_ok-frames)
+returns-clause-sound g c = rw c.new-3.ensures (sound g (goal.at.returns-clause-sound g c).In_ok-frames)

@@ -6,12 +6,12 @@ use Rattle.shm_fault.proofs.store.PageStore.page_at.Goals as goal
 use Rattle.shm_fault.proofs.store.PageStore.page_at.Goals.{After-self}
 
 has : (g : given.Over) (c : After-self g) → HasPage c.self.inside.segs (ref_of c.args.span.now)
-has g c = fits-has (seen c.self.inside) c.self.invariant c.args.span.now (rw (← c.self.view_is) at c.requires)
+has g c = fits-has (seen c.self.inside) c.self.invariant.0 c.args.span.now (rw (← c.self.view_is) at c.requires)
 
 pub overflow_cast-result : goal.overflow_cast-result
 overflow_cast-result g c =
     let there = has g (goal.at.overflow_cast-result g c).After-self in
-    let few = few_pages (seen c.self.inside) c.self.invariant c.args.span.now.seg in
+    let few = few_pages (seen c.self.inside) c.self.invariant.0 c.args.span.now.seg in
     omega (arith, there, few)
 
 pub returns-clause-has : goal.returns-clause-has

@@ -1,5 +1,6 @@
-use Rattle.shm_fault.proofs.Names.{true, refl, Some, Frame, frame_at}
+use Rattle.shm_fault.proofs.Names.{true, refl, Some, Frame, frame_at, unlocked}
 use Rattle.shm_fault.proofs.Seen.{seen}
+use Rattle.shm_fault.proofs.Skipped.{skipped-given, skipped-with}
 use Rattle.shm_fault.proofs.Changes.{set-twice}
 use Rattle.shm_fault.proofs.Visits.{Settles, settles}
 use Rattle.shm_fault.proofs.Places.{settled-is}
@@ -15,11 +16,18 @@ done g c =
     let bytes = rw (← c.self.view_is) at c.requires.bytes in
     let x : Frame = record (frame_at i.frames c.args.frame) { owner = Some c.args.page } in
     rw (set-twice i.frames c.args.frame x (λ y. record y { referenced = true }) there c.fill.ensures c.set_referenced.ensures, c.set_page.ensures, c.page_in-place.ensures)
-    (settles (seen i) c.self.invariant c.args.page c.args.frame (rw (← c.self.view_is) at c.requires.has) there
+    (settles (seen i) c.self.invariant.0 c.args.page c.args.frame (rw (← c.self.view_is) at c.requires.has) there
     (rw (← c.self.view_is) at c.requires.free) (rw (← c.self.view_is) at c.requires.away) bytes)
 
 pub invariant_of-self : goal.invariant_of-self
-invariant_of-self g c = (done g c).sound
+invariant_of-self g c =
+    let i = c.self.inside in
+    let there = rw (← c.self.view_is) at c.requires.there in
+    let x : Frame = record (frame_at i.frames c.args.frame) { owner = Some c.args.page } in (
+      (done g c).sound,
+      rw (set-twice i.frames c.args.frame x (λ y. record y { referenced = true }) there c.fill.ensures c.set_referenced.ensures, c.set_page.ensures, c.forget.ensures)
+          (skipped-with i.segs c.args.page _ _ _ (skipped-given (unlocked i.segs) i.frames i.skips c.self.invariant.1 c.args.frame (record x { referenced = true }))),
+    )
 
 pub returns-clause-came : goal.returns-clause-came
 returns-clause-came g c = rw (← c.self.view_is) (done g c).came
@@ -33,6 +41,6 @@ returns-clause-placed g c =
     let there = rw (← c.self.view_is) at c.requires.there in
     let x : Frame = record (frame_at s.frames c.args.frame) { owner = Some c.args.page } in
     rw (← c.self.view_is)
-    (settled-is s (record s { segs = c.set_page.new.self; frames = c.set_referenced.new.self }) c.args.page c.args.frame (c.self.invariant.tied.free c.args.frame (rw (← c.self.view_is) at c.requires.free)) refl refl
+    (settled-is s (record s { segs = c.set_page.new.self; frames = c.set_referenced.new.self }) c.args.page c.args.frame (c.self.invariant.0.tied.free c.args.frame (rw (← c.self.view_is) at c.requires.free)) refl refl
     (rw (c.set_page.ensures, c.page_in-place.ensures) refl)
     (set-twice s.frames c.args.frame x (λ y. record y { referenced = true }) there c.fill.ensures c.set_referenced.ensures))

@@ -1,5 +1,6 @@
 use Rattle.shm_fault.proofs.Names.{◌≡◌, Some, None, sym, ap, ◌∙◌, arith, used_slots, swap_slots, with_slot_owner, frame_at, PageRec, rec_by}
 use Rattle.shm_fault.proofs.Seen.{seen}
+use Rattle.shm_fault.proofs.Skipped.{skipped-with}
 use Rattle.shm_fault.proofs.Tally.{used-slots, some_slotless}
 use Rattle.shm_fault.proofs.Pages.{by-still}
 use Rattle.shm_fault.proofs.Changes.{Takes, takes}
@@ -12,7 +13,7 @@ use Rattle.shm_fault.proofs.store.PageStore.slot_for.Goals.{After-set_page}
 pub unreachable-requires : goal.unreachable-requires
 unreachable-requires g c =
     let i = c.self.inside in
-    let sound = c.self.invariant in
+    let sound = c.self.invariant.0 in
     let page = c.resident_page-page.result in
     let owned : (frame_at i.frames c.args.frame).owner ≡ Some page = c.resident_page-page.ensures in
     let none : (rec_by i.segs page).slot ≡ None = ap (λ (p : PageRec). p.slot) (sym c.page_in-place.ensures) ∙ c.in_default.is in
@@ -32,7 +33,7 @@ done g c =
     let u : c.take_slot.new.self ≡ with_slot_owner i.swap slot (Some page) = c.in-Some-take_slot.ensures.taken in
     let e = c.take_slot.ensures in
     rw (c.set_page.ensures, u, c.page_in-place.ensures)
-    (takes (seen i) c.self.invariant page c.args.frame slot c.resident_page-page.ensures (rw (← c.self.view_is) at c.requires.dirty) none
+    (takes (seen i) c.self.invariant.0 page c.args.frame slot c.resident_page-page.ensures (rw (← c.self.view_is) at c.requires.dirty) none
     first.there first.free (rw u at e.sound) (rw u at e.steady.same_sizes) (rw u at e.steady.goes_on))
 
 pub returns-clause-goes : goal.returns-clause-goes
@@ -48,7 +49,11 @@ pub returns-clause-away : goal.returns-clause-away
 returns-clause-away g c = rw (← c.self.view_is) (done g c).away
 
 pub invariant_of-self : goal.invariant_of-self
-invariant_of-self g c = (done g c).sound
+invariant_of-self g c =
+    let i = c.self.inside in (
+      (done g c).sound,
+      rw c.set_page.ensures (skipped-with i.segs c.resident_page-page.result _ i.frames i.skips c.self.invariant.1),
+    )
 
 pub returns-clause-sound : goal.returns-clause-sound
 returns-clause-sound g c = (done g c).sound
@@ -62,7 +67,7 @@ returns-clause-placed g c =
     let u : c.take_slot.new.self ≡ with_slot_owner s.swap slot (Some page) = c.in-Some-take_slot.ensures.taken in
     rw (← c.self.view_is)
     (rw (c.set_page.ensures, u, c.page_in-place.ensures)
-    (slotted-took s c.args.frame page slot c.resident_page-page.ensures none (found-free s.swap None slot c.self.invariant.swap.each c.in-Some-take_slot.ensures.found)))
+    (slotted-took s c.args.frame page slot c.resident_page-page.ensures none (found-free s.swap None slot c.self.invariant.0.swap.each c.in-Some-take_slot.ensures.found)))
 
 pub returns-in-Some-clause-placed : goal.returns-in-Some-clause-placed
 returns-in-Some-clause-placed g c =

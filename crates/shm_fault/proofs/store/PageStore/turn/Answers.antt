@@ -13,16 +13,16 @@ kept g c =
     let clock = c.choose.ensures.clock in
     let alike = clock-alike (may_go (unlocked i.segs) c.args.pinned i.frames) i.hand i.frames c.choose.result c.choose.new.frames clock in
     let hand = next-lt i.frames c.choose.new.frames c.choose.result clock.size clock.there c.choose.ensures.hand in
-    keeps-alike (seen i) c.self.invariant c.choose.new.frames c.choose.new.hand clock.size alike hand
+    keeps-alike (seen i) c.self.invariant.0 c.choose.new.frames c.choose.new.hand clock.size alike hand
 
 pub choose-requires-clause-one : goal.choose-requires-clause-one
 choose-requires-clause-one g c =
     let i = c.self.inside in
     let full : OwnedBelow i.frames (length i.frames) = rw (← c.self.view_is) at c.requires.full in
-    two_eligible (unlocked i.segs) c.args.pinned i.frames i.hand c.self.invariant.hand (two_unlocked (seen i) c.self.invariant full)
+    two_eligible (unlocked i.segs) c.args.pinned i.frames i.hand c.self.invariant.0.hand (two_unlocked (seen i) c.self.invariant.0 full)
 
 pub invariant_of-self : goal.invariant_of-self
-invariant_of-self g c = (kept g c).sound
+invariant_of-self g c = ((kept g c).sound, c.choose.ensures.skipped)
 
 pub returns : goal.returns
 returns g c =

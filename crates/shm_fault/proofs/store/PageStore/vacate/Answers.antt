@@ -1,5 +1,6 @@
-use Rattle.shm_fault.proofs.Names.{◌≡◌, refl, Some, arith, frame_at, common_steps, nat_tests}
+use Rattle.shm_fault.proofs.Names.{◌≡◌, refl, Some, arith, frame_at, common_steps, nat_tests, inr, unlocked, no_frame}
 use Rattle.shm_fault.proofs.Seen.{seen}
+use Rattle.shm_fault.proofs.Skipped.{skipped-set, skipped-with}
 use Rattle.shm_fault.proofs.Changes.{Keeps, keeps-vacate}
 use Rattle.shm_fault.proofs.Places.{vacated-is}
 use Rattle.shm_fault.proofs.store.PageStore.vacate.Given as given
@@ -13,10 +14,15 @@ kept : (g : given.Over) (c : After-set_page g) → Keeps (seen c.self.inside) (r
 kept g c =
     let bytes = (frame_at c.self.inside.frames c.args.frame).bytes in
     rw (c.set_page.ensures, c.empty.ensures, c.page_in-place.ensures)
-    (keeps-vacate (seen c.self.inside) c.self.invariant c.resident_page-page.result c.args.frame bytes (owned g c) (rw (← c.self.view_is) at c.requires.clean))
+    (keeps-vacate (seen c.self.inside) c.self.invariant.0 c.resident_page-page.result c.args.frame bytes (owned g c) (rw (← c.self.view_is) at c.requires.clean))
 
 pub invariant_of-self : goal.invariant_of-self
-invariant_of-self g c = (kept g c).sound
+invariant_of-self g c =
+    let i = c.self.inside in (
+      (kept g c).sound,
+      rw (c.set_page.ensures, c.empty.ensures)
+          (skipped-with i.segs c.resident_page-page.result _ _ i.skips (skipped-set (unlocked i.segs) i.frames i.skips c.self.invariant.1 c.args.frame (record no_frame { bytes = (frame_at i.frames c.args.frame).bytes }) (inr refl))),
+    )
 
 pub returns : goal.returns
 returns g c =
@@ -26,7 +32,7 @@ returns g c =
     rw (← c.self.view_is)
     (record {
       page = c.resident_page-page.ensures;
-      was = grind (arith, nat_tests, common_steps, c.self.invariant.tied, page, c.args.frame, owned);
+      was = grind (arith, nat_tests, common_steps, c.self.invariant.0.tied, page, c.args.frame, owned);
       frames = c.empty.ensures;
       segs = rw (c.set_page.ensures, c.page_in-place.ensures) refl;
       rest = refl;

@@ -1,6 +1,7 @@
 use Rattle.std.proofs.lemmas.Result.{err_from_is_err_and}
-use Rattle.shm_fault.proofs.Names.{◌≡◌, ℕ, Some, true, false, set, refl, sym, arith, set-get_or, IsSome, PageRef, Slot, SwapView, IsSwap, HasSlot, sizes, area_at, with_slot_page, OneArea, AfterWriteFault, GoesOn, no_frame, frame_at, rec_by, StoreView, IsStoreSound, common_steps, nat_tests}
+use Rattle.shm_fault.proofs.Names.{◌≡◌, ℕ, Some, true, false, set, refl, sym, arith, set-get_or, IsSome, PageRef, Slot, SwapView, IsSwap, HasSlot, sizes, area_at, with_slot_page, OneArea, AfterWriteFault, GoesOn, no_frame, frame_at, rec_by, StoreView, IsStoreSound, common_steps, nat_tests, inl, unlocked}
 use Rattle.shm_fault.proofs.Seen.{seen}
+use Rattle.shm_fault.proofs.Skipped.{skipped-set}
 use Rattle.shm_fault.proofs.Slots.{OnlySlot-page, OnlySlot-fault, owner-written, owner-fault, page-written}
 use Rattle.shm_fault.proofs.Failures.{total-written, total-fault}
 use Rattle.shm_fault.proofs.Changes.{Own, own, Keeps, keeps-write, dirty-same}
@@ -41,7 +42,7 @@ module _ (s : StoreView) (sound : IsStoreSound s) (f : ℕ) (k : Slot) (some : I
       rw z at k0
 
 there : (g : given.Over) (c : After-self g) → HasSlot c.self.inside.swap c.args.slot.area c.args.slot.slot
-there g c = has (seen c.self.inside) c.self.invariant c.args.frame c.args.slot (rw (← c.self.view_is) at c.requires.owned) (rw (← c.self.view_is) at c.requires.slot)
+there g c = has (seen c.self.inside) c.self.invariant.0 c.args.frame c.args.slot (rw (← c.self.view_is) at c.requires.owned) (rw (← c.self.view_is) at c.requires.slot)
 
 wrote : (g : given.Over) (c : After-saturating_add-self-inside g)
     → Keeps (seen c.self.inside) (record (seen c.self.inside) { frames = c.set_dirty.new.self; swap = c.write_slot.new.self; outs = c.saturating_add-self-inside.result })
@@ -50,23 +51,27 @@ wrote g c =
     let e = c.write_slot.ensures in
     let u : c.write_slot.new.self ≡ written s c.args.frame c.args.slot = rw c.bytes.ensures.value at c.in_ok-write_slot.ensures.ok in
     rw (c.set_dirty.ensures, u)
-    (done s c.self.invariant c.args.frame c.args.slot (rw (← c.self.view_is) at c.requires.owned) (rw (← c.self.view_is) at c.requires.slot)
+    (done s c.self.invariant.0 c.args.frame c.args.slot (rw (← c.self.view_is) at c.requires.owned) (rw (← c.self.view_is) at c.requires.slot)
     c.saturating_add-self-inside.result (rw u at e.sound) (rw u at e.sizes) (rw u at e.goes_on))
 
 unwritten : (g : given.Over) (c : After-from_residual g) → Keeps (seen c.self.inside) (record (seen c.self.inside) { swap = c.write_slot.new.self })
 unwritten g c =
     let e = c.write_slot.ensures in
-    failed (seen c.self.inside) c.self.invariant c.args.frame c.args.slot (rw (← c.self.view_is) at c.requires.owned) (rw (← c.self.view_is) at c.requires.slot) c.write_slot.new.self
+    failed (seen c.self.inside) c.self.invariant.0 c.args.frame c.args.slot (rw (← c.self.view_is) at c.requires.owned) (rw (← c.self.view_is) at c.requires.slot) c.write_slot.new.self
     (rw (← c.self.view_is) at c.requires.dirty) e.others c.in_err-write_slot.ensures.err e.sound e.sizes e.goes_on
 
 pub write_slot-requires : goal.write_slot-requires
 write_slot-requires g c = there g (goal.at.write_slot-requires g c).After-self
 
 pub invariant_of-self-2 : goal.invariant_of-self-2
-invariant_of-self-2 g c = (wrote g (goal.at.invariant_of-self-2 g c).After-saturating_add-self-inside).sound
+invariant_of-self-2 g c =
+    let i = c.self.inside in (
+      (wrote g (goal.at.invariant_of-self-2 g c).After-saturating_add-self-inside).sound,
+      rw c.set_dirty.ensures (skipped-set (unlocked i.segs) i.frames i.skips c.self.invariant.1 c.args.frame (record (frame_at i.frames c.args.frame) { dirty = false }) (inl refl)),
+    )
 
 pub invariant_of-self : goal.invariant_of-self
-invariant_of-self g c = (unwritten g c).sound
+invariant_of-self g c = ((unwritten g c).sound, c.self.invariant.1)
 
 pub returns : goal.returns
 returns g c =
@@ -101,7 +106,7 @@ returns-in_err-write_slot g c =
       outs = refl;
       goes = k.goes;
       cause = c.in_err-write_slot.ensures.cause;
-      counted = λ unspent. total-fault s.swap t.swap c.args.slot c.self.invariant.swap at c.write_slot.ensures.others c.in_err-write_slot.ensures.err unspent;
+      counted = λ unspent. total-fault s.swap t.swap c.args.slot c.self.invariant.0.swap at c.write_slot.ensures.others c.in_err-write_slot.ensures.err unspent;
       placed = bit-set s t c.args.frame true refl refl (owners-fault s.swap t.swap c.args.slot c.write_slot.ensures.others c.in_err-write_slot.ensures.err)
           (rw (dirty-same s.frames c.args.frame true dirty) refl);
       sound = k.sound;

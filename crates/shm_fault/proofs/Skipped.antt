@@ -1,0 +1,108 @@
+-- The blocks that the hand steps over, once frames, page tables or locks have changed.
+use Rattle.shm_fault.proofs.Names.{◌≡◌, ◌≢◌, ◌⊎◌, ℕ, ◌/◌, ◌<◌, Bool, true, false, not, List, [], ◌∷◌, ◌++◌, length, set, Option, Some, None, refl, sym, ap, ◌∙◌, inl, inr, arith, length-set, get_or-set_other, get_or-set_same, cases_eq, cases_lt, eq-eqb, ne_eqb, true≢false, PageRef, Frame, no_frame, frame_at, PageRec, SegRec, but, find_seg, locked_by, new_seg, count_by_id, HasPage, with_rec, StoreView, IsStoreSound, unlocked, owner_passes, emptied, set_past, get_or_past}
+use Rattle.shm_frames.specs.Skips.{is_skipped}
+use Rattle.shm_clock.specs.Skips.{AreSkipped}
+use Rattle.shm_fault.proofs.Pages.{locked-same, outlines-with}
+
+-- who may go depends on the locks alone
+passes-same : (gs hs : List SegRec) (o : Option PageRef) → ((id : ℕ) → locked_by hs id ≡ locked_by gs id) → owner_passes (unlocked hs) o ≡ owner_passes (unlocked gs) o
+passes-same gs hs None same = refl
+passes-same gs hs (Some r) same = ap not (same r.seg)
+
+-- the locks are as they were
+pub skipped-locks : (gs hs : List SegRec) (frames : List Frame) (skips : List Bool) → ((id : ℕ) → locked_by hs id ≡ locked_by gs id) → AreSkipped (unlocked gs) frames skips → AreSkipped (unlocked hs) frames skips
+skipped-locks gs hs frames skips same s = record {
+  room = s.room;
+  stay = λ i skip. passes-same gs hs (frame_at frames i).owner same ∙ s.stay i skip;
+}
+
+-- where one page is
+pub skipped-with : (gs : List SegRec) (r : PageRef) (p : PageRec) (frames : List Frame) (skips : List Bool) → AreSkipped (unlocked gs) frames skips → AreSkipped (unlocked (with_rec gs r p)) frames skips
+skipped-with gs r p frames skips s = skipped-locks gs (with_rec gs r p) frames skips (λ id. locked-same gs (with_rec gs r p) id (outlines-with gs r p)) s
+
+module _ (passes : PageRef → Bool) (frames : List Frame) (skips : List Bool) (s : AreSkipped passes frames skips) where
+  -- a frame changes that keeps its owner or has none then
+  pub skipped-set : (f : ℕ) (x : Frame) → (x.owner ≡ (frame_at frames f).owner) ⊎ (x.owner ≡ None) → AreSkipped passes (set frames f x) skips
+  skipped-set f x owner = record {
+    room = rw (length-set frames f x) s.room;
+    stay = λ i skip. elim (cases_eq i f) [
+      | inl e ↦ elim (cases_lt f (length frames)) [
+        | inl lt ↦
+            let at : (frame_at (set frames f x) i).owner ≡ x.owner = rw e (ap (λ (y : Frame). y.owner) (get_or-set_same frames f x no_frame lt)) in
+            rw at (elim owner [ inl same ↦ rw (same, ← e) (s.stay i skip) | inr none ↦ rw none refl ])
+        | inr past ↦ rw (set_past frames f x past) (s.stay i skip)
+      ]
+      | inr ne ↦ rw (get_or-set_other frames f i x no_frame ne) (s.stay i skip)
+    ];
+  }
+
+  -- a frame gets an owner, and its block is forgotten
+  pub skipped-given : (f : ℕ) (x : Frame) → AreSkipped passes (set frames f x) (set skips (f / 64) false)
+  skipped-given f x = record {
+    room = rw (length-set frames f x, length-set skips (f / 64) false) s.room;
+    stay = λ i skip. elim (cases_eq (i / 64) (f / 64)) [
+      | inl e ↦ absurd (true≢false (sym skip ∙ cleared i e))
+      | inr ne ↦
+          let off : i ≢ f = λ same. ne (ap (λ k. k / 64) same) in
+          let was : is_skipped skips i ≡ true = sym (get_or-set_other skips (f / 64) (i / 64) false false ne) ∙ skip in
+          rw (get_or-set_other frames f i x no_frame off) (s.stay i was)
+    ];
+  }
+    where
+      cleared : (i : ℕ) → i / 64 ≡ f / 64 → is_skipped (set skips (f / 64) false) i ≡ false
+      cleared i e = rw e (elim (cases_lt (f / 64) (length skips)) [
+        | inl lt ↦ get_or-set_same skips (f / 64) false false lt
+        | inr past ↦ rw (set_past skips (f / 64) false past) (get_or_past skips (f / 64) false past)
+      ])
+
+  -- the frame of a page becomes free, if it has one
+  pub skipped-emptied : (frame : Option ℕ) → AreSkipped passes (emptied frames frame) skips
+  skipped-emptied None = s
+  skipped-emptied (Some f) = skipped-set f (record no_frame { bytes = (frame_at frames f).bytes }) (inr refl)
+
+-- a segment is added, which is not locked
+pub locked-added : (gs : List SegRec) (id pages k : ℕ) → locked_by (gs ++ new_seg id pages ∷ []) k ≡ locked_by gs k
+locked-added [] id pages k = elim (cases_eq id k) [ inl e ↦ rw (eq-eqb id k e) refl | inr ne ↦ rw (ne_eqb id k ne) refl ]
+locked-added (g ∷ gs) id pages k =
+    elim (cases_eq g.id k) [
+      | inl e ↦ rw (eq-eqb g.id k e) refl
+      | inr ne ↦ rw (ne_eqb g.id k ne) (locked-added gs id pages k)
+    ]
+
+-- a segment is taken out
+find-but : (gs : List SegRec) (id k : ℕ) → k ≢ id → find_seg (but id gs) k ≡ find_seg gs k
+find-but [] id k other = refl
+find-but (g ∷ gs) id k other =
+    elim (cases_eq g.id id) [
+      | inl e ↦
+          let off : g.id ≢ k = λ same. other (sym same ∙ e) in
+          rw (eq-eqb g.id id e, ne_eqb g.id k off) (find-but gs id k other)
+      | inr ne ↦ rw (ne_eqb g.id id ne) (elim (cases_eq g.id k) [ inl e ↦ rw (eq-eqb g.id k e) refl | inr off ↦ rw (ne_eqb g.id k off) (find-but gs id k other) ])
+    ]
+
+find-gone : (gs : List SegRec) (id : ℕ) → find_seg (but id gs) id ≡ None
+find-gone [] id = refl
+find-gone (g ∷ gs) id =
+    elim (cases_eq g.id id) [
+      | inl e ↦ rw (eq-eqb g.id id e) (find-gone gs id)
+      | inr ne ↦ rw (ne_eqb g.id id ne, ne_eqb g.id id ne) (find-gone gs id)
+    ]
+
+pub skipped-but : (t : StoreView) (id : ℕ) (skips : List Bool) → IsStoreSound (record t { segs = but id t.segs }) → AreSkipped (unlocked t.segs) t.frames skips → AreSkipped (unlocked (but id t.segs)) t.frames skips
+skipped-but t id skips sound s = record {
+  room = s.room;
+  stay = λ i skip. by i (frame_at t.frames i).owner refl (s.stay i skip);
+}
+  where
+    by : (i : ℕ) (o : Option PageRef) → (frame_at t.frames i).owner ≡ o → owner_passes (unlocked t.segs) (frame_at t.frames i).owner ≡ false → owner_passes (unlocked (but id t.segs)) (frame_at t.frames i).owner ≡ false
+    by i None e stay = rw e refl
+    by i (Some r) e stay =
+        let has : HasPage (but id t.segs) r = sound.tied.owners i r e in
+        let was : not (locked_by t.segs r.seg) ≡ false = rw e at stay in
+        elim (cases_eq r.seg id) [
+          | inl same ↦
+              let has₁ : r.page < count_by_id (but id t.segs) id = rw same at has in
+              let none : r.page < 0 = rw (find-gone t.segs id) at has₁ in
+              absurd (omega (arith, none))
+          | inr other ↦ rw (e, find-but t.segs id r.seg other) was
+        ]
