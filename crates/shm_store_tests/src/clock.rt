@@ -89,7 +89,7 @@ struct Turn {
     pinned: Option<FrameNo>,
     victim: Option<FrameNo>,
     bits: &'static [bool],
-    stands: FrameNo,
+    hand_after: FrameNo,
     looks: u64,
     /// The most pages that are asked about. The hand asks about a page twice if the frame before its own may not be taken.
     asked: u64,
@@ -102,7 +102,7 @@ const TURNS: &[Turn] = &[
         pinned: None,
         victim: Some(0),
         bits: &[false, false],
-        stands: 1,
+        hand_after: 1,
         looks: 1,
         asked: 1,
     },
@@ -112,7 +112,7 @@ const TURNS: &[Turn] = &[
         pinned: None,
         victim: Some(1),
         bits: &[false, false, true],
-        stands: 2,
+        hand_after: 2,
         looks: 2,
         asked: 2,
     },
@@ -122,7 +122,7 @@ const TURNS: &[Turn] = &[
         pinned: None,
         victim: Some(2),
         bits: &[false, false, false, false],
-        stands: 3,
+        hand_after: 3,
         looks: 4,
         asked: 4,
     },
@@ -132,7 +132,7 @@ const TURNS: &[Turn] = &[
         pinned: None,
         victim: Some(2),
         bits: &[false, false, false],
-        stands: 0,
+        hand_after: 0,
         looks: 3,
         asked: 3,
     },
@@ -142,7 +142,7 @@ const TURNS: &[Turn] = &[
         pinned: Some(3),
         victim: Some(1),
         bits: &[true, false, false, true],
-        stands: 2,
+        hand_after: 2,
         looks: 2,
         asked: 5,
     },
@@ -152,7 +152,7 @@ const TURNS: &[Turn] = &[
         pinned: Some(1),
         victim: None,
         bits: &[false, false],
-        stands: 0,
+        hand_after: 0,
         looks: 0,
         asked: 0,
     },
@@ -191,7 +191,7 @@ fn ends_so(frames: &mut Frames, skips: &mut Skips, turn: &Turn) -> bool
     let victim = unlocked_victim(frames, &mut hand, 9, turn.pinned, &mut looks, &asked, skips);
     victim == turn.victim
         && asked.load(Ordering::SeqCst) <= turn.asked
-        && hand == turn.stands
+        && hand == turn.hand_after
         && looks.count() == turn.looks
         && has_bits(frames, turn.bits)
 }
