@@ -37,22 +37,36 @@ impl InFrames {
     };
 }
 
-// Copies fewer than 8 bytes. A number of 1, 2 or 4 bytes moves in one instruction, with no call.
+// Copies fewer than 4 bytes.
 #[inline(always)]
-fn copy_few(from: &[u8], to: &mut [u8])
+fn copy_fewer(from: &[u8], to: &mut [u8])
     requires { length from.now ≡ length to.old }
     ensures { to.new ≡ from.now }
 {
     match to.len() {
-        4 => to.copy_from_slice(&from[..4]),
         1 => to.copy_from_slice(&from[..1]),
         2 => to.copy_from_slice(&from[..2]),
         _ => to.copy_from_slice(from),
     }
 }
 
-// Copies bytes. A number of 1, 2, 4 or 8 bytes moves in one instruction, with no call. The comparison between
-// the sizes keeps the compiler from making a table of jumps, which takes more instructions.
+// Copies fewer than 8 bytes.
+#[inline(always)]
+fn copy_few(from: &[u8], to: &mut [u8])
+    requires { length from.now ≡ length to.old }
+    ensures { to.new ≡ from.now }
+{
+    if to.len() == 4 {
+        to.copy_from_slice(&from[..4]);
+    } else if to.len() < 4 {
+        copy_fewer(from, to);
+    } else {
+        to.copy_from_slice(from);
+    }
+}
+
+// Copies bytes, 1, 2, 4 or 8 without a call. A `match` of all four sizes would become a table of jumps; these
+// comparisons take fewer instructions.
 #[inline(always)]
 fn copy_bytes(from: &[u8], to: &mut [u8])
     requires { length from.now ≡ length to.old }
