@@ -204,7 +204,7 @@ static void print_log(int run, uint64_t start) {
     fflush(stdout);
 }
 
-/* nobody is attached any more, so that each segment is destroyed */
+/* no process is attached any more, so this destroys each segment */
 static void remove_segments(void) {
     for (int i = 0; i < script.command_count; i++) {
         const struct answer *a = &shared->told[i].answer;

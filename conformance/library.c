@@ -47,7 +47,7 @@ struct swap {
     size_t area_count, failure_count;
 };
 
-/* KIND:SLOTS, of a fuse with :rCALL or :wCALL behind it */
+/* KIND:SLOTS; for a fuse, :rCALL or :wCALL follows */
 static void read_swap(struct swap *swap, const char *word) {
     unsigned slots;
     char which;
@@ -237,7 +237,7 @@ static void print_usage(nog_machine *machine) {
     printf("usage in %" PRIu64 " out %" PRIu64 " failures %" PRIu64 "\n", t.ins, t.outs, t.failures);
 }
 
-/* the flush lines that stand above the command behind so many others */
+/* runs the flush lines above the command that has this many commands above it */
 static int run_flushes(nog_machine *machine, int next, int commands_above) {
     nog_flushed flushed;
     for (; next < script.flush_count && script.flushes[next].commands_above == commands_above; next++)

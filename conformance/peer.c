@@ -44,8 +44,8 @@ _Static_assert(IPC_CREAT == CREAT && IPC_EXCL == EXCL && SHM_HUGETLB == HUGETLB 
 
 enum task { GET, ATTACH, DETACH, CONTROL, LOAD, STORE, ADD, FORK, EXEC, EXIT, MAPPED, UNMAPS, PROTECTS };
 
-/* what a worker is told: flags are shmctl's command and mprotect's rights too; at[] are the addresses of an access, byte by
-   byte; reach is how far a call of a range may come */
+/* a request to a worker: flags are also shmctl's command and mprotect's rights; at[] has the address of each byte of an access;
+   reach is how far a call of a range may come */
 struct request {
     int task, id, flags, child;
     unsigned key, uid, gid, mode, length, is_placed;
@@ -402,7 +402,7 @@ static const char *error_name(int error) {
     return other;
 }
 
-/* the workers end when the director's ends of their pipes are closed; then nobody makes a segment any more */
+/* the workers end when the director's ends of their pipes are closed; then no process makes a segment any more */
 static void clean_up(void) {
     struct pollfd alive = {alive_fd, POLLIN, 0};
     int got, id;
@@ -619,7 +619,7 @@ static int become_user(unsigned uid, unsigned gid) {
     return !is_root || (!setgroups(0, NULL) && !setresgid(gid, gid, gid) && !setresuid(uid, uid, uid));
 }
 
-/* pipes to a worker and from it: its own ends have numbers that stand, whoever forks and execs */
+/* pipes to a worker and from it: its own ends keep their numbers through forks and execs */
 static void open_pipes(int index) {
     int to[2], from[2], at = FIRST_FD + 2 * index;
     if (pipe2(to, O_CLOEXEC) || pipe2(from, O_CLOEXEC) || dup2(to[0], at) < 0 || dup2(from[1], at + 1) < 0)

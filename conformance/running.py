@@ -1,4 +1,4 @@
-"""Runs the program and the peer, each with a time limit, and leaves no process or file behind."""
+"""Runs the program and the peer, each with a time limit, and leaves no process and no file."""
 
 import contextlib
 import fcntl

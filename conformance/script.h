@@ -87,7 +87,7 @@ static int is_named(const char *name, const char *word) {
     return strlen(name) == length && memcmp(name, word, length) == 0;
 }
 
-/* the flags behind a mode, or those of an attach */
+/* the flags after a mode, or those of an attach */
 static uint64_t flags_of(const char *word, int has_mode) {
     uint64_t flags = has_mode ? strtoul(word, NULL, 8) & 0777 : 0;
     for (const char *at = has_mode ? strchr(word, ',') : word; at && *at && *at != '-'; at = strchr(at, ',')) {

@@ -83,7 +83,7 @@ static void put_number(struct number n) {
     while (count > 0) put_char(digits[--count]);
 }
 
-/* 3 bits a digit or 4, and at least so many digits */
+/* 3 or 4 bits a digit, and at least this many digits */
 static void put_digits(struct number n, int bits, int least) {
     char digits[22];
     int count = 0;

@@ -150,7 +150,7 @@ static void count(struct emulator *e, struct guest *g, uint64_t add, uint64_t ad
     settle_access(e, g, nog_add(&e->memory, pid_of(e, g), addr, add, &before), addr, 1);
 }
 
-/* a child joins under the least pid that is free, and is forked at once; it goes on behind the fork, as its parent does */
+/* a child joins under the least free pid and is forked at once; both continue after the fork */
 static uint32_t fork_guest(struct emulator *e, const struct guest *g, uint64_t *answer) {
     uint64_t live = 1; /* the child */
     struct guest *child = e->guests;
@@ -282,8 +282,8 @@ static void run_instruction(struct emulator *e, struct guest *g) {
     }
 }
 
-/* the guests take turns, an instruction each, until the first has ended or there were so many lives; the guests' clock tells
-   the library seconds */
+/* the guests take turns, an instruction each, until the first has ended or this many have lived; the library gets the seconds of
+   the guests' clock */
 static uint32_t run(struct emulator *e, uint64_t lives) {
     while (e->guests[0].life == RUNNING && e->lives < lives) {
         for (struct guest *g = e->guests; g < e->guests + GUESTS; g++)

@@ -33,7 +33,7 @@ class Process(Structure):
     _fields_ = [(name, c_uint32) for name in ("pid", "is_born", "uid", "gid")]
 
 
-# the types of the parameters behind the machine; ctypes guesses them otherwise
+# the types of the parameters after the machine; ctypes would guess them
 FUNCTIONS = {
     "nog_open": [POINTER(Limits), POINTER(Area), c_size_t, POINTER(Failure), c_size_t, POINTER(Process), c_size_t],
     "nog_close": [],

@@ -1,5 +1,5 @@
-/* bench: calls a second through the C library, and the memory of this process before and behind 20 million of them.
-   The status is 1 where the memory grew or a call was refused. */
+/* bench: calls a second through the C library, and the memory of this process before and after 20 million of them.
+   The status is 1 if the memory grew or a call was refused. */
 #define _POSIX_C_SOURCE 200809L
 #include <inttypes.h>
 #include <stdio.h>
@@ -39,7 +39,7 @@ static uint32_t make_round(struct bench *b, uint32_t number) {
     return code;
 }
 
-/* seconds of so many calls */
+/* the seconds that this many calls take */
 static double measure(struct bench *b, call make, uint32_t calls) {
     struct timespec began, ended;
     clock_gettime(CLOCK_MONOTONIC, &began);

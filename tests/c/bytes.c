@@ -4,7 +4,7 @@
 #include <stdlib.h>
 #include "testing.h"
 
-/* bytes of one of each, by its parts: a flag beside a number that may be missing has that number's size */
+/* bytes of one of each, by its parts: a flag for a number that may be missing has that number's size */
 enum {
     OWNER = 12,       /* of a slot: a flag, a segment and a page */
     RETURNED = 4,     /* of a slot: its number, once it is given back */
@@ -69,7 +69,7 @@ static void openings(void) {
     TEST(opening_of(small, ram, 6) - opening_of(small, ram, 5) == PROCESS + MOST_PIECES * PIECE);
 }
 
-/* a segment of so many pages in a machine with none: what it asks for, and what its first attach does */
+/* a segment of this many pages in a machine without segments: the bytes that its shmget and its first attach request */
 static void first_segment(uint64_t pages, uint64_t *get, uint64_t *attach) {
     static const nog_area sparse = {NOG_SPARSE, 4096};
     int32_t id;
@@ -92,7 +92,7 @@ static void segments(void) {
     TEST(attach_all - attach_one == 4092 * TRANSLATION);
 }
 
-/* behind the first attach of the largest segment */
+/* after the first attach of the largest segment */
 static void nothing(void) {
     static const uint8_t bytes[64], others[64];
     uint8_t loaded[64];

@@ -463,7 +463,7 @@ static void test_texts(void) {
     }
 }
 
-/* two machines know nothing of each other, and one that was moved as a whole goes on */
+/* two machines are independent, and one that was moved as a whole still works */
 static void test_two_machines(void) {
     nog_machine one = NOG_MACHINE_INITIALIZER, other = NOG_MACHINE_INITIALIZER, moved;
     uint64_t calls = 9;

@@ -168,7 +168,7 @@ static void read_some(void) { took(nog_read(&machine, PID, at, bytes, length, &d
 static void write_some(void) { took(nog_write(&machine, PID, at, bytes, length, &done)); }
 static void copy_some(void) { took(nog_copy(&machine, PID, at, PID, at + MOST_BYTES / 2, length, &done)); }
 
-/* the pages of a segment are attached, and nobody touches one */
+/* attaches and detaches a segment of which no page is touched */
 static void come_and_go(void) {
     int32_t id = make(length);
     took(nog_detach(&machine, PID, attach(id, 0)));

@@ -46,7 +46,7 @@ static int is_as_said(const struct place *place) {
     return 0;
 }
 
-/* the library has no field behind the last of a struct here, and no other struct */
+/* the library has no field after the last one of a struct here, and no other struct */
 static int is_end(uint32_t which, uint32_t field) {
     size_t value = SIZE_MAX;
     uint32_t code = nog_layout(which, field, &value);

@@ -270,7 +270,7 @@ static uint64_t byte_at(nog_machine *m, uint64_t at) {
     return byte;
 }
 
-/* both go on from one state, each alone, and the write that is still to fail fails in each */
+/* both continue from one state, independently, and the write that is still to fail fails in each */
 static void test_snapshot(void) {
     static const nog_failure third_write = {.is_write = 1, .call = 3};
     nog_machine copy = NOG_MACHINE_INITIALIZER;

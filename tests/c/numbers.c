@@ -80,7 +80,7 @@ static void test_kinds(nog_machine *m) {
     TEST(NOG_RAM == 1 && NOG_SPARSE == 2 && NOG_MIRROR == 3);
 }
 
-/* a null pointer beside a count or a length of 0 is as any other */
+/* a null pointer with a count or a length of 0 is like any other pointer */
 static void test_nulls(nog_machine *m) {
     uint64_t done = 7, at = 0;
     size_t len = 0;

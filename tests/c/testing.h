@@ -15,7 +15,7 @@ static const nog_process processes[] = {{ROOT, 1, 0, 0}, {USER, 1, 200, 201}, {C
 
 static unsigned tested, differ;
 
-/* counts a test, and tells where it stands if it failed */
+/* counts a test, and prints its place if it failed */
 static void test(int is_right, const char *file, int line, const char *what, uint64_t found) {
     tested++;
     if (is_right) return;

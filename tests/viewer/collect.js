@@ -76,7 +76,7 @@
     charts: [chart("now"), chart("sum")],
   });
 
-  // a name of a move is a key, with what is held beside it; a button; the slider's value; or what the address ends with
+  // a name of a move is a key, with the key that is held; a button; the slider's value; or what the address ends with
   const press = (held, key) => !dispatchEvent(new KeyboardEvent("keydown", { key, cancelable: true, [held + "Key"]: true }));
   const slide = (value) => {
     byId("slider").value = value;

@@ -67,7 +67,7 @@ def shown_part(text, asked):
 
 
 def shortened(text):
-    """Returns a record with the differences from step to step: `=N` stands for the next N lines of the step before, and `-N` skips
+    """Returns a record with the differences from step to step: `=N` repeats the next N lines of the step before, and `-N` skips
     N of them. No line of a record begins this way. Each other line is new."""
     blocks, old = [], []
     for block in filter(None, text.split("\n\n")):
