@@ -279,7 +279,7 @@ class Converter:
         if not call.is_refused:
             segment = self.got(call, key, size, real_size, "creat" in flags, is_huge)
         for other in others:
-            self.notes.add("changed", f"shmget without {other}, which the language has not", call.first)
+            self.notes.add("changed", f"shmget without {other}, which the script language lacks", call.first)
         if call.error != "EINVAL" and not (found and found is segment):
             self.most_size = max(self.most_size, size)
         words = ",".join([f"{mode:03o}", *flags])
@@ -315,7 +315,7 @@ class Converter:
         if call.is_refused:
             self.refused_attach(process, call, segment, address, flags, others)
         for other in others:
-            self.notes.add("changed", f"shmat without {other}, which the language has not", call.first)
+            self.notes.add("changed", f"shmat without {other}, which the script language lacks", call.first)
         shown = f"{number_of(id_word)} {shown_address(address)} {','.join(flags) or '-'}"
         size = pages_of(segment.real_size) * PAGE if segment else PAGE
         rounded = address & -PAGE if "rnd" in flags else address

@@ -1,6 +1,6 @@
 /* A small emulator: guest processes of a toy processor, whose shared memory is the library. A first guest forks others, 200
    at once and 10,000 in its life, so that pids are used again; each adds to one counter in a segment of 64 MiB. Eight children
-   more add to a plain number under a lock, and one gets bytes by a pipe. Then a child gives up its user, as behind setuid(2),
+   more add to a plain number under a lock, and one gets bytes by a pipe. Then a child gives up its user, as after setuid(2),
    and may not attach what it may still use. The first guest protects one page of the segment and unmaps it. After 5,100 lives
    the emulator saves everything, the library's machine by a snapshot; when the guests have ended it resumes what it saved, and
    they end again in the same way. The emulator checks what it sees.
@@ -32,7 +32,7 @@ enum operation {
     COUNT,   /* register, register with the address of the eight bytes that it is added to, in one step */
     TAKE,    /* register, register with the address of a lock of eight bytes: they become 1 if they are 0, in one step, and the
                 register gets what was there */
-    BRANCH,  /* register, instruction that is next where the register is not 0 */
+    BRANCH,  /* register, instruction that is next if the register is not 0 */
     SYSTEM   /* register 0, system call */
 };
 struct instruction { enum operation operation; int to; int64_t from; };
@@ -74,7 +74,7 @@ static const struct instruction program[] = {
     {COPY, A, AT}, {ADD, A, PAGE}, {SYSTEM, 0, MUNMAP},
     {COPY, A, ID}, {SYSTEM, 0, SHMRM},
     {COPY, A, AT}, {SYSTEM, 0, SHMDT}, /* what is left on both sides of the hole */
-    {LOAD, A, AT}, /* nothing is attached there any more */
+    {LOAD, A, AT}, /* nothing is attached there now */
     {SYSTEM, 0, EXIT}
 };
 
@@ -207,13 +207,13 @@ static uint32_t send_bytes(struct emulator *e, struct guest *g, uint64_t *answer
     return NOG_DONE;
 }
 
-/* what the segment shows before it goes: all children have detached, the first guest has it on both sides of the page that it
-   unmapped, and its times are the guests' seconds */
+/* looks at the segment before it is destroyed: all children have detached, the first guest has it on both sides of the page
+   that it unmapped, and its times are the guests' seconds */
 static void look(struct emulator *e, int32_t id) {
     nog_segment s = {0};
     uint64_t now = BOOTED + e->ticks / TICKS_A_SECOND;
     e->is_wrong |= nog_segment_at(&e->memory, 0, &s) != NOG_DONE;
-    if (s.id != id) return; /* another one goes */
+    if (s.id != id) return; /* another segment */
     e->is_wrong |= s.size != SIZE || s.uid != USER || s.nattch != 2;
     e->is_wrong |= s.ctime != BOOTED || s.dtime > now || s.dtime + 1 < now;
 }
@@ -282,8 +282,8 @@ static void run_instruction(struct emulator *e, struct guest *g) {
     }
 }
 
-/* the guests take turns, an instruction each, until the first has ended or this many have lived; the library gets the seconds of
-   the guests' clock */
+/* the guests take turns, an instruction each, until the first has ended or this many guests have lived; the guests' clock
+   gives the library its seconds */
 static uint32_t run(struct emulator *e, uint64_t lives) {
     while (e->guests[0].life == RUNNING && e->lives < lives) {
         for (struct guest *g = e->guests; g < e->guests + GUESTS; g++)
@@ -308,7 +308,7 @@ static uint32_t start(struct emulator *e) {
 
 /* ---- saving and resuming ---- */
 
-/* a moment of the guests, by which what was saved is compared */
+/* a moment of the guests, to compare a saved one with */
 struct moment { uint64_t counter, attached, detached; uint32_t last_pid, nattch, live; };
 
 static uint32_t look_around(struct emulator *e, struct moment *m) {

@@ -1,4 +1,4 @@
-/* A test bench: a workload whose pages go to swap and come back is run once as it is, and then once for each read and
+/* A test bench: pages of its workload leave for swap and come back. It runs once as it is, and then once for each read and
    each write of the swap area, which fails in that run. What the workload saw and every byte that it left are compared.
 
    Eight pages in two frames, ten rounds over them: each access needs a page that is in no frame, and each page that leaves
@@ -12,7 +12,7 @@
 enum { PID = 1, PAGE = 4096, PAGES = 8, ROUNDS = 10, ACCESSES = ROUNDS * PAGES, SIZE = PAGES * PAGE };
 
 struct run {
-    uint64_t numbers[ACCESSES];  /* what stood where a number was added */
+    uint64_t numbers[ACCESSES];  /* what was there before a number was added */
     uint8_t bytes[SIZE];         /* the segment at the end */
     unsigned refused;            /* accesses that were answered NOG_SIGBUS and then made again */
     nog_tally tally;
