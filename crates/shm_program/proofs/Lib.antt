@@ -2,3 +2,5 @@ pub mod Holders
 pub mod Causes
 pub mod Texts
 pub mod Zipped
+pub mod Rows
+mod Numbered

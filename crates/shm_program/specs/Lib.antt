@@ -4,3 +4,5 @@ pub mod Options
 pub mod Faults
 pub mod Areas
 pub mod Ends
+pub mod Listing
+pub mod Record

@@ -10,7 +10,7 @@ use Rattle.shm_slots.proofs.Causes.{unfailing}
 use Rattle.shm_history.specs.WorldState.{WorldState, AreCounted, event, failures_in, tally_of}
 use Rattle.shm_print.specs.Text.{events_text}
 use Rattle.shm_print.specs.Usage.{usage_text}
-use Rattle.shm_report.specs.Listing.{listing_of}
+use Rattle.shm_program.specs.Listing.{listing_of}
 use Rattle.shm_text.specs.Script.{ScriptView}
 use Rattle.shm_text.specs.Variables.{call_of}
 use Rattle.shm_text.specs.declared.script.Line.{Line}

@@ -26,7 +26,7 @@ use Rattle.shm_outcomes.specs.Masking.{AreMaskedOutcomes}
 use Rattle.shm_outcomes.specs.Search.{AreOutcomes, Finding}
 use Rattle.shm_print.specs.Text.{events_text}
 use Rattle.shm_program.specs.Values.{fresh_holder}
-use Rattle.shm_report.specs.Listing.{listing_of}
+use Rattle.shm_program.specs.Listing.{listing_of}
 use Rattle.shm_runner.specs.Flat.{flat_end}
 use Rattle.shm_runner.specs.Marks.{has_mark, have_mark}
 use Rattle.shm_runner.specs.Ordered.{in_order}

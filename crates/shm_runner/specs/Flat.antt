@@ -5,7 +5,7 @@ use Rattle.shm_base.specs.State.{Machine, start_of}
 use Rattle.shm_base.specs.Step.{Outcome, step}
 use Rattle.shm_history.specs.WorldState.{event}
 use Rattle.shm_print.specs.Text.{events_text}
-use Rattle.shm_report.specs.Listing.{listing_of}
+use Rattle.shm_program.specs.Listing.{listing_of}
 use Rattle.shm_text.specs.Form.{CommandView}
 use Rattle.shm_text.specs.Script.{ScriptView}
 use Rattle.shm_text.specs.Variables.{call_of}

@@ -2,7 +2,7 @@
 use Rattle.std.specs.Prelude.{◌≡◌, ℕ, List, [], ◌∷◌, ◌++◌, map, true, Some}
 use Rattle.shm_base.specs.declared.call.Event.{Event}
 use Rattle.shm_text.specs.Script.{ScriptView}
-use Rattle.shm_report.specs.Listing.{listing_of}
+use Rattle.shm_program.specs.Listing.{listing_of}
 use Rattle.shm_print.specs.Text.{events_text}
 use Rattle.shm_print.specs.Usage.{usage_text}
 use Rattle.shm_slots.specs.View.{SwapView, AreCountsOf}

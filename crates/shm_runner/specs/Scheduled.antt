@@ -12,7 +12,7 @@ use Rattle.shm_outcomes.specs.Outcomes.{outcome_of}
 use Rattle.shm_outcomes.specs.Schedules.{Run, IsSchedule, start, schedule_of}
 use Rattle.shm_outcomes.specs.Search.{AreOutcomes, Finding, outcomes_in}
 use Rattle.shm_print.specs.Text.{events_text}
-use Rattle.shm_report.specs.Listing.{listing_of}
+use Rattle.shm_program.specs.Listing.{listing_of}
 use Rattle.shm_runner.specs.Flat.{flat_text}
 use Rattle.shm_runner.specs.Marks.{have_mark}
 use Rattle.shm_runner.specs.Ordered.{AreOrdered, in_order, ordered, serial_events}

@@ -13,7 +13,7 @@ use shm_laws::lawful;
 use shm_pager::Pager;
 use shm_print::push_event;
 use shm_program::{RunFault, write_output};
-use shm_report::{listing, usage};
+use shm_program::{listing, usage};
 use std::alloc::{AllocError, Global};
 use std::io::Write;
 

@@ -5,7 +5,7 @@ use shm_base::{Call, Reply};
 use shm_history::World;
 use shm_pager::{AreaPager, Pager};
 use shm_program::{SwapWord, Values, areas_of, open_world};
-use shm_report::{Action, push_step};
+use shm_program::{Action, push_step};
 use shm_text::{Line, Script};
 use std::alloc::{AllocError, Global};
 

@@ -5,8 +5,8 @@ use Rattle.std.specs.Io.KnownBytes.{Appends}
 use Rattle.shm_text.specs.Script.{ScriptView}
 use Rattle.shm_text.specs.declared.script.Line.{Line}
 use Rattle.shm_history.specs.WorldState.{WorldState}
-use Rattle.shm_report.specs.declared.action.Action.{Action}
-use Rattle.shm_report.specs.declared.action.Action.TheVariants.{Start}
+use Rattle.shm_program.specs.declared.action.Action.{Action}
+use Rattle.shm_program.specs.declared.action.Action.TheVariants.{Start}
 use Rattle.shm_slots.specs.View.{SwapView}
 use Rattle.shm_program.specs.Runs.{IsWorldOf, IsFresh, IsWritten}
 use Rattle.shm_laws.specs.Worlds.{IsWorldSound}

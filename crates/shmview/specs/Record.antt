@@ -9,9 +9,9 @@ use Rattle.shm_text.specs.Variables.{call_of}
 use Rattle.shm_text.specs.declared.script.Line.{Line}
 use Rattle.shm_text.specs.declared.script.Line.TheVariants.{Command, Flush}
 use Rattle.shm_history.specs.WorldState.{WorldState, event, IsCalled, IsRound}
-use Rattle.shm_report.specs.declared.action.Action.{Action}
-use Rattle.shm_report.specs.declared.action.Action.TheVariants as actions
-use Rattle.shm_report.specs.Record.{step_text}
+use Rattle.shm_program.specs.declared.action.Action.{Action}
+use Rattle.shm_program.specs.declared.action.Action.TheVariants as actions
+use Rattle.shm_program.specs.Record.{step_text}
 use Rattle.shm_slots.specs.View.{SwapView}
 use Rattle.shm_program.specs.Runs.{IsWorldOf, IsFresh}
 use Rattle.shm_laws.specs.Worlds.{IsWorldSound}

@@ -1,6 +1,6 @@
 //! Runs the lines of a script, and appends the record of each step to a text.
 ghost use Rattle.std.specs.Prelude.{◌≡◌, ◌++◌, List, ℕ, map, IfOk, OnOk, string_bytes};
-ghost use Rattle.shm_report.specs.declared.action.Action.TheVariants.{Start};
+ghost use Rattle.shm_program.specs.declared.action.Action.TheVariants.{Start};
 ghost use Rattle.shm_laws.specs.Worlds.{IsWorldSound};
 ghost use Rattle.shm_program.specs.Values.{fresh_holder};
 ghost use Rattle.shmview.specs.Record.{HasRun, Leads, shown_text};
@@ -11,7 +11,7 @@ use shm_history::World;
 use shm_laws::lawful;
 use shm_pager::Pager;
 use shm_program::Values;
-use shm_report::{Action, push_step};
+use shm_program::{Action, push_step};
 use shm_text::{Line, Script};
 use std::alloc::Global;
 

@@ -1,5 +1,5 @@
 use Rattle.std.proofs.Common.{rules, ◌≡◌, ◌∙◌, ap, ◌++◌, string_bytes}
-use Rattle.shm_report.specs.declared.action.Action.TheVariants.{Start}
+use Rattle.shm_program.specs.declared.action.Action.TheVariants.{Start}
 use Rattle.shmview.specs.Record.{shown_text}
 use Rattle.shmview.proofs.lines.record.Goals as goal
 

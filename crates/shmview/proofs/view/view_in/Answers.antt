@@ -1,7 +1,7 @@
 use Rattle.std.proofs.Common.{rules, refl, subst, ℕ, List, map, ◌≡◌, ◌++◌, string_bytes}
 use Rattle.std.specs.Prelude.{OnOk}
 use Rattle.std.specs.Io.KnownBytes.{Appends}
-use Rattle.shm_report.specs.declared.action.Action.TheVariants.{Start}
+use Rattle.shm_program.specs.declared.action.Action.TheVariants.{Start}
 use Rattle.shm_program.specs.Runs.{IsWorldOf}
 use Rattle.shm_laws.specs.Worlds.{IsWorldSound}
 use Rattle.shm_program.specs.Values.{fresh_holder}
