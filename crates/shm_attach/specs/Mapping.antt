@@ -134,6 +134,13 @@ pub record CanReplace (es : List (ℕ × Runner)) (t : Tables) (i : ℕ) (p : St
   pub room : length (cut p.base (end_of (bare p)) (held es i)) < most_at es i
   pub table : HasTable t.slab p
 
+-- the process at an index is live, and the tables show all pieces: pages of it may be protected
+pub record MayProtect (es : List (ℕ × Runner)) (t : Tables) (i : ℕ) : Type 0 where
+  pub there : i < length es
+  pub live : is_live (life_at (runners_view es) i) ≡ true
+  pub most : most_at es i ≤ MOST_PIECES
+  pub sound : AreTablesSound no_reservations es t
+
 -- the process has these pieces now, and nothing else changed
 pub record AreNow (es fs : List (ℕ × Runner)) (t u : Tables) (i : ℕ) (ps : List Piece) : Type 0 where
   pub runners : runners_view fs ≡ with_pieces_at (runners_view es) i (λ _. ps)

@@ -2,15 +2,14 @@
 //! (munmap(2)), or protects one (mprotect(2)). Neither takes memory.
 ghost use Rattle.std.specs.Prelude.{◌≡◌, ◌+◌, ◌%◌, ◌^◌, ◌<◌, ◌≤◌, [], Some, true, length, option_to_list, SomeIff, IfOk, OnOk, OnErr};
 ghost use Rattle.shm_base.specs.Access as access;
-ghost use Rattle.shm_base.specs.Guest.{is_live};
 ghost use Rattle.shm_base.specs.Mapping as flat;
 ghost use Rattle.shm_base.specs.Space.{lowest_address, covering, cut, cut_segments};
 ghost use Rattle.shm_base.specs.declared.bounds.TheConstants.{MOST_PIECES};
 ghost use Rattle.shm_areas.specs.Arranged.{bare, bare_all, Arranged, IsFit, IsCovering};
 ghost use Rattle.shm_attach.specs.Exact.{AreTablesSound, no_reservations};
 ghost use Rattle.shm_attach.specs.Mapping.{refusal_in, IsPageRange, held, own_pieces, unmapped, unmap_refusal, protected, protected_by};
-ghost use Rattle.shm_attach.specs.Mapping.{pieces_between, split_between, refusal_between, split_in, IsProtectedAt, Grows, IsStretch, KeepsOwn, Exchanged, CanReplace, AreNow};
-ghost use Rattle.shm_attach.specs.Spaces.{life_at, IsCaller, KeepTrue};
+ghost use Rattle.shm_attach.specs.Mapping.{pieces_between, split_between, refusal_between, split_in, IsProtectedAt, Grows, IsStretch, KeepsOwn, Exchanged, CanReplace, MayProtect, AreNow};
+ghost use Rattle.shm_attach.specs.Spaces.{IsCaller, KeepTrue};
 ghost use Rattle.shm_attach.specs.Views.{runners_view, most_at};
 
 use crate::changes::{Part, exchange, space_at, take};
@@ -126,11 +125,8 @@ fn protect_piece(
     to: u64,
     writable: bool,
 ) -> Result<Passed, Errno>
-    requires there { index < length processes.old.entries }
-    requires live { is_live (life_at (runners_view processes.old.entries) index) ≡ true }
-    requires most { most_at processes.old.entries index ≤ MOST_PIECES }
+    requires process { MayProtect processes.old.entries tables.old index }
     requires range { IsPageRange at to }
-    requires sound { AreTablesSound no_reservations processes.old.entries tables.old }
     ensures protects { IsProtectedAt processes.old.entries processes.new.entries index writable at to result }
     ensures now { let fs = processes.new.entries in
         AreNow processes.old.entries fs tables.old tables.new index (held fs index) }
@@ -176,11 +172,8 @@ fn protect_range(
     to: u64,
     writable: bool,
 ) -> Result<(), Errno>
-    requires there { index < length processes.old.entries }
-    requires live { is_live (life_at (runners_view processes.old.entries) index) ≡ true }
-    requires most { most_at processes.old.entries index ≤ MOST_PIECES }
+    requires process { MayProtect processes.old.entries tables.old index }
     requires range { IsPageRange from to }
-    requires sound { AreTablesSound no_reservations processes.old.entries tables.old }
     requires none { lost.old.segments ≡ [] }
     requires reserved { lost.old.most ≡ most_at processes.old.entries index }
     ensures refusal { refusal_in result ≡ refusal_between processes.old.entries index writable from to }

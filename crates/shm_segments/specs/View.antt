@@ -1,12 +1,17 @@
 -- What contracts see of the segments: the flat machine's table, and the store that holds its bytes.
-use Rattle.std.specs.Prelude.{ℕ, ◌≡◌, true, List, option_map, length}
-use Rattle.shm_base.specs.State.{Segment, Entry}
+use Rattle.std.specs.Prelude.{ℕ, ℤ, ◌≡◌, ◌≢◌, ◌≤◌, ◌+◌, true, false, List, option_map, length, Some}
+use Rattle.shm_base.specs.Identifier.{Invalid, find_key}
+use Rattle.shm_base.specs.Segments.{reserved}
+use Rattle.shm_base.specs.State.{Segment, Entry, pages_of}
+use Rattle.shm_base.specs.declared.bounds.TheConstants.{MOST_SHMALL, MOST_SHMMAX}
 use Rattle.shm_fault.specs.Held.{Held, find_held, holds_locked}
 use Rattle.shm_slots.specs.Cause.{GoesOn}
+use Rattle.shm_slots.specs.View.{swap_slots}
 use Rattle.shm_fault.specs.Store.{StoreView, held}
 use Rattle.shm_fault.specs.Steps.{LockedPagesStay}
 use Rattle.shm_fault.specs.Sound.{IsStoreSound}
-use Rattle.shm_segments.specs.Table.{live}
+use Rattle.shm_segments.specs.Table.{live, next_id}
+use Rattle.shm_segments.specs.declared.head.Head.{Head}
 
 pub record SegmentsView : Type 0 where
   pub table : List Entry
@@ -31,3 +36,12 @@ pub record KeepsMemory (before after : StoreView) : Type 0 where
   pub locks : (id : ℕ) → holds_locked (held after) id ≡ true → holds_locked (held before) id ≡ true
   pub goes_on : GoesOn before.swap after.swap
   pub frames : length after.frames ≡ length before.frames
+
+-- a segment may be created under this identifier: the next one; no other segment has its key, and the areas have its pages
+pub record MayCreate (s : SegmentsView) (id : ℤ) (key : ℕ) (head : Head) : Type 0 where
+  pub next : next_id s.table ≡ Some id
+  pub absent : key ≢ 0 → find_key s.table key ≡ Invalid
+  pub size : (1 ≤ head.size) × (head.size ≤ MOST_SHMMAX)
+  pub loose : head.locked ≡ false
+  pub few : reserved s.table ≤ MOST_SHMALL
+  pub room : reserved s.table + pages_of head.size ≤ swap_slots s.memory.swap

@@ -8,7 +8,7 @@ ghost use Rattle.shm_base.specs.Segments.{locked as locked_pages, locked_by_user
 ghost use Rattle.shm_slots.specs.View.{swap_slots, sizes, owner_of};
 ghost use Rattle.shm_fault.specs.Segs.{with_seg_lock};
 ghost use Rattle.shm_fault.specs.Store.{Still, fresh_store, frame_of};
-ghost use Rattle.shm_segments.specs.View.{KeepsMemory};
+ghost use Rattle.shm_segments.specs.View.{KeepsMemory, MayCreate};
 ghost use Rattle.shm_segments.specs.Table.{IsFound, IsLive, look_of, refused_look, live, segment_in, next_id, made, destroyed, reowned, relocked};
 ghost use Rattle.shm_segments.specs.Joined.{relocked_head, locked_of_rows, locked_by_of_rows};
 
@@ -248,12 +248,7 @@ impl<P: Pager> Segments<P> {
     /// Makes a segment of zeros under the next identifier. No other segment has its key, unless that is 0.
     /// HostMemory: the host refused memory, and nothing changed.
     pub fn create(&mut self, id: ShmId, key: u32, head: Head) -> Result<(), HostMemory>
-        requires next { next_id self.old.table ≡ Some id }
-        requires absent { key ≢ 0 → flat_ids.find_key self.old.table key ≡ flat_ids.Invalid }
-        requires size { (1 ≤ head.size) × (head.size ≤ MOST_SHMMAX) }
-        requires loose { head.locked ≡ false }
-        requires few { reserved self.old.table ≤ MOST_SHMALL }
-        requires room { reserved self.old.table + flat.pages_of head.size ≤ swap_slots self.old.memory.swap }
+        requires { MayCreate self.old id key head }
         ensures ok { OnOk result (made self.old.table key head ≡ Some (id, self.new.table)) }
         ensures keeps { OnOk result (KeepsMemory self.old.memory self.new.memory) }
         ensures swap { OnOk result (self.new.memory.swap ≡ self.old.memory.swap) }

@@ -15,7 +15,7 @@ use Rattle.shm_attach.proofs.mapping.protect_piece.Goals as goal
 -- WHERE NOTHING CHANGES
 
 same : (c : Start) → AreNow c.args.processes.now.entries c.args.processes.now.entries c.args.tables.now c.args.tables.now c.args.index (pieces_at (runners_view c.args.processes.now.entries) c.args.index)
-same c = now-same c.args.processes.now.entries c.args.tables.now c.args.index c.requires.there c.requires.sound
+same c = now-same c.args.processes.now.entries c.args.tables.now c.args.index c.requires.process.there c.requires.process.sound
 
 pub returns-in_default-clause-now : goal.returns-in_default-clause-now
 returns-in_default-clause-now c = same (goal.at.returns-in_default-clause-now c).Start
@@ -50,23 +50,23 @@ table : (c : After-high_end-high) → HasTable c.args.tables.now.slab c.in-Some.
 table c =
     let t = c.args.tables.now.slab in
     let ps = c.space_at-space.result.now.pieces in
-    let own : All (HasTable t) ps = rw c.space_at-space.ensures.stored (c.requires.sound.tables c.args.index) in
+    let own : All (HasTable t) ps = rw c.space_at-space.ensures.stored (c.requires.process.sound.tables c.args.index) in
     tables-passed t c.in-Some.piece (c.in-Some.ensures.among (has_table t) (λ k d lt. tables-passes t (get_or ps k d) (own k d lt)))
 
 low : (c : After-high_end-high) → IsLow (bare c.in-Some.piece) c.args.at c.low_end-low.result
 low c =
     let ps = pieces_at (runners_view c.args.processes.now.entries) c.args.index in
     rw (c.low_end-low.ensures, c.space_at-space.ensures.flat)
-    (low_is c.args.writable c.args.at c.args.to (bare c.in-Some.piece) ps (c.requires.sound.exact.arranged c.args.index) (found c) c.requires.range.from_page)
+    (low_is c.args.writable c.args.at c.args.to (bare c.in-Some.piece) ps (c.requires.process.sound.exact.arranged c.args.index) (found c) c.requires.range.from_page)
 
 high : (c : After-high_end-high) → IsHigh (bare c.in-Some.piece) (size_in (get c.args.tables.now.slab c.in-Some.piece.key)) c.args.at c.high_end-high.result
 high c =
     let t = c.args.tables.now in
     let p = c.in-Some.piece in
     let ps = pieces_at (runners_view c.args.processes.now.entries) c.args.index in
-    let sized = rw (← pieces_at-bare c.args.processes.now.entries c.args.index) at (sized_by t p (stored_at c.args.processes.now.entries c.args.index) c.requires.sound.tied (table c) (c.requires.sound.tables c.args.index)) in
+    let sized = rw (← pieces_at-bare c.args.processes.now.entries c.args.index) at (sized_by t p (stored_at c.args.processes.now.entries c.args.index) c.requires.process.sound.tied (table c) (c.requires.process.sound.tables c.args.index)) in
     rw (c.high_end-high.ensures, c.space_at-space.ensures.flat)
-    (high_is c.args.writable c.args.at c.args.to (bare p) ps (size_in (get t.slab p.key)) (c.requires.sound.exact.arranged c.args.index) (found c) c.requires.range.to_page c.requires.range.order sized)
+    (high_is c.args.writable c.args.at c.args.to (bare p) ps (size_in (get t.slab p.key)) (c.requires.process.sound.exact.arranged c.args.index) (found c) c.requires.range.to_page c.requires.range.order sized)
 
 pub part_between-part-requires-clause-stretch : goal.part_between-part-requires-clause-stretch
 part_between-part-requires-clause-stretch c =
@@ -80,7 +80,7 @@ renew-requires-clause-can c =
     let b = (goal.at.renew-requires-clause-can c).After-high_end-high in
     let room : length (cut c.low_end-low.result c.high_end-high.result (pieces_at (runners_view es) i)) < most_at es i = grind (arith, common_steps) in
     part_replaces es c.args.tables.now i c.in-Some.piece c.part_between-part.result c.args.writable c.args.at c.low_end-low.result c.high_end-high.result
-    c.requires.there c.requires.live c.requires.most (table b) (low b) (high b) c.part_between-part.ensures.flat c.part_between-part.ensures.key room
+    c.requires.process.there c.requires.process.live c.requires.process.most (table b) (low b) (high b) c.part_between-part.ensures.flat c.part_between-part.ensures.key room
 
 -- it lacks the protection, and may get it
 turnable : (c : After-high_end-high) → IsTurnable c.args.writable c.args.at (bare c.in-Some.piece) (pieces_at (runners_view c.args.processes.now.entries) c.args.index)
@@ -114,7 +114,7 @@ returns-clause-now c =
     let es = c.args.processes.now.entries in
     let fs = c.renew.new.processes.entries in
     let i = c.args.index in
-    subst (λ (ps : List Piece). AreNow es fs c.args.tables.now c.renew.new.tables i ps) (sym (pieces-now es fs c.args.tables.now c.renew.new.tables i _ c.requires.there c.renew.ensures)) c.renew.ensures
+    subst (λ (ps : List Piece). AreNow es fs c.args.tables.now c.renew.new.tables i ps) (sym (pieces-now es fs c.args.tables.now c.renew.new.tables i _ c.requires.process.there c.renew.ensures)) c.renew.ensures
 
 -- the pieces after the part is in
 left : (c : After-high_end-high) (q : Stored) → bare q ≡ part_between c.args.writable c.low_end-low.result c.high_end-high.result (bare c.in-Some.piece)
@@ -135,8 +135,8 @@ returns-clause-own c =
     let ps = pieces_at (runners_view c.args.processes.now.entries) c.args.index in
     let p = bare c.in-Some.piece in
     let b = (goal.at.returns-clause-own c).After-high_end-high in
-    let arranged = c.requires.sound.exact.arranged c.args.index in
-    let now = pieces-now c.args.processes.now.entries c.renew.new.processes.entries c.args.tables.now c.renew.new.tables c.args.index _ c.requires.there c.renew.ensures in
+    let arranged = c.requires.process.sound.exact.arranged c.args.index in
+    let now = pieces-now c.args.processes.now.entries c.renew.new.processes.entries c.args.tables.now c.renew.new.tables c.args.index _ c.requires.process.there c.renew.ensures in
     subst (KeepsOwn ps) (sym (now ∙ left b c.part_between-part.result c.part_between-part.ensures.flat))
     record {
       named = turned-named c.args.writable c.args.at c.args.to p ps arranged (found b) c.requires.range.order;
@@ -172,7 +172,7 @@ returns-clause-protects c = λ next.
     let b = (goal.at.returns-clause-protects c).After-high_end-high in
     let count = rw (low-value b, high-value b, c.space_at-space.ensures.flat) at c.count_outside-left.ensures in
     let most : c.most.result ≡ most_at es i = c.most.ensures ∙ c.space_at-space.ensures.most in
-    let now = pieces-now es fs t c.renew.new.tables i _ c.requires.there c.renew.ensures in
+    let now = pieces-now es fs t c.renew.new.tables i _ c.requires.process.there c.renew.ensures in
     let named = split b c.count_outside-left.result c.split_by-split.result c.count_outside-left.ensures c.split_by-split.ensures in
     protects-turned (most_at es i) w c.args.at c.args.to p ps next (turnable b) (omega (arith, count, most, c.if-left-most.false))
     ∙ ap (λ n. noted (split_in p.seg (length ps) (length (turned w c.args.at c.args.to p ps))) (next n (turned w c.args.at c.args.to p ps))) (sym c.end-2.ensures)
@@ -191,10 +191,10 @@ returns-clause-grows c =
     let w = c.args.writable in
     let p = bare c.in-Some.piece in
     let b = (goal.at.returns-clause-grows c).After-high_end-high in
-    let now = pieces-now es fs c.args.tables.now c.renew.new.tables i _ c.requires.there c.renew.ensures ∙ left b c.part_between-part.result c.part_between-part.ensures.flat in
+    let now = pieces-now es fs c.args.tables.now c.renew.new.tables i _ c.requires.process.there c.renew.ensures ∙ left b c.part_between-part.result c.part_between-part.ensures.flat in
     let count = rw (low-value b, high-value b, c.space_at-space.ensures.flat) at c.count_outside-left.ensures in
     let most : c.most.result ≡ most_at es i = c.most.ensures ∙ c.space_at-space.ensures.most in
     let named = split b c.count_outside-left.result c.split_by-split.result c.count_outside-left.ensures c.split_by-split.ensures in
     grows es fs i p.seg c.split_by-split.result (turned w c.args.at c.args.to p ps) named now
-    (never-fewer w c.args.at c.args.to p ps (c.requires.sound.exact.arranged i) (found b) c.requires.range.order)
+    (never-fewer w c.args.at c.args.to p ps (c.requires.process.sound.exact.arranged i) (found b) c.requires.range.order)
     (omega (arith, count, most, c.if-left-most.false, length-turned w c.args.at c.args.to p ps))

@@ -18,15 +18,21 @@ loop-at-init c =
       page = c.requires.range.from_page;
       whole = ap (λ (ids : List ℕ). noted ids (protected_between c.args.processes.now.entries c.args.index c.args.writable c.args.from c.args.to)) c.requires.none;
       own = own-same (pieces_at (runners_view c.args.processes.now.entries) c.args.index);
-      now = now-same c.args.processes.now.entries c.args.tables.now c.args.index c.requires.there c.requires.sound;
+      now = now-same c.args.processes.now.entries c.args.tables.now c.args.index c.requires.process.there c.requires.process.sound;
       few = omega (arith, ap length c.requires.none);
       room = omega (arith, ap length c.requires.none);
       most = refl;
     }
 
-pub protect_piece-requires-clause-live : goal.protect_piece-requires-clause-live
-protect_piece-requires-clause-live c =
-    lives-now c.args.processes.now.entries c.loop-at.processes.entries c.args.tables.now c.loop-at.tables c.args.index _ c.requires.there c.loop-at.invariant.now c.requires.live
+pub protect_piece-requires-clause-process : goal.protect_piece-requires-clause-process
+protect_piece-requires-clause-process c =
+    let now = c.loop-at.invariant.now in
+    record {
+      there = rw now.count c.requires.process.there;
+      live = lives-now c.args.processes.now.entries c.loop-at.processes.entries c.args.tables.now c.loop-at.tables c.args.index _ c.requires.process.there now c.requires.process.live;
+      most = rw (now.most c.args.index) c.requires.process.most;
+      sound = now.sound;
+    }
 
 -- A PIECE
 
@@ -48,7 +54,7 @@ whole c =
 now : (c : After-protect_piece)
     → AreNow c.args.processes.now.entries c.protect_piece.new.processes.entries c.args.tables.now c.protect_piece.new.tables c.args.index (pieces_at (runners_view c.protect_piece.new.processes.entries) c.args.index)
 now c =
-    now-then c.args.processes.now.entries c.loop-at.processes.entries c.protect_piece.new.processes.entries c.args.tables.now c.loop-at.tables c.protect_piece.new.tables c.args.index _ _ c.requires.there
+    now-then c.args.processes.now.entries c.loop-at.processes.entries c.protect_piece.new.processes.entries c.args.tables.now c.loop-at.tables c.protect_piece.new.tables c.args.index _ _ c.requires.process.there
     c.loop-at.invariant.now c.protect_piece.ensures.now
 
 fits : (c : In_ok-passed) → length c.loop-at.lost.segments + length (option_to_list c.in_ok-passed.passed.split) ≤ c.loop-at.lost.most

@@ -26,16 +26,16 @@ live c = rw (← c.self.view_is) at c.requires.live
 within : (c : After-self) → c.args.caller.now.index < length c.self.inside.processes.entries
 within c = caller_within c.args.caller.now c.self.inside.processes.entries (live c)
 
-pub protect_range-requires-clause-there : goal.protect_range-requires-clause-there
-protect_range-requires-clause-there c = within (goal.at.protect_range-requires-clause-there c).After-self
-
-pub protect_range-requires-clause-live : goal.protect_range-requires-clause-live
-protect_range-requires-clause-live c = caller_lives c.args.caller.now (runners_view c.self.inside.processes.entries) (live (goal.at.protect_range-requires-clause-live c).After-self)
-
-pub protect_range-requires-clause-most : goal.protect_range-requires-clause-most
-protect_range-requires-clause-most c =
-    let most = c.self.invariant.1.each c.args.caller.now.index (within (goal.at.protect_range-requires-clause-most c).After-self) in
-    omega (arith, most, c.self.invariant.1.bound)
+pub protect_range-requires-clause-process : goal.protect_range-requires-clause-process
+protect_range-requires-clause-process c =
+    let self = (goal.at.protect_range-requires-clause-process c).After-self in
+    let most = c.self.invariant.1.each c.args.caller.now.index (within self) in
+    record {
+      there = within self;
+      live = caller_lives c.args.caller.now (runners_view c.self.inside.processes.entries) (live self);
+      most = omega (arith, most, c.self.invariant.1.bound);
+      sound = c.self.invariant.0;
+    }
 
 -- the result for the pages is that for the bytes
 whole : (c : In-Some) → protected_between c.self.inside.processes.entries c.args.caller.now.index c.args.writable c.args.addr c.in-Some.to

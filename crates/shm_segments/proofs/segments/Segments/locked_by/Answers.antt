@@ -1,4 +1,4 @@
-use Rattle.shm_segments.proofs.Names.{arith, ◌≡◌, ◌≤◌, ℕ, sym, ap, ◌∙◌, locked, locked_by_user, locked_of_rows, held, SegmentsView}
+use Rattle.shm_segments.proofs.Names.{arith, ◌≡◌, sym, ap, ◌∙◌, locked, locked_by_user, locked_of_rows, held, SegmentsView}
 use Rattle.shm_segments.proofs.Sums.{locked-joined, locked_by-all, locked_by-joined, locked_by-none}
 use Rattle.shm_segments.proofs.segments.Segments.locked_by.Goals as goal
 
