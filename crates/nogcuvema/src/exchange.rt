@@ -83,7 +83,8 @@ pub extern "C" fn nog_compare_exchange(
     bytes: &[u8],
     before: &mut [u8],
 ) -> u32
-    ensures answers { let fit = within 1 64 (length bytes.now) && (length before.old == length bytes.now) && (length expected.now == length bytes.now) in
+    ensures answers { let size = length bytes.now in
+        let fit = within 1 64 size && (length before.old == size) && (length expected.now == size) in
         ExchangesWhere fit (λ (s : Flat). compares s pid addr expected.now bytes.now)
         handle.old.kept.value before.new result handle.new.kept.value }
     ensures before { result ≢ 0 → before.new ≡ before.old }

@@ -26,8 +26,10 @@ pub fn scheduled<'a, P: Pager>(outcome: &'a Outcome<P>, script: &Script) -> &'a 
 /// What `shm_outcomes::outcomes` or `shm_outcomes::masked_outcomes` found of the script. A serial run of the script's lines
 /// in the order of a finding's schedule has the finding's calls and replies.
 pub fn rerun<'a>(found: &'a [Finding], script: &Script) -> &'a [Finding]
-    ensures law { (areas : List ℕ) → AreOutcomes script.now (start script.now areas) found.now → AreSerial script.now areas result.now }
-    ensures masked { (areas : List ℕ) → AreMaskedOutcomes script.now (start script.now areas) found.now → AreSerial script.now areas result.now }
+    ensures law { (areas : List ℕ) → AreOutcomes script.now (start script.now areas) found.now
+        → AreSerial script.now areas result.now }
+    ensures masked { (areas : List ℕ) → AreMaskedOutcomes script.now (start script.now areas) found.now
+        → AreSerial script.now areas result.now }
     ensures found { result.now ≡ found.now }
 {
     found

@@ -52,12 +52,14 @@ fn run_script<T: Threads + Wait + Sync, W: Write, P: Pager + Send>(
     script: &Script,
     pagers: Vec<P>,
 ) -> Result<(), RunFault>
-    ensures ok { let text = IsThreadedOutput P.failed (handed_in P.content P.failed pagers.items) false script.now in
+    ensures ok { let swap = handed_in P.content P.failed pagers.items in
+        let text = IsThreadedOutput P.failed swap false script.now in
         let areas = map (λ p. length (P.content p)) pagers.items in
         OnOk result (IsWritten (text areas) (W.contents writer.old) (W.contents writer.new)) }
     ensures cause { IfErr result
         (λ f. IsCauseIn f (map (λ p. length (P.content p)) pagers.items) script.now) }
-    ensures written { let text = IsThreadedOutput P.failed (handed_in P.content P.failed pagers.items) true script.now in
+    ensures written { let swap = handed_in P.content P.failed pagers.items in
+        let text = IsThreadedOutput P.failed swap true script.now in
         let areas = map (λ p. length (P.content p)) pagers.items in
         let marked = IsWritten (text areas) (W.contents writer.old) (W.contents writer.new) in
         IfErr result (λ f. IsAllOrNothing f (W.contents writer.old) (W.contents writer.new) marked) }
@@ -78,10 +80,12 @@ fn run_in<T: Threads + Wait + Sync, W: Write, P: Pager + Send>(
 ) -> Result<(), RunFault>
     requires opened { IsOpening script.now world.opening }
     requires untouched { AreUntouched world.memory.swap }
-    ensures ok { let text = IsThreadedOutput P.failed world.memory.swap false script.now world.opening.areas in
+    ensures ok { let areas = world.opening.areas in
+        let text = IsThreadedOutput P.failed world.memory.swap false script.now areas in
         OnOk result (IsWritten text (W.contents writer.old) (W.contents writer.new)) }
     ensures cause { IfErr result (λ f. IsCauseIn f world.opening.areas script.now) }
-    ensures written { let text = IsThreadedOutput P.failed world.memory.swap true script.now world.opening.areas in
+    ensures written { let areas = world.opening.areas in
+        let text = IsThreadedOutput P.failed world.memory.swap true script.now areas in
         let marked = IsWritten text (W.contents writer.old) (W.contents writer.new) in
         IfErr result (λ f. IsAllOrNothing f (W.contents writer.old) (W.contents writer.new) marked) }
 {
@@ -99,12 +103,14 @@ pub fn write_outcome<W: Write, P: Pager>(
     writer: &mut W,
     outcome: &Outcome<P>,
 ) -> Result<(), RunFault>
-    ensures ok { let appended = Appends (W.contents writer.old) (W.contents writer.new) (world_text outcome.now.world) in
+    ensures ok { let text = world_text outcome.now.world in
+        let appended = Appends (W.contents writer.old) (W.contents writer.new) text in
         OnOk result ((have_mark outcome.now.transcripts.items ≡ false) × appended) }
     ensures sound { IsWorldSound outcome.now.world }
     ensures counted { AreCountsOf P.failed outcome.now.world.memory.swap }
     ensures fault { IfErr result (λ f. (f ≡ RunFault.HostMemory) ⊎ (f ≡ RunFault.WriteFailed)) }
-    ensures written { let appended = Appends (W.contents writer.old) (W.contents writer.new) (world_text outcome.now.world) in
+    ensures written { let text = world_text outcome.now.world in
+        let appended = Appends (W.contents writer.old) (W.contents writer.new) text in
         let marked = (have_mark outcome.now.transcripts.items ≡ true) × appended in
         IfErr result (λ f. IsAllOrNothing f (W.contents writer.old) (W.contents writer.new) marked) }
 {
