@@ -1,5 +1,7 @@
 -- One process's pieces change, and the counts change with them.
 use Rattle.shm_attach.proofs.Names.{map-set, slice_get-map, set, slice_get_cases, ◌≡◌, ℕ, zero, suc, ◌+◌, ◌-◌, ◌<◌, ◌≤◌, Bool, true, ◌==◌, List, [], ◌∷◌, length, map, get_or, Some, slice_get, filter, refl, ap, arith, ◌++◌, cond, drop, drop-cons, add-one, common_steps, filter_passes, sum_by-cons, sum_by-set, sum_by-append, length-filter, count_by-le-length, slice_get-get_or, set_value_at, values_of, pieces_of, meets, parts, cut, cut_segments, inserted, without_named, attach_count, bare, bare_all, met, with_pieces_at, with_life_at, some_if, life_view, runners_view, pieces_at, Stored, Runner, Life}
+use Rattle.std.proofs.Common.{inl, inr}
+use Rattle.std.proofs.lemmas.Bool.{cases_Bool}
 use Rattle.shm_base.specs.State as flat
 
 -- the value beyond the end of a list of processes
@@ -96,6 +98,17 @@ pieces_of-filter id f (p ∷ ps) = grind (arith, common_steps, one_more, pieces_
 pub bare-met : (from to : ℕ) (ps : List Stored) → bare_all (met from to ps) ≡ filter (meets from to) (bare_all ps)
 bare-met from to [] = refl
 bare-met from to (p ∷ ps) = let rest = bare-met from to ps in grind arith
+
+-- nothing is met, so nothing is cut
+pub cut-unmet : (from to : ℕ) (ps : List Stored) → met from to ps ≡ [] → cut from to (bare_all ps) ≡ bare_all ps
+cut-unmet from to [] none = refl
+cut-unmet from to (p ∷ ps) none =
+    elim (cases_Bool (meets from to (bare p))) [
+      | inl there ↦ absurd (grind (arith, common_steps))
+      | inr free ↦
+          let rest : cut from to (bare_all ps) ≡ bare_all ps = cut-unmet from to ps (rw free at none) in
+          rw free (ap (λ (qs : List flat.Piece). bare p ∷ qs) rest)
+    ]
 
 pub seg-met : (from to : ℕ) (ps : List Stored) → map (λ (p : Stored). p.seg) (met from to ps) ≡ cut_segments from to (bare_all ps)
 seg-met from to [] = refl

@@ -100,7 +100,11 @@ pub(crate) fn take(
     let space = &mut processes[index].space;
     match part {
         Part::Range { from, to } => {
-            recount(tables, space.met(from, to), from, to);
+            let met = space.met(from, to);
+            if met.is_empty() {
+                return;
+            }
+            recount(tables, met, from, to);
             space.cut(from, to);
         }
         Part::Attach { addr, seg } => {

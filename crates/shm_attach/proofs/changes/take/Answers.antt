@@ -1,5 +1,5 @@
 use Rattle.shm_attach.proofs.Names.{SpaceView, values_of, ◌≡◌, ℕ, ◌+◌, ◌-◌, ◌≤◌, ◌∙◌, not, ap, sym, refl, arith, eq-eqb, List, Some, slice_get, length, filter, common_steps, All, length-map, meets, cut, without_named, pieces_of, bare, bare_all, stored_named, stored_without, arranged_filter, bare_filter, some_if, runners_view, pieces_at, IsCuttable, counted, stored_at, HasTable, Piece, Runner}
-use Rattle.shm_attach.proofs.Processes.{bare-met, met-meets, pieces_of-filter, pieces_of-cut_met, pieces_of-without, shorter_filter}
+use Rattle.shm_attach.proofs.Processes.{bare-met, cut-unmet, met-meets, pieces_of-filter, pieces_of-cut_met, pieces_of-without, shorter_filter}
 use Rattle.shm_attach.proofs.HavingTables.{most_at-value, pieces_at-stored, stored_at-value, tables-cut, tables-filter}
 use Rattle.shm_attach.proofs.Sound.{changed, fit-cut, fit-without, sound-changed, counts-small, counts-own}
 use Rattle.shm_attach.proofs.changes.take.Goals.{After-index_mut, In-Range, After-pieces}
@@ -26,20 +26,20 @@ pub recount-requires-clause-fit : goal.recount-requires-clause-fit
 recount-requires-clause-fit c = grind (arith, common_steps, arranged_filter)
 
 pub recount-requires-clause-meets : goal.recount-requires-clause-meets
-recount-requires-clause-meets c = rw c.met.ensures.value (met-meets c.in-Range.from c.in-Range.to c.index_mut.result.now.space.pieces)
+recount-requires-clause-meets c = rw c.met-met.ensures.value (met-meets c.in-Range.from c.in-Range.to c.index_mut.result.now.space.pieces)
 
 pub recount-requires-clause-tables : goal.recount-requires-clause-tables
 recount-requires-clause-tables c =
     let t = c.args.tables.now.slab in
     let all : All (HasTable t) c.index_mut.result.now.space.pieces =
     rw (own (goal.at.recount-requires-clause-tables c).After-index_mut) at (c.requires.reservations.sound.tables c.args.index) in
-    rw c.met.ensures.value (tables-filter t (λ (p : Piece). meets c.in-Range.from c.in-Range.to (bare p)) c.index_mut.result.now.space.pieces all)
+    rw c.met-met.ensures.value (tables-filter t (λ (p : Piece). meets c.in-Range.from c.in-Range.to (bare p)) c.index_mut.result.now.space.pieces all)
 
 pub recount-requires-clause-counted : goal.recount-requires-clause-counted
 recount-requires-clause-counted c = λ id.
     let ps = bare_all c.index_mut.result.now.space.pieces in
     let all = mine (goal.at.recount-requires-clause-counted c).After-index_mut id in
-    rw (c.met.ensures.value, bare-met c.in-Range.from c.in-Range.to c.index_mut.result.now.space.pieces)
+    rw (c.met-met.ensures.value, bare-met c.in-Range.from c.in-Range.to c.index_mut.result.now.space.pieces)
     (omega (arith, all, pieces_of-filter id (meets c.in-Range.from c.in-Range.to) ps))
 
 pub recount-requires-clause-small : goal.recount-requires-clause-small
@@ -51,6 +51,29 @@ cut-requires-clause-few c =
     let room = rw c.in-Range.is at c.requires.room in
     rw (shown at, most_at-value c.args.processes.now.entries c.args.index c.index_mut.result.now (stands at)) at room
 
+-- nothing is met, so nothing changes
+pub returns-then-is_empty : goal.returns-then-is_empty
+returns-then-is_empty c =
+    let es = c.args.processes.now.entries in
+    let i = c.args.index in
+    let w = c.index_mut.result.now in
+    let b = goal.at.returns-then-is_empty c in
+    let t = c.args.tables.now in
+    let f = cut c.in-Range.from c.in-Range.to in
+    let none : f (bare_all w.space.pieces) ≡ bare_all w.space.pieces = cut-unmet c.in-Range.from c.in-Range.to w.space.pieces (grind (arith, common_steps)) in
+    let ch = changed es i w w f (stands b.After-index_mut) refl (sym none) refl in
+    record {
+      runners = rw c.in-Range.is ch.runners;
+      count = ch.count;
+      others = ch.others;
+      most = ch.most;
+      sound = λ extra s.
+          sound-changed extra es t t i w w f c.requires.there (stands b.After-index_mut) refl (sym none) refl s (fit-cut extra es t i c.in-Range.from c.in-Range.to s (can b.In-Range)) (λ all. all)
+          (record { counts = λ id. ap (λ qs. counted t id + pieces_of id qs) (sym none); tables = λ p has some. has; tied = s.tied });
+      tables = λ p has some. has;
+      translated = λ at all. all;
+    }
+
 -- the new counts of the met pieces are those of all pieces
 cut_counts : (from to a b id : ℕ) (met own : List Piece) → bare_all met ≡ filter (meets from to) (bare_all own)
     → b + pieces_of id (bare_all met) ≡ a + pieces_of id (cut from to (bare_all met)) → b + pieces_of id (bare_all own) ≡ a + pieces_of id (cut from to (bare_all own))
@@ -58,8 +81,8 @@ cut_counts from to a b id met own same counts =
     let some : b + pieces_of id (filter (meets from to) (bare_all own)) ≡ a + pieces_of id (cut from to (filter (meets from to) (bare_all own))) = rw same at counts in
     omega (arith, some, pieces_of-cut_met id from to (bare_all own))
 
-pub returns-in-Range : goal.returns-in-Range
-returns-in-Range c =
+pub returns-else-is_empty : goal.returns-else-is_empty
+returns-else-is_empty c =
     let es = c.args.processes.now.entries in
     let i = c.args.index in
     let from = c.in-Range.from in
@@ -67,16 +90,16 @@ returns-in-Range c =
     let t = c.args.tables.now in
     let w = c.index_mut.result.now in
     let v : Runner = record { life = w.life; space = c.cut.new.self } in
-    let b = goal.at.returns-in-Range c in
+    let b = goal.at.returns-else-is_empty c in
     let ch = changed es i w v (cut from to) (stands b.After-index_mut) refl c.cut.ensures.flat (ap (λ (s : SpaceView). s.most) c.cut.ensures.kept) in
-    let same = ap bare_all c.met.ensures.value ∙ bare-met from to w.space.pieces in
+    let same = ap bare_all c.met-met.ensures.value ∙ bare-met from to w.space.pieces in
     record {
       runners = rw c.in-Range.is ch.runners;
       count = ch.count;
       others = ch.others;
       most = ch.most;
       sound = λ extra s.
-          let counts = λ (id : ℕ). cut_counts from to (counted t id) (counted c.recount.new.tables id) id c.met.result.now w.space.pieces same (c.recount.ensures.counts id) in
+          let counts = λ (id : ℕ). cut_counts from to (counted t id) (counted c.recount.new.tables id) id c.met-met.result.now w.space.pieces same (c.recount.ensures.counts id) in
           sound-changed extra es t c.recount.new.tables i w v (cut from to) c.requires.there (stands b.After-index_mut) refl c.cut.ensures.flat (ap (λ (s : SpaceView). s.most) c.cut.ensures.kept) s
           (fit-cut extra es t i from to s (can b.In-Range)) (λ all. rw (ap (λ (s : SpaceView). s.pieces) c.cut.ensures.kept) (tables-cut t.slab from to w.space.pieces all))
           (record { counts = counts; tables = c.recount.ensures.tables; tied = c.recount.ensures.tied });
