@@ -17,11 +17,15 @@ use shm_program::{listing, usage};
 use std::alloc::{AllocError, Global};
 use std::io::Write;
 
-// The lines of a history.
+// The bytes that most lines of events have at most.
+const LINE_BYTES: usize = 64;
+
+// The lines of a history. Room for them is reserved at once, so that the text is seldom copied while it grows. The host
+// lends only the used part.
 fn history_text(alloc: Global, history: &[Event]) -> Result<String, AllocError>
     ensures { IfOk result (λ text. string_bytes text ≡ events_text 1 history.now) }
 {
-    let mut text = String::new(alloc);
+    let mut text = String::with_capacity(alloc, history.len().saturating_mul(LINE_BYTES))?;
     let mut place = 1u64;
     for event in history {
         push_event(&mut text, place, event)?;

@@ -24,27 +24,21 @@ struct RunState<P: Pager> {
 }
 
 impl<P: Pager> RunState<P> {
-    // Makes the call of a command line. If it forks a child, notes that and returns it as news.
-    fn call(&mut self, command: &Command, vars: &Vars) -> (Entry, Option<News>)
-        ensures line { result.0.call ≡ call_of vars.now command.now.call }
-        ensures recorded { let of = events_of command.now.pid result.0.call result.0.answer in
+    // Makes a process's call. If it forks a child, notes that and returns it as news.
+    fn call(&mut self, pid: u32, call: &Call) -> (Answer, Option<News>)
+        ensures recorded { let of = events_of pid call.now result.0 in
             self.new.world.events ≡ self.old.world.events ++ of [] }
         ensures opening { self.new.world.opening ≡ self.old.world.opening }
-        ensures births { let after = births_after result.0.call result.0.answer in
+        ensures births { let after = births_after call.now result.0 in
             self.new.processes.items ≡ after self.old.processes.items }
-        ensures news { is_some result.1 ≡ is_birth result.0.call result.0.answer }
+        ensures news { is_some result.1 ≡ is_birth call.now result.0 }
     {
-        let call = vars.call(command);
-        match self.world.call(command.pid(), &call) {
+        match self.world.call(pid, call) {
             Ok(reply) => {
-                let news = self.born_by(&call, &reply);
-                let answer = Answer::Reply(reply);
-                (Entry { call, answer }, news)
+                let news = self.born_by(call, &reply);
+                (Answer::Reply(reply), news)
             }
-            Err(HostMemory) => {
-                let answer = Answer::HostMemory;
-                (Entry { call, answer }, None)
-            }
+            Err(HostMemory) => (Answer::HostMemory, None),
         }
     }
 
@@ -99,16 +93,17 @@ impl<P: Pager> Shared<P> {
         }
     }
 
-    /// Makes a command line's call under the lock.
+    /// Makes a command line's call. Only the call itself is made under the lock.
     pub(crate) fn call<R: Wait>(&self, rt: &R, command: &Command, vars: &Vars) -> Entry
         ensures { result.call ≡ call_of vars.now command.now.call }
     {
-        let (entry, news) = self.state.lock(rt).call(command, vars);
+        let call = vars.call(command);
+        let (answer, news) = self.state.lock(rt).call(command.pid(), &call);
         match news {
             Some(news) => news.announce(&self.changed),
             None => {}
         }
-        entry
+        Entry { call, answer }
     }
 
     /// Makes one flush round of at most this many pages, under the lock, and has the keeper publish in it.
