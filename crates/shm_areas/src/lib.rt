@@ -3,11 +3,12 @@
 
 mod cut;
 mod filling;
-mod hints;
 mod piece;
 mod rests;
 mod search;
 mod space;
+mod stretch;
+mod summary;
 mod taking;
 
 pub use piece::{Piece, Place};

@@ -1,4 +1,4 @@
-use Rattle.shm_areas.proofs.Names.{ap, ◌≡◌, ◌≤◌, ◌∙◌, length, List, arith, common_steps, length-map, cut, Piece, bare, bare_all, stored_cut, left_by}
+use Rattle.shm_areas.proofs.Names.{ap, ◌≡◌, ◌≤◌, ◌∙◌, length, List, arith, common_steps, length-map, lowest_address, cut, Piece, bare, bare_all, stored_cut, left_by}
 use Rattle.shm_areas.specs.Arranged.{SpaceView}
 use Rattle.shm_areas.proofs.Edits.{bare_cut, arranged_cut}
 use Rattle.shm_areas.proofs.Filled.{filled-cut, kept-cut}
@@ -32,8 +32,16 @@ invariant_of-self c = (
       c.self.invariant.2 c.reach.ensures.below c.reach.ensures.above),
   rw (c.replace.ensures.items, left (goal.at.invariant_of-self c).After-cut_of-cut, c.lowered-self-inside.ensures, ← c.self.view_is)
       (filled-cut c.self.inside.filled c.args.from c.args.to c.self.inside.pieces.items c.self.invariant.0.arranged c.requires.from c.self.invariant.3),
-  rw (c.replace.ensures.items, left (goal.at.invariant_of-self c).After-cut_of-cut, ← c.self.view_is)
-      (c.lower.ensures.holds c.self.inside.pieces.items (stored_cut c.args.from c.args.to c.self.inside.pieces.items)
-      (kept-cut c.args.from c.args.to c.self.inside.pieces.items c.self.invariant.0.arranged c.requires.from c.requires.to)
-      (c.note.ensures.holds c.self.inside.pieces.items (c.filled_after.ensures c.self.inside.pieces.items c.self.invariant.3) c.self.invariant.4)),
+  c.note_free.ensures.order,
+  rw (← c.deref-2.ensures.value)
+      (c.note_free.ensures.right c.self.inside.pieces.items
+      (rw (c.deref-2.ensures.value, c.replace.ensures.items, left (goal.at.invariant_of-self c).After-cut_of-cut, ← c.self.view_is)
+      (kept-cut c.args.from c.args.to c.self.inside.pieces.items c.self.invariant.0.arranged c.requires.from c.requires.to))
+      c.self.invariant.5),
 )
+
+pub note_free-requires-clause-arranged : goal.note_free-requires-clause-arranged
+note_free-requires-clause-arranged c =
+    let rest = c.replace.ensures.items ∙ left (goal.at.note_free-requires-clause-arranged c).After-cut_of-cut in
+    rw (c.deref-2.ensures.value, rest, bare_cut c.args.from c.args.to c.args.self.now.pieces, ← c.self.view_is)
+    (arranged_cut lowest_address c.args.from c.args.to (bare_all c.self.inside.pieces.items) c.self.invariant.0.arranged c.requires.from c.requires.to (omega (arith, c.requires.order)))

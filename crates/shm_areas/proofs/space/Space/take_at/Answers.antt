@@ -41,8 +41,17 @@ invariant_of-self c =
       omega (arith, c.take_named.ensures.capacity, c.self.invariant.1),
       All-filter stays (λ (p : Piece). p.first_page ≤ c.self.inside.reach) ps c.self.invariant.2,
       rw c.lowered-self-inside.ensures (filled-without c.self.inside.filled c.args.addr c.args.seg ps c.self.invariant.3),
-      c.lower.ensures.holds ps (stored_without c.args.addr c.args.seg ps)
+      c.note_free.ensures.order,
+      rw (← left (goal.at.invariant_of-self c).After-take_named, ← c.deref-3.ensures.value)
+          (c.note_free.ensures.right ps
+          (rw (c.deref-3.ensures.value, left (goal.at.invariant_of-self c).After-take_named)
           (kept-without c.args.addr c.args.seg c.end_of_run-end.result ps
-          (named-end c.args.addr c.args.seg c.self.inside.reach run.first run.last c.end_of_run-end.result ps c.self.invariant.2 (rw own at c.run_of_origin-run.ensures) ends))
-          (c.note.ensures.holds ps (c.filled_after.ensures ps c.self.invariant.3) c.self.invariant.4),
+          (named-end c.args.addr c.args.seg c.self.inside.reach run.first run.last c.end_of_run-end.result ps c.self.invariant.2 (rw own at c.run_of_origin-run.ensures) ends)))
+          c.self.invariant.5),
     )
+
+pub note_free-requires-clause-arranged : goal.note_free-requires-clause-arranged
+note_free-requires-clause-arranged c =
+    let ps = c.self.inside.pieces.items in
+    rw (c.deref-3.ensures.value, left (goal.at.note_free-requires-clause-arranged c).After-take_named)
+    (arranged_filter (λ (p : Piece). not (stored_named c.args.addr c.args.seg p)) lowest_address ps c.self.invariant.0.arranged)
