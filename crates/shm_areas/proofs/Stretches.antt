@@ -1,10 +1,10 @@
 -- Stretches in order, and what makes them right.
-use Rattle.shm_areas.proofs.Names.{◌≡◌, ◌∙◌, sym, ℕ, zero, suc, ◌+◌, ◌-◌, ◌*◌, ◌/◌, ◌<◌, ◌≤◌, inl, inr, true, List, [], ◌∷◌, ◌++◌, length, get_or, take, drop, insert, max, refl, ap, arith, common_steps, cases_lt, length-take, length-drop, take-append-drop, get_or_default, end_address, end_of, occupied, Piece, bare, bare_all, IsFit}
+use Rattle.shm_areas.proofs.Names.{Bool, false, if◌then◌else◌, ◌≡◌, ◌∙◌, sym, ℕ, zero, suc, ◌+◌, ◌-◌, ◌*◌, ◌/◌, ◌<◌, ◌≤◌, inl, inr, true, List, [], ◌∷◌, ◌++◌, length, get_or, take, drop, insert, max, refl, ap, arith, common_steps, cases_lt, length-take, length-drop, take-append-drop, get_or_default, end_address, end_of, Piece, bare, bare_all, IsFit}
 use Rattle.std.specs.List.Sorted.{IsNonDecreasingBy}
 use Rattle.std.proofs.Common.{set}
 use Rattle.std.proofs.lemmas.List.{get_or-take, get_or-drop, take-set, drop-set}
-use Rattle.std.proofs.lemmas.List.Elements.{All-append, All-cons}
-use Rattle.shm_areas.specs.Gap.{IsStretch, AreBetween, AreRight, AreRightOutside, HasPlace, IsKeptOutside}
+use Rattle.std.proofs.lemmas.List.Elements.{All-append, All-cons, All-nil}
+use Rattle.shm_areas.specs.Gap.{IsStretch, AreBetween, AreRight, AreRightOutside, HasPlace, IsBarrier, IsKeptOutside}
 use Rattle.shm_areas.specs.declared.stretch.Stretch.{Stretch}
 use Rattle.shm_areas.proofs.Filled.{occupied-at, occupied-longer}
 
@@ -194,26 +194,49 @@ place-less ss first last from to less h rising le =
       above = λ k d ge l. omega (arith, le, h.above k d ge l);
     }
 
--- a stretch below a range that became free stays right, if it ends at the end of a piece or below it, and one above stays right too
-pub right-kept : (ss : List Stretch) (first last low from to : ℕ) (ps qs : List Piece) → IsKeptOutside from to ps qs → ((a b : ℕ) → a < low → from < b → occupied (bare_all qs) a b ≡ true)
+-- a stretch stays right where a range became free, if it lies above, or if it ends at the end of a piece below
+pub kept-below : (s : Stretch) (low from to : ℕ) (ps qs : List Piece) → IsKeptOutside from to ps qs → IsBarrier low from qs → s.to ≤ low → IsStretch s ps → IsStretch s qs
+kept-below s low from to ps qs kept barrier below g =
+    record {
+      some = g.some;
+      high = g.high;
+      none = λ a ge l. elim (cases_lt from (a + 4096 * s.pages)) [
+        | inl over ↦ barrier a (a + 4096 * s.pages) (omega (arith, l, below)) over
+        | inr under ↦ kept.below a (a + 4096 * s.pages) (omega (arith, g.some)) under (g.none a ge l)
+      ];
+    }
+
+pub kept-above : (s : Stretch) (from to : ℕ) (ps qs : List Piece) → IsKeptOutside from to ps qs → to ≤ s.from → IsStretch s ps → IsStretch s qs
+kept-above s from to ps qs kept above g =
+    record {
+      some = g.some;
+      high = g.high;
+      none = λ a ge l. kept.above a (a + 4096 * s.pages) (omega (arith, g.some)) (omega (arith, ge, above)) (g.none a ge l);
+    }
+
+-- two stretches of which one begins in the other or at its end
+pub right-joined : (s t u : Stretch) (ps : List Piece) → t.from ≤ s.to → u.from ≡ s.from → u.to ≡ max s.to t.to → u.pages ≡ max s.pages t.pages → IsStretch s ps → IsStretch t ps → IsStretch u ps
+right-joined s t u ps meets' from to pages f g =
+    record {
+      some = omega (arith, pages, f.some);
+      high = omega (arith, to, f.high, g.high);
+      none = λ a ge below. elim (cases_lt a s.to) [
+        | inl before ↦ occupied-longer (bare_all ps) a (a + 4096 * s.pages) (a + 4096 * u.pages) (omega (arith, pages)) (f.none a (omega (arith, ge, from)) before)
+        | inr past ↦ occupied-longer (bare_all ps) a (a + 4096 * t.pages) (a + 4096 * u.pages) (omega (arith, pages)) (g.none a (omega (arith, past, meets')) (omega (arith, below, to, past)))
+      ];
+    }
+
+-- those that end below the range and those that begin above it stay right
+pub right-kept : (ss : List Stretch) (first last low from to : ℕ) (ps qs : List Piece) → IsKeptOutside from to ps qs → IsBarrier low from qs
     → ((k : ℕ) (d : Stretch) → k < first → (get_or ss k d).to ≤ low) → ((k : ℕ) (d : Stretch) → last ≤ k → k < length ss → to ≤ (get_or ss k d).from) → AreRight ss ps → AreRightOutside ss first last qs
 right-kept ss first last low from to ps qs kept barrier below above right =
     record {
-      lower = λ k d before lt.
-          let g = right k d lt in
-          record {
-            some = g.some;
-            high = g.high;
-            none = λ a ge l. elim (cases_lt from (a + 4096 * (get_or ss k d).pages)) [
-              | inl over ↦ barrier a (a + 4096 * (get_or ss k d).pages) (omega (arith, l, below k d before)) over
-              | inr under ↦ kept.below a (a + 4096 * (get_or ss k d).pages) (omega (arith, g.some)) under (g.none a ge l)
-            ];
-          };
-      higher = λ k d after lt.
-          let g = right k d lt in
-          record {
-            some = g.some;
-            high = g.high;
-            none = λ a ge l. kept.above a (a + 4096 * (get_or ss k d).pages) (omega (arith, g.some)) (omega (arith, ge, above k d after lt)) (g.none a ge l);
-          };
+      lower = λ k d before lt. kept-below (get_or ss k d) low from to ps qs kept barrier (below k d before) (right k d lt);
+      higher = λ k d after lt. kept-above (get_or ss k d) from to ps qs kept (above k d after lt) (right k d lt);
     }
+
+-- one more
+pub right-pushed : (ss : List Stretch) (s : Stretch) (more : Bool) (ps : List Piece) → AreRight ss ps → IsStretch s ps → AreRight (if more then ss ++ s ∷ [] else ss) ps
+right-pushed ss s true ps right own =
+    All-append (λ (s : Stretch). IsStretch s ps) ss (s ∷ []) right (All-cons (λ (s : Stretch). IsStretch s ps) s [] own (All-nil (λ (s : Stretch). IsStretch s ps)))
+right-pushed ss s false ps right own = right

@@ -65,3 +65,7 @@ pub record AreRightOutside (ss : List Stretch) (first last : ℕ) (ps : List Sto
 pub record IsKeptOutside (from to : ℕ) (ps qs : List Stored) : Type 0 where
   pub below : (a b : ℕ) → a < b → b ≤ from → occupied (bare_all ps) a b ≡ true → occupied (bare_all qs) a b ≡ true
   pub above : (a b : ℕ) → a < b → to ≤ a → occupied (bare_all ps) a b ≡ true → occupied (bare_all qs) a b ≡ true
+
+-- a piece is in each range that begins below `low` and ends above `from`
+abbrev pub IsBarrier : ℕ → ℕ → List Stored → Type 0
+IsBarrier low from ps = (a b : ℕ) → a < low → from < b → occupied (bare_all ps) a b ≡ true

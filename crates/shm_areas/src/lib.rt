@@ -3,6 +3,7 @@
 
 mod cut;
 mod filling;
+mod groups;
 mod piece;
 mod rests;
 mod search;

@@ -4,7 +4,7 @@ ghost use Rattle.shm_base.specs.Access as access;
 ghost use Rattle.shm_base.specs.Space as flat;
 ghost use Rattle.shm_areas.specs.Arranged.{bare, bare_all, Arranged, IsFit, IsCovering};
 ghost use Rattle.shm_areas.specs.Edit.{stored_inserted, stored_cut, stored_without};
-ghost use Rattle.shm_areas.specs.Gap.{HasNoGap, IsLeastGap, IsPassed};
+ghost use Rattle.shm_areas.specs.Gap.{HasNoGap, IsLeastGap, IsPassed, IsStretch};
 ghost use Rattle.shm_areas.specs.Met.{met};
 ghost use Rattle.shm_areas.specs.declared.piece.Piece.{Piece as Stored};
 ghost use Rattle.shm_base.specs.declared.bounds.TheConstants.{MOST_PIECES, MOST_SHMALL};
@@ -16,7 +16,7 @@ use crate::piece::{Piece, Place};
 use crate::rests::{Rests, rests_of};
 use crate::search::{count_below, count_to, end_of_run, least_gap, run_in, run_of_origin};
 use crate::stretch::Stretch;
-use crate::summary::{count_ended, note_free, note_piece};
+use crate::summary::{count_ended, narrow, widen};
 use crate::taking::take_named;
 use shm_base::{END_ADDRESS, FIRST_GAP, HostMemory, PAGE_SIZE};
 use std::alloc::{AllocError, Global};
@@ -34,6 +34,7 @@ pub struct Space {
     filled: u64,
     // What is known of the gaps, if there are many pieces.
     stretches: Vec<Stretch>,
+    groups: Vec<Stretch>,
 }
 
 impl Drop for Space {
@@ -44,6 +45,7 @@ impl Drop for Space {
             reach: _,
             filled: _,
             stretches: _,
+            groups: _,
         } = self;
     }
 }
@@ -61,7 +63,7 @@ impl Model for Space {
     ghost invariant = { λ s. IsSpace (record { pieces = s.pieces.items; most = s.most })
         × (s.most ≤ vec_capacity s.pieces) × AreWithin s.reach s.pieces.items
         × IsFilled s.filled s.pieces.items × AreBetween 0 end_address s.stretches.items
-        × AreRight s.stretches.items s.pieces.items };
+        × AreRight s.stretches.items s.pieces.items × AreRight s.groups.items s.pieces.items };
 }
 
 impl Clone for Space {
@@ -74,12 +76,15 @@ impl Clone for Space {
         pieces.extend_from_slice(&self.pieces)?;
         let mut stretches = Vec::with_capacity(*self.pieces.allocator(), self.stretches.len())?;
         stretches.extend_from_slice(&self.stretches)?;
+        let mut groups = Vec::with_capacity(*self.pieces.allocator(), self.groups.len())?;
+        groups.extend_from_slice(&self.groups)?;
         Ok(Space {
             pieces,
             most: self.most,
             reach: self.reach,
             filled: self.filled,
             stretches,
+            groups,
         })
     }
 }
@@ -100,6 +105,7 @@ impl Space {
             reach: 0,
             filled: FIRST_GAP,
             stretches: Vec::new(alloc),
+            groups: Vec::new(alloc),
         })
     }
 
@@ -157,21 +163,57 @@ impl Space {
         })
     }
 
+    // Where a search for a gap of this many pages continues from an address, below which none begins: at a gap,
+    // or at `to` or above it. Visits the pieces of stretches with a wide gap.
+    fn pass(&self, from: u64, to: u64, pages: u32) -> u64
+        requires pages { (1 ≤ pages) × (pages ≤ MOST_SHMALL) }
+        requires passed { IsPassed pages from self.now.pieces }
+        ensures { IsPassed pages result self.now.pieces }
+    {
+        let mut reached = from;
+        let first = count_ended(&self.stretches, from);
+        for stretch in &self.stretches[first..] {
+            if to <= reached {
+                return reached;
+            }
+            reached = stretch.passed_from(&self.pieces, reached, pages);
+            if reached < stretch.to {
+                return reached;
+            }
+        }
+        reached
+    }
+
+    // The same through a group: at a gap, or at the group's end or above it.
+    fn pass_group(&self, group: &Stretch, from: u64, pages: u32) -> u64
+        requires pages { (1 ≤ pages) × (pages ≤ MOST_SHMALL) }
+        requires passed { IsPassed pages from self.now.pieces }
+        requires right { IsStretch group.now self.now.pieces }
+        ensures { IsPassed pages result self.now.pieces }
+    {
+        if group.to <= from {
+            return from;
+        }
+        if group.passes(from, pages) {
+            return from.max(group.to);
+        }
+        self.pass(from, group.to, pages)
+    }
+
     // The end of addresses in which no gap for this many pages begins, often at the least gap. Visits the
-    // pieces of stretches with a wide gap.
+    // stretches of groups with a wide gap.
     fn start(&self, pages: u32) -> u64
         requires { (1 ≤ pages) × (pages ≤ MOST_SHMALL) }
         ensures { IsPassed pages result self.now.pieces }
     {
         let mut start = self.filled;
-        let first = count_ended(&self.stretches, start);
-        for stretch in &self.stretches[first..] {
-            start = stretch.passed_from(&self.pieces, start, pages);
-            if start < stretch.to {
+        for group in &self.groups {
+            start = self.pass_group(group, start, pages);
+            if start < group.to {
                 return start;
             }
         }
-        start
+        self.pass(start, END_ADDRESS, pages)
     }
 
     /// The address of the least gap for this many pages at or above 0x40000000, a multiple of 4096 (this
@@ -246,7 +288,7 @@ impl Space {
         self.filled = raised(self.filled, &piece);
         let put = self.pieces.insert(at, piece);
         prove!(put.is_ok());
-        note_piece(&mut self.stretches, &self.pieces, at);
+        narrow(&mut self.stretches, &mut self.groups, &self.pieces, at);
     }
 
     /// Takes a range out. Of a piece that reaches beyond it the parts outside stay, each as a piece with its
@@ -263,7 +305,13 @@ impl Space {
         self.reach = self.reach.max(cut.reach());
         self.filled = lowered(self.filled, from);
         replace(&mut self.pieces, cut);
-        note_free(&mut self.stretches, &self.pieces, from, to);
+        widen(
+            &mut self.stretches,
+            &mut self.groups,
+            &self.pieces,
+            from,
+            to,
+        );
     }
 
     /// The lowest piece with this origin, as it is stored. A piece's origin is the address at which its
@@ -294,6 +342,12 @@ impl Space {
         let end = end_of_run(&self.pieces, run, addr);
         self.filled = lowered(self.filled, addr);
         take_named(&mut self.pieces, run, addr, seg);
-        note_free(&mut self.stretches, &self.pieces, addr, end);
+        widen(
+            &mut self.stretches,
+            &mut self.groups,
+            &self.pieces,
+            addr,
+            end,
+        );
     }
 }

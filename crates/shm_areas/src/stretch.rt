@@ -1,6 +1,6 @@
 //! A stretch: addresses in which no gap of a number of pages begins. Such a statement holds for each larger
 //! number too.
-ghost use Rattle.std.specs.Prelude.{◌≡◌, ◌≤◌, ◌<◌, ℕ, List, length, slice_index_or};
+ghost use Rattle.std.specs.Prelude.{◌≡◌, ◌≤◌, ◌<◌, ℕ, true, List, length, slice_index_or};
 ghost use Rattle.shm_base.specs.Space as flat;
 ghost use Rattle.shm_base.specs.declared.bounds.TheConstants.{MOST_SHMALL};
 ghost use Rattle.shm_areas.specs.Arranged.{bare, bare_all, Arranged, IsFit};
@@ -22,8 +22,8 @@ pub(crate) struct Stretch {
 }
 
 impl Stretch {
-    // A stretch that ends where it begins.
-    fn empty(from: u64) -> Stretch
+    /// A stretch that ends where it begins.
+    pub(crate) fn empty(from: u64) -> Stretch
         requires { from ≤ flat.end_address }
         ensures right { (ps : List Stored) → IsStretch result ps }
         ensures from { result.from ≡ from }
@@ -54,6 +54,21 @@ impl Stretch {
         }
     }
 
+    /// The stretch with another that begins in it or at its end; or the stretch, if the other begins above.
+    pub(crate) fn joined(&self, other: &Stretch) -> Stretch
+        ensures { (ps : List Stored) → IsStretch self.now ps → IsStretch other.now ps → IsStretch result ps }
+    {
+        if self.to < other.from {
+            return *self;
+        }
+        Stretch {
+            from: self.from,
+            to: self.to.max(other.to),
+            pages: self.pages.max(other.pages),
+            count: self.count,
+        }
+    }
+
     // The part of the stretch below an address.
     fn until(&self, to: u64) -> Stretch
         ensures right { (ps : List Stored) → IsStretch self.now ps → IsStretch result ps }
@@ -67,6 +82,13 @@ impl Stretch {
         }
     }
 
+    /// Whether a search for a gap of this many pages passes the stretch, if none begins below `start`.
+    pub(crate) fn passes(&self, start: u64, pages: u32) -> bool
+        ensures { result ≡ true → (self.now.pages ≤ pages) × (self.now.from ≤ start) }
+    {
+        self.pages <= pages as u64 && self.from <= start
+    }
+
     /// Where a search for a gap of this many pages continues, if none begins below `start`: at the end of the
     /// stretch, or at a gap in it or before it.
     pub(crate) fn passed_from(&self, pieces: &[Piece], start: u64, pages: u32) -> u64
@@ -76,7 +98,7 @@ impl Stretch {
         requires right { IsStretch self.now pieces.now }
         ensures { IsPassed pages result pieces.now }
     {
-        if self.pages <= pages as u64 && self.from <= start {
+        if self.passes(start, pages) {
             return start.max(self.to);
         }
         passed_to(pieces, start, pages, self.to)

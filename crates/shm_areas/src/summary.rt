@@ -2,13 +2,14 @@
 //!
 //! Every stretch is true of the present pieces. A space of few pieces has none. The pieces between a stretch
 //! and the next belong to the lower one.
-ghost use Rattle.std.specs.Prelude.{◌≡◌, ◌≤◌, ◌<◌, ◌+◌, [], ℕ, true, List, length, vec_capacity, slice_index_or};
+ghost use Rattle.std.specs.Prelude.{◌≡◌, ◌≤◌, ◌<◌, ◌+◌, [], ℕ, List, length, vec_capacity, slice_index_or};
 ghost use Rattle.shm_base.specs.Space as flat;
 ghost use Rattle.shm_areas.specs.Arranged.{bare_all, Arranged};
-ghost use Rattle.shm_areas.specs.Gap.{AreBetween, AreRight, AreRightOutside, HasPlace, IsKeptOutside, IsStretch};
+ghost use Rattle.shm_areas.specs.Gap.{AreBetween, AreRight, AreRightOutside, HasPlace, IsBarrier, IsKeptOutside, IsStretch};
 ghost use Rattle.shm_areas.specs.declared.piece.Piece.{Piece as Stored};
 ghost use Rattle.shm_areas.specs.declared.stretch.Stretch.{Stretch as Known};
 
+use crate::groups::{Touched, regroup, regroup_free};
 use crate::piece::Piece;
 use crate::search::count_below;
 use crate::stretch::{Stretch, stretch_from};
@@ -82,7 +83,7 @@ fn end_at(stretches: &[Stretch], place: usize) -> u64
 
 // How many pieces a stretch has at most.
 fn most_pieces(stretches: &[Stretch]) -> usize {
-    FEW_PIECES + stretches.len() / 2
+    FEW_PIECES + stretches.len() / 16
 }
 
 // Adds a stretch after one of them, over at most this many of the pieces up to the next. Whether there was a
@@ -197,8 +198,17 @@ fn begin(stretches: &mut Vec<Stretch>, pieces: &[Piece])
     lay(stretches, pieces, run, FEW_PIECES / 2);
 }
 
-/// Takes note of a piece that was inserted at an index.
-pub(crate) fn note_piece(stretches: &mut Vec<Stretch>, pieces: &[Piece], at: usize)
+// What the groups need to know, if a stretch took the place of another.
+fn touched(before: Stretch, after: Stretch, place: usize) -> Touched {
+    if before.pages == after.pages && before.to == after.to {
+        Touched::Nothing
+    } else {
+        Touched::One(place)
+    }
+}
+
+// Takes note of a piece that was inserted at an index.
+fn note_piece(stretches: &mut Vec<Stretch>, pieces: &[Piece], at: usize) -> Touched
     requires arranged { Arranged flat.lowest_address (bare_all pieces.now) }
     requires at { at < length pieces.now }
     requires order { AreBetween 0 flat.end_address stretches.old.items }
@@ -207,18 +217,19 @@ pub(crate) fn note_piece(stretches: &mut Vec<Stretch>, pieces: &[Piece], at: usi
 {
     if stretches.is_empty() {
         begin(stretches, pieces);
-        return;
+        return Touched::From(0);
     }
     let begun = count_begun(stretches, pieces[at].base + 1);
     if begun == 0 {
-        return;
+        return Touched::Nothing;
     }
     let place = begun - 1;
     let stretch = stretches[place];
     let most = most_pieces(stretches);
     if stretch.count < most {
-        put(stretches, place, begun, narrowed(stretch, pieces, at));
-        return;
+        let next = narrowed(stretch, pieces, at);
+        put(stretches, place, begun, next);
+        return touched(stretch, next, place);
     }
     let run = StretchRun {
         first: place,
@@ -227,12 +238,13 @@ pub(crate) fn note_piece(stretches: &mut Vec<Stretch>, pieces: &[Piece], at: usi
         to: end_at(stretches, place),
     };
     lay(stretches, pieces, run, most / 2);
+    Touched::From(place)
 }
 
 // The end of the last piece that begins below an address.
 fn end_below(pieces: &[Piece], addr: u64) -> u64
     requires { Arranged flat.lowest_address (bare_all pieces.now) }
-    ensures { (a b : ℕ) → a < result → addr < b → flat.occupied (bare_all pieces.now) a b ≡ true }
+    ensures { IsBarrier result addr pieces.now }
 {
     let count = count_below(pieces, addr);
     if count == 0 {
@@ -241,21 +253,25 @@ fn end_below(pieces: &[Piece], addr: u64) -> u64
     pieces[count - 1].end()
 }
 
-/// Takes note that addresses became free.
-pub(crate) fn note_free(stretches: &mut Vec<Stretch>, pieces: &[Piece], from: u64, to: u64)
+// Takes note that addresses became free. The last piece below these ends at `low`.
+fn note_free(
+    stretches: &mut Vec<Stretch>,
+    pieces: &[Piece],
+    low: u64,
+    from: u64,
+    to: u64,
+) -> Touched
     requires arranged { Arranged flat.lowest_address (bare_all pieces.now) }
     requires order { AreBetween 0 flat.end_address stretches.old.items }
+    requires low { IsBarrier low from pieces.now }
     ensures order { AreBetween 0 flat.end_address stretches.new.items }
     ensures right { (ps : List Stored) → IsKeptOutside from to ps pieces.now
         → AreRight stretches.old.items ps → AreRight stretches.new.items pieces.now }
 {
-    if stretches.is_empty() {
-        return;
-    }
-    let first = count_ended(stretches, end_below(pieces, from));
+    let first = count_ended(stretches, low);
     let last = count_begun(stretches, to);
     if last <= first {
-        return;
+        return Touched::Nothing;
     }
     let run = StretchRun {
         first,
@@ -263,6 +279,56 @@ pub(crate) fn note_free(stretches: &mut Vec<Stretch>, pieces: &[Piece], from: u6
         from: stretches[first].from,
         to: stretches[last - 1].to,
     };
-    let most = most_pieces(stretches);
+    let (most, before) = (most_pieces(stretches), stretches.len());
     lay(stretches, pieces, run, most);
+    if stretches.len() == before {
+        Touched::Nothing
+    } else {
+        Touched::From(first)
+    }
+}
+
+/// Brings the summary up to date after a piece was inserted at an index.
+pub(crate) fn narrow(
+    stretches: &mut Vec<Stretch>,
+    groups: &mut Vec<Stretch>,
+    pieces: &[Piece],
+    at: usize,
+)
+    requires arranged { Arranged flat.lowest_address (bare_all pieces.now) }
+    requires at { at < length pieces.now }
+    requires order { AreBetween 0 flat.end_address stretches.old.items }
+    ensures order { AreBetween 0 flat.end_address stretches.new.items }
+    ensures right { AreRight stretches.old.items pieces.now → AreRight stretches.new.items pieces.now }
+    ensures groups { AreRight stretches.old.items pieces.now → AreRight groups.old.items pieces.now
+        → AreRight groups.new.items pieces.now }
+{
+    let touched = note_piece(stretches, pieces, at);
+    regroup(groups, stretches, touched);
+}
+
+/// Brings the summary up to date after addresses became free.
+pub(crate) fn widen(
+    stretches: &mut Vec<Stretch>,
+    groups: &mut Vec<Stretch>,
+    pieces: &[Piece],
+    from: u64,
+    to: u64,
+)
+    requires arranged { Arranged flat.lowest_address (bare_all pieces.now) }
+    requires order { AreBetween 0 flat.end_address stretches.old.items }
+    ensures order { AreBetween 0 flat.end_address stretches.new.items }
+    ensures right { (ps : List Stored) → IsKeptOutside from to ps pieces.now
+        → AreRight stretches.old.items ps → AreRight stretches.new.items pieces.now }
+    ensures groups { (ps : List Stored) → IsKeptOutside from to ps pieces.now
+        → AreRight stretches.old.items ps → AreRight groups.old.items ps
+        → AreRight groups.new.items pieces.now }
+{
+    if stretches.is_empty() && groups.is_empty() {
+        return;
+    }
+    let low = end_below(pieces, from);
+    let touched = note_free(stretches, pieces, low, from, to);
+    regroup_free(groups, stretches, low, from, to);
+    regroup(groups, stretches, touched);
 }

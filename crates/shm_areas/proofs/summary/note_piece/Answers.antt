@@ -25,25 +25,25 @@ at c =
       place = rw c.index-stretch.ensures (place-of c.args.stretches.now.items (begun - 1) begun c.index-stretch.result.now c.index-stretch.result.now c.requires.order (omega (arith, some)) bound);
     }
 
-pub narrowed-requires-clause-order : goal.narrowed-requires-clause-order
-narrowed-requires-clause-order c = (at (goal.at.narrowed-requires-clause-order c).After-index-stretch).place.rising
+pub narrowed-next-requires-clause-order : goal.narrowed-next-requires-clause-order
+narrowed-next-requires-clause-order c = (at (goal.at.narrowed-next-requires-clause-order c).After-index-stretch).place.rising
 
-pub narrowed-requires-clause-high : goal.narrowed-requires-clause-high
-narrowed-requires-clause-high c = (at (goal.at.narrowed-requires-clause-high c).After-index-stretch).place.high
+pub narrowed-next-requires-clause-high : goal.narrowed-next-requires-clause-high
+narrowed-next-requires-clause-high c = (at (goal.at.narrowed-next-requires-clause-high c).After-index-stretch).place.high
 
 pub put-requires-clause-place : goal.put-requires-clause-place
 put-requires-clause-place c =
     let own = at (goal.at.put-requires-clause-place c).After-index-stretch in
     let begun = c.count_begun-begun.result in
-    rw c.narrowed.ensures.from
-    (place-less c.args.stretches.now.items (begun - 1) begun c.index-stretch.result.now.from c.index-stretch.result.now.to c.narrowed.result.to own.place c.narrowed.ensures.to.0 c.narrowed.ensures.to.1)
+    rw c.narrowed-next.ensures.from
+    (place-less c.args.stretches.now.items (begun - 1) begun c.index-stretch.result.now.from c.index-stretch.result.now.to c.narrowed-next.result.to own.place c.narrowed-next.ensures.to.0 c.narrowed-next.ensures.to.1)
 
 pub returns-then-stretch-most-clause-right : goal.returns-then-stretch-most-clause-right
 returns-then-stretch-most-clause-right c right =
     let own = at (goal.at.returns-then-stretch-most-clause-right c).After-index-stretch in
     let begun = c.count_begun-begun.result in
     c.put.ensures.right c.args.pieces.now (right-all c.args.stretches.now.items (begun - 1) begun c.args.pieces.now right)
-    (c.narrowed.ensures.right (rw c.index-stretch.ensures (right (begun - 1) c.index-stretch.result.now own.within)))
+    (c.narrowed-next.ensures.right (rw c.index-stretch.ensures (right (begun - 1) c.index-stretch.result.now own.within)))
 
 pub lay-requires-clause-place : goal.lay-requires-clause-place
 lay-requires-clause-place c =

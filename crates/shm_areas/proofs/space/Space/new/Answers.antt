@@ -9,4 +9,5 @@ invariant_of-result c = (
   record { first = omega arith; high = omega arith; full = λ a from to. absurd (omega (arith, from, to)) },
   grind (arith, common_steps),
   λ k d lt. absurd (grind (arith, common_steps, lt)),
+  λ k d lt. absurd (grind (arith, common_steps, lt)),
 )

@@ -1,5 +1,5 @@
 use Rattle.shm_areas.proofs.Filled.{filled-passed}
 use Rattle.shm_areas.proofs.space.Space.start.Goals as goal
 
-pub loop-stretch-init : goal.loop-stretch-init
-loop-stretch-init c = rw (← c.self.view_is) (filled-passed c.args.pages c.self.inside.filled c.self.inside.pieces.items c.requires.0 c.self.invariant.3)
+pub loop-group-init : goal.loop-group-init
+loop-group-init c = rw (← c.self.view_is) (filled-passed c.args.pages c.self.inside.filled c.self.inside.pieces.items c.requires.0 c.self.invariant.3)
