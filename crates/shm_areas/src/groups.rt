@@ -11,7 +11,7 @@ ghost use Rattle.shm_areas.specs.declared.piece.Piece.{Piece as Stored};
 use crate::stretch::Stretch;
 
 /// How many stretches a group is over.
-const GROUP_SIZE: usize = 32;
+const GROUP_SIZE: usize = 64;
 
 /// Which stretches a change concerned.
 #[derive(Clone, Copy)]

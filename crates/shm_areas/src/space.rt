@@ -207,6 +207,9 @@ impl Space {
         ensures { IsPassed pages result self.now.pieces }
     {
         let mut start = self.filled;
+        if count_ended(&self.stretches, start) == self.stretches.len() {
+            return start;
+        }
         for group in &self.groups {
             start = self.pass_group(group, start, pages);
             if start < group.to {

@@ -34,6 +34,13 @@ pub(crate) fn count_ended(stretches: &[Stretch], addr: u64) -> usize
     ensures bound { result ≤ length stretches.now }
     ensures below { (k : ℕ) (d : Known) → k < result → (slice_index_or stretches.now k d).to ≤ addr }
 {
+    // A search or a change often concerns what is above the last one.
+    let Some(last) = stretches.last() else {
+        return 0;
+    };
+    if last.to <= addr {
+        return stretches.len();
+    }
     stretches.partition_point(|s| s.to <= addr)
 }
 
@@ -44,6 +51,12 @@ pub(crate) fn count_begun(stretches: &[Stretch], addr: u64) -> usize
     ensures above { (k : ℕ) (d : Known) → result ≤ k → k < length stretches.now
         → addr ≤ (slice_index_or stretches.now k d).from }
 {
+    let Some(last) = stretches.last() else {
+        return 0;
+    };
+    if last.from < addr {
+        return stretches.len();
+    }
     stretches.partition_point(|s| s.from < addr)
 }
 
@@ -186,9 +199,6 @@ fn begin(stretches: &mut Vec<Stretch>, pieces: &[Piece])
     ensures order { AreBetween 0 flat.end_address stretches.new.items }
     ensures right { AreRight stretches.new.items pieces.now }
 {
-    if pieces.len() <= FEW_PIECES {
-        return;
-    }
     let run = StretchRun {
         first: 0,
         last: 0,
@@ -303,7 +313,13 @@ pub(crate) fn narrow(
     ensures groups { AreRight stretches.old.items pieces.now → AreRight groups.old.items pieces.now
         → AreRight groups.new.items pieces.now }
 {
+    if stretches.is_empty() && pieces.len() <= FEW_PIECES {
+        return;
+    }
     let touched = note_piece(stretches, pieces, at);
+    if let Touched::Nothing = touched {
+        return;
+    }
     regroup(groups, stretches, touched);
 }
 
