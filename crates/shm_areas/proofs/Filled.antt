@@ -1,15 +1,14 @@
 -- The search for the least gap may begin after addresses at which no large enough gap begins.
-use Rattle.shm_areas.proofs.Names.{◌≡◌, ℕ, zero, suc, ◌+◌, ◌*◌, ◌%◌, ◌<◌, ◌≤◌, ◌⊎◌, inl, inr, true, false, List, [], ◌∷◌, ◌++◌, length, get_or, drop, max, refl, sym, ap, ◌∙◌, arith, common_steps, lt-leb, cases_lt, cases_Bool, both_ways, false_from_ne_true, is_gap, end_address, end_of, meets, parts, occupied, inserted, cut, without_named, stored_named, first_chosen, lowest_address, gap_from, leb-true, stored_inserted, stored_cut, stored_without, IsPieceRange, Piece, bare, bare_all, Arranged, IsFit}
-use Rattle.std.specs.Prelude.{min, if◌then◌else◌, nat_le, All}
+use Rattle.shm_areas.proofs.Names.{◌≡◌, ℕ, zero, suc, ◌+◌, ◌*◌, ◌%◌, ◌<◌, ◌≤◌, ◌⊎◌, inl, inr, true, false, List, [], ◌∷◌, ◌++◌, length, get_or, drop, max, refl, sym, ap, ◌∙◌, arith, common_steps, lt-leb, cases_lt, cases_Bool, both_ways, end_of, meets, parts, occupied, inserted, cut, without_named, stored_named, first_chosen, lowest_address, gap_from, leb-true, stored_inserted, stored_cut, stored_without, IsPieceRange, Piece, bare, bare_all, Arranged, IsFit}
+use Rattle.std.specs.Prelude.{min, if◌then◌else◌, nat_le}
 use Rattle.std.proofs.lemmas.List.Elements.{All-head, All-tail, All-weaker}
 use Rattle.shm_base.specs.State as flat
-use Rattle.shm_areas.specs.Gap.{IsFilled, IsPassed, IsHint, IsHints, IsLeastGap, IsKeptOutside, known_of, jumped, jumped_over}
-use Rattle.shm_areas.specs.declared.hints.Passed.{Passed}
-use Rattle.shm_areas.specs.declared.hints.Hints.{Hints}
+use Rattle.shm_areas.specs.Gap.{IsFilled, IsPassed, IsStretch, AreRight, IsKeptOutside}
+use Rattle.shm_areas.specs.declared.stretch.Stretch.{Stretch}
 use Rattle.shm_areas.proofs.Origins.{NamedEnd}
 use Rattle.shm_areas.proofs.Edits.{lower, bare_inserted, bare_cut, bare_filter, end_upto, end_beyond}
 use Rattle.std.proofs.lemmas.List.Concat.{flat_map-cons}
-use Rattle.shm_areas.proofs.Gaps.{free_below, left_past, low_gap, too_high, gap_here}
+use Rattle.shm_areas.proofs.Gaps.{free_below, left_past}
 
 -- THE WALK
 
@@ -153,40 +152,22 @@ filled-passed pages filled ps some f =
       none = λ a from lt. occupied-longer (bare_all ps) a (a + 1) (a + 4096 * pages) (omega (arith, some)) (f.full a from lt);
     }
 
--- where a search continues, by one hint
-passed-jump : (pages from : ℕ) (h : Passed) (ps : List Piece) → IsPassed pages from ps → IsHint h ps → IsPassed pages (jumped pages from h) ps
-passed-jump pages from h ps f g = elim (cases_Bool (nat_le h.pages pages)) [
-  | inl few ↦ elim (cases_Bool (nat_le h.from from)) [
-    | inl begun ↦ rw (few, begun) (elim (cases_lt from h.to) [
-      | inl lt ↦
-          let same : max from h.to ≡ h.to = omega (arith, lt) in
-          rw same
-          record {
-            first = omega (arith, lt, f.first);
-            high = g.high;
-            none = λ a ge below. elim (cases_lt a from) [
-              | inl before ↦ f.none a ge before
-              | inr past ↦
-                  occupied-longer (bare_all ps) a (a + 4096 * h.pages) (a + 4096 * pages) (omega (arith, leb-true h.pages pages few))
-                  (g.none a (omega (arith, past, leb-true h.from from begun)) below)
-            ];
-          }
-      | inr le ↦ let same : max from h.to ≡ from = omega (arith, le) in rw same f
-    ])
-    | inr no' ↦ rw (few, no') f
-  ]
-  | inr no' ↦ rw no' f
-]
-
--- and by all hints
-pub passed-over : (pages from : ℕ) (hs : List Passed) (ps : List Piece) → IsPassed pages from ps → All (λ (h : Passed). IsHint h ps) hs → IsPassed pages (jumped_over pages from hs) ps
-passed-over pages from [] ps f known = f
-passed-over pages from (h ∷ hs) ps f known =
-    passed-over pages (jumped pages from h) hs ps (passed-jump pages from h ps f (All-head (λ (h : Passed). IsHint h ps) h hs known))
-    (All-tail (λ (h : Passed). IsHint h ps) h hs known)
+-- a search goes on at the end of a stretch
+pub passed-stretch : (pages from : ℕ) (s : Stretch) (ps : List Piece) → s.pages ≤ pages → s.from ≤ from → IsPassed pages from ps → IsStretch s ps → IsPassed pages (max from s.to) ps
+passed-stretch pages from s ps few begun f g =
+    record {
+      first = omega (arith, f.first);
+      high = omega (arith, f.high, g.high);
+      none = λ a ge below. elim (cases_lt a from) [
+        | inl before ↦ f.none a ge before
+        | inr past ↦
+            occupied-longer (bare_all ps) a (a + 4096 * s.pages) (a + 4096 * pages) (omega (arith, few))
+            (g.none a (omega (arith, past, begun)) (omega (arith, past, below)))
+      ];
+    }
 
 -- a piece that meets a range occupies it
-occupied-at : (ps : List Piece) (i a b : ℕ) (d : Piece) → i < length ps → meets a b (bare (get_or ps i d)) ≡ true → occupied (bare_all ps) a b ≡ true
+pub occupied-at : (ps : List Piece) (i a b : ℕ) (d : Piece) → i < length ps → meets a b (bare (get_or ps i d)) ≡ true → occupied (bare_all ps) a b ≡ true
 occupied-at [] i a b d lt m = absurd (omega (arith, lt))
 occupied-at (p ∷ ps) zero a b d lt m = rw m refl
 occupied-at (p ∷ ps) (suc i) a b d lt m = grind (arith, common_steps, occupied-at ps i a b d (omega (arith, lt)) m)
@@ -204,75 +185,17 @@ passed-piece pages base i ps d lt fit near f =
       ];
     }
 
-high_gap : (all : List flat.Piece) (pages b : ℕ) → is_gap all pages b ≡ true → (end_address < b + 4096 * pages) ⊎ (b + 4096 * pages ≤ end_address) → b ≤ end_address
-high_gap all pages b gap (inl h) = absurd (both_ways (is_gap all pages b) (too_high all pages b h) gap)
-high_gap all pages b gap (inr h) = omega (arith, h)
-
-below_gap : (all : List flat.Piece) (pages base a : ℕ) → is_gap all pages base ≡ true → first_chosen ≤ a → a < base → is_gap all pages a ≡ false → occupied all a (a + 4096 * pages) ≡ true
-below_gap all pages base a gap from lt none = elim (cases_lt end_address (base + 4096 * pages)) [
-  | inl h ↦ absurd (both_ways (is_gap all pages base) (too_high all pages base h) gap)
-  | inr h ↦ elim (cases_Bool (occupied all a (a + 4096 * pages))) [
-    | inl full ↦ full
-    | inr free ↦ absurd (both_ways (is_gap all pages a) none (gap_here all all pages a from (omega (arith, lt, h)) free))
-  ]
-]
-
--- no gap begins below the least one
-pub passed-least : (pages base : ℕ) (ps : List Piece) → IsLeastGap (bare_all ps) pages base → IsPassed pages base ps
-passed-least pages base ps g =
+-- a stretch stays right through an insertion
+pub right-inserted : (ss : List Stretch) (p : Piece) (ps : List Piece) → AreRight ss ps → AreRight ss (stored_inserted p ps)
+right-inserted ss p ps right =
+    All-weaker (λ (s : Stretch). IsStretch s ps) (λ (s : Stretch). IsStretch s (stored_inserted p ps))
+    (λ s g.
     record {
-      first = low_gap (bare_all ps) pages base g.gap (cases_lt base first_chosen);
-      high = high_gap (bare_all ps) pages base g.gap (cases_lt end_address (base + 4096 * pages));
-      none = λ a from lt.
-          below_gap (bare_all ps) pages base a g.gap from lt
-          (false_from_ne_true (is_gap (bare_all ps) pages a) (λ here. absurd (omega (arith, lt, g.least a here))));
-    }
-
-pub passed-inserted : (pages to : ℕ) (p : Piece) (ps : List Piece) → IsPassed pages to ps → IsPassed pages to (stored_inserted p ps)
-passed-inserted pages to p ps f =
-    record {
-      first = f.first;
-      high = f.high;
-      none = λ a from lt. rw (bare_inserted p ps) (occupied-more a (a + 4096 * pages) (bare p) (bare_all ps) (f.none a from lt));
-    }
-
-pub passed-own : (p : Piece) (ps : List Piece) → IsFit (bare p) → IsPassed p.pages p.base ps → IsPassed p.pages (end_of (bare p)) (stored_inserted p ps)
-passed-own p ps fit f =
-    record {
-      first = omega (arith, f.first);
-      high = fit.within;
-      none = λ a ge below.
-          rw (bare_inserted p ps)
-          (elim (cases_lt a p.base) [
-            | inl lt ↦ occupied-more a (a + 4096 * p.pages) (bare p) (bare_all ps) (f.none a ge lt)
-            | inr past ↦ occupied-own a (a + 4096 * p.pages) (bare p) (bare_all ps) (grind (arith, common_steps, past, below, fit.some))
-          ]);
-    }
-
--- filled addresses are a hint for one page
-pub filled-hint : (filled : ℕ) (h : Passed) (ps : List Piece) → first_chosen ≤ h.from → h.to ≡ filled → h.pages ≡ 1 → IsFilled filled ps → IsHint h ps
-filled-hint filled h ps low to one f =
-    record {
-      some = omega (arith, one);
-      few = omega (arith, one);
-      high = omega (arith, to, f.high);
-      none = λ a ge lt. occupied-longer (bare_all ps) a (a + 1) (a + 4096 * h.pages) (omega (arith, one)) (f.full a (omega (arith, ge, low)) (omega (arith, lt, to)));
-    }
-
-pub hints-inserted : (hs : Hints) (p : Piece) (ps : List Piece) → IsHints hs ps → IsHints hs (stored_inserted p ps)
-hints-inserted hs p ps f =
-    record {
-      few = f.few;
-      known = All-weaker (λ (h : Passed). IsHint h ps) (λ (h : Passed). IsHint h (stored_inserted p ps))
-          (λ h g.
-          record {
-            some = g.some;
-            few = g.few;
-            high = g.high;
-            none = λ a ge lt. rw (bare_inserted p ps) (occupied-more a (a + 4096 * h.pages) (bare p) (bare_all ps) (g.none a ge lt));
-          })
-          (known_of hs) f.known;
-    }
+      some = g.some;
+      high = g.high;
+      none = λ a ge lt. rw (bare_inserted p ps) (occupied-more a (a + 4096 * s.pages) (bare p) (bare_all ps) (g.none a ge lt));
+    })
+    ss right
 
 -- WHAT A REMOVAL KEEPS
 

@@ -8,4 +8,4 @@ pub mod Leaving
 pub mod Reaching
 pub mod Passing
 pub mod Filled
-pub mod Noting
+pub mod Stretches

@@ -3,11 +3,13 @@
 
 mod cut;
 mod filling;
-mod hints;
+mod groups;
 mod piece;
 mod rests;
 mod search;
 mod space;
+mod stretch;
+mod summary;
 mod taking;
 
 pub use piece::{Piece, Place};

@@ -4,7 +4,7 @@ ghost use Rattle.shm_base.specs.Access as access;
 ghost use Rattle.shm_base.specs.Space as flat;
 ghost use Rattle.shm_areas.specs.Arranged.{bare, bare_all, Arranged, IsFit, IsCovering};
 ghost use Rattle.shm_areas.specs.Edit.{stored_inserted, stored_cut, stored_without};
-ghost use Rattle.shm_areas.specs.Gap.{HasNoGap, IsHint, IsLeastGap, IsPassed};
+ghost use Rattle.shm_areas.specs.Gap.{HasNoGap, IsLeastGap, IsPassed, IsStretch};
 ghost use Rattle.shm_areas.specs.Met.{met};
 ghost use Rattle.shm_areas.specs.declared.piece.Piece.{Piece as Stored};
 ghost use Rattle.shm_base.specs.declared.bounds.TheConstants.{MOST_PIECES, MOST_SHMALL};
@@ -12,12 +12,11 @@ ghost use Rattle.shm_base.specs.declared.paging.TheConstants.{PAGE_SIZE};
 
 use crate::cut::{count_left, cut_of, replace};
 use crate::filling::{lowered, raised};
-use crate::hints::{Hints, Passed, filled_after, passed_with};
 use crate::piece::{Piece, Place};
 use crate::rests::{Rests, rests_of};
-use crate::search::{
-    count_below, count_to, end_of_run, least_gap, passed_to, run_in, run_of_origin,
-};
+use crate::search::{count_below, count_to, end_of_run, least_gap, run_in, run_of_origin};
+use crate::stretch::Stretch;
+use crate::summary::{count_ended, narrow, widen};
 use crate::taking::take_named;
 use shm_base::{END_ADDRESS, FIRST_GAP, HostMemory, PAGE_SIZE};
 use std::alloc::{AllocError, Global};
@@ -33,9 +32,9 @@ pub struct Space {
     reach: u32,
     // Each address from 0x40000000 up to this one is in a piece, so no gap begins below.
     filled: u64,
-    // Ranges in which gaps are known to be too small. One is noted when a piece is inserted right after
-    // another, as happens when the machine chooses the address.
-    hints: Hints,
+    // What is known of the gaps, if there are many pieces.
+    stretches: Vec<Stretch>,
+    groups: Vec<Stretch>,
 }
 
 impl Drop for Space {
@@ -45,15 +44,17 @@ impl Drop for Space {
             most: _,
             reach: _,
             filled: _,
-            hints: _,
+            stretches: _,
+            groups: _,
         } = self;
     }
 }
 
 impl Model for Space {
     ghost use Rattle.std.specs.Prelude.{◌≤◌, vec_capacity};
+    ghost use Rattle.shm_base.specs.Space.{end_address};
     ghost use Rattle.shm_areas.specs.Arranged.{SpaceView, IsSpace, AreWithin};
-    ghost use Rattle.shm_areas.specs.Gap.{IsFilled, IsHints};
+    ghost use Rattle.shm_areas.specs.Gap.{IsFilled, AreBetween, AreRight};
 
     ghost Value = { SpaceView };
 
@@ -61,7 +62,8 @@ impl Model for Space {
 
     ghost invariant = { λ s. IsSpace (record { pieces = s.pieces.items; most = s.most })
         × (s.most ≤ vec_capacity s.pieces) × AreWithin s.reach s.pieces.items
-        × IsFilled s.filled s.pieces.items × IsHints s.hints s.pieces.items };
+        × IsFilled s.filled s.pieces.items × AreBetween 0 end_address s.stretches.items
+        × AreRight s.stretches.items s.pieces.items × AreRight s.groups.items s.pieces.items };
 }
 
 impl Clone for Space {
@@ -72,12 +74,17 @@ impl Clone for Space {
     fn clone(&self) -> Result<Space, AllocError> {
         let mut pieces = Vec::with_capacity(*self.pieces.allocator(), self.most as usize)?;
         pieces.extend_from_slice(&self.pieces)?;
+        let mut stretches = Vec::with_capacity(*self.pieces.allocator(), self.stretches.len())?;
+        stretches.extend_from_slice(&self.stretches)?;
+        let mut groups = Vec::with_capacity(*self.pieces.allocator(), self.groups.len())?;
+        groups.extend_from_slice(&self.groups)?;
         Ok(Space {
             pieces,
             most: self.most,
             reach: self.reach,
             filled: self.filled,
-            hints: self.hints,
+            stretches,
+            groups,
         })
     }
 }
@@ -97,7 +104,8 @@ impl Space {
             most,
             reach: 0,
             filled: FIRST_GAP,
-            hints: Hints::new(),
+            stretches: Vec::new(alloc),
+            groups: Vec::new(alloc),
         })
     }
 
@@ -155,24 +163,60 @@ impl Space {
         })
     }
 
-    // The end of the addresses in which no gap for this many pages begins, by the hints. Visits pieces only
-    // between hints.
+    // Where a search for a gap of this many pages continues from an address, below which none begins: at a gap,
+    // or at `to` or above it. Visits the pieces of stretches with a wide gap.
+    fn pass(&self, from: u64, to: u64, pages: u32) -> u64
+        requires pages { (1 ≤ pages) × (pages ≤ MOST_SHMALL) }
+        requires passed { IsPassed pages from self.now.pieces }
+        ensures { IsPassed pages result self.now.pieces }
+    {
+        let mut reached = from;
+        let first = count_ended(&self.stretches, from);
+        for stretch in &self.stretches[first..] {
+            if to <= reached {
+                return reached;
+            }
+            reached = stretch.passed_from(&self.pieces, reached, pages);
+            if reached < stretch.to {
+                return reached;
+            }
+        }
+        reached
+    }
+
+    // The same through a group: at a gap, or at the group's end or above it.
+    fn pass_group(&self, group: &Stretch, from: u64, pages: u32) -> u64
+        requires pages { (1 ≤ pages) × (pages ≤ MOST_SHMALL) }
+        requires passed { IsPassed pages from self.now.pieces }
+        requires right { IsStretch group.now self.now.pieces }
+        ensures { IsPassed pages result self.now.pieces }
+    {
+        if group.to <= from {
+            return from;
+        }
+        if group.passes(from, pages) {
+            return from.max(group.to);
+        }
+        self.pass(from, group.to, pages)
+    }
+
+    // The end of addresses in which no gap for this many pages begins, often at the least gap. Visits the
+    // stretches of groups with a wide gap.
     fn start(&self, pages: u32) -> u64
         requires { (1 ≤ pages) × (pages ≤ MOST_SHMALL) }
         ensures { IsPassed pages result self.now.pieces }
     {
-        let mut start = self.hints.jump(self.filled, pages);
-        for _hint in 0..self.hints.count {
-            let Some(stop) = self.hints.next(start, pages) else {
-                return start;
-            };
-            let reached = passed_to(&self.pieces, start, pages, stop);
-            if reached < stop {
-                return reached;
-            }
-            start = self.hints.jump(reached, pages);
+        let mut start = self.filled;
+        if count_ended(&self.stretches, start) == self.stretches.len() {
+            return start;
         }
-        start
+        for group in &self.groups {
+            start = self.pass_group(group, start, pages);
+            if start < group.to {
+                return start;
+            }
+        }
+        self.pass(start, END_ADDRESS, pages)
     }
 
     /// The address of the least gap for this many pages at or above 0x40000000, a multiple of 4096 (this
@@ -187,28 +231,6 @@ impl Space {
         let start = self.start(pages);
         let run = run_in(&self.pieces, start, start + 1);
         least_gap(&self.pieces[run.first..], start, pages)
-    }
-
-    // What an insert of a piece after this many others teaches of the gaps. A piece right after another is
-    // often at the least gap for its pages. So this repeats the search of `choose`, and the next choice need
-    // not.
-    fn learned(&self, piece: &Piece, count: usize) -> Option<Passed>
-        requires fit { IsFit (bare piece.now) }
-        requires count { count ≤ length self.now.pieces }
-        ensures { IfSome result (λ h. IsHint h (stored_inserted piece.now self.now.pieces)) }
-    {
-        if piece.base <= self.filled || count == 0 || self.pieces[count - 1].end() != piece.base {
-            return None;
-        }
-        let Some(base) = self.choose(piece.pages) else {
-            return None;
-        };
-        let to = passed_with(piece, base);
-        Some(Passed {
-            pages: piece.pages,
-            from: FIRST_GAP,
-            to: self.hints.jump(to, piece.pages),
-        })
     }
 
     /// Whether a piece has a page among this many from an address on. The range may end above the last
@@ -265,12 +287,11 @@ impl Space {
         ensures flat { bare_all self.new.pieces ≡ flat.inserted (bare piece) (bare_all self.old.pieces) }
     {
         let at = count_to(&self.pieces, piece.base);
-        let learned = self.learned(&piece, at);
-        self.hints.note(learned);
         self.reach = self.reach.max(piece.first_page);
         self.filled = raised(self.filled, &piece);
         let put = self.pieces.insert(at, piece);
         prove!(put.is_ok());
+        narrow(&mut self.stretches, &mut self.groups, &self.pieces, at);
     }
 
     /// Takes a range out. Of a piece that reaches beyond it the parts outside stay, each as a piece with its
@@ -285,10 +306,15 @@ impl Space {
     {
         let cut = cut_of(&self.pieces, from, to);
         self.reach = self.reach.max(cut.reach());
-        self.hints.note(filled_after(self.filled, to));
-        self.hints.lower(from, to);
         self.filled = lowered(self.filled, from);
         replace(&mut self.pieces, cut);
+        widen(
+            &mut self.stretches,
+            &mut self.groups,
+            &self.pieces,
+            from,
+            to,
+        );
     }
 
     /// The lowest piece with this origin, as it is stored. A piece's origin is the address at which its
@@ -317,9 +343,14 @@ impl Space {
     {
         let run = run_of_origin(&self.pieces, addr, self.reach);
         let end = end_of_run(&self.pieces, run, addr);
-        self.hints.note(filled_after(self.filled, end));
-        self.hints.lower(addr, end);
         self.filled = lowered(self.filled, addr);
         take_named(&mut self.pieces, run, addr, seg);
+        widen(
+            &mut self.stretches,
+            &mut self.groups,
+            &self.pieces,
+            addr,
+            end,
+        );
     }
 }

@@ -1,17 +1,8 @@
-use Rattle.shm_areas.proofs.Filled.{filled-passed, passed-over}
-use Rattle.shm_areas.specs.Gap.{known_of}
+use Rattle.shm_areas.proofs.Filled.{filled-passed}
 use Rattle.shm_areas.proofs.space.Space.start.Goals as goal
 
-pub loop-hint-init : goal.loop-hint-init
-loop-hint-init c =
-    let ps = c.self.inside.pieces.items in
-    rw (c.jump-start.ensures, ← c.self.view_is)
-    (passed-over c.args.pages c.self.inside.filled (known_of c.self.inside.hints) ps
-    (filled-passed c.args.pages c.self.inside.filled ps c.requires.0 c.self.invariant.3) c.self.invariant.4.known)
+pub loop-group-init : goal.loop-group-init
+loop-group-init c = rw (← c.self.view_is) (filled-passed c.args.pages c.self.inside.filled c.self.inside.pieces.items c.requires.0 c.self.invariant.3)
 
-pub loop-hint-preserved : goal.loop-hint-preserved
-loop-hint-preserved c =
-    let ps = c.self.inside.pieces.items in
-    rw (c.jump-start-in-loop-hint.ensures, ← c.self.view_is)
-    (passed-over c.args.pages c.passed_to-reached.result (known_of c.self.inside.hints) ps
-    (rw c.deref.ensures.value at c.passed_to-reached.ensures) c.self.invariant.4.known)
+pub returns-then-count_ended-len : goal.returns-then-count_ended-len
+returns-then-count_ended-len c = rw (← c.self.view_is) (filled-passed c.args.pages c.self.inside.filled c.self.inside.pieces.items c.requires.0 c.self.invariant.3)

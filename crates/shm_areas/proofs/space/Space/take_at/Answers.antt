@@ -2,6 +2,7 @@ use Rattle.shm_areas.proofs.Names.{ap, ◌≡◌, ◌≤◌, ◌∙◌, length, 
 use Rattle.std.proofs.lemmas.List.Elements.{All-filter}
 use Rattle.std.proofs.lemmas.List.Sums.{length-filter, count_by-le-length}
 use Rattle.shm_areas.specs.Arranged.{SpaceView}
+use Rattle.shm_areas.specs.Gap.{IsKeptOutside}
 use Rattle.shm_areas.proofs.Edits.{arranged_filter, bare_filter}
 use Rattle.shm_areas.proofs.Filled.{filled-without, kept-without}
 use Rattle.shm_areas.proofs.Origins.{named-end, taken-run}
@@ -32,6 +33,10 @@ invariant_of-self c =
     let end-own : c.deref-2.result.now ≡ ps = cc in
     let ends = rw end-own at c.end_of_run-end.ensures in
     let fewer : length (stored_without c.args.addr c.args.seg ps) ≤ length ps = rw (length-filter stays ps) (count_by-le-length stays ps) in
+    let gone = left (goal.at.invariant_of-self c).After-take_named in
+    let kept : IsKeptOutside c.args.addr c.end_of_run-end.result ps c.deref-3.result.now = rw (c.deref-3.ensures.value, gone)
+    (kept-without c.args.addr c.args.seg c.end_of_run-end.result ps
+    (named-end c.args.addr c.args.seg c.self.inside.reach run.first run.last c.end_of_run-end.result ps c.self.invariant.2 (rw own at c.run_of_origin-run.ensures) ends)) in
     rw (left (goal.at.invariant_of-self c).After-take_named) (
       record {
         arranged = arranged_filter stays lowest_address ps c.self.invariant.0.arranged;
@@ -41,8 +46,13 @@ invariant_of-self c =
       omega (arith, c.take_named.ensures.capacity, c.self.invariant.1),
       All-filter stays (λ (p : Piece). p.first_page ≤ c.self.inside.reach) ps c.self.invariant.2,
       rw c.lowered-self-inside.ensures (filled-without c.self.inside.filled c.args.addr c.args.seg ps c.self.invariant.3),
-      c.lower.ensures.holds ps (stored_without c.args.addr c.args.seg ps)
-          (kept-without c.args.addr c.args.seg c.end_of_run-end.result ps
-          (named-end c.args.addr c.args.seg c.self.inside.reach run.first run.last c.end_of_run-end.result ps c.self.invariant.2 (rw own at c.run_of_origin-run.ensures) ends))
-          (c.note.ensures.holds ps (c.filled_after.ensures ps c.self.invariant.3) c.self.invariant.4),
+      c.widen.ensures.order,
+      rw (← gone, ← c.deref-3.ensures.value) (c.widen.ensures.right ps kept c.self.invariant.5),
+      rw (← gone, ← c.deref-3.ensures.value) (c.widen.ensures.groups ps kept c.self.invariant.5 c.self.invariant.6),
     )
+
+pub widen-requires-clause-arranged : goal.widen-requires-clause-arranged
+widen-requires-clause-arranged c =
+    let ps = c.self.inside.pieces.items in
+    rw (c.deref-3.ensures.value, left (goal.at.widen-requires-clause-arranged c).After-take_named)
+    (arranged_filter (λ (p : Piece). not (stored_named c.args.addr c.args.seg p)) lowest_address ps c.self.invariant.0.arranged)

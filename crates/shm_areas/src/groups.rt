@@ -1,0 +1,88 @@
+//! Groups: stretches over some stretches each, so that a search need not look at all of them.
+//!
+//! Group k is over the stretches from index k * GROUP_SIZE on. Each group is true of the present pieces, also
+//! if the stretches below it have changed.
+ghost use Rattle.std.specs.Prelude.{◌≡◌, ◌≤◌, ◌<◌, ℕ, true, List, length};
+ghost use Rattle.shm_base.specs.Space as flat;
+ghost use Rattle.shm_areas.specs.Arranged.{bare_all};
+ghost use Rattle.shm_areas.specs.Gap.{AreRight, IsBarrier, IsKeptOutside, IsStretch};
+ghost use Rattle.shm_areas.specs.declared.piece.Piece.{Piece as Stored};
+
+use crate::stretch::Stretch;
+
+/// How many stretches a group is over.
+const GROUP_SIZE: usize = 64;
+
+/// Which stretches a change concerned.
+#[derive(Clone, Copy)]
+pub(crate) enum Touched {
+    Nothing,
+    /// One has another number of pages.
+    One(usize),
+    /// Those from an index on have other indexes.
+    From(usize),
+}
+
+// The group at an index. It says nothing if there are no such stretches.
+fn group_at(stretches: &[Stretch], index: usize) -> Stretch
+    ensures { (ps : List Stored) → AreRight stretches.now ps → IsStretch result ps }
+{
+    let first = index.saturating_mul(GROUP_SIZE);
+    let last = stretches.len().min(first.saturating_add(GROUP_SIZE));
+    if last <= first {
+        return Stretch::empty(0);
+    }
+    let mut group = stretches[first];
+    for place in first..last {
+        group = group.joined(&stretches[place]);
+    }
+    group
+}
+
+// Makes the groups from an index on anew.
+fn renew_from(groups: &mut Vec<Stretch>, stretches: &[Stretch], index: usize)
+    ensures { (ps : List Stored) → AreRight stretches.now ps → AreRight groups.old.items ps
+        → AreRight groups.new.items ps }
+{
+    groups.truncate(index);
+    for next in index..stretches.len().div_ceil(GROUP_SIZE) {
+        if groups.push(group_at(stretches, next)).is_err() {
+            return;
+        }
+    }
+}
+
+/// Makes the groups anew that a change of the stretches concerns.
+pub(crate) fn regroup(groups: &mut Vec<Stretch>, stretches: &[Stretch], touched: Touched)
+    ensures { (ps : List Stored) → AreRight stretches.now ps → AreRight groups.old.items ps
+        → AreRight groups.new.items ps }
+{
+    match touched {
+        Touched::Nothing => {}
+        Touched::One(place) => {
+            if place / GROUP_SIZE < groups.len() {
+                groups[place / GROUP_SIZE] = group_at(stretches, place / GROUP_SIZE);
+            }
+        }
+        Touched::From(place) => renew_from(groups, stretches, place / GROUP_SIZE),
+    }
+}
+
+/// Makes the groups anew in which a wider gap may begin since addresses became free. The last piece below
+/// these ends at `low`.
+pub(crate) fn regroup_free(
+    groups: &mut Vec<Stretch>,
+    stretches: &[Stretch],
+    low: u64,
+    from: u64,
+    to: u64,
+)
+    ensures { (ps qs : List Stored) → IsKeptOutside from to ps qs → IsBarrier low from qs
+        → AreRight stretches.now qs → AreRight groups.old.items ps → AreRight groups.new.items qs }
+{
+    for index in 0..groups.len() {
+        if low < groups[index].to && groups[index].from < to {
+            groups[index] = group_at(stretches, index);
+        }
+    }
+}
