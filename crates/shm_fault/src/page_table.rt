@@ -10,6 +10,7 @@ ghost use Rattle.shm_fault.specs.Segs.{rec_at, no_page};
 ghost use Rattle.shm_fault.specs.Store.{is_swapped};
 
 use crate::page_tables::PageRec;
+use shm_base::FrameNo;
 use std::alloc::{AllocError, Global};
 use std::marker::Model;
 
@@ -63,14 +64,26 @@ impl Clone for PageTable {
 // Writes the records of the pages up to this one. Kept out of line, so that a page that has a record costs one
 // comparison.
 #[inline(never)]
-fn reach(pages: &mut Vec<PageRec>, page: u32)
+fn extend(pages: &mut Vec<PageRec>, page: u32)
     requires new { length pages.old.items ≤ page }
     requires room { page < vec_capacity pages.old }
     ensures pages { pages.new.items ≡ padded pages.old.items (page + 1) no_page }
-    ensures room { vec_capacity pages.new ≡ vec_capacity pages.old }
+    ensures room { vec_capacity pages.old ≤ vec_capacity pages.new }
 {
-    for _page in pages.len()..page as usize + 1 {
-        pages.push_reserved(PageRec::NOWHERE);
+    let Ok(()) = pages.resize(page as usize + 1, PageRec::NOWHERE) else {
+        unreachable!();
+    };
+}
+
+// Writes the records of the pages up to this one, if it has none.
+#[inline(always)]
+fn reach(pages: &mut Vec<PageRec>, page: u32)
+    requires { page < vec_capacity pages.old }
+    ensures pages { pages.new.items ≡ padded pages.old.items (page + 1) no_page }
+    ensures room { vec_capacity pages.old ≤ vec_capacity pages.new }
+{
+    if page as usize >= pages.len() {
+        extend(pages, page);
     }
 }
 
@@ -146,9 +159,17 @@ impl PageTable {
         requires { page < length self.old.pages }
         ensures { self.new ≡ record self.old { pages = set self.old.pages page rec } }
     {
-        if page as usize >= self.pages.len() {
-            reach(&mut self.pages, page);
-        }
+        reach(&mut self.pages, page);
         self.pages[page as usize] = rec;
+    }
+
+    /// Notes the frame that a page is in, or that it is in none.
+    pub(crate) fn set_frame(&mut self, page: u32, frame: Option<FrameNo>)
+        requires { page < length self.old.pages }
+        ensures { let rec = record (rec_at self.old.pages page) { frame = frame } in
+            self.new ≡ record self.old { pages = set self.old.pages page rec } }
+    {
+        reach(&mut self.pages, page);
+        self.pages[page as usize].frame = frame;
     }
 }

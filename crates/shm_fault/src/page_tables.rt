@@ -221,6 +221,17 @@ impl PageTables {
         self.by_id[index].set_page(page.page, rec);
     }
 
+    /// Notes the frame that a page is in, or that it is in none. Its table was found at `near`, and it keeps its slot.
+    pub(crate) fn set_frame(&mut self, near: usize, page: PageRef, frame: Option<FrameNo>)
+        requires { HasPage self.old page }
+        ensures { self.new ≡ with_rec self.old page (record (rec_by self.old page) { frame = frame }) }
+    {
+        let Some(index) = index_near(&self.by_id, near, page.seg) else {
+            unreachable!();
+        };
+        self.by_id[index].set_frame(page.page, frame);
+    }
+
     /// Locks or unlocks a segment.
     pub(crate) fn set_locked(&mut self, id: u32, locked: bool)
         ensures { self.new ≡ map (with_seg_lock id locked) self.old }

@@ -172,16 +172,8 @@ impl<P: Pager> PageStore<P> {
         ensures { Leaves frame self.old self.new result }
     {
         let page = self.frames.resident_page(frame);
-        let place = self.segs.page_in(table, page);
         self.frames.empty(frame);
-        self.segs.set_page(
-            table,
-            page,
-            PageRec {
-                frame: None,
-                slot: place.slot,
-            },
-        );
+        self.segs.set_frame(table, page, None);
         page
     }
 
@@ -260,15 +252,7 @@ impl<P: Pager> PageStore<P> {
         self.skips.forget(frame);
         self.frames.fill(frame, page);
         self.frames.set_referenced(frame, true);
-        let place = self.segs.page_in(table, page);
-        self.segs.set_page(
-            table,
-            page,
-            PageRec {
-                frame: Some(frame),
-                slot: place.slot,
-            },
-        );
+        self.segs.set_frame(table, page, Some(frame));
     }
 
     // Brings a page, whose table was found at `table`, into a free frame. If the read fails, the page stays
