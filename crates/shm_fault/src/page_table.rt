@@ -145,6 +145,7 @@ impl PageTable {
     }
 
     /// Where a page is.
+    #[inline(always)]
     pub(crate) fn page(&self, page: u32) -> PageRec
         ensures { result ≡ rec_at self.now.pages page }
     {
@@ -164,6 +165,7 @@ impl PageTable {
     }
 
     /// Notes the frame that a page is in, or that it is in none.
+    #[inline(always)]
     pub(crate) fn set_frame(&mut self, page: u32, frame: Option<FrameNo>)
         requires { page < length self.old.pages }
         ensures { let rec = record (rec_at self.old.pages page) { frame = frame } in

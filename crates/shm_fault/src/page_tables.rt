@@ -64,7 +64,8 @@ impl PageRec {
     };
 }
 
-// The place of a segment.
+// The place of a segment. Kept out of line, so that a table that is still where it was costs one comparison.
+#[inline(never)]
 fn index_of(by_id: &IndexMap<u32, PageTable>, id: u32) -> Option<usize>
     ensures some { IfSome result (λ i. seg_at by_id.now.entries i ≡ Some id) }
     ensures none { IfNone result (find_seg (segs_view by_id.now.entries) id ≡ None) }
@@ -74,6 +75,7 @@ fn index_of(by_id: &IndexMap<u32, PageTable>, id: u32) -> Option<usize>
 }
 
 // The same, where it was found at `near` before: mostly it is still there.
+#[inline(always)]
 fn index_near(by_id: &IndexMap<u32, PageTable>, near: usize, id: u32) -> Option<usize>
     ensures some { IfSome result (λ i. seg_at by_id.now.entries i ≡ Some id) }
     ensures none { IfNone result (find_seg (segs_view by_id.now.entries) id ≡ None) }
@@ -201,6 +203,7 @@ impl PageTables {
     }
 
     /// Where a page is, whose table was found at `near`.
+    #[inline(always)]
     pub(crate) fn page_in(&self, near: usize, page: PageRef) -> PageRec
         ensures { result ≡ rec_by self.now page }
     {
@@ -222,6 +225,7 @@ impl PageTables {
     }
 
     /// Notes the frame that a page is in, or that it is in none. Its table was found at `near`, and it keeps its slot.
+    #[inline(always)]
     pub(crate) fn set_frame(&mut self, near: usize, page: PageRef, frame: Option<FrameNo>)
         requires { HasPage self.old page }
         ensures { self.new ≡ with_rec self.old page (record (rec_by self.old page) { frame = frame }) }
