@@ -2,8 +2,8 @@
 //!
 //! They are seen in the order in which they were added, which the number of each table says. They are stored in
 //! another order: where one is taken out, the last takes its place, and no other table is looked at.
-ghost use Rattle.std.specs.Prelude.{◌≡◌, ◌<◌, ◌≤◌, ◌^◌, [], ◌∷◌, ◌++◌, sum_by, map, filter, not, ◌==◌, None, Some, IfSome, IfNone, IfOk, OnOk, OnErr};
-ghost use Rattle.shm_fault.specs.Segs.{SegRec, find_seg, rec_by, count_by_id, locked_by, page_count, HasPage, NowhereFrom, with_rec, with_seg_lock, new_seg};
+ghost use Rattle.std.specs.Prelude.{◌≡◌, ◌<◌, ◌≤◌, ◌^◌, [], ◌∷◌, ◌++◌, sum_by, map, filter, true, not, ◌==◌, None, Some, IfSome, IfNone, IfOk, OnOk, OnErr};
+ghost use Rattle.shm_fault.specs.Segs.{SegRec, find_seg, rec_by, count_by_id, locked_by, page_count, HasPage, is_placed, NowhereFrom, NowhereUpTo, with_rec, with_seg_lock, new_seg};
 ghost use Rattle.shm_fault.specs.Entries.{segs_view, seg_at};
 ghost use Rattle.shm_fault.specs.Store.{swapped_pages};
 
@@ -210,6 +210,22 @@ impl PageTables {
         match index_near(&self.by_id, near, page.seg) {
             Some(index) => self.by_id[index].page(page.page),
             None => PageRec::NOWHERE,
+        }
+    }
+
+    /// The first page of a segment, from `first` up to `last`, that is somewhere; `last` if there is none. The
+    /// segment's table was found at `near`.
+    pub(crate) fn next_placed(&self, near: usize, first: PageRef, last: u32) -> u32
+        requires { first.page ≤ last }
+        ensures on { first.page ≤ result }
+        ensures within { result ≤ last }
+        ensures over { NowhereUpTo first.page result first.seg self.now }
+        ensures stop { let page = record first { page = result } in
+            result < last → is_placed (rec_by self.now page) ≡ true }
+    {
+        match index_near(&self.by_id, near, first.seg) {
+            Some(index) => self.by_id[index].next_placed(first.page, last),
+            None => last,
         }
     }
 
