@@ -80,12 +80,10 @@ fn index_near(by_id: &IndexMap<u32, PageTable>, near: usize, id: u32) -> Option<
     ensures some { IfSome result (λ i. seg_at by_id.now.entries i ≡ Some id) }
     ensures none { IfNone result (find_seg (segs_view by_id.now.entries) id ≡ None) }
 {
-    if let Some((other, _)) = by_id.get_index(near) {
-        if *other == id {
-            return Some(near);
-        }
+    match by_id.get_index(near) {
+        Some((other, _)) if *other == id => Some(near),
+        _ => index_of(by_id, id),
     }
-    index_of(by_id, id)
 }
 
 impl PageTables {
