@@ -12,7 +12,7 @@ ghost use Rattle.shm_fault.specs.Store.{Still, slot_bytes};
 ghost use Rattle.shm_fault.specs.Sound.{IsStoreSound};
 ghost use Rattle.shm_fault.specs.Placing.{places, slotted, settled, referenced, after_visit, StopsAt};
 ghost use Rattle.shm_fault.specs.Access.{Visited};
-ghost use Rattle.shm_fault.specs.Paging.{FillsFrom, NamesVictim, Leaves, Loads, WritesBack, PagesOut, Cleans, Evicts, MakesRoom, ComesIn};
+ghost use Rattle.shm_fault.specs.Paging.{FillsFrom, NamesVictim, FindsSlot, Leaves, Loads, WritesBack, PagesOut, Cleans, Evicts, MakesRoom, ComesIn};
 ghost use Rattle.shm_fault.specs.Goes.{Goes, StaysAway, Visits, IsSeenIn, OnlyMoves, IsSlotOf, referenced_at, unlocked, frame_by};
 
 use crate::page_tables::{PageRec, PageTables};
@@ -106,17 +106,7 @@ impl<P: Pager> PageStore<P> {
         requires there { frame < length self.old.frames }
         requires owned { IsSome (frame_at self.old.frames frame).owner }
         requires dirty { (frame_at self.old.frames frame).dirty ≡ true }
-        ensures slot { IsSlotOf (frame_at self.old.frames frame).owner self.new.segs result }
-        ensures free { let owner = (frame_at self.old.frames frame).owner in
-            (page : Ref) → owner ≡ Some page → (rec_by self.old.segs page).slot ≡ None
-            → IsFirstFree self.old.swap None result }
-        ensures rest { self.new ≡ record self.old { segs = self.new.segs; swap = self.new.swap } }
-        ensures still { Still self.old self.new }
-        ensures away { StaysAway self.old self.new }
-        ensures goes { Goes self.old self.new }
-        ensures failures { total self.new.swap ≡ total self.old.swap }
-        ensures placed { places self.new ≡ slotted frame (places self.old) }
-        ensures sound { IsStoreSound self.new }
+        ensures { FindsSlot frame self.old self.new result }
     {
         let page = self.frames.resident_page(frame);
         let place = self.segs.page_in(table, page);
