@@ -52,8 +52,9 @@ impl<P: Pager> PageStore<P> {
         self.segs.set_page(near, page, PageRec::NOWHERE);
     }
 
-    // Takes the first page of a segment, from `first` up to `last`, that is somewhere out of its frame and its slot.
-    // Returns the number of the page after it; `last` if no page is anywhere. The segment's table was found at `near`.
+    // Takes the first page of a segment, from `first` up to `last`, that is somewhere out of its frame and its
+    // slot. Returns the number of the page after it; `last` if no page is anywhere. The segment's table was
+    // found at `near`.
     fn forget_next(&mut self, near: usize, first: PageRef, last: u32) -> u32
         requires more { first.page < last }
         requires there { last ≤ count_by_id self.old.segs first.seg }

@@ -41,9 +41,14 @@ impl Model for PageTable {
 
     ghost Value = { TableView };
 
-    ghost view = { λ t. record { number = t.number; locked = t.locked; pages = padded t.pages.items t.count no_page } };
+    ghost view = { λ t. record {
+      number = t.number;
+      locked = t.locked;
+      pages = padded t.pages.items t.count no_page;
+    } };
 
-    ghost invariant = { λ t. (length t.pages.items ≤ t.count) × (t.count ≤ vec_capacity t.pages) × (t.count < 2 ^ 32) };
+    ghost invariant = { λ t. (length t.pages.items ≤ t.count) × (t.count ≤ vec_capacity t.pages)
+        × (t.count < 2 ^ 32) };
 }
 
 impl Clone for PageTable {
@@ -77,8 +82,8 @@ fn grow(pages: &mut Vec<PageRec>, count: usize)
     };
 }
 
-// Writes the records of the pages up to this one, in runs. Kept out of line, so that a page that has a record costs
-// one comparison.
+// Writes the records of the pages up to this one, in runs. Kept out of line, so that a page that has a record
+// costs one comparison.
 #[inline(never)]
 fn extend(pages: &mut Vec<PageRec>, page: u32)
     requires new { length pages.old.items ≤ page }

@@ -211,8 +211,8 @@ impl PageTables {
         }
     }
 
-    /// The first page of a segment, from `first` up to `last`, that is somewhere; `last` if there is none. The
-    /// segment's table was found at `near`.
+    /// The first page of a segment, from `first` up to `last`, that is somewhere; `last` if there is none.
+    /// The segment's table was found at `near`.
     pub(crate) fn next_placed(&self, near: usize, first: PageRef, last: u32) -> u32
         requires { first.page ≤ last }
         ensures on { first.page ≤ result }
@@ -238,7 +238,8 @@ impl PageTables {
         self.by_id[index].set_page(page.page, rec);
     }
 
-    /// Notes the frame that a page is in, or that it is in none. Its table was found at `near`, and it keeps its slot.
+    /// Notes the frame that a page is in, or that it is in none. The page keeps its slot. Its table was found
+    /// at `near`.
     #[inline(always)]
     pub(crate) fn set_frame(&mut self, near: usize, page: PageRef, frame: Option<FrameNo>)
         requires { HasPage self.old page }

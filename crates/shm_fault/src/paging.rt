@@ -1,19 +1,16 @@
 //! Pages that come into a frame and leave it. Each step here keeps all bytes of all segments.
-ghost use Rattle.std.specs.Prelude.{◌≡◌, ◌≢◌, ℕ, ◌+◌, ◌<◌, ◌≤◌, ◌^◌, true, false, not, [], length, set, Option, Some, None, ◌&&◌, is_ok, IfOk, OnOk, OnErr, IsSome, MatchOption};
+ghost use Rattle.std.specs.Prelude.{◌≡◌, ◌≢◌, ℕ, ◌+◌, ◌<◌, ◌≤◌, ◌^◌, true, false, not, [], length, set, Option, Some, None, is_ok, IfOk, OnOk, OnErr, IsSome, MatchOption};
 ghost use Rattle.shm_base.specs.declared.bounds.TheConstants.{MOST_FRAMES};
-ghost use Rattle.shm_base.specs.declared.paging.PageRef.{PageRef as Ref};
-ghost use Rattle.shm_slots.specs.View.{HasSlot, IsFirstFree};
-ghost use Rattle.shm_slots.specs.Cause.{total};
+ghost use Rattle.shm_slots.specs.View.{HasSlot};
 ghost use Rattle.shm_frames.specs.Frame.{frame_at, OwnedBelow};
 ghost use Rattle.shm_clock.specs.Clock.{may_go, candidates, victim_of, passed_by, unset_all, next, IsClockVictim};
 ghost use Rattle.shm_clock.specs.Skips.{AreSkipped};
 ghost use Rattle.shm_fault.specs.Segs.{rec_by, HasPage};
-ghost use Rattle.shm_fault.specs.Store.{Still, slot_bytes};
-ghost use Rattle.shm_fault.specs.Sound.{IsStoreSound};
-ghost use Rattle.shm_fault.specs.Placing.{places, slotted, settled, referenced, after_visit, StopsAt};
+ghost use Rattle.shm_fault.specs.Store.{slot_bytes};
+ghost use Rattle.shm_fault.specs.Placing.{places, settled, referenced, after_visit, StopsAt};
 ghost use Rattle.shm_fault.specs.Access.{Visited};
 ghost use Rattle.shm_fault.specs.Paging.{FillsFrom, NamesVictim, FindsSlot, Leaves, Loads, WritesBack, PagesOut, Cleans, Evicts, MakesRoom, ComesIn};
-ghost use Rattle.shm_fault.specs.Goes.{Goes, StaysAway, Visits, IsSeenIn, OnlyMoves, IsSlotOf, referenced_at, unlocked, frame_by};
+ghost use Rattle.shm_fault.specs.Goes.{Visits, IsSeenIn, OnlyMoves, IsSlotOf, referenced_at, unlocked, frame_by};
 
 use crate::page_tables::{PageRec, PageTables};
 use crate::store::PageStore;
