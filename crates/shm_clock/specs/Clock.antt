@@ -90,3 +90,8 @@ pub record IsClockVictim
         referenced = is_referenced before i && not (may i && is_passed hand before victim i);
       }
   pub size : length after ≡ length before
+
+-- the code may be called, and its answer for a page is whether the page passes
+pub record Decides (Callable : Type 0) (answers : PageRef → Bool → Type 0) (passes : PageRef → Bool) : Type 0 where
+  pub callable : Callable
+  pub each : (page : PageRef) (answer : Bool) → answers page answer → answer ≡ passes page

@@ -9,7 +9,7 @@
 ghost use Rattle.std.specs.Prelude.{ℕ, ◌≡◌, true, false, ◌≢◌, ◌+◌, ◌-◌, ◌*◌, ◌<◌, ◌≤◌, ◌^◌, [], Bool, length};
 ghost use Rattle.shm_base.specs.declared.paging.PageRef.{PageRef};
 ghost use Rattle.shm_frames.specs.Frame.{frame_at};
-ghost use Rattle.shm_clock.specs.Clock.{ring_at, owner_passes, may_go, candidates, victim_of, unset_all, passed_by, looked_at, next, IsClockVictim};
+ghost use Rattle.shm_clock.specs.Clock.{ring_at, owner_passes, may_go, candidates, victim_of, unset_all, passed_by, looked_at, next, IsClockVictim, Decides};
 ghost use Rattle.shm_clock.specs.Skips.{AreSkipped};
 
 use shm_base::{FrameNo, PageRef};
@@ -33,9 +33,7 @@ fn frame_after(hand: FrameNo, step: u32, count: u32) -> FrameNo
 fn passes<E: Fn(PageRef) -> bool>(frames: &Frames, frame: FrameNo, eligible: &E) -> bool
     ghost passes: { PageRef → Bool }
     requires there { frame < length frames.now }
-    requires callable { E.IsAlwaysCallable eligible.now }
-    requires answers { (page : PageRef) (answer : Bool)
-        → E.post eligible.now page answer → answer ≡ passes page }
+    requires eligible { Decides (E.IsAlwaysCallable eligible.now) (E.post eligible.now) passes }
     ensures { result ≡ owner_passes passes (frame_at frames.now frame).owner }
 {
     match frames.owner(frame) {
@@ -53,9 +51,7 @@ fn may_go<E: Fn(PageRef) -> bool>(
 ) -> bool
     ghost passes: { PageRef → Bool }
     requires there { frame < length frames.now }
-    requires callable { E.IsAlwaysCallable eligible.now }
-    requires answers { (page : PageRef) (answer : Bool)
-        → E.post eligible.now page answer → answer ≡ passes page }
+    requires eligible { Decides (E.IsAlwaysCallable eligible.now) (E.post eligible.now) passes }
     ensures { result ≡ may_go passes pinned frames.now frame }
 {
     let is_pinned = match pinned {
@@ -76,9 +72,7 @@ fn next_passing<E: Fn(PageRef) -> bool>(
     ghost passes: { PageRef → Bool }
     requires there { last ≤ length frames.now }
     requires order { first ≤ last }
-    requires callable { E.IsAlwaysCallable eligible.now }
-    requires answers { (page : PageRef) (answer : Bool)
-        → E.post eligible.now page answer → answer ≡ passes page }
+    requires eligible { Decides (E.IsAlwaysCallable eligible.now) (E.post eligible.now) passes }
     ensures on { first ≤ result }
     ensures within { result ≤ last }
     ensures over { (i : ℕ) → first ≤ i → i < result
@@ -105,9 +99,7 @@ fn stride<E: Fn(PageRef) -> bool>(
 ) -> u32
     ghost passes: { PageRef → Bool }
     requires there { frame < length frames.now }
-    requires callable { E.IsAlwaysCallable eligible.now }
-    requires answers { (page : PageRef) (answer : Bool)
-        → E.post eligible.now page answer → answer ≡ passes page }
+    requires eligible { Decides (E.IsAlwaysCallable eligible.now) (E.post eligible.now) passes }
     requires skipped { AreSkipped passes frames.now skips.old }
     ensures on { 1 ≤ result }
     ensures within { frame + result ≤ length frames.now }
@@ -139,9 +131,7 @@ fn turn<E: Fn(PageRef) -> bool>(
 ) -> FrameNo
     ghost passes: { PageRef → Bool }
     requires hand { hand < length frames.old }
-    requires callable { E.IsAlwaysCallable eligible.now }
-    requires answers { (page : PageRef) (answer : Bool)
-        → E.post eligible.now page answer → answer ≡ passes page }
+    requires eligible { Decides (E.IsAlwaysCallable eligible.now) (E.post eligible.now) passes }
     requires one { candidates passes pinned frames.old hand ≢ [] }
     requires countable { looks.old + length frames.old < 2 ^ 64 }
     requires skipped { AreSkipped passes frames.old skips.old }
@@ -192,9 +182,7 @@ pub fn victim<E: Fn(PageRef) -> bool>(
 ) -> FrameNo
     ghost passes: { PageRef → Bool }
     requires hand { hand.old < length frames.old }
-    requires callable { E.IsAlwaysCallable eligible.now }
-    requires answers { (page : PageRef) (answer : Bool)
-        → E.post eligible.now page answer → answer ≡ passes page }
+    requires eligible { Decides (E.IsAlwaysCallable eligible.now) (E.post eligible.now) passes }
     requires one { candidates passes pinned frames.old hand.old ≢ [] }
     requires countable { looks.old + length frames.old < 2 ^ 64 }
     requires skipped { AreSkipped passes frames.old skips.old }

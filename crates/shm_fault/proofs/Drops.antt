@@ -1,5 +1,5 @@
 -- A page that leaves its frame and its slot for good.
-use Rattle.shm_fault.proofs.Names.{◌≡◌, ◌≢◌, ℕ, zero, suc, ◌<◌, ◌≤◌, ◌+◌, true, List, [], ◌∷◌, length, set, map, sum_by, Option, Some, None, refl, sym, ap, ◌∙◌, inl, inr, arith, get_or-set_same, not, eqb, cases_eq, cases_lt, eq-eqb, ne_eqb, length-replicate, set-get_or, PageRef, Slot, without, SwapView, owner_of, page_in, without_slot, IsSwap, IsSteady, Frame, frame_at, PageRec, SegRec, AreApart, but, no_page, find_seg, rec_by, count_by_id, HasPage, NowhereFrom, with_rec, page_count, locked_pages, StoreView, held_by, disowned, IsTied, IsStoreSound, outline, outlines, emptied, Given, IsBlank, Dropped, AtRest, sum_by-filter_both, nat_tests, common_steps}
+use Rattle.shm_fault.proofs.Names.{◌≡◌, ◌≢◌, ℕ, zero, suc, ◌<◌, ◌≤◌, ◌+◌, true, List, [], ◌∷◌, length, set, map, sum_by, Option, Some, None, refl, sym, ap, ◌∙◌, inl, inr, arith, get_or-set_same, not, eqb, cases_eq, cases_lt, eq-eqb, ne_eqb, length-replicate, set-get_or, PageRef, Slot, without, SwapView, owner_of, page_in, without_slot, IsSwap, IsSteady, Frame, frame_at, PageRec, SegRec, AreApart, but, no_page, find_seg, rec_by, count_by_id, HasPage, NowhereUpTo, with_rec, page_count, locked_pages, StoreView, held_by, disowned, IsTied, IsStoreSound, outline, outlines, emptied, Given, IsBlank, Dropped, StayNowhere, AtRest, sum_by-filter_both, nat_tests, common_steps}
 use Rattle.shm_pager.specs.Pages.{zero_page}
 use Rattle.shm_fault.specs.Store.{held}
 use Rattle.shm_fault.proofs.Entries.{apart-filter, edit-none, find-but, find-out}
@@ -151,21 +151,17 @@ dropped-more seg n s t u d has segs bytes frames slots size steady rest same pla
     }
 
 -- pages that are nowhere are so as they are
-pub dropped-rest : (seg n k : ℕ) (s t : StoreView) → AreApart t.segs → NowhereFrom n seg t.segs → n + k ≤ count_by_id t.segs seg → Dropped seg n s t → Dropped seg (n + k) s t
+pub dropped-rest : (seg n k : ℕ) (s t : StoreView) → AreApart t.segs → NowhereUpTo n (n + k) seg t.segs → n + k ≤ count_by_id t.segs seg → Dropped seg n s t → Dropped seg (n + k) s t
 dropped-rest seg n zero s t apart none few d = let e : n + 0 ≡ n = omega arith in rw e d
 dropped-rest seg n (suc k) s t apart none few d =
     let r : PageRef = record { seg = seg; page = n + k } in
-    let at : rec_by t.segs r ≡ no_page = none (n + k) (omega arith) in
-    let before = dropped-rest seg n k s t apart none (omega (arith, few)) d in
+    let at : rec_by t.segs r ≡ no_page = none (n + k) (omega arith) (omega arith) in
+    let before = dropped-rest seg n k s t apart (λ page le lt. none page le (omega (arith, lt))) (omega (arith, few)) d in
     let same = with-is t.segs r no_page apart at in
     let steady : IsSteady t.swap t.swap = record { goes_on = GoesOn-refl t.swap; failures = refl; same_sizes = refl } in
     let rest : AtRest t t = record { hand = refl; ins = refl; outs = refl } in
     let e : n + suc k ≡ n + k + 1 = omega arith in
     rw e (dropped-more seg (n + k) s t t before (omega (arith, few)) (sym same) refl (λ f. refl) (λ j. refl) refl steady rest (λ none. refl) (forget-nowhere t r same at))
-
--- the pages of a segment that are nowhere are so still
-abbrev pub StayNowhere : ℕ → StoreView → StoreView → Type 0
-StayNowhere seg s t = (page : ℕ) → rec_by s.segs (record { seg = seg; page = page }) ≡ no_page → rec_by t.segs (record { seg = seg; page = page }) ≡ no_page
 
 pub nowhere-more : (seg n : ℕ) (s t u : StoreView) → StayNowhere seg s t → HasPage t.segs (record { seg = seg; page = n }) → u.segs ≡ with_rec t.segs (record { seg = seg; page = n }) no_page → StayNowhere seg s u
 nowhere-more seg n s t u stay has segs page none =

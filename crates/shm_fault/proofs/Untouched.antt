@@ -1,6 +1,7 @@
 -- Page tables of which only a beginning is written.
-use Rattle.shm_fault.proofs.Names.{◌≡◌, ℕ, ◌-◌, ◌+◌, ◌<◌, ◌≤◌, ◌&&◌, Bool, true, eqb, Option, None, Some, refl, Slot, List, length, replicate, set, cond, ap, arith, ◌∙◌, count_by, get_or_past, length-set, sum_by-append, PageRec, no_page, rec_at, is_swapped}
+use Rattle.shm_fault.proofs.Names.{◌≡◌, ℕ, ◌-◌, ◌+◌, ◌<◌, ◌≤◌, ◌&&◌, Bool, true, eqb, Option, None, Some, refl, Slot, List, length, replicate, set, cond, ap, arith, ◌∙◌, count_by, get_or, get_or_past, length-set, sym, sum_by-append, PageRec, no_page, rec_at, is_swapped}
 use Rattle.std.proofs.lemmas.List.Folds.{sum_by-replicate}
+use Rattle.std.proofs.lemmas.List.{get_or_default}
 use Rattle.std.specs.Option.{option_eq}
 use Rattle.shm_pager.specs.Padded.{padded}
 use Rattle.shm_pager.proofs.Padded.{get_or-padded, set-padded, padded-padded, within-padded, fits-padded}
@@ -18,6 +19,12 @@ pub edit-reached : (ps : List PageRec) (n page : ℕ) (p : PageRec) → length p
 edit-reached ps n page p within there =
     set-padded (padded ps (page + 1) no_page) n page p no_page (within-padded ps (page + 1) page no_page (omega arith))
     ∙ ap (λ qs. set qs page p) (padded-padded ps (page + 1) n no_page (omega (arith, there)) within)
+
+-- what is read of a page once it has a record
+pub read-reached : (ps : List PageRec) (n page : ℕ) (x : PageRec) → x ≡ get_or (padded ps (page + 1) no_page) page x → x ≡ rec_at (padded ps n no_page) page
+read-reached ps n page x is =
+    is ∙ get_or_default (padded ps (page + 1) no_page) page x no_page (within-padded ps (page + 1) page no_page (omega arith))
+    ∙ get_or-padded ps (page + 1) page no_page ∙ sym (get_or-padded ps n page no_page)
 
 -- the number of pages is unchanged
 pub fits-reached : (ps : List PageRec) (n page : ℕ) (p : PageRec) → length ps ≤ n → page < n → length (set (padded ps (page + 1) no_page) page p) ≤ n

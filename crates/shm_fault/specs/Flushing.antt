@@ -7,9 +7,11 @@ use Rattle.shm_fault.specs.Held.{holds_locked}
 use Rattle.shm_slots.specs.Cause.{total, some_spent}
 use Rattle.shm_frames.specs.Frame.{frame_at}
 use Rattle.shm_clock.specs.Clock.{owner_passes}
-use Rattle.shm_fault.specs.Store.{StoreView, held}
-use Rattle.shm_fault.specs.Counting.{raised}
-use Rattle.shm_fault.specs.Placing.{places, after_flush}
+use Rattle.shm_fault.specs.Store.{StoreView, Still, held, marked}
+use Rattle.shm_fault.specs.Sound.{IsStoreSound}
+use Rattle.shm_fault.specs.Goes.{Goes, OnlyWrites}
+use Rattle.shm_fault.specs.Counting.{one_if, raised}
+use Rattle.shm_fault.specs.Placing.{places, after_flush, after_page_out}
 
 -- the frame is dirty, and its segment is not locked
 abbrev pub may_flush : StoreView → ℕ → Bool
@@ -27,6 +29,19 @@ chosen s n = take n (dirty_list s)
 
 abbrev pub dirty_after : StoreView → ℕ → Bool
 dirty_after s f = (frame_at s.frames f).dirty
+
+-- One dirty frame was written, or that failed and it is still dirty. The report counts which.
+pub record WritesOne (f : ℕ) (s t : StoreView) (before after : FlushReport) : Type 0 where
+  pub frames : t.frames ≡ marked s.frames f (dirty_after t f)
+  pub still : Still s t
+  pub goes : Goes s t
+  pub sum : after.written + after.failed ≡ before.written + before.failed + 1
+  pub failed : after.failed ≡ before.failed + one_if (dirty_after t f)
+  pub counted : some_spent t.swap ≡ false → total t.swap ≡ total s.swap + one_if (dirty_after t f)
+  pub written_out : (n : ℕ) → s.outs ≡ raised n before.written → t.outs ≡ raised n after.written
+  pub rest : OnlyWrites s t
+  pub placed : places t ≡ after_page_out f (not (dirty_after t f)) (places s)
+  pub sound : IsStoreSound t
 
 pub record IsFlushed (before after : StoreView) (n : ℕ) (report : FlushReport) : Type 0 where
   pub sum : report.written + report.failed ≡ min n (length (dirty_list before))

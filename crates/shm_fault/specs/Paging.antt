@@ -2,8 +2,8 @@
 use Rattle.std.specs.Prelude.{ℕ, ◌≡◌, ◌<◌, ◌≤◌, ◌+◌, List, set, ◌&&◌, Bool, true, false, not, Option, Some, None, Result, MatchResult, IfOk, OnOk, OnErr, is_ok, is_some, length}
 use Rattle.shm_base.specs.declared.paging.PageRef.{PageRef}
 use Rattle.shm_base.specs.declared.paging.Slot.{Slot}
-use Rattle.shm_slots.specs.View.{SwapView, SameSlots, IsSwap, sizes}
-use Rattle.shm_slots.specs.Cause.{had_cause, GoesOn}
+use Rattle.shm_slots.specs.View.{SwapView, SameSlots, IsFirstFree, IsSwap, sizes}
+use Rattle.shm_slots.specs.Cause.{had_cause, GoesOn, total}
 use Rattle.shm_clock.specs.Clock.{may_go}
 use Rattle.shm_frames.specs.Frame.{Frame, frame_at, no_frame}
 use Rattle.shm_fault.specs.declared.paging.Evicted.{Evicted}
@@ -11,9 +11,9 @@ use Rattle.shm_fault.specs.declared.touched.Touched.{Touched}
 use Rattle.shm_fault.specs.Segs.{rec_by, with_rec}
 use Rattle.shm_fault.specs.Store.{StoreView, Still, IsFreeFrame, marked, slot_bytes}
 use Rattle.shm_fault.specs.Sound.{IsStoreSound}
-use Rattle.shm_fault.specs.Goes.{Goes, Alike, unlocked, StaysAway, Visits, MovesOn, OnlyMoves, OnlyWrites, CountsWrite, frame_by, referenced_at}
+use Rattle.shm_fault.specs.Goes.{Goes, Alike, unlocked, StaysAway, Visits, MovesOn, OnlyMoves, OnlyWrites, CountsWrite, IsSlotOf, frame_by, referenced_at}
 use Rattle.shm_fault.specs.Counting.{raised, one_if, CountsOn, victim_by, turned, hand_for_frame}
-use Rattle.shm_fault.specs.Placing.{places, after_page_out, after_clean, after_turn, after_eviction, after_room, frame_for, settled, vacated, victim_in, with_bit, StopsAtWrite}
+use Rattle.shm_fault.specs.Placing.{places, after_page_out, after_clean, after_turn, after_eviction, after_room, frame_for, settled, slotted, vacated, victim_in, with_bit, StopsAtWrite}
 
 -- A frame got the bytes of a slot, or zeros. If a pager failed its bytes are unknown.
 pub record FillsFrom
@@ -65,6 +65,19 @@ pub record Loads
   pub slot : OnErr result (is_some from ≡ true)
   pub visits : (page : PageRef) (pinned : Option ℕ) → Visits page pinned s t
   pub cause : OnErr result (had_cause s.swap t.swap ≡ true)
+
+-- The slot of the page in a dirty frame. If it had none, it got the lowest free slot of the first area that has one.
+pub record FindsSlot (frame : ℕ) (s t : StoreView) (slot : Slot) : Type 0 where
+  pub is : IsSlotOf (frame_at s.frames frame).owner t.segs slot
+  pub free : (page : PageRef) → (frame_at s.frames frame).owner ≡ Some page
+      → (rec_by s.segs page).slot ≡ None → IsFirstFree s.swap None slot
+  pub rest : t ≡ record s { segs = t.segs; swap = t.swap }
+  pub still : Still s t
+  pub away : StaysAway s t
+  pub goes : Goes s t
+  pub failures : total t.swap ≡ total s.swap
+  pub placed : places t ≡ slotted frame (places s)
+  pub sound : IsStoreSound t
 
 -- a dirty frame was written to its page's slot; if that failed it is still dirty
 pub record WritesBack {A E : Type 0} (frame : ℕ) (s t : StoreView) (result : Result A E) : Type 0 where

@@ -1,5 +1,5 @@
 -- Segments by identifier, and where each of their pages is.
-use Rattle.std.specs.Prelude.{ℕ, ◌≡◌, ◌==◌, ◌<◌, ◌≤◌, Bool, false, if◌then◌else◌, List, [], ◌∷◌, Option, Some, None, map, length, get_or, set, replicate, filter, not}
+use Rattle.std.specs.Prelude.{ℕ, ◌≡◌, ◌==◌, ◌<◌, ◌≤◌, Bool, false, if◌then◌else◌, List, [], ◌∷◌, Option, Some, None, map, length, get_or, set, replicate, filter, not, is_some, ◌||◌}
 use Rattle.shm_base.specs.declared.paging.PageRef.{PageRef}
 use Rattle.shm_fault.specs.declared.page_tables.PageRec.{PageRec}
 
@@ -18,6 +18,10 @@ pub record TableView : Type 0 where
 -- a page without frame and slot: all its bytes are zero
 abbrev pub no_page : PageRec
 no_page = record { frame = None; slot = None }
+
+-- the page has a frame or a slot
+abbrev pub is_placed : PageRec → Bool
+is_placed p = is_some p.frame || is_some p.slot
 
 abbrev pub rec_at : List PageRec → ℕ → PageRec
 rec_at pages page = get_or pages page no_page
@@ -61,6 +65,10 @@ locked_by gs id = lock_in (find_seg gs id)
 -- the pages of a segment from `first` on have neither frame nor slot
 abbrev pub NowhereFrom : ℕ → ℕ → List SegRec → Type 0
 NowhereFrom first id gs = (page : ℕ) → first ≤ page → rec_by gs (record { seg = id; page = page }) ≡ no_page
+
+-- so do the pages from `first` up to `last`
+abbrev pub NowhereUpTo : ℕ → ℕ → ℕ → List SegRec → Type 0
+NowhereUpTo first last id gs = (page : ℕ) → first ≤ page → page < last → rec_by gs (record { seg = id; page = page }) ≡ no_page
 
 -- the segment, with another place for one page
 abbrev pub seg_with : PageRef → PageRec → SegRec → SegRec

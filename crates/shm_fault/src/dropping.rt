@@ -1,11 +1,11 @@
 //! Segments that go, with their frames and slots.
-ghost use Rattle.std.specs.Prelude.{◌≡◌, true};
+ghost use Rattle.std.specs.Prelude.{◌≡◌, ◌<◌, ◌≤◌, true};
 ghost use Rattle.shm_fault.specs.Held.{is_held};
 ghost use Rattle.shm_slots.specs.View.{IsSwap};
 ghost use Rattle.shm_slots.specs.Cause.{IsSteady};
-ghost use Rattle.shm_fault.specs.Segs.{HasPage};
+ghost use Rattle.shm_fault.specs.Segs.{count_by_id, HasPage};
 ghost use Rattle.shm_fault.specs.Store.{held};
-ghost use Rattle.shm_fault.specs.Dropping.{emptied, Given, FrameThere, SlotThere, Forgets, Drops};
+ghost use Rattle.shm_fault.specs.Dropping.{emptied, Given, FrameThere, SlotThere, Forgets, DropsOn, Drops};
 
 use crate::page_tables::PageRec;
 use crate::store::PageStore;
@@ -52,6 +52,30 @@ impl<P: Pager> PageStore<P> {
         self.segs.set_page(near, page, PageRec::NOWHERE);
     }
 
+    // Takes the first page of a segment, from `first` up to `last`, that is somewhere out of its frame and its
+    // slot. Returns the number of the page after it; `last` if no page is anywhere. The segment's table was
+    // found at `near`.
+    fn forget_next(&mut self, near: usize, first: PageRef, last: u32) -> u32
+        requires more { first.page < last }
+        requires there { last ≤ count_by_id self.old.segs first.seg }
+        ensures on { first.page < result }
+        ensures within { result ≤ last }
+        ensures drops { DropsOn first.seg first.page result self.old self.new }
+    {
+        let page = self.segs.next_placed(near, first, last);
+        if page == last {
+            return last;
+        }
+        self.forget(
+            near,
+            PageRef {
+                seg: first.seg,
+                page,
+            },
+        );
+        page + 1
+    }
+
     /// Takes a segment out, and its pages out of their frames and slots, which are free then. No pager is
     /// asked for a page, and nothing is counted. The other segments' bytes stay, and where none of its
     /// pages was anywhere, so does all else. The segment is held.
@@ -61,8 +85,9 @@ impl<P: Pager> PageStore<P> {
     {
         let near = self.segs.find(seg);
         let touched = self.segs.touched(seg);
-        for page in 0..touched {
-            self.forget(near, PageRef { seg, page });
+        let mut page = 0;
+        while page < touched {
+            page = self.forget_next(near, PageRef { seg, page }, touched);
         }
         self.segs.remove(seg);
     }

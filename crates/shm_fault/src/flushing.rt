@@ -1,15 +1,12 @@
 //! Dirty frames written out before their pages have to go.
-ghost use Rattle.std.specs.Prelude.{◌≡◌, ℕ, ◌+◌, ◌-◌, ◌<◌, ◌^◌, true, false, not, length, IsSome};
+ghost use Rattle.std.specs.Prelude.{◌≡◌, ◌+◌, ◌-◌, ◌<◌, ◌^◌, true, false, not, length, IsSome};
 ghost use Rattle.shm_slots.specs.View.{sizes};
-ghost use Rattle.shm_slots.specs.Cause.{GoesOn, total, some_spent};
+ghost use Rattle.shm_slots.specs.Cause.{GoesOn};
 ghost use Rattle.shm_frames.specs.Frame.{frame_at};
-ghost use Rattle.shm_fault.specs.Store.{held, Still, marked};
+ghost use Rattle.shm_fault.specs.Store.{held, Still};
 ghost use Rattle.shm_fault.specs.Sound.{IsStoreSound};
 ghost use Rattle.shm_fault.specs.Steps.{LockedPagesStay};
-ghost use Rattle.shm_fault.specs.Goes.{Goes, OnlyWrites};
-ghost use Rattle.shm_fault.specs.Counting.{one_if, raised};
-ghost use Rattle.shm_fault.specs.Placing.{places, after_page_out};
-ghost use Rattle.shm_fault.specs.Flushing.{IsFlushed, may_flush, dirty_after};
+ghost use Rattle.shm_fault.specs.Flushing.{IsFlushed, WritesOne, may_flush};
 
 use crate::store::PageStore;
 use shm_base::{FlushReport, FrameNo};
@@ -34,19 +31,7 @@ impl<P: Pager> PageStore<P> {
         requires owned { IsSome (frame_at self.old.frames frame).owner }
         requires dirty { (frame_at self.old.frames frame).dirty ≡ true }
         requires small { report.old.written + report.old.failed < 2 ^ 64 - 1 }
-        ensures frames { self.new.frames ≡ marked self.old.frames frame (dirty_after self.new frame) }
-        ensures still { Still self.old self.new }
-        ensures goes { Goes self.old self.new }
-        ensures sum { report.new.written + report.new.failed ≡ report.old.written + report.old.failed + 1 }
-        ensures failed { report.new.failed ≡ report.old.failed + one_if (dirty_after self.new frame) }
-        ensures counted { let failed = one_if (dirty_after self.new frame) in
-            some_spent self.new.swap ≡ false → total self.new.swap ≡ total self.old.swap + failed }
-        ensures written_out { (n : ℕ) → self.old.outs ≡ raised n report.old.written
-            → self.new.outs ≡ raised n report.new.written }
-        ensures rest { OnlyWrites self.old self.new }
-        ensures placed { let written = not (dirty_after self.new frame) in
-            places self.new ≡ after_page_out frame written (places self.old) }
-        ensures sound { IsStoreSound self.new }
+        ensures { WritesOne frame self.old self.new report.old report.new }
     {
         let table = self.table_of(frame, 0);
         match self.page_out(frame, table) {

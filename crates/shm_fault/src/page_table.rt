@@ -4,12 +4,13 @@
 //! Room for the records of all its pages is reserved when the table is made. A record is written once its page is
 //! somewhere, together with those of the pages before it. So pages that nobody touches cost nothing, neither when the
 //! table is made nor when it goes.
-ghost use Rattle.std.specs.Prelude.{◌≡◌, ℕ, ◌+◌, ◌<◌, ◌≤◌, ◌^◌, length, count_by, set, replicate, vec_capacity, false, IfOk};
+ghost use Rattle.std.specs.Prelude.{◌≡◌, ℕ, ◌+◌, ◌<◌, ◌≤◌, ◌^◌, length, count_by, set, replicate, vec_capacity, false, true, IfOk};
 ghost use Rattle.shm_pager.specs.Padded.{padded};
-ghost use Rattle.shm_fault.specs.Segs.{rec_at, no_page};
+ghost use Rattle.shm_fault.specs.Segs.{rec_at, no_page, is_placed};
 ghost use Rattle.shm_fault.specs.Store.{is_swapped};
 
 use crate::page_tables::PageRec;
+use shm_base::FrameNo;
 use std::alloc::{AllocError, Global};
 use std::marker::Model;
 
@@ -40,9 +41,14 @@ impl Model for PageTable {
 
     ghost Value = { TableView };
 
-    ghost view = { λ t. record { number = t.number; locked = t.locked; pages = padded t.pages.items t.count no_page } };
+    ghost view = { λ t. record {
+      number = t.number;
+      locked = t.locked;
+      pages = padded t.pages.items t.count no_page;
+    } };
 
-    ghost invariant = { λ t. (length t.pages.items ≤ t.count) × (t.count ≤ vec_capacity t.pages) × (t.count < 2 ^ 32) };
+    ghost invariant = { λ t. (length t.pages.items ≤ t.count) × (t.count ≤ vec_capacity t.pages)
+        × (t.count < 2 ^ 32) };
 }
 
 impl Clone for PageTable {
@@ -60,18 +66,65 @@ impl Clone for PageTable {
     }
 }
 
-// Writes the records of the pages up to this one. Kept out of line, so that a page that has a record costs one
-// comparison.
+// How many records are written at once.
+const RUN: usize = 64;
+
+// Writes records of pages that are nowhere, until there are this many.
+#[inline(always)]
+fn grow(pages: &mut Vec<PageRec>, count: usize)
+    requires more { length pages.old.items ≤ count }
+    requires room { count ≤ vec_capacity pages.old }
+    ensures pages { pages.new.items ≡ padded pages.old.items count no_page }
+    ensures room { vec_capacity pages.old ≤ vec_capacity pages.new }
+{
+    let Ok(()) = pages.resize(count, PageRec::NOWHERE) else {
+        unreachable!();
+    };
+}
+
+// Writes the records of the pages up to this one, in runs. Kept out of line, so that a page that has a record
+// costs one comparison.
 #[inline(never)]
-fn reach(pages: &mut Vec<PageRec>, page: u32)
+fn extend(pages: &mut Vec<PageRec>, page: u32)
     requires new { length pages.old.items ≤ page }
     requires room { page < vec_capacity pages.old }
     ensures pages { pages.new.items ≡ padded pages.old.items (page + 1) no_page }
-    ensures room { vec_capacity pages.new ≡ vec_capacity pages.old }
+    ensures room { vec_capacity pages.old ≤ vec_capacity pages.new }
 {
-    for _page in pages.len()..page as usize + 1 {
-        pages.push_reserved(PageRec::NOWHERE);
+    let count = page as usize + 1;
+    for _run in 0..(count - pages.len()) / RUN {
+        let more = pages.len() + RUN;
+        grow(pages, more);
     }
+    grow(pages, count);
+}
+
+// Writes the records of the pages up to this one, if it has none.
+#[inline(always)]
+fn reach(pages: &mut Vec<PageRec>, page: u32)
+    requires { page < vec_capacity pages.old }
+    ensures pages { pages.new.items ≡ padded pages.old.items (page + 1) no_page }
+    ensures room { vec_capacity pages.old ≤ vec_capacity pages.new }
+{
+    if page as usize >= pages.len() {
+        extend(pages, page);
+    }
+}
+
+// The first of these pages, from `first` up to `last`, that is somewhere; `last` if there is none.
+fn next_placed_in(pages: &Vec<PageRec>, first: u32, last: u32) -> u32
+    requires { first ≤ last }
+    ensures on { first ≤ result }
+    ensures within { result ≤ last }
+    ensures over { (page : ℕ) → first ≤ page → page < result → rec_at pages.now.items page ≡ no_page }
+    ensures stop { result < last → is_placed (rec_at pages.now.items result) ≡ true }
+{
+    for page in first as usize..pages.len().min(last as usize) {
+        if pages[page].frame.is_some() || pages[page].slot.is_some() {
+            return page as u32;
+        }
+    }
+    last
 }
 
 // How many of these pages are in a slot and in no frame.
@@ -124,6 +177,17 @@ impl PageTable {
         self.pages.len() as u32
     }
 
+    /// The first page from `first` up to `last` that is somewhere; `last` if there is none.
+    pub(crate) fn next_placed(&self, first: u32, last: u32) -> u32
+        requires { first ≤ last }
+        ensures on { first ≤ result }
+        ensures within { result ≤ last }
+        ensures over { (page : ℕ) → first ≤ page → page < result → rec_at self.now.pages page ≡ no_page }
+        ensures stop { result < last → is_placed (rec_at self.now.pages result) ≡ true }
+    {
+        next_placed_in(&self.pages, first, last)
+    }
+
     /// How many pages are in a slot and in no frame. Walks those that may be somewhere.
     pub(crate) fn swapped(&self) -> u32
         ensures { result ≡ count_by is_swapped self.now.pages }
@@ -132,6 +196,7 @@ impl PageTable {
     }
 
     /// Where a page is.
+    #[inline(always)]
     pub(crate) fn page(&self, page: u32) -> PageRec
         ensures { result ≡ rec_at self.now.pages page }
     {
@@ -146,9 +211,18 @@ impl PageTable {
         requires { page < length self.old.pages }
         ensures { self.new ≡ record self.old { pages = set self.old.pages page rec } }
     {
-        if page as usize >= self.pages.len() {
-            reach(&mut self.pages, page);
-        }
+        reach(&mut self.pages, page);
         self.pages[page as usize] = rec;
+    }
+
+    /// Notes the frame that a page is in, or that it is in none.
+    #[inline(always)]
+    pub(crate) fn set_frame(&mut self, page: u32, frame: Option<FrameNo>)
+        requires { page < length self.old.pages }
+        ensures { let rec = record (rec_at self.old.pages page) { frame = frame } in
+            self.new ≡ record self.old { pages = set self.old.pages page rec } }
+    {
+        reach(&mut self.pages, page);
+        self.pages[page as usize].frame = frame;
     }
 }

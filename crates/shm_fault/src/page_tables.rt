@@ -2,8 +2,8 @@
 //!
 //! They are seen in the order in which they were added, which the number of each table says. They are stored in
 //! another order: where one is taken out, the last takes its place, and no other table is looked at.
-ghost use Rattle.std.specs.Prelude.{◌≡◌, ◌<◌, ◌≤◌, ◌^◌, [], ◌∷◌, ◌++◌, sum_by, map, filter, not, ◌==◌, None, Some, IfSome, IfNone, IfOk, OnOk, OnErr};
-ghost use Rattle.shm_fault.specs.Segs.{SegRec, find_seg, rec_by, count_by_id, locked_by, page_count, HasPage, NowhereFrom, with_rec, with_seg_lock, new_seg};
+ghost use Rattle.std.specs.Prelude.{◌≡◌, ◌<◌, ◌≤◌, ◌^◌, [], ◌∷◌, ◌++◌, sum_by, map, filter, true, not, ◌==◌, None, Some, IfSome, IfNone, IfOk, OnOk, OnErr};
+ghost use Rattle.shm_fault.specs.Segs.{SegRec, find_seg, rec_by, count_by_id, locked_by, page_count, HasPage, is_placed, NowhereFrom, NowhereUpTo, with_rec, with_seg_lock, new_seg};
 ghost use Rattle.shm_fault.specs.Entries.{segs_view, seg_at};
 ghost use Rattle.shm_fault.specs.Store.{swapped_pages};
 
@@ -64,7 +64,8 @@ impl PageRec {
     };
 }
 
-// The place of a segment.
+// The place of a segment. Kept out of line, so that a table that is still where it was costs one comparison.
+#[inline(never)]
 fn index_of(by_id: &IndexMap<u32, PageTable>, id: u32) -> Option<usize>
     ensures some { IfSome result (λ i. seg_at by_id.now.entries i ≡ Some id) }
     ensures none { IfNone result (find_seg (segs_view by_id.now.entries) id ≡ None) }
@@ -74,16 +75,15 @@ fn index_of(by_id: &IndexMap<u32, PageTable>, id: u32) -> Option<usize>
 }
 
 // The same, where it was found at `near` before: mostly it is still there.
+#[inline(always)]
 fn index_near(by_id: &IndexMap<u32, PageTable>, near: usize, id: u32) -> Option<usize>
     ensures some { IfSome result (λ i. seg_at by_id.now.entries i ≡ Some id) }
     ensures none { IfNone result (find_seg (segs_view by_id.now.entries) id ≡ None) }
 {
-    if let Some((other, _)) = by_id.get_index(near) {
-        if *other == id {
-            return Some(near);
-        }
+    match by_id.get_index(near) {
+        Some((other, _)) if *other == id => Some(near),
+        _ => index_of(by_id, id),
     }
-    index_of(by_id, id)
 }
 
 impl PageTables {
@@ -201,12 +201,29 @@ impl PageTables {
     }
 
     /// Where a page is, whose table was found at `near`.
+    #[inline(always)]
     pub(crate) fn page_in(&self, near: usize, page: PageRef) -> PageRec
         ensures { result ≡ rec_by self.now page }
     {
         match index_near(&self.by_id, near, page.seg) {
             Some(index) => self.by_id[index].page(page.page),
             None => PageRec::NOWHERE,
+        }
+    }
+
+    /// The first page of a segment, from `first` up to `last`, that is somewhere; `last` if there is none.
+    /// The segment's table was found at `near`.
+    pub(crate) fn next_placed(&self, near: usize, first: PageRef, last: u32) -> u32
+        requires { first.page ≤ last }
+        ensures on { first.page ≤ result }
+        ensures within { result ≤ last }
+        ensures over { NowhereUpTo first.page result first.seg self.now }
+        ensures stop { let page = record first { page = result } in
+            result < last → is_placed (rec_by self.now page) ≡ true }
+    {
+        match index_near(&self.by_id, near, first.seg) {
+            Some(index) => self.by_id[index].next_placed(first.page, last),
+            None => last,
         }
     }
 
@@ -219,6 +236,19 @@ impl PageTables {
             unreachable!();
         };
         self.by_id[index].set_page(page.page, rec);
+    }
+
+    /// Notes the frame that a page is in, or that it is in none. The page keeps its slot. Its table was found
+    /// at `near`.
+    #[inline(always)]
+    pub(crate) fn set_frame(&mut self, near: usize, page: PageRef, frame: Option<FrameNo>)
+        requires { HasPage self.old page }
+        ensures { self.new ≡ with_rec self.old page (record (rec_by self.old page) { frame = frame }) }
+    {
+        let Some(index) = index_near(&self.by_id, near, page.seg) else {
+            unreachable!();
+        };
+        self.by_id[index].set_frame(page.page, frame);
     }
 
     /// Locks or unlocks a segment.

@@ -1,19 +1,16 @@
 //! Pages that come into a frame and leave it. Each step here keeps all bytes of all segments.
-ghost use Rattle.std.specs.Prelude.{◌≡◌, ◌≢◌, ℕ, ◌+◌, ◌<◌, ◌≤◌, ◌^◌, true, false, not, [], length, set, Option, Some, None, ◌&&◌, is_ok, IfOk, OnOk, OnErr, IsSome, MatchOption};
+ghost use Rattle.std.specs.Prelude.{◌≡◌, ◌≢◌, ℕ, ◌+◌, ◌<◌, ◌≤◌, ◌^◌, true, false, not, [], length, set, Option, Some, None, is_ok, IfOk, OnOk, OnErr, IsSome, MatchOption};
 ghost use Rattle.shm_base.specs.declared.bounds.TheConstants.{MOST_FRAMES};
-ghost use Rattle.shm_base.specs.declared.paging.PageRef.{PageRef as Ref};
-ghost use Rattle.shm_slots.specs.View.{HasSlot, IsFirstFree};
-ghost use Rattle.shm_slots.specs.Cause.{total};
+ghost use Rattle.shm_slots.specs.View.{HasSlot};
 ghost use Rattle.shm_frames.specs.Frame.{frame_at, OwnedBelow};
 ghost use Rattle.shm_clock.specs.Clock.{may_go, candidates, victim_of, passed_by, unset_all, next, IsClockVictim};
 ghost use Rattle.shm_clock.specs.Skips.{AreSkipped};
 ghost use Rattle.shm_fault.specs.Segs.{rec_by, HasPage};
-ghost use Rattle.shm_fault.specs.Store.{Still, slot_bytes};
-ghost use Rattle.shm_fault.specs.Sound.{IsStoreSound};
-ghost use Rattle.shm_fault.specs.Placing.{places, slotted, settled, referenced, after_visit, StopsAt};
+ghost use Rattle.shm_fault.specs.Store.{slot_bytes};
+ghost use Rattle.shm_fault.specs.Placing.{places, settled, referenced, after_visit, StopsAt};
 ghost use Rattle.shm_fault.specs.Access.{Visited};
-ghost use Rattle.shm_fault.specs.Paging.{FillsFrom, NamesVictim, Leaves, Loads, WritesBack, PagesOut, Cleans, Evicts, MakesRoom, ComesIn};
-ghost use Rattle.shm_fault.specs.Goes.{Goes, StaysAway, Visits, IsSeenIn, OnlyMoves, IsSlotOf, referenced_at, unlocked, frame_by};
+ghost use Rattle.shm_fault.specs.Paging.{FillsFrom, NamesVictim, FindsSlot, Leaves, Loads, WritesBack, PagesOut, Cleans, Evicts, MakesRoom, ComesIn};
+ghost use Rattle.shm_fault.specs.Goes.{Visits, IsSeenIn, OnlyMoves, IsSlotOf, referenced_at, unlocked, frame_by};
 
 use crate::page_tables::{PageRec, PageTables};
 use crate::store::PageStore;
@@ -106,17 +103,7 @@ impl<P: Pager> PageStore<P> {
         requires there { frame < length self.old.frames }
         requires owned { IsSome (frame_at self.old.frames frame).owner }
         requires dirty { (frame_at self.old.frames frame).dirty ≡ true }
-        ensures slot { IsSlotOf (frame_at self.old.frames frame).owner self.new.segs result }
-        ensures free { let owner = (frame_at self.old.frames frame).owner in
-            (page : Ref) → owner ≡ Some page → (rec_by self.old.segs page).slot ≡ None
-            → IsFirstFree self.old.swap None result }
-        ensures rest { self.new ≡ record self.old { segs = self.new.segs; swap = self.new.swap } }
-        ensures still { Still self.old self.new }
-        ensures away { StaysAway self.old self.new }
-        ensures goes { Goes self.old self.new }
-        ensures failures { total self.new.swap ≡ total self.old.swap }
-        ensures placed { places self.new ≡ slotted frame (places self.old) }
-        ensures sound { IsStoreSound self.new }
+        ensures { FindsSlot frame self.old self.new result }
     {
         let page = self.frames.resident_page(frame);
         let place = self.segs.page_in(table, page);
@@ -172,16 +159,8 @@ impl<P: Pager> PageStore<P> {
         ensures { Leaves frame self.old self.new result }
     {
         let page = self.frames.resident_page(frame);
-        let place = self.segs.page_in(table, page);
         self.frames.empty(frame);
-        self.segs.set_page(
-            table,
-            page,
-            PageRec {
-                frame: None,
-                slot: place.slot,
-            },
-        );
+        self.segs.set_frame(table, page, None);
         page
     }
 
@@ -260,15 +239,7 @@ impl<P: Pager> PageStore<P> {
         self.skips.forget(frame);
         self.frames.fill(frame, page);
         self.frames.set_referenced(frame, true);
-        let place = self.segs.page_in(table, page);
-        self.segs.set_page(
-            table,
-            page,
-            PageRec {
-                frame: Some(frame),
-                slot: place.slot,
-            },
-        );
+        self.segs.set_frame(table, page, Some(frame));
     }
 
     // Brings a page, whose table was found at `table`, into a free frame. If the read fails, the page stays

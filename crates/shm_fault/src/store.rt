@@ -55,10 +55,23 @@ impl<P: Pager> Model for PageStore<P> {
 
     ghost Value = { StoreView };
 
-    ghost view = { λ s. record { segs = s.segs; frames = s.frames; hand = s.hand; swap = s.swap; ins = s.ins; outs = s.outs } };
+    ghost view = { λ s. record {
+      segs = s.segs;
+      frames = s.frames;
+      hand = s.hand;
+      swap = s.swap;
+      ins = s.ins;
+      outs = s.outs;
+    } };
 
-    ghost invariant = { λ s. IsStoreSound (record { segs = s.segs; frames = s.frames; hand = s.hand; swap = s.swap; ins = s.ins; outs = s.outs })
-        × AreSkipped (unlocked s.segs) s.frames s.skips };
+    ghost invariant = { λ s. IsStoreSound (record {
+      segs = s.segs;
+      frames = s.frames;
+      hand = s.hand;
+      swap = s.swap;
+      ins = s.ins;
+      outs = s.outs;
+    }) × AreSkipped (unlocked s.segs) s.frames s.skips };
 }
 
 // Locks or unlocks a segment. It also removes all marks of skipped blocks, because unlocked pages may go.

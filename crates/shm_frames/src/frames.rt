@@ -352,7 +352,8 @@ impl Frames {
     /// Makes a frame free, with both bits clear. It keeps its bytes.
     pub fn empty(&mut self, frame: FrameNo)
         requires { frame < length self.old }
-        ensures { self.new ≡ set self.old frame (record no_frame { bytes = (frame_at self.old frame).bytes }) }
+        ensures { let before = frame_at self.old frame in
+            self.new ≡ set self.old frame (record no_frame { bytes = before.bytes }) }
     {
         let was = state_of(&self.table, frame);
         if was.owner.is_none() {
@@ -413,7 +414,8 @@ impl Frames {
     pub fn set_referenced(&mut self, frame: FrameNo, referenced: bool)
         requires there { frame < length self.old }
         requires owned { IsSome (frame_at self.old frame).owner }
-        ensures { self.new ≡ set self.old frame (record (frame_at self.old frame) { referenced = referenced }) }
+        ensures { let before = frame_at self.old frame in
+            self.new ≡ set self.old frame (record before { referenced = referenced }) }
     {
         let entry = &mut self.table[frame as usize];
         entry.referenced = referenced;

@@ -46,7 +46,7 @@ loop-step-preserved g c =
 
 pub unreachable-requires : goal.unreachable-requires
 unreachable-requires g c =
-    let some : candidates g.passes c.args.pinned c.args.frames.now c.args.hand ≢ [] = c.requires.1.1.1.1.0 in
+    let some : candidates g.passes c.args.pinned c.args.frames.now c.args.hand ≢ [] = c.requires.1.1.1.0 in
     some (none_met g.passes c.args.pinned c.args.hand c.args.frames.now c.requires.1.0 c.args.looks.now c.loop-step.step c.loop-step.frames c.loop-step.first c.loop-step.looks c.loop-step.invariant.0 (omega arith) c.in-None.is)
 
 pub returns-clause-victim : goal.returns-clause-victim

@@ -1,8 +1,7 @@
-use Rattle.shm_fault.proofs.Names.{◌<◌, List, ap, arith, no_page, PageRec, TableView}
-use Rattle.shm_pager.proofs.Padded.{length-padded, set-padded}
+use Rattle.shm_fault.proofs.Names.{◌<◌, List, ap, no_page, PageRec, TableView}
+use Rattle.shm_pager.proofs.Padded.{length-padded}
 use Rattle.shm_fault.proofs.Untouched.{edit-reached}
 use Rattle.shm_fault.proofs.page_table.PageTable.set_page.Goals as goal
-use Rattle.shm_fault.proofs.page_table.PageTable.set_page.Goals.{then-page-len, else-page-len}
 
 pub returns : goal.returns
 returns c =
@@ -11,7 +10,4 @@ returns c =
     let i = c.args.page in
     let there : i < n = rw (← c.self.view_is, length-padded ps n no_page c.self.invariant.0) at c.requires in
     let show : List PageRec → TableView = λ qs. record { number = c.self.inside.number; locked = c.self.inside.locked; pages = qs } in
-    elim c.if-page-len.branch [
-      | then-page-len w ↦ rw (w.self-inside-is, w.reach.ensures.pages, ← c.self.view_is) (ap show (edit-reached ps n i c.args.rec c.self.invariant.0 there))
-      | else-page-len w ↦ rw (w.self-inside-is, ← c.self.view_is) (ap show (set-padded ps n i c.args.rec no_page (omega (arith, w.if-page-len.false, c.len.ensures))))
-    ]
+    rw (c.reach.ensures.pages, ← c.self.view_is) (ap show (edit-reached ps n i c.args.rec c.self.invariant.0 there))

@@ -1,4 +1,5 @@
-use Rattle.shm_fault.proofs.Names.{◌≡◌, Some, None, sym, ap, ◌∙◌, arith, used_slots, swap_slots, with_slot_owner, frame_at, PageRec, rec_by}
+use Rattle.shm_fault.proofs.Names.{◌≡◌, Some, None, sym, ap, ◌∙◌, refl, arith, common_steps, used_slots, swap_slots, with_slot_owner, frame_at, PageRec, rec_by}
+use Rattle.shm_fault.specs.Store.{frame_of}
 use Rattle.shm_fault.proofs.Seen.{seen}
 use Rattle.shm_fault.proofs.Skipped.{skipped-with}
 use Rattle.shm_fault.proofs.Tally.{used-slots, some_slotless}
@@ -36,18 +37,6 @@ done g c =
     (takes (seen i) c.self.invariant.0 page c.args.frame slot c.resident_page-page.ensures (rw (← c.self.view_is) at c.requires.dirty) none
     first.there first.free (rw u at e.sound) (rw u at e.steady.same_sizes) (rw u at e.steady.goes_on))
 
-pub returns-clause-goes : goal.returns-clause-goes
-returns-clause-goes g c = rw (← c.self.view_is) (done g c).goes
-
-pub returns-clause-slot : goal.returns-clause-slot
-returns-clause-slot g c = rw (← c.self.view_is) (done g c).slot
-
-pub returns-clause-still : goal.returns-clause-still
-returns-clause-still g c = rw (← c.self.view_is) (by-still _ _ (done g c).still)
-
-pub returns-clause-away : goal.returns-clause-away
-returns-clause-away g c = rw (← c.self.view_is) (done g c).away
-
 pub invariant_of-self : goal.invariant_of-self
 invariant_of-self g c =
     let i = c.self.inside in (
@@ -55,33 +44,40 @@ invariant_of-self g c =
       rw c.set_page.ensures (skipped-with i.segs c.resident_page-page.result _ i.frames i.skips c.self.invariant.1),
     )
 
-pub returns-clause-sound : goal.returns-clause-sound
-returns-clause-sound g c = (done g c).sound
-
-pub returns-clause-placed : goal.returns-clause-placed
-returns-clause-placed g c =
+pub returns : goal.returns
+returns g c =
     let s = seen c.self.inside in
     let page = c.resident_page-page.result in
     let slot = c.in-Some-take_slot.slot in
+    let d = done g (goal.at.returns g c).After-set_page in
     let none : (rec_by s.segs page).slot ≡ None = ap (λ (p : PageRec). p.slot) (sym c.page_in-place.ensures) ∙ c.in_default.is in
-    let u : c.take_slot.new.self ≡ with_slot_owner s.swap slot (Some page) = c.in-Some-take_slot.ensures.taken in
-    rw (← c.self.view_is)
-    (rw (c.set_page.ensures, u, c.page_in-place.ensures)
-    (slotted-took s c.args.frame page slot c.resident_page-page.ensures none (found-free s.swap None slot c.self.invariant.0.swap.each c.in-Some-take_slot.ensures.found)))
+    let taken : c.take_slot.new.self ≡ with_slot_owner s.swap slot (Some page) = c.in-Some-take_slot.ensures.taken in
+    rw (← c.self.view_is) (record {
+      is = d.slot;
+      free = λ page owner none. c.in-Some-take_slot.ensures.found;
+      rest = refl;
+      still = by-still _ _ d.still;
+      away = d.away;
+      goes = d.goes;
+      failures = c.take_slot.ensures.steady.failures;
+      placed = rw (c.set_page.ensures, taken, c.page_in-place.ensures)
+          (slotted-took s c.args.frame page slot c.resident_page-page.ensures none (found-free s.swap None slot c.self.invariant.0.swap.each c.in-Some-take_slot.ensures.found));
+      sound = d.sound;
+    })
 
-pub returns-in-Some-clause-placed : goal.returns-in-Some-clause-placed
-returns-in-Some-clause-placed g c =
+pub returns-in-Some : goal.returns-in-Some
+unfolding frame_of
+returns-in-Some g c =
     let s = seen c.self.inside in
-    rw (← c.self.view_is)
-    (slotted-own s c.args.frame c.resident_page-page.result c.in-Some.slot c.resident_page-page.ensures (ap (λ (p : PageRec). p.slot) (sym c.page_in-place.ensures) ∙ c.in-Some.is))
-
-pub returns-clause-free : goal.returns-clause-free
-returns-clause-free g c = λ page owner none. rw (← c.self.view_is) c.in-Some-take_slot.ensures.found
-
-pub returns-in-Some-clause-free : goal.returns-in-Some-clause-free
-returns-in-Some-clause-free g c = λ page owner none.
-    let i = c.self.inside in
-    let has : (rec_by i.segs c.resident_page-page.result).slot ≡ Some c.in-Some.slot = ap (λ (p : PageRec). p.slot) (sym c.page_in-place.ensures) ∙ c.in-Some.is in
-    let owner₁ : (frame_at i.frames c.args.frame).owner ≡ Some page = rw (← c.self.view_is) at owner in
-    let none₁ : (rec_by i.segs page).slot ≡ None = rw (← c.self.view_is) at none in
-    cc (owner₁, none₁, has, c.resident_page-page.ensures)
+    let has : (rec_by s.segs c.resident_page-page.result).slot ≡ Some c.in-Some.slot = ap (λ (p : PageRec). p.slot) (sym c.page_in-place.ensures) ∙ c.in-Some.is in
+    rw (← c.self.view_is) (record {
+      is = λ page owner. cc (owner, has, c.resident_page-page.ensures);
+      free = λ page owner none. cc (owner, none, has, c.resident_page-page.ensures);
+      rest = refl;
+      still = λ seg page. refl;
+      away = λ q e. refl;
+      goes = grind (arith, common_steps);
+      failures = refl;
+      placed = slotted-own s c.args.frame c.resident_page-page.result c.in-Some.slot c.resident_page-page.ensures has;
+      sound = c.self.invariant.0;
+    })

@@ -5,39 +5,39 @@ use Rattle.shm_fault.proofs.Changes.{Keeps, keeps-vacate}
 use Rattle.shm_fault.proofs.Places.{vacated-is}
 use Rattle.shm_fault.proofs.store.PageStore.vacate.Given as given
 use Rattle.shm_fault.proofs.store.PageStore.vacate.Goals as goal
-use Rattle.shm_fault.proofs.store.PageStore.vacate.Goals.{After-set_page}
+use Rattle.shm_fault.proofs.store.PageStore.vacate.Goals.{After-set_frame}
 
-owned : (g : given.Over) (c : After-set_page g) → (frame_at c.self.inside.frames c.args.frame).owner ≡ Some c.resident_page-page.result
+owned : (g : given.Over) (c : After-set_frame g) → (frame_at c.self.inside.frames c.args.frame).owner ≡ Some c.resident_page-page.result
 owned g c = c.resident_page-page.ensures
 
-kept : (g : given.Over) (c : After-set_page g) → Keeps (seen c.self.inside) (record (seen c.self.inside) { segs = c.set_page.new.self; frames = c.empty.new.self })
+kept : (g : given.Over) (c : After-set_frame g) → Keeps (seen c.self.inside) (record (seen c.self.inside) { segs = c.set_frame.new.self; frames = c.empty.new.self })
 kept g c =
     let bytes = (frame_at c.self.inside.frames c.args.frame).bytes in
-    rw (c.set_page.ensures, c.empty.ensures, c.page_in-place.ensures)
+    rw (c.set_frame.ensures, c.empty.ensures)
     (keeps-vacate (seen c.self.inside) c.self.invariant.0 c.resident_page-page.result c.args.frame bytes (owned g c) (rw (← c.self.view_is) at c.requires.clean))
 
 pub invariant_of-self : goal.invariant_of-self
 invariant_of-self g c =
     let i = c.self.inside in (
       (kept g c).sound,
-      rw (c.set_page.ensures, c.empty.ensures)
+      rw (c.set_frame.ensures, c.empty.ensures)
           (skipped-with i.segs c.resident_page-page.result _ _ i.skips (skipped-set (unlocked i.segs) i.frames i.skips c.self.invariant.1 c.args.frame (record no_frame { bytes = (frame_at i.frames c.args.frame).bytes }) (inr refl))),
     )
 
 pub returns : goal.returns
 returns g c =
     let s = seen c.self.inside in
-    let k = kept g (goal.at.returns g c).After-set_page in
+    let k = kept g (goal.at.returns g c).After-set_frame in
     let page = c.resident_page-page.result in
     rw (← c.self.view_is)
     (record {
       page = c.resident_page-page.ensures;
       was = grind (arith, nat_tests, common_steps, c.self.invariant.0.tied, page, c.args.frame, owned);
       frames = c.empty.ensures;
-      segs = rw (c.set_page.ensures, c.page_in-place.ensures) refl;
+      segs = c.set_frame.ensures;
       rest = refl;
-      placed = vacated-is s (record s { segs = c.set_page.new.self; frames = c.empty.new.self }) c.args.frame page (frame_at s.frames c.args.frame).bytes c.resident_page-page.ensures refl refl
-          (rw (c.set_page.ensures, c.page_in-place.ensures) refl) c.empty.ensures;
+      placed = vacated-is s (record s { segs = c.set_frame.new.self; frames = c.empty.new.self }) c.args.frame page (frame_at s.frames c.args.frame).bytes c.resident_page-page.ensures refl refl
+          (c.set_frame.ensures) c.empty.ensures;
       goes = k.goes;
       sound = k.sound;
     })
