@@ -1,22 +1,29 @@
 -- When no run is left to be visited, each schedule's outcome was found.
 use Rattle.std.specs.Prelude.{◌≡◌, ℕ, List, [], ◌∷◌, Contains}
-use Rattle.std.proofs.Common.{ap, refl, sym, subst, inl, inr}
+use Rattle.std.proofs.Common.{ap, refl, sym, subst, ◌∙◌, inl, inr}
 use Rattle.std.proofs.lemmas.List.Elements.{All-contains}
 use Rattle.shm_base.specs.State.{Machine}
 use Rattle.shm_base.specs.declared.call.Reply.{Reply}
 use Rattle.shm_text.specs.Script.{ScriptView}
+use Rattle.shm_outcomes.specs.Changes.{all_changes}
 use Rattle.shm_outcomes.specs.Keys.{Key, key_of}
 use Rattle.shm_outcomes.specs.Outcomes.{outcome_of}
 use Rattle.shm_outcomes.specs.Schedules.{Run, fresh, Leads, IsSchedule}
 use Rattle.shm_outcomes.specs.Search.{AreOutcomes, Finding, IsReached, outcomes_in}
-use Rattle.shm_outcomes.proofs.Going.{GoAlike, alike-go, go-trans, goes-alike, over-alike}
+use Rattle.shm_outcomes.proofs.Going.{GoAlike, go-trans, goes-alike, over-alike}
 use Rattle.shm_outcomes.proofs.Searching.{AreSearched, IsKept, follower-reached}
+use Rattle.shm_outcomes.specs.Times.{timeless}
+use Rattle.shm_outcomes.proofs.Trails.{changed, reached-changed}
 use Rattle.shm_outcomes.proofs.Walking.{contains-none}
 
 -- runs with one key go on alike
-key-alike : (script : ScriptView) (a b first : Run) → first.events ≡ [] → IsReached script first a → IsReached script first b → key_of script a ≡ key_of script b → GoAlike script a b
-key-alike script a b first none left right same =
-    alike-go script a b first none left right (record { count = ap (λ (k : Key). k.count) same; told = ap (λ (k : Key). k.told) same; changes = ap (λ (k : Key). k.changes) same })
+key-alike : (script : ScriptView) (a b : Run) (machine : Machine) → IsReached script (fresh machine) a → IsReached script (fresh machine) b → key_of script (fresh machine) a ≡ key_of script (fresh machine) b → GoAlike script a b
+key-alike script a b machine left right same =
+    record {
+      machine = sym (reached-changed script machine a left) ∙ ap (λ (k : Key). changed (timeless machine) (all_changes k.trail)) same ∙ reached-changed script machine b right;
+      count = ap (λ (k : Key). k.count) same;
+      told = ap (λ (k : Key). k.told) same;
+    }
 
 module _ (script : ScriptView) (machine : Machine) (seen : List Key) (found : List Finding) (all : AreSearched script (fresh machine) seen [] found) where
   abbrev first : Run
@@ -26,10 +33,10 @@ module _ (script : ScriptView) (machine : Machine) (seen : List Key) (found : Li
   Kept key = IsKept script first seen [] found key
 
   -- a visited run with the key of a run to which a schedule leads continues as that one does
-  kept-like : (m : Run) → IsReached script first m → Contains seen (key_of script m) → (key : Key) × (k : Kept key) × GoAlike script m k.run
+  kept-like : (m : Run) → IsReached script first m → Contains seen (key_of script first m) → (key : Key) × (k : Kept key) × GoAlike script m k.run
   kept-like m reached met =
-      let k = All-contains Kept seen (key_of script m) all.kept met in
-      (key_of script m, k, key-alike script m k.run first refl reached k.reached k.is)
+      let k = All-contains Kept seen (key_of script first m) all.kept met in
+      (key_of script first m, k, key-alike script m k.run machine reached k.reached k.is)
 
   follow : (schedule : List ℕ) (a end : Run) (key : Key) (k : Kept key) → Leads script schedule a end → GoAlike script a k.run → (last : Key) × (l : Kept last) × GoAlike script end l.run
   follow [] a end key k h alike = (key, k, subst (λ (r : Run). GoAlike script r k.run) h alike)
@@ -42,7 +49,7 @@ module _ (script : ScriptView) (machine : Machine) (seen : List Key) (found : Li
         | inr none ↦ absurd (contains-none there.0 none)
       ]
 
-  begun : Contains seen (key_of script first)
+  begun : Contains seen (key_of script first first)
   begun =
       elim all.begun [
         | inl there ↦ there

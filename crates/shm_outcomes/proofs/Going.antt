@@ -117,11 +117,11 @@ no-change true b h = inl refl
 no-change false true h = inr refl
 no-change false false h = absurd (cc)
 
-abbrev event_at : Machine → ℕ → ℕ → Call → Event
+abbrev pub event_at : Machine → ℕ → ℕ → Call → Event
 event_at s n pid call = record { pid = pid; call = call; reply = (step s n pid call).reply }
 
 -- a call that changes nothing leaves the machine as it is
-still : (s : Machine) (n pid : ℕ) (call : Call) → is_change (event_at s n pid call) ≡ false → (step s n pid call).state ≡ s
+pub still : (s : Machine) (n pid : ℕ) (call : Call) → is_change (event_at s n pid call) ≡ false → (step s n pid call).state ≡ s
 still s n pid call h =
     elim (no-change (is_refusal (step s n pid call).reply) (looks call) h) [
       | inl refused ↦ still-by s n call (caller_of s pid) refused
@@ -144,10 +144,10 @@ one-redone s n pid call rest not-first =
           rw no-changes (ap (λ (m : Machine). redone (timeless m) (changes rest)) (sym (still s n pid call no-changes)))
     ]
 
-not-first : (n : ℕ) → n + 1 ≢ 0
+pub not-first : (n : ℕ) → n + 1 ≢ 0
 not-first n = λ h. omega (arith, h)
 
-one-more : (xs : List Event) (e : Event) (ys : List Event) → (xs ++ e ∷ []) ++ ys ≡ xs ++ e ∷ ys
+pub one-more : (xs : List Event) (e : Event) (ys : List Event) → (xs ++ e ∷ []) ++ ys ≡ xs ++ e ∷ ys
 one-more [] e ys = refl
 one-more (x ∷ xs) e ys = ap (λ (l : List Event). x ∷ l) (one-more xs e ys)
 

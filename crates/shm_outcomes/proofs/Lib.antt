@@ -3,7 +3,11 @@ pub mod Walking
 pub mod Searching
 pub mod Timing
 pub mod Timeless
+pub mod Sorted
+pub mod Bytes
 pub mod Going
+pub mod Trails
+pub mod Branching
 pub mod Complete
 pub mod Hiding
 pub mod Verdicts

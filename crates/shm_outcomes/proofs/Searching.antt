@@ -70,8 +70,15 @@ noted-distinct olds news f noted before =
       | inr new ↦ rw new.1 (subst AreDistinct (sym (map-append outcome_in olds (f ∷ []))) (distinct-append (outcomes_in olds) f.outcome new.0 before))
     ]
 
+abbrev pub IsRunVisited : ScriptView → Run → List Finding → List Finding → Type 0
+IsRunVisited script run olds news = IsVisited (followers script script.processes run) (finding_of script run.events) olds news
+
+abbrev pub IsRunTaken : ScriptView → Run → Run → List Key → List Key → List Run → List Run → List Finding → List Finding → Type 0
+IsRunTaken script first run seen news runs others olds found =
+    IsTakenUp (key_of script first run) (followers script script.processes run) (finding_of script run.events) seen news runs others olds found
+
 visited-kept :
-    (script : ScriptView) (run : Run) (olds news : List Finding) → IsVisited script run olds news
+    (script : ScriptView) (run : Run) (olds news : List Finding) → IsRunVisited script run olds news
     → (o : List (List Reply)) → Contains (outcomes_in olds) o → Contains (outcomes_in news) o
 visited-kept script run olds news visited o here =
     elim (list-cases (followers script script.processes run)) [
@@ -81,7 +88,7 @@ visited-kept script run olds news visited o here =
 
 visited-sound :
     (script : ScriptView) (first run : Run) (olds news : List Finding)
-    → IsVisited script run olds news → IsReached script first run → All (IsFinding script first) olds → All (IsFinding script first) news
+    → IsRunVisited script run olds news → IsReached script first run → All (IsFinding script first) olds → All (IsFinding script first) news
 visited-sound script first run olds news visited reached all =
     elim (list-cases (followers script script.processes run)) [
       | inl none ↦ noted-sound script first olds news (finding_of script run.events) (visited.over none) (run, (reached, none-over script run none), refl, refl) all
@@ -90,7 +97,7 @@ visited-sound script first run olds news visited reached all =
 
 visited-distinct :
     (script : ScriptView) (run : Run) (olds news : List Finding)
-    → IsVisited script run olds news → AreDistinct (outcomes_in olds) → AreDistinct (outcomes_in news)
+    → IsRunVisited script run olds news → AreDistinct (outcomes_in olds) → AreDistinct (outcomes_in news)
 visited-distinct script run olds news visited before =
     elim (list-cases (followers script script.processes run)) [
       | inl none ↦ noted-distinct olds news (finding_of script run.events) (visited.over none) before
@@ -120,9 +127,9 @@ apart-more seen key apart unmet = all_pairs_push AreOther seen key apart (λ k d
 pub record IsKept (script : ScriptView) (first : Run) (seen : List Key) (runs : List Run) (found : List Finding) (key : Key) : Type 0 where
   pub run : Run
   pub reached : IsReached script first run
-  pub is : key ≡ key_of script run
+  pub is : key ≡ key_of script first run
   pub over : IsOver script run → Contains (outcomes_in found) (outcome_of script run.events)
-  pub onwards : (pid : ℕ) (m : Run) → goes script pid run ≡ Some m → Contains seen (key_of script m) ⊎ Contains runs m
+  pub onwards : (pid : ℕ) (m : Run) → goes script pid run ≡ Some m → Contains seen (key_of script first m) ⊎ Contains runs m
 
 -- the search so far: these keys were met, these runs are still to be visited, these outcomes were found
 pub record AreSearched (script : ScriptView) (first : Run) (seen : List Key) (runs : List Run) (found : List Finding) : Type 0 where
@@ -131,22 +138,22 @@ pub record AreSearched (script : ScriptView) (first : Run) (seen : List Key) (ru
   pub distinct : AreDistinct (outcomes_in found)
   pub apart : AllPairs AreOther seen
   pub kept : All (IsKept script first seen runs found) seen
-  pub begun : Contains seen (key_of script first) ⊎ Contains runs first
+  pub begun : Contains seen (key_of script first first) ⊎ Contains runs first
 
 module _ (script : ScriptView) (first run : Run) (rest : List Run) (seen : List Key) where
   abbrev all_runs : List Run
   all_runs = rest ++ run ∷ []
 
   abbrev own_key : Key
-  own_key = key_of script run
+  own_key = key_of script first run
 
   -- a run that is left is met
-  left : (m : Run) → Contains seen own_key → Contains seen (key_of script m) ⊎ Contains all_runs m → Contains seen (key_of script m) ⊎ Contains rest m
+  left : (m : Run) → Contains seen own_key → Contains seen (key_of script first m) ⊎ Contains all_runs m → Contains seen (key_of script first m) ⊎ Contains rest m
   left m met (inl there) = inl there
   left m met (inr offered) =
       elim (Contains-push_cases rest run m offered) [
         | inl there ↦ inr there
-        | inr same ↦ inl (subst (λ (r : Run). Contains seen (key_of script r)) same met)
+        | inr same ↦ inl (subst (λ (r : Run). Contains seen (key_of script first r)) same met)
       ]
 
   kept-left : (found : List Finding) (key : Key) → Contains seen own_key → IsKept script first seen all_runs found key → IsKept script first seen rest found key
@@ -170,15 +177,15 @@ module _ (script : ScriptView) (first run : Run) (rest : List Run) (seen : List 
   others = rest ++ followers script script.processes run
 
   -- a run that is visited is met from now on
-  gone : (m : Run) → Contains seen (key_of script m) ⊎ Contains all_runs m → Contains news (key_of script m) ⊎ Contains others m
-  gone m (inl there) = inl (Contains-append_left seen (own_key ∷ []) (key_of script m) there)
+  gone : (m : Run) → Contains seen (key_of script first m) ⊎ Contains all_runs m → Contains news (key_of script first m) ⊎ Contains others m
+  gone m (inl there) = inl (Contains-append_left seen (own_key ∷ []) (key_of script first m) there)
   gone m (inr offered) =
       elim (Contains-push_cases rest run m offered) [
         | inl there ↦ inr (Contains-append_left rest (followers script script.processes run) m there)
-        | inr same ↦ inl (subst (λ (r : Run). Contains news (key_of script r)) same (Contains-push seen own_key))
+        | inr same ↦ inl (subst (λ (r : Run). Contains news (key_of script first r)) same (Contains-push seen own_key))
       ]
 
-  kept-gone : (olds found : List Finding) (key : Key) → IsVisited script run olds found → IsKept script first seen all_runs olds key → IsKept script first news others found key
+  kept-gone : (olds found : List Finding) (key : Key) → IsRunVisited script run olds found → IsKept script first seen all_runs olds key → IsKept script first news others found key
   kept-gone olds found key visited k =
       record {
         run = k.run;
@@ -188,7 +195,7 @@ module _ (script : ScriptView) (first run : Run) (rest : List Run) (seen : List 
         onwards = λ pid m goes. gone m (k.onwards pid m goes);
       }
 
-  kept-own : (olds found : List Finding) → IsVisited script run olds found → IsReached script first run → IsKept script first news others found own_key
+  kept-own : (olds found : List Finding) → IsRunVisited script run olds found → IsReached script first run → IsKept script first news others found own_key
   kept-own olds found visited reached =
       record {
         run = run;
@@ -198,7 +205,7 @@ module _ (script : ScriptView) (first run : Run) (rest : List Run) (seen : List 
         onwards = λ pid m goes. inr (Contains-append_right rest (followers script script.processes run) m (followers-contain script pid run m goes));
       }
 
-  gone-on : (olds found : List Finding) → AreSearched script first seen all_runs olds → (Contains seen own_key → ⊥) → IsVisited script run olds found → AreSearched script first news others found
+  gone-on : (olds found : List Finding) → AreSearched script first seen all_runs olds → (Contains seen own_key → ⊥) → IsRunVisited script run olds found → AreSearched script first news others found
   gone-on olds found all unmet visited =
       let reached = last-of (IsReached script first) rest run all.reached in
       let P : Key → Type 0 = IsKept script first news others found in
@@ -212,7 +219,7 @@ module _ (script : ScriptView) (first run : Run) (rest : List Run) (seen : List 
       }
 
   -- at the bound
-  pub beyond : (found : List Finding) (most : ℕ) (error : SearchError) → AreSearched script first seen all_runs found → IsBeyond script run seen most error → IsCause script first most error
+  pub beyond : (found : List Finding) (most : ℕ) (error : SearchError) → AreSearched script first seen all_runs found → IsBeyond (key_of script first run) seen most error → IsCause script first most error
   beyond found most (Engine e) all h = tt
   beyond found most Bound all h = (
     news,
@@ -224,7 +231,7 @@ module _ (script : ScriptView) (first run : Run) (rest : List Run) (seen : List 
 -- one run more was taken up
 pub taken-up :
     (script : ScriptView) (first run : Run) (rest others : List Run) (seen news : List Key) (olds found : List Finding)
-    → AreSearched script first seen (rest ++ run ∷ []) olds → IsTakenUp script run seen news rest others olds found → AreSearched script first news others found
+    → AreSearched script first seen (rest ++ run ∷ []) olds → IsRunTaken script first run seen news rest others olds found → AreSearched script first news others found
 taken-up script first run rest others seen news olds found all (inl left) = rw (left.seen, left.runs, left.found) (passed script first run rest seen olds all left.met)
 taken-up script first run rest others seen news olds found all (inr on) = rw (on.seen, on.runs) (gone-on script first run rest seen olds found all on.unmet on.found)
 
@@ -243,12 +250,12 @@ few-followers script run (p ∷ ps) =
 
 -- a run less is left, or a key more was met
 pub fewer-left :
-    (script : ScriptView) (run : Run) (rest others : List Run) (seen news : List Key) (olds found : List Finding)
-    → IsTakenUp script run seen news rest others olds found
+    (script : ScriptView) (first run : Run) (rest others : List Run) (seen news : List Key) (olds found : List Finding)
+    → IsRunTaken script first run seen news rest others olds found
     → ((length news ≡ length seen) × (length others ≡ length rest)) ⊎ ((length news ≡ length seen + 1) × (length others ≤ length rest + length script.processes))
-fewer-left script run rest others seen news olds found (inl left) = inl (ap (λ (l : List Key). length l) left.seen, ap (λ (l : List Run). length l) left.runs)
-fewer-left script run rest others seen news olds found (inr on) =
-    let more = length-append seen (key_of script run ∷ []) in
+fewer-left script first run rest others seen news olds found (inl left) = inl (ap (λ (l : List Key). length l) left.seen, ap (λ (l : List Run). length l) left.runs)
+fewer-left script first run rest others seen news olds found (inr on) =
+    let more = length-append seen (key_of script first run ∷ []) in
     let all = length-append rest (followers script script.processes run) in
     let few = few-followers script run script.processes in
     inr (ap (λ (l : List Key). length l) on.seen ∙ more, (let e = ap (λ (l : List Run). length l) on.runs in omega (arith, e, all, few)))

@@ -1,26 +1,27 @@
 -- What a search knows a run by. Runs with one key are told apart by no schedule that goes on from them.
 use Rattle.std.specs.Prelude.{◌≡◌, ◌<◌, ℕ, List, All, length}
 use Rattle.std.specs.List.{AllPairs}
-use Rattle.shm_base.specs.declared.call.Event.{Event}
 use Rattle.shm_base.specs.declared.call.Reply.{Reply}
 use Rattle.shm_text.specs.Script.{ScriptView}
-use Rattle.shm_outcomes.specs.Alike.{changes}
+use Rattle.shm_outcomes.specs.Changes.{Trail, trail_of}
 use Rattle.shm_outcomes.specs.Outcomes.{outcome_of}
 use Rattle.shm_outcomes.specs.Schedules.{Run}
 use Rattle.shm_outcomes.specs.Search.{IsReached}
 
--- how many calls were made, what each process was told but for times, and which calls changed the machine, in order
+-- how many calls were made, what each process was told but for times, and what changed the machine
 pub record Key : Type 0 where
   pub count : ℕ
   pub told : List (List Reply)
-  pub changes : List Event
+  pub trail : Trail
 
-abbrev pub key_of : ScriptView → Run → Key
-key_of script run = record { count = length run.events; told = outcome_of script run.events; changes = changes run.events }
+-- the key of a run that began as the first one
+abbrev pub key_of : ScriptView → Run → Run → Key
+key_of script first run =
+    record { count = length run.events; told = outcome_of script run.events; trail = trail_of first.machine run.events }
 
 -- a schedule leads to a run with this key
 abbrev pub IsKeyOf : ScriptView → Run → Key → Type 0
-IsKeyOf script first key = (run : Run) × IsReached script first run × (key ≡ key_of script run)
+IsKeyOf script first key = (run : Run) × IsReached script first run × (key ≡ key_of script first run)
 
 abbrev pub AreOther : Key → Key → Type 0
 AreOther a b = a ≡ b → ⊥

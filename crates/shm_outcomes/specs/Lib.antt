@@ -6,8 +6,12 @@ pub mod Logs
 pub mod Masking
 pub mod Text
 pub mod Alike
+pub mod Changes
 pub mod Keys
+pub mod Digests
+pub mod Buckets
 pub mod Merging
+pub mod Branches
 pub mod Stuck
 pub mod Judge
 pub mod Reading

@@ -2,8 +2,10 @@
 ghost use Rattle.std.specs.Prelude.{◌≡◌, ℕ, ◌+◌, ◌-◌, ◌<◌, ◌^◌, IfOk, OnOk};
 ghost use Rattle.shm_base.specs.State.{Machine};
 ghost use Rattle.shm_base.specs.Step.{step};
+ghost use Rattle.shm_outcomes.specs.Changes.{place_of};
 ghost use Rattle.shm_outcomes.specs.Schedules.{is_live};
 
+use shm_areas::Place;
 use shm_base::{Call, Reply};
 use std::alloc::{AllocError, AllocFailed};
 
@@ -39,6 +41,10 @@ pub trait Engine: Drop {
     /// Whether a process is born and has not ended.
     fn is_live(&self, pid: u32) -> bool
         ensures { result ≡ is_live (flat self.now) pid };
+
+    /// The byte that an address of a process denotes.
+    fn place(&self, pid: u32, addr: u64) -> Option<Place>
+        ensures { result ≡ place_of (flat self.now) pid addr };
 
     /// A second machine in the same state. Afterwards the two are independent. Errors: `HostMemory`, or
     /// another of the engine.

@@ -1,12 +1,16 @@
 //! What a search knows a run by, and the keys that it met.
-ghost use Rattle.std.specs.Prelude.{◌≡◌, ◌↔◌, ◌++◌, ◌∷◌, [], Contains, IfOk, IsTrue, OnOk, length};
+ghost use Rattle.std.specs.Prelude.{◌≡◌, ◌≢◌, ◌<◌, ◌↔◌, ◌++◌, ◌∷◌, ℕ, [], Contains, IfOk, IsFalse, IsTrue, OnOk, length, slice_index_or};
 ghost use Rattle.shm_outcomes.specs.Alike.{changes, is_change, looks};
-ghost use Rattle.shm_outcomes.specs.Keys.{key_of};
+ghost use Rattle.shm_outcomes.specs.Branches.{key_at};
+ghost use Rattle.shm_outcomes.specs.Digests.{key_digest};
 
+use crate::branches::Branch;
+use crate::buckets::Buckets;
+use crate::digests::{digest, with_writes};
 use crate::engine::{Engine, EngineError};
 use crate::log::is_refusal;
 use crate::outcome::{Outcome, is_same_reply};
-use crate::search::Node;
+use crate::trail::Trail;
 use shm_base::{Call, Event};
 use shm_text::Script;
 use std::alloc::{AllocError, Global};
@@ -21,7 +25,7 @@ fn looks(call: &Call) -> bool
     }
 }
 
-fn is_change(event: &Event) -> bool
+pub(crate) fn is_change(event: &Event) -> bool
     ensures { result ≡ is_change event.now }
 {
     !is_refusal(&event.reply) && !looks(&event.call)
@@ -46,7 +50,7 @@ fn is_same_call(call: &Call, other: &Call) -> bool
     call == other
 }
 
-fn is_same_event(event: &Event, other: &Event) -> bool
+pub(crate) fn is_same_event(event: &Event, other: &Event) -> bool
     ensures { IsTrue result ↔ event.now ≡ other.now }
 {
     event.pid == other.pid
@@ -68,12 +72,12 @@ pub(crate) fn are_same_events(events: &[Event], others: &[Event]) -> bool
     true
 }
 
-// How many calls a run has, what it told each process, and which of its calls changed the machine.
+// How many calls a run has, what it told each process, and what changed the machine.
 #[derive(Drop)]
 pub(crate) struct Key {
     count: u64,
     told: Outcome,
-    changes: Vec<Event>,
+    trail: Trail,
 }
 
 impl Model for Key {
@@ -81,26 +85,28 @@ impl Model for Key {
 
     ghost Value = { Key };
 
-    ghost view = { λ k. record { count = k.count; told = k.told; changes = k.changes.items } };
+    ghost view = { λ k. record { count = k.count; told = k.told; trail = k.trail } };
 }
 
 impl Key {
     pub(crate) fn of<M: Engine>(
         alloc: Global,
         script: &Script,
-        run: &Node<M>,
+        branch: &Branch<M>,
     ) -> Result<Key, EngineError>
-        ensures { IfOk result (λ k. k ≡ key_of script.now run.now) }
+        ensures { IfOk result (λ k. k ≡ key_at script.now branch.now) }
     {
-        let events = run.events();
+        let events = branch.run().events();
         let told = Outcome::of(alloc, script, events)?;
-        let changed = changes(alloc, events)?;
+        let trail = branch.trail().copied(alloc)?;
         let count = events.len() as u64;
-        Ok(Key {
-            count,
-            told,
-            changes: changed,
-        })
+        Ok(Key { count, told, trail })
+    }
+
+    fn digest(&self) -> u64
+        ensures { result ≡ key_digest self.now }
+    {
+        with_writes(digest(&self.told), self.trail.writes())
     }
 
     fn is_same(&self, other: &Key) -> bool
@@ -108,7 +114,7 @@ impl Key {
     {
         self.count == other.count
             && self.told.is_same(&other.told)
-            && are_same_events(&self.changes, &other.changes)
+            && self.trail.is_same(&other.trail)
     }
 }
 
@@ -116,24 +122,31 @@ impl Key {
 #[derive(Drop)]
 pub(crate) struct Seen {
     keys: Vec<Key>,
+    buckets: Buckets,
 }
 
 impl Model for Seen {
-    ghost use Rattle.std.specs.Prelude.{List};
+    ghost use Rattle.std.specs.Prelude.{List, map};
+    ghost use Rattle.shm_outcomes.specs.Buckets.{AreIndexed};
+    ghost use Rattle.shm_outcomes.specs.Digests.{key_digest};
     ghost use Rattle.shm_outcomes.specs.Keys.{Key};
 
     ghost Value = { List Key };
 
     ghost view = { λ s. s.keys.items };
+
+    ghost invariant = { λ s. AreIndexed (map key_digest s.keys.items) s.buckets };
 }
 
 impl Seen {
-    pub(crate) fn new(alloc: Global) -> Seen
-        ensures { result ≡ [] }
+    pub(crate) fn new(alloc: Global) -> Result<Seen, AllocError>
+        ensures { IfOk result (λ s. s ≡ []) }
     {
-        Seen {
+        let buckets = Buckets::new(alloc)?;
+        Ok(Seen {
             keys: Vec::new(alloc),
-        }
+            buckets,
+        })
     }
 
     pub(crate) fn count(&self) -> u64
@@ -145,23 +158,30 @@ impl Seen {
     pub(crate) fn has(&self, key: &Key) -> bool
         ensures { IsTrue result ↔ Contains self.now key.now }
     {
-        has_key(&self.keys, key)
+        has_key(&self.keys, self.buckets.at(key.digest()), key)
     }
 
     pub(crate) fn push(&mut self, key: Key) -> Result<(), AllocError>
         ensures { OnOk result (self.new ≡ self.old ++ key ∷ []) }
     {
+        self.buckets.push(key.digest(), self.keys.len())?;
         self.keys.push(key)?;
         Ok(())
     }
 }
 
-fn has_key(keys: &[Key], key: &Key) -> bool
-    ensures { IsTrue result ↔ Contains keys.now key.now }
+// Whether the key is at one of the places.
+fn has_key(keys: &[Key], places: &[usize], key: &Key) -> bool
+    ensures there { IsTrue result → Contains keys.now key.now }
+    ensures not_there { IsFalse result → (k : ℕ) → k < length places.now
+        → slice_index_or places.now k 0 < length keys.now
+        → slice_index_or keys.now (slice_index_or places.now k 0) key.now ≢ key.now }
 {
-    for met in keys {
-        if met.is_same(key) {
-            return true;
+    for place in places {
+        if let Some(met) = keys.get(*place) {
+            if met.is_same(key) {
+                return true;
+            }
         }
     }
     false

@@ -1,8 +1,12 @@
 //! Every outcome that a script can have, in any order of its processes.
 #![tactic(auto)]
 
+mod branches;
+mod buckets;
+mod digests;
 mod engine;
 mod fault;
+mod findings;
 mod judging;
 mod keys;
 mod laws;
@@ -19,6 +23,7 @@ mod sampling;
 mod search;
 mod simulated;
 mod text;
+mod trail;
 mod verdict;
 
 pub use engine::{Engine, EngineError};

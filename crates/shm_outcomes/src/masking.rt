@@ -6,7 +6,8 @@ ghost use Rattle.shm_outcomes.specs.Masking.{AreMaskedOutcomes};
 ghost use Rattle.shm_outcomes.specs.Schedules.{Run};
 ghost use Rattle.shm_outcomes.specs.Search.{AreOutcomes};
 
-use crate::search::{Finding, note};
+use crate::findings::Findings;
+use crate::search::Finding;
 use std::alloc::{AllocError, Global};
 
 /// These outcomes without identifiers and addresses, each once.
@@ -14,10 +15,10 @@ pub fn masked_outcomes(alloc: Global, found: &[Finding]) -> Result<Vec<Finding>,
     ensures { IfOk result (λ masked. (script : ScriptView) (first : Run) →
         AreOutcomes script first found.now → AreMaskedOutcomes script first masked.items) }
 {
-    let mut masked = Vec::new(alloc);
+    let mut masked = Findings::new(alloc)?;
     for finding in found {
         let outcome = finding.outcome.hidden(alloc)?;
-        note(alloc, &finding.events, outcome, &mut masked)?;
+        masked.note(alloc, &finding.events, outcome)?;
     }
-    Ok(masked)
+    Ok(masked.into_all())
 }

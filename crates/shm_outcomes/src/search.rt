@@ -2,12 +2,15 @@
 ghost use Rattle.std.specs.Prelude.{◌≡◌, ◌≢◌, ◌++◌, [], ◌↔◌, ◌⊎◌, ◌≤◌, Contains, IfErr, IfOk, IsTrue, OnOk, length};
 ghost use Rattle.shm_outcomes.specs.Schedules.{after, fresh, goes, next};
 ghost use Rattle.shm_outcomes.specs.Outcomes.{outcome_of};
-ghost use Rattle.shm_outcomes.specs.Search.{AreOutcomes, IsNoted, finding_of, followers, one_run, outcomes_in};
-ghost use Rattle.shm_outcomes.specs.Merging.{IsBeyond, IsCause, IsTakenUp};
+ghost use Rattle.shm_outcomes.specs.Branches.{IsBranchBeyond, IsBranchTaken, branches};
+ghost use Rattle.shm_outcomes.specs.Search.{AreOutcomes, IsNoted, finding_of, followers, one_run};
+ghost use Rattle.shm_outcomes.specs.Merging.{IsCause};
 ghost use Rattle.shm_outcomes.specs.declared.search.SearchError.TheVariants.{Engine};
 ghost use Rattle.shm_outcomes.specs.declared.engine.EngineError.TheVariants.{HostMemory};
 
+use crate::branches::{Branch, push_branches};
 use crate::engine::{Engine, EngineError};
+use crate::findings::Findings;
 use crate::keys::{Key, Seen};
 use crate::lines::next_call;
 use crate::outcome::Outcome;
@@ -155,6 +158,13 @@ impl<M: Engine> Node<M> {
         Ok(Node { machine, events })
     }
 
+    // The machine at its end.
+    pub(crate) fn machine(&self) -> &M
+        ensures { M.flat result.now ≡ self.now.machine }
+    {
+        &self.machine
+    }
+
     // The run after one more call of a process.
     pub(crate) fn after(&self, alloc: Global, pid: u32, call: &Call) -> Result<Node<M>, EngineError>
         ensures { IfOk result (λ run. run ≡ after self.now pid call.now) }
@@ -185,16 +195,16 @@ pub fn outcomes<M: Engine>(
     ensures ok { IfOk result (λ found. AreOutcomes script.now (fresh (M.flat machine)) found.items) }
     ensures err { IfErr result (IsCause script.now (fresh (M.flat machine)) most) }
 {
-    let mut found = Vec::new(alloc);
-    let mut seen = Seen::new(alloc);
+    let mut found = Findings::new(alloc)?;
+    let mut seen = Seen::new(alloc)?;
     let mut runs = Vec::new(alloc);
-    runs.push(Node::first(alloc, machine))?;
+    runs.push(Branch::first(alloc, machine))?;
     'runs: while let Some(run) = runs.pop() {
         if let Err(error) = take_up(alloc, script, most, &run, &mut runs, &mut seen, &mut found) {
             return Err(error);
         }
     }
-    Ok(found)
+    Ok(found.into_all())
 }
 
 // Visits a run, unless its key was met.
@@ -202,16 +212,16 @@ fn take_up<M: Engine>(
     alloc: Global,
     script: &Script,
     most: u64,
-    run: &Node<M>,
-    runs: &mut Vec<Node<M>>,
+    run: &Branch<M>,
+    runs: &mut Vec<Branch<M>>,
     seen: &mut Seen,
-    found: &mut Vec<Finding>,
+    found: &mut Findings,
 ) -> Result<(), SearchError>
     requires few { length seen.old ≤ most }
     ensures taken { OnOk result (
-        IsTakenUp script.now run.now seen.old seen.new runs.old.items runs.new.items found.old.items found.new.items) }
+        IsBranchTaken script.now run.now seen.old seen.new runs.old.items runs.new.items found.old found.new) }
     ensures few { OnOk result (length seen.new ≤ most) }
-    ensures err { IfErr result (IsBeyond script.now run.now seen.old most) }
+    ensures err { IfErr result (IsBranchBeyond script.now run.now seen.old most) }
 {
     let key = Key::of(alloc, script, run)?;
     if seen.has(&key) {
@@ -229,19 +239,20 @@ fn take_up<M: Engine>(
 fn visit<M: Engine>(
     alloc: Global,
     script: &Script,
-    run: &Node<M>,
-    runs: &mut Vec<Node<M>>,
-    found: &mut Vec<Finding>,
+    run: &Branch<M>,
+    runs: &mut Vec<Branch<M>>,
+    found: &mut Findings,
 ) -> Result<(), EngineError>
-    ensures runs { OnOk result (runs.new.items ≡ runs.old.items ++ followers script.now script.now.processes run.now) }
-    ensures over { OnOk result (followers script.now script.now.processes run.now ≡ [] → IsNoted found.old.items (finding_of script.now run.now.events) found.new.items) }
-    ensures goes_on { OnOk result (followers script.now script.now.processes run.now ≢ [] → found.new.items ≡ found.old.items) }
+    ensures runs { OnOk result (runs.new.items ≡ runs.old.items ++ branches script.now script.now.processes run.now) }
+    ensures over { OnOk result (branches script.now script.now.processes run.now ≡ [] → IsNoted found.old (finding_of script.now run.now.run.events) found.new) }
+    ensures goes_on { OnOk result (branches script.now script.now.processes run.now ≢ [] → found.new ≡ found.old) }
 {
     let before = runs.len();
-    push_followers(alloc, script, run, runs)?;
+    push_branches(alloc, script, run, runs)?;
     if runs.len() == before {
-        let outcome = Outcome::of(alloc, script, &run.events)?;
-        note(alloc, &run.events, outcome, found)?;
+        let events = run.run().events();
+        let outcome = Outcome::of(alloc, script, events)?;
+        found.note(alloc, events, outcome)?;
     }
     Ok(())
 }
@@ -277,32 +288,4 @@ fn push_follower<M: Engine>(
     let next = run.after(alloc, process.pid, &call)?;
     runs.push(next)?;
     Ok(())
-}
-
-// Notes an outcome with a run that has it, unless it is there.
-pub(crate) fn note(
-    alloc: Global,
-    events: &[Event],
-    outcome: Outcome,
-    found: &mut Vec<Finding>,
-) -> Result<(), AllocError>
-    ensures { OnOk result (IsNoted found.old.items (record { events = events.now; outcome = outcome }) found.new.items) }
-{
-    if is_known(found, &outcome) {
-        return Ok(());
-    }
-    let events = Vec::from_slice(alloc, events)?;
-    found.push(Finding { events, outcome })?;
-    Ok(())
-}
-
-fn is_known(found: &[Finding], outcome: &Outcome) -> bool
-    ensures { IsTrue result ↔ Contains (outcomes_in found.now) outcome.now }
-{
-    for finding in found {
-        if finding.outcome.is_same(outcome) {
-            return true;
-        }
-    }
-    false
 }

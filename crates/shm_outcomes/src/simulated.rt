@@ -3,9 +3,11 @@ ghost use Rattle.std.specs.Prelude.{◌≡◌, ◌⊎◌, ◌+◌, ◌-◌, ◌<
 ghost use Rattle.shm_base.specs.Step.{step};
 ghost use Rattle.shm_life.specs.MachineView.{names_failure};
 ghost use Rattle.shm_life.specs.Start.{start_error, IsFirstError};
+ghost use Rattle.shm_outcomes.specs.Changes.{place_of};
 ghost use Rattle.shm_outcomes.specs.Schedules.{is_live, start};
 
 use crate::engine::{Engine, EngineError};
+use shm_areas::Place;
 use shm_base::{Call, Errno, HostMemory, Reply};
 use shm_life::{StartError, System};
 use shm_pager::ClonePager;
@@ -77,6 +79,12 @@ impl<P: ClonePager> Engine for Simulated<P> {
 
     fn is_live(&self, pid: u32) -> bool {
         self.system.spaces().caller(pid).is_some()
+    }
+
+    fn place(&self, pid: u32, addr: u64) -> Option<Place> {
+        let spaces = self.system.spaces();
+        let caller = spaces.caller(pid)?;
+        spaces.space(&caller).place(addr)
     }
 
     fn snapshot(&self) -> Result<Simulated<P>, EngineError> {

@@ -1,15 +1,19 @@
-use Rattle.std.proofs.Common.{rules, ◌≡◌, arith, length, subst}
-use Rattle.shm_outcomes.specs.Masking.{hidden_finding}
-use Rattle.shm_outcomes.specs.Search.{IsNoted}
+use Rattle.std.proofs.Common.{rules, ◌≡◌, arith, length, subst, sym, List}
+use Rattle.shm_text.specs.Script.{ScriptView}
+use Rattle.shm_outcomes.specs.Masking.{AreMaskedOutcomes, hidden_finding}
+use Rattle.shm_outcomes.specs.Schedules.{Run}
+use Rattle.shm_outcomes.specs.Search.{AreOutcomes, Finding, IsNoted}
 use Rattle.shm_outcomes.proofs.Hiding.{AreHidden, all-hidden, more-hidden}
 use Rattle.shm_outcomes.proofs.masking.masked_outcomes.Goals as goal
 
 pub loop-finding-preserved : goal.loop-finding-preserved
 loop-finding-preserved c =
-    let noted : IsNoted c.loop-finding.masked.items (hidden_finding c.finding-item.result) c.note.new.found.items = search rules in
-    more-hidden c.args.found.now c.loop-finding.masked.items c.note.new.found.items c.loop-finding.finding-index c.finding-item.result c.loop-finding-test.true c.finding-item.is c.loop-finding.invariant noted
+    let noted : IsNoted c.loop-finding.masked (hidden_finding c.finding-item.result) c.note.new.self = search rules in
+    more-hidden c.args.found.now c.loop-finding.masked c.note.new.self c.loop-finding.finding-index c.finding-item.result c.loop-finding-test.true c.finding-item.is c.loop-finding.invariant noted
 
 pub returns : goal.returns
 returns c =
     let end : c.loop-finding.finding-index ≡ length c.args.found.now = omega (arith, c.loop-finding-test.false, c.loop-finding.auto.finding-index-end) in
-    all-hidden c.args.found.now c.loop-finding.masked.items (subst (λ i. AreHidden c.args.found.now i c.loop-finding.masked.items) end c.loop-finding.invariant)
+    let all : c.into_all.result.items ≡ c.loop-finding.masked = search rules in
+    subst (λ (l : List Finding). (script : ScriptView) (first : Run) → AreOutcomes script first c.args.found.now → AreMaskedOutcomes script first l) (sym all)
+    (all-hidden c.args.found.now c.loop-finding.masked (subst (λ i. AreHidden c.args.found.now i c.loop-finding.masked) end c.loop-finding.invariant))

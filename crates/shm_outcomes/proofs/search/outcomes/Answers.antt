@@ -1,34 +1,42 @@
-use Rattle.std.proofs.Common.{rules, ◌≡◌, ◌∙◌, ◌++◌, ◌∷◌, [], List, ap, length, length-append, subst}
-use Rattle.shm_outcomes.specs.Schedules.{Run, fresh}
+use Rattle.std.proofs.Common.{rules, ◌≡◌, ◌∙◌, ◌++◌, ◌∷◌, [], List, ap, length, length-append, map, subst, sym}
+use Rattle.shm_base.specs.State.{Machine}
+use Rattle.shm_outcomes.specs.Branches.{Branch, run_in}
+use Rattle.shm_outcomes.specs.Schedules.{fresh}
+use Rattle.shm_outcomes.specs.Search.{AreOutcomes}
+use Rattle.shm_outcomes.proofs.Branching.{AreGrown, branch-beyond, fewer-branches, taken-branch}
 use Rattle.shm_outcomes.proofs.Complete.{searched-all}
-use Rattle.shm_outcomes.proofs.Searching.{AreSearched, beyond, fewer-left, less-left, taken-up}
+use Rattle.shm_outcomes.proofs.Searching.{less-left}
 use Rattle.shm_outcomes.proofs.search.outcomes.Goals as goal
 
 pub returns-in-Err-clause-err : goal.returns-in-Err-clause-err
 returns-in-Err-clause-err g c =
-    let first : Run = fresh (g.M.Engine.flat c.args.machine) in
+    let machine : Machine = g.M.Engine.flat c.args.machine in
     let was : c.runs.runs.items ≡ c.pop.new.self.items ++ c.in-Some.run' ∷ [] = c.in-Some.ensures.items in
-    let before = subst (λ (rs : List Run). AreSearched c.args.script.now first c.runs.seen rs c.runs.found.items) was c.runs.invariant.searched in
-    beyond c.args.script.now first c.in-Some.run' c.pop.new.self.items c.runs.seen c.runs.found.items c.args.most c.in-Err.error before c.in-Err.ensures.err
+    let before = subst (λ (bs : List Branch). AreGrown c.args.script.now machine c.runs.seen bs c.runs.found) was c.runs.invariant.grown in
+    branch-beyond c.args.script.now machine c.in-Some.run' c.pop.new.self.items c.runs.seen c.runs.found before c.args.most c.in-Err.error c.in-Err.ensures.err
 
 pub runs-preserved : goal.runs-preserved
 runs-preserved g c =
-    let first : Run = fresh (g.M.Engine.flat c.args.machine) in
+    let machine : Machine = g.M.Engine.flat c.args.machine in
     let was : c.runs.runs.items ≡ c.pop.new.self.items ++ c.in-Some.run' ∷ [] = c.in-Some.ensures.items in
-    let before = subst (λ (rs : List Run). AreSearched c.args.script.now first c.runs.seen rs c.runs.found.items) was c.runs.invariant.searched in
+    let before = subst (λ (bs : List Branch). AreGrown c.args.script.now machine c.runs.seen bs c.runs.found) was c.runs.invariant.grown in
     record {
       few = c.in_default-take_up.ensures.few;
-      searched = taken-up c.args.script.now first c.in-Some.run' c.pop.new.self.items c.take_up.new.runs.items c.runs.seen c.take_up.new.seen c.runs.found.items c.take_up.new.found.items before c.in_default-take_up.ensures.taken;
+      grown = taken-branch c.args.script.now machine c.in-Some.run' c.pop.new.self.items c.runs.seen c.runs.found before c.take_up.new.seen c.take_up.new.runs.items c.take_up.new.found c.in_default-take_up.ensures.taken;
     }
 
 pub runs-smaller : goal.runs-smaller
 runs-smaller g c =
+    let machine : Machine = g.M.Engine.flat c.args.machine in
     let was : c.runs.runs.items ≡ c.pop.new.self.items ++ c.in-Some.run' ∷ [] = c.in-Some.ensures.items in
-    let one = ap (λ (rs : List Run). length rs) was ∙ length-append c.pop.new.self.items (c.in-Some.run' ∷ []) in
+    let before = subst (λ (bs : List Branch). AreGrown c.args.script.now machine c.runs.seen bs c.runs.found) was c.runs.invariant.grown in
+    let one = ap (λ (bs : List Branch). length bs) was ∙ length-append c.pop.new.self.items (c.in-Some.run' ∷ []) in
     less-left c.args.most (length c.runs.seen) (length c.take_up.new.seen) (length c.runs.runs.items) (length c.pop.new.self.items) (length c.take_up.new.runs.items) (length c.args.script.now.processes) one c.in_default-take_up.ensures.few
-    (fewer-left c.args.script.now c.in-Some.run' c.pop.new.self.items c.take_up.new.runs.items c.runs.seen c.take_up.new.seen c.runs.found.items c.take_up.new.found.items c.in_default-take_up.ensures.taken)
+    (fewer-branches c.args.script.now machine c.in-Some.run' c.pop.new.self.items c.runs.seen c.runs.found before c.take_up.new.seen c.take_up.new.runs.items c.take_up.new.found c.in_default-take_up.ensures.taken)
 
 pub returns-clause-ok : goal.returns-clause-ok
 returns-clause-ok g c =
     let none : c.runs.runs.items ≡ [] = search rules in
-    searched-all c.args.script.now (g.M.Engine.flat c.args.machine) c.runs.seen c.runs.runs.items c.runs.found.items c.runs.invariant.searched none
+    let all : c.into_all.result.items ≡ c.runs.found = search rules in
+    subst (AreOutcomes c.args.script.now (fresh (g.M.Engine.flat c.args.machine))) (sym all)
+    (searched-all c.args.script.now (g.M.Engine.flat c.args.machine) c.runs.seen (map run_in c.runs.runs.items) c.runs.found c.runs.invariant.grown.searched (ap (map run_in) none))

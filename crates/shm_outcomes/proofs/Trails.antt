@@ -1,0 +1,223 @@
+-- What the search keeps of a run's changes leads to the run's machine.
+use Rattle.std.specs.Prelude.{◌≡◌, ◌≢◌, ℕ, ◌+◌, ◌%◌, ◌^◌, ◌&&◌, Bool, true, false, not, nat_lt, cond, List, [], ◌∷◌, ◌++◌, map, length, Option, Some, None}
+use Rattle.std.proofs.Common.{refl, ap, sym, subst, ◌∙◌, inl, inr, length-append}
+use Rattle.std.proofs.lemmas.Bool.{cases_Bool}
+use Rattle.std.proofs.lemmas.List.{append-nil}
+use Rattle.std.proofs.lemmas.Option.{none-some, same_Some}
+use Rattle.std.specs.Int.{w64, to_le_bytes}
+use Rattle.shm_base.specs.Access.{Place, all_writable, joined, only_writable, place, places, stored}
+use Rattle.shm_base.specs.History.{is_refusal}
+use Rattle.shm_base.specs.State.{Machine}
+use Rattle.shm_base.specs.Step.{Caller, Outcome, acts, caller_of, number_at, step, step_by, store, xadd}
+use Rattle.shm_base.specs.declared.call.Call.{Call}
+use Rattle.shm_base.specs.declared.call.Call.TheVariants.{Shmget, Shmat, Shmdt, Stat, Set, Rmid, Lock, Unlock, Load, Store, Xadd, Fork, Exec, Exit, Swapoff}
+use Rattle.shm_base.specs.declared.call.Event.{Event}
+use Rattle.shm_text.specs.Script.{ScriptView}
+use Rattle.shm_outcomes.specs.Alike.{is_change, looks}
+use Rattle.shm_outcomes.specs.Changes.{Trail, all_changes, fits, no_trail, noted, patch_by, place_by, place_of, put, put_at, puts, trail_after, trail_from, trail_of, write_at, wrote}
+use Rattle.shm_outcomes.specs.Schedules.{Run, after, fresh, next, Leads, schedule_of}
+use Rattle.shm_outcomes.specs.Search.{IsReached}
+use Rattle.shm_outcomes.specs.Times.{timeless}
+use Rattle.shm_outcomes.specs.declared.trail.Change.{Change}
+use Rattle.shm_outcomes.specs.declared.trail.Change.TheVariants.{Made, Wrote}
+use Rattle.shm_outcomes.specs.declared.trail.Patch.{Patch}
+use Rattle.shm_outcomes.specs.declared.trail.Write.{Write}
+use Rattle.shm_outcomes.proofs.Bytes.{put-last, with_write, written}
+use Rattle.shm_outcomes.proofs.Going.{event_at, not-first, one-more, still}
+use Rattle.shm_outcomes.proofs.Timeless.{times_reach_times}
+use Rattle.shm_outcomes.proofs.Timing.{stored-timeless}
+use Rattle.shm_outcomes.proofs.Walking.{made-by}
+
+-- THE MACHINE THAT CHANGES LEAD TO
+
+abbrev pub changed_by : Machine → Change → Machine
+changed_by s (Wrote w) = with_write s w
+changed_by s (Made e) = (step s 1 e.pid e.call).state
+
+abbrev pub changed : Machine → List Change → Machine
+changed s [] = s
+changed s (c ∷ cs) = changed (changed_by s c) cs
+
+changed-append : (s : Machine) (xs ys : List Change) → changed s (xs ++ ys) ≡ changed (changed s xs) ys
+changed-append s [] ys = refl
+changed-append s (x ∷ xs) ys = changed-append (changed_by s x) xs ys
+
+changed-writes : (s : Machine) (ws : List Write) → changed s (map wrote ws) ≡ written s ws
+changed-writes s [] = refl
+changed-writes s (w ∷ ws) = changed-writes (with_write s w) ws
+
+changed-all : (s : Machine) (t : Trail) → changed s (all_changes t) ≡ written (changed s t.past) t.writes
+changed-all s t = changed-append s t.past (map wrote t.writes) ∙ changed-writes (changed s t.past) t.writes
+
+-- WRITTEN BYTES
+
+abbrev with_stored : List Place → List ℕ → Machine → Machine
+with_stored ps bytes m = record m { table = stored m.table ps bytes }
+
+-- the bytes that are kept of a store do what it does
+puts-stored :
+    (s m : Machine) (pid : ℕ) (c : Caller) → caller_of s pid ≡ Some c
+    → (bytes : List ℕ) (addr : ℕ) (ws : List Write) (ps : List Place) → places c.pieces addr (length bytes) ≡ Some ps
+    → written m (puts s pid addr bytes ws) ≡ with_stored ps bytes (written m ws)
+puts-stored s m pid c is [] addr ws ps h = ap (λ (qs : List Place). with_stored qs [] (written m ws)) (same_Some _ _ h)
+puts-stored s m pid c is (b ∷ bs) addr ws ps h =
+    by (λ q qs r. puts-stored s m pid c is bs (addr + 1) (put (write_at q b) ws) qs r) (place c.pieces addr) (places c.pieces (addr + 1) (length bs)) refl refl h
+  where
+    by :
+        ((q : Place) (qs : List Place) → places c.pieces (addr + 1) (length bs) ≡ Some qs → written m (puts s pid (addr + 1) bs (put (write_at q b) ws)) ≡ with_stored qs bs (written m (put (write_at q b) ws)))
+        → (o : Option Place) (r : Option (List Place)) → place c.pieces addr ≡ o → places c.pieces (addr + 1) (length bs) ≡ r → joined o r ≡ Some ps
+        → written m (puts s pid addr (b ∷ bs) ws) ≡ with_stored ps (b ∷ bs) (written m ws)
+    by rest None r o-is r-is none-is = absurd (none-some ps none-is)
+    by rest (Some q) None o-is r-is none-is = absurd (none-some ps none-is)
+    by rest (Some q) (Some qs) o-is r-is some-is =
+        let all : q ∷ qs ≡ ps = same_Some _ _ some-is in
+        let there : place_of s pid addr ≡ Some q = ap (λ (x : Option Caller). place_by x addr) is ∙ o-is in
+        ap (λ (o : Option Place). written m (puts s pid (addr + 1) bs (put_at o b ws))) there
+        ∙ rest q qs r-is
+        ∙ ap (with_stored qs bs) (put-last m (write_at q b) ws)
+        ∙ ap (λ (l : List Place). with_stored l (b ∷ bs) (written m ws)) all
+
+-- A call that writes bytes at these places, and does no more
+abbrev Stores : Machine → Caller → Patch → Outcome → Type 0
+Stores s c p o = (ps : List Place) × (places c.pieces p.addr (length p.bytes) ≡ Some ps) × (o.state ≡ with_stored ps p.bytes s)
+
+abbrev patch : ℕ → List ℕ → Patch
+patch addr bytes = record { addr = addr; bytes = bytes }
+
+fits-is : (addr : ℕ) (bytes : List ℕ) (p : Patch) → fits addr bytes ≡ Some p → patch addr bytes ≡ p
+fits-is addr bytes p h = by (nat_lt (addr + length bytes) (2 ^ 64)) h
+  where
+    by : (b : Bool) → cond b (Some (patch addr bytes)) None ≡ Some p → patch addr bytes ≡ p
+    by true some-is = same_Some _ _ some-is
+    by false none-is = absurd (none-some p none-is)
+
+module _ (s : Machine) (n : ℕ) (c : Caller) where
+  store-stores : (addr : ℕ) (bytes : List ℕ) (o : Option (List Place)) → places c.pieces addr (length bytes) ≡ o
+      → is_refusal (store s bytes (only_writable o)).reply ≡ false → Stores s c (patch addr bytes) (store s bytes (only_writable o))
+  store-stores addr bytes None is h = absurd (cc)
+  store-stores addr bytes (Some ps) is h = by (all_writable ps) h
+    where
+      by : (b : Bool) → is_refusal (store s bytes (cond b (Some ps) None)).reply ≡ false → Stores s c (patch addr bytes) (store s bytes (cond b (Some ps) None))
+      by true k = (ps, is, refl)
+      by false k = absurd (cc)
+
+  xadd-stores : (addr add : ℕ) (p : Patch) (o : Option (List Place)) → places c.pieces addr 8 ≡ o
+      → patch_by (Xadd addr add) (xadd s add (only_writable o)).reply ≡ Some p → Stores s c p (xadd s add (only_writable o))
+  xadd-stores addr add p None is h = absurd (none-some p h)
+  xadd-stores addr add p (Some ps) is h = by (all_writable ps) h
+    where
+      bytes : List ℕ
+      bytes = to_le_bytes w64 ((number_at s ps + add) % 2 ^ 64)
+
+      by : (b : Bool) → patch_by (Xadd addr add) (xadd s add (cond b (Some ps) None)).reply ≡ Some p → Stores s c p (xadd s add (cond b (Some ps) None))
+      by true k =
+          subst (λ (q : Patch). Stores s c q (xadd s add (Some ps)))
+          (fits-is addr (to_le_bytes w64 ((number_at s ps + add) % 2 ^ 64)) p k)
+          (ps, is, refl)
+      by false k = absurd (none-some p k)
+
+  acts-store : (call : Call) (p : Patch) → patch_by call (acts s n c call).reply ≡ Some p → is_refusal (acts s n c call).reply ≡ false → Stores s c p (acts s n c call)
+  acts-store (Store addr bytes) p is h =
+      subst (λ (q : Patch). Stores s c q (acts s n c (Store addr bytes))) (fits-is addr bytes p is) (store-stores addr bytes (places c.pieces addr (length bytes)) refl h)
+  acts-store (Xadd addr add) p is h = xadd-stores addr add p (places c.pieces addr 8) refl is
+  acts-store (Shmget key size mode flags) p is h = absurd (none-some p is)
+  acts-store (Shmat id addr flags) p is h = absurd (none-some p is)
+  acts-store (Shmdt addr) p is h = absurd (none-some p is)
+  acts-store (Stat id) p is h = absurd (none-some p is)
+  acts-store (Set id uid gid mode) p is h = absurd (none-some p is)
+  acts-store (Rmid id) p is h = absurd (none-some p is)
+  acts-store (Lock id) p is h = absurd (none-some p is)
+  acts-store (Unlock id) p is h = absurd (none-some p is)
+  acts-store (Load addr len) p is h = absurd (none-some p is)
+  acts-store (Fork child) p is h = absurd (none-some p is)
+  acts-store Exec p is h = absurd (none-some p is)
+  acts-store Exit p is h = absurd (none-some p is)
+  acts-store (Swapoff area) p is h = absurd (none-some p is)
+
+-- the machine that the trail leads to after a call that wrote bytes
+stored-after :
+    (m s : Machine) (n pid : ℕ) (call : Call) (p : Patch) (ws : List Write) → written m ws ≡ timeless s
+    → patch_by call (step s n pid call).reply ≡ Some p → is_refusal (step s n pid call).reply ≡ false
+    → written m (puts s pid p.addr p.bytes ws) ≡ timeless (step s n pid call).state
+stored-after m s n pid call p ws at is change = by (caller_of s pid) refl is change
+  where
+    by : (o : Option Caller) → caller_of s pid ≡ o → patch_by call (step_by s n call o).reply ≡ Some p → is_refusal (step_by s n call o).reply ≡ false
+        → written m (puts s pid p.addr p.bytes ws) ≡ timeless (step_by s n call o).state
+    by None caller patched kept = absurd (cc)
+    by (Some c) caller patched kept =
+        let all = acts-store s n c call p patched kept in
+        puts-stored s m pid c caller p.bytes p.addr ws all.0 all.1
+        ∙ ap (with_stored all.0 p.bytes) at
+        ∙ ap (λ t. record s { table = t }) (stored-timeless s.table all.0 p.bytes)
+        ∙ ap timeless (sym all.2)
+
+first-false : (a b : Bool) → not a && not b ≡ true → a ≡ false
+first-false false b h = refl
+first-false true b h = absurd (cc)
+
+-- ONE CALL
+
+one-changed :
+    (base s : Machine) (n pid : ℕ) (call : Call) (t : Trail) → n ≢ 0 → changed base (all_changes t) ≡ timeless s
+    → changed base (all_changes (trail_after s (event_at s n pid call) t)) ≡ timeless (step s n pid call).state
+one-changed base s n pid call t not-zero at =
+    let e : Event = event_at s n pid call in
+    elim (cases_Bool (is_change e)) [
+      | inl yes-changes ↦ rw yes-changes (by yes-changes (patch_by call e.reply) refl)
+      | inr no-changes ↦ rw no-changes (at ∙ ap timeless (sym (still s n pid call no-changes)))
+    ]
+  where
+    by : is_change (event_at s n pid call) ≡ true → (o : Option Patch) → patch_by call (step s n pid call).reply ≡ o
+        → changed base (all_changes (noted s (event_at s n pid call) o t)) ≡ timeless (step s n pid call).state
+    by yes-changes (Some p) is =
+        let kept = first-false (is_refusal (step s n pid call).reply) (looks call) yes-changes in
+        let w : Trail = record { past = t.past; writes = puts s pid p.addr p.bytes t.writes } in
+        changed-all base w ∙ stored-after (changed base t.past) s n pid call p t.writes (sym (changed-all base t) ∙ at) is kept
+    by yes-changes None is =
+        let e : Event = event_at s n pid call in
+        let made : Trail = record { past = all_changes t ++ Made e ∷ []; writes = [] } in
+        changed-all base made
+        ∙ changed-append base (all_changes t) (Made e ∷ [])
+        ∙ ap (λ (m : Machine). (step m 1 pid call).state) at
+        ∙ ap (λ (o : Outcome). o.state) (times_reach_times s n pid call not-zero)
+
+-- A RUN
+
+-- the trail after these calls of a machine leads to another
+pub record FollowsOn (base s : Machine) (n : ℕ) (t : Trail) (more : List Event) (new : Machine) : Type 0 where
+  pub machine : changed base (all_changes (trail_from s n t more)) ≡ timeless new
+  pub next : (e : Event) → trail_from s n t (more ++ e ∷ []) ≡ trail_after new e (trail_from s n t more)
+
+leads-follow :
+    (script : ScriptView) (base : Machine) (schedule : List ℕ) (old new : Run) (t : Trail)
+    → Leads script schedule old new → changed base (all_changes t) ≡ timeless old.machine
+    → (more : List Event) × (new.events ≡ old.events ++ more) × FollowsOn base old.machine (length old.events + 1) t more new.machine
+leads-follow script base [] old new t h at = (
+  [],
+  ap (λ (r : Run). r.events) (sym h) ∙ sym (append-nil old.events),
+  record { machine = at ∙ ap (λ (r : Run). timeless r.machine) h; next = λ e. ap (λ (r : Run). trail_after r.machine e t) h },
+)
+leads-follow script base (pid ∷ schedule) old new t h at =
+    let made = made-by (next script old pid) old pid h.0 h.1 in
+    let n : ℕ = length old.events + 1 in
+    let e : Event = event_at old.machine n pid made.0 in
+    let left : Leads script schedule (after old pid made.0) new = subst (λ (r : Run). Leads script schedule r new) (sym made.2) h.2 in
+    let rest = leads-follow script base schedule (after old pid made.0) new (trail_after old.machine e t) left (one-changed base old.machine n pid made.0 t (not-first (length old.events)) at) in
+    let long : length (old.events ++ e ∷ []) + 1 ≡ n + 1 = ap (λ (k : ℕ). k + 1) (length-append old.events (e ∷ [])) in
+    let on = subst (λ (k : ℕ). FollowsOn base (step old.machine n pid made.0).state k (trail_after old.machine e t) rest.0 new.machine) long rest.2 in (
+      e ∷ rest.0,
+      rest.1 ∙ one-more old.events e rest.0,
+      record { machine = on.machine; next = on.next },
+    )
+
+-- the trail of a run leads to its machine
+pub reached-changed : (script : ScriptView) (machine : Machine) (run : Run) → IsReached script (fresh machine) run → changed (timeless machine) (all_changes (trail_of machine run.events)) ≡ timeless run.machine
+reached-changed script machine run reached =
+    let all = leads-follow script (timeless machine) (schedule_of run.events) (fresh machine) run no_trail reached refl in
+    subst (λ (events : List Event). changed (timeless machine) (all_changes (trail_of machine events)) ≡ timeless run.machine) (sym all.1) all.2.machine
+
+-- one call more makes its trail that after the call
+pub reached-next : (script : ScriptView) (machine : Machine) (run : Run) → IsReached script (fresh machine) run → (e : Event) → trail_of machine (run.events ++ e ∷ []) ≡ trail_after run.machine e (trail_of machine run.events)
+reached-next script machine run reached e =
+    let all = leads-follow script (timeless machine) (schedule_of run.events) (fresh machine) run no_trail reached refl in
+    subst (λ (events : List Event). trail_of machine (events ++ e ∷ []) ≡ trail_after run.machine e (trail_of machine events)) (sym all.1) (all.2.next e)

@@ -1,0 +1,92 @@
+-- What changed a machine, as far as later calls can tell: of the bytes that were written since the last other change, each
+-- place keeps the last, so the order of stores to different places does not matter.
+use Rattle.std.specs.Prelude.{ℕ, ◌+◌, ◌%◌, ◌^◌, ◌==◌, ◌&&◌, ◌||◌, Bool, nat_lt, if◌then◌else◌, List, [], ◌∷◌, ◌++◌, filter, map, length, Option, Some, None}
+use Rattle.std.specs.Int.{w64, to_le_bytes}
+use Rattle.shm_base.specs.Access.{Place, place}
+use Rattle.shm_base.specs.State.{Machine}
+use Rattle.shm_base.specs.Step.{Caller, caller_of, step}
+use Rattle.shm_base.specs.declared.bounds.TheConstants.{INDEXES}
+use Rattle.shm_base.specs.declared.call.Call.{Call}
+use Rattle.shm_base.specs.declared.call.Call.TheVariants.{Store, Xadd}
+use Rattle.shm_base.specs.declared.call.Event.{Event}
+use Rattle.shm_base.specs.declared.call.Reply.{Reply}
+use Rattle.shm_base.specs.declared.call.Reply.TheVariants.{Number}
+use Rattle.shm_outcomes.specs.Alike.{is_change}
+use Rattle.shm_outcomes.specs.declared.trail.Change.{Change}
+use Rattle.shm_outcomes.specs.declared.trail.Change.TheVariants.{Made, Wrote}
+use Rattle.shm_outcomes.specs.declared.trail.Patch.{Patch}
+use Rattle.shm_outcomes.specs.declared.trail.Write.{Write}
+
+-- the changes up to the last one that wrote no bytes, and the bytes written since
+pub record Trail : Type 0 where
+  pub past : List Change
+  pub writes : List Write
+
+abbrev pub no_trail : Trail
+no_trail = record { past = []; writes = [] }
+
+-- WRITTEN BYTES
+
+abbrev pub is_below : Write → Write → Bool
+is_below w v = nat_lt v.index w.index || (v.index == w.index) && nat_lt v.at w.at
+
+abbrev pub is_above : Write → Write → Bool
+is_above w v = nat_lt w.index v.index || (v.index == w.index) && nat_lt w.at v.at
+
+-- the bytes in order of their places, with one more, which replaces that at its place
+abbrev pub put : Write → List Write → List Write
+put w ws = filter (is_below w) ws ++ w ∷ filter (is_above w) ws
+
+-- a byte is written at a place
+abbrev pub write_at : Place → ℕ → Write
+write_at p byte = record { index = p.seg % INDEXES; at = p.at; byte = byte }
+
+abbrev pub put_at : Option Place → ℕ → List Write → List Write
+put_at None byte ws = ws
+put_at (Some p) byte ws = put (write_at p byte) ws
+
+abbrev pub place_by : Option Caller → ℕ → Option Place
+place_by None addr = None
+place_by (Some c) addr = place c.pieces addr
+
+-- the byte that an address of a process denotes
+abbrev pub place_of : Machine → ℕ → ℕ → Option Place
+place_of s pid addr = place_by (caller_of s pid) addr
+
+-- a process writes bytes, one for each address from this one on
+abbrev pub puts : Machine → ℕ → ℕ → List ℕ → List Write → List Write
+puts s pid addr [] ws = ws
+puts s pid addr (byte ∷ bytes) ws = puts s pid (addr + 1) bytes (put_at (place_of s pid addr) byte ws)
+
+-- CHANGES
+
+abbrev pub fits : ℕ → List ℕ → Option Patch
+fits addr bytes = if nat_lt (addr + length bytes) (2 ^ 64) then Some (record { addr = addr; bytes = bytes }) else None
+
+-- the bytes that a call wrote, if it wrote no more than bytes
+abbrev pub patch_by : Call → Reply → Option Patch
+patch_by (Store addr bytes) reply = fits addr bytes
+patch_by (Xadd addr add) (Number old) = fits addr (to_le_bytes w64 ((old + add) % 2 ^ 64))
+patch_by call reply = None
+
+abbrev pub wrote : Write → Change
+wrote w = Wrote w
+
+abbrev pub all_changes : Trail → List Change
+all_changes t = t.past ++ map wrote t.writes
+
+abbrev pub noted : Machine → Event → Option Patch → Trail → Trail
+noted s e (Some p) t = record { past = t.past; writes = puts s e.pid p.addr p.bytes t.writes }
+noted s e None t = record { past = all_changes t ++ Made e ∷ []; writes = [] }
+
+-- the trail after one more call, made of this machine
+abbrev pub trail_after : Machine → Event → Trail → Trail
+trail_after s e t = if is_change e then noted s e (patch_by e.call e.reply) t else t
+
+-- the trail after these calls, of which the first is made of this machine at this place of the history
+abbrev pub trail_from : Machine → ℕ → Trail → List Event → Trail
+trail_from s n t [] = t
+trail_from s n t (e ∷ events) = trail_from (step s n e.pid e.call).state (n + 1) (trail_after s e t) events
+
+abbrev pub trail_of : Machine → List Event → Trail
+trail_of s events = trail_from s 1 no_trail events

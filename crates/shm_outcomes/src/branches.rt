@@ -1,0 +1,99 @@
+//! Runs with what changed the machine in them.
+ghost use Rattle.std.specs.Prelude.{◌≡◌, ◌++◌, IfOk, OnOk};
+ghost use Rattle.shm_outcomes.specs.Branches.{branches, grown, grows, one_branch, sprout};
+ghost use Rattle.shm_outcomes.specs.Schedules.{fresh};
+
+use crate::engine::{Engine, EngineError};
+use crate::search::Node;
+use crate::trail::Trail;
+use shm_base::{Call, Process};
+use shm_text::Script;
+use std::alloc::Global;
+use std::marker::Model;
+
+pub(crate) struct Branch<M: Engine> {
+    run: Node<M>,
+    trail: Trail,
+}
+
+impl<M: Engine> Drop for Branch<M> {
+    fn drop(self) {
+        let Branch { run: _, trail: _ } = self;
+    }
+}
+
+impl<M: Engine> Model for Branch<M> {
+    ghost use Rattle.shm_outcomes.specs.Branches.{Branch};
+
+    ghost Value = { Branch };
+
+    ghost view = { λ b. record { run = b.run; trail = b.trail } };
+}
+
+impl<M: Engine> Branch<M> {
+    // The one before the first line.
+    pub(crate) fn first(alloc: Global, machine: M) -> Branch<M>
+        requires { M.calls machine ≡ 0 }
+        ensures { result ≡ sprout (fresh (M.flat machine)) }
+    {
+        Branch {
+            run: Node::first(alloc, machine),
+            trail: Trail::new(alloc),
+        }
+    }
+
+    pub(crate) fn run(&self) -> &Node<M>
+        ensures { result.now ≡ self.now.run }
+    {
+        &self.run
+    }
+
+    pub(crate) fn trail(&self) -> &Trail
+        ensures { result.now ≡ self.now.trail }
+    {
+        &self.trail
+    }
+
+    // After one more call of a process.
+    fn after(&self, alloc: Global, pid: u32, call: &Call) -> Result<Branch<M>, EngineError>
+        ensures { IfOk result (λ b. b ≡ grown self.now pid call.now) }
+    {
+        let run = self.run.after(alloc, pid, call)?;
+        let event = &run.events()[self.run.events().len()];
+        let trail = self.trail.after(alloc, self.run.machine(), event)?;
+        Ok(Branch { run, trail })
+    }
+}
+
+// Puts each one to which this one goes on behind the others.
+pub(crate) fn push_branches<M: Engine>(
+    alloc: Global,
+    script: &Script,
+    branch: &Branch<M>,
+    all: &mut Vec<Branch<M>>,
+) -> Result<(), EngineError>
+    ensures { OnOk result (all.new.items ≡ all.old.items ++ branches script.now script.now.processes branch.now) }
+{
+    for process in &script.processes {
+        push_branch(alloc, script, branch, process, all)?;
+    }
+    Ok(())
+}
+
+// Puts the one to which this one goes on by one process behind the others, if it can.
+fn push_branch<M: Engine>(
+    alloc: Global,
+    script: &Script,
+    branch: &Branch<M>,
+    process: &Process,
+    all: &mut Vec<Branch<M>>,
+) -> Result<(), EngineError>
+    ensures { OnOk result (all.new.items ≡ all.old.items ++ one_branch (grows script.now process.now.pid branch.now)) }
+{
+    let Some(call) = branch.run.next(script, process.pid) else {
+        return Ok(());
+    };
+    let next = branch.after(alloc, process.pid, &call)?;
+    all.push(next)?;
+    Ok(())
+}

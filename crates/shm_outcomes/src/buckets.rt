@@ -1,0 +1,80 @@
+//! Places of things in a list, sorted by digests of the things.
+ghost use Rattle.std.specs.Prelude.{◌≡◌, ◌<◌, ◌++◌, ◌∷◌, [], ℕ, OnErr, OnOk, length, slice_index_or, slice_set};
+ghost use Rattle.shm_outcomes.specs.Buckets.{IsIn, bucket_of};
+
+use std::alloc::{AllocError, Global};
+use std::marker::Model;
+
+const BUCKETS: usize = 65536;
+
+// A digest's bucket is numbered by its highest 16 bits.
+const DIGESTS_IN_BUCKET: u64 = 281474976710656;
+
+#[derive(Drop)]
+struct Bucket {
+    places: Vec<usize>,
+}
+
+impl Model for Bucket {
+    ghost use Rattle.std.specs.Prelude.{List, ℕ};
+
+    ghost Value = { List ℕ };
+
+    ghost view = { λ b. b.places.items };
+}
+
+#[derive(Drop)]
+pub(crate) struct Buckets {
+    all: Vec<Bucket>,
+}
+
+impl Model for Buckets {
+    ghost use Rattle.std.specs.Prelude.{◌≡◌, List, ℕ, length};
+
+    ghost Value = { List (List ℕ) };
+
+    ghost view = { λ b. b.all.items };
+
+    ghost invariant = { λ b. length b.all.items ≡ 65536 };
+}
+
+impl Buckets {
+    pub(crate) fn new(alloc: Global) -> Result<Buckets, AllocError> {
+        let mut all = Vec::with_capacity(alloc, BUCKETS)?;
+        for _ in 0..BUCKETS {
+            let bucket = Bucket {
+                places: Vec::new(alloc),
+            };
+            all.push(bucket)?;
+        }
+        Ok(Buckets { all })
+    }
+
+    // The places of the things with this digest, and of others.
+    pub(crate) fn at(&self, digest: u64) -> &[usize]
+        ensures { result.now ≡ bucket_of self.now digest }
+    {
+        self.all[(digest / DIGESTS_IN_BUCKET) as usize]
+            .places
+            .as_slice()
+    }
+
+    // Puts the place of a thing with this digest into its bucket.
+    pub(crate) fn push(&mut self, digest: u64, place: usize) -> Result<(), AllocError>
+        ensures kept { (other i : ℕ) → IsIn (bucket_of self.old other) i → IsIn (bucket_of self.new other) i }
+        ensures put { OnOk result (IsIn (bucket_of self.new digest) place) }
+    {
+        put_place(&mut self.all, (digest / DIGESTS_IN_BUCKET) as usize, place)?;
+        Ok(())
+    }
+}
+
+fn put_place(all: &mut Vec<Bucket>, index: usize, place: usize) -> Result<(), AllocError>
+    requires within { index < length all.old.items }
+    ensures len { length all.new.items ≡ length all.old.items }
+    ensures items { OnOk result (all.new.items ≡ slice_set all.old.items index (slice_index_or all.old.items index [] ++ place ∷ [])) }
+    ensures err { OnErr result (all.new.items ≡ all.old.items) }
+{
+    all[index].places.push(place)?;
+    Ok(())
+}

@@ -1,0 +1,71 @@
+//! Numbers by which keys and outcomes are looked up.
+ghost use Rattle.std.specs.Prelude.{◌≡◌};
+ghost use Rattle.shm_outcomes.specs.Digests.{digest, mixed, with_bytes, with_replies, with_reply, with_told, with_writes};
+
+use crate::outcome::{Outcome, Told};
+use crate::trail::Write;
+use shm_base::Reply;
+
+fn mixed(digest: u64, number: u64) -> u64
+    ensures { result ≡ mixed digest number }
+{
+    digest
+        .wrapping_add(number)
+        .wrapping_mul(6364136223846793005)
+}
+
+fn with_bytes(digest: u64, bytes: &[u8]) -> u64
+    ensures { result ≡ with_bytes digest bytes.now }
+{
+    let mut all = digest;
+    for byte in bytes {
+        all = mixed(all, *byte as u64);
+    }
+    all
+}
+
+fn with_reply(digest: u64, reply: &Reply) -> u64
+    ensures { result ≡ with_reply digest reply.now }
+{
+    match reply {
+        Reply::Bytes(bytes) => with_bytes(digest, bytes.as_slice()),
+        Reply::Number(number) => mixed(digest, *number),
+        _ => mixed(digest, 1),
+    }
+}
+
+fn with_replies(digest: u64, replies: &[Reply]) -> u64
+    ensures { result ≡ with_replies digest replies.now }
+{
+    let mut all = digest;
+    for reply in replies {
+        all = with_reply(all, reply);
+    }
+    mixed(all, 257)
+}
+
+fn with_told(digest: u64, told: &[Told]) -> u64
+    ensures { result ≡ with_told digest told.now }
+{
+    let mut all = digest;
+    for one in told {
+        all = with_replies(all, one.replies());
+    }
+    all
+}
+
+pub(crate) fn digest(outcome: &Outcome) -> u64
+    ensures { result ≡ digest outcome.now }
+{
+    with_told(1, outcome.told())
+}
+
+pub(crate) fn with_writes(digest: u64, writes: &[Write]) -> u64
+    ensures { result ≡ with_writes digest writes.now }
+{
+    let mut all = digest;
+    for write in writes {
+        all = mixed(mixed(all, write.at), write.byte as u64);
+    }
+    all
+}

@@ -1,0 +1,302 @@
+//! What changed a machine: the calls in order, but of stores only the last byte at each place.
+ghost use Rattle.std.specs.Prelude.{◌≡◌, ◌↔◌, ◌+◌, ◌%◌, ◌^◌, ◌<◌, ◌++◌, ◌∷◌, [], IfOk, IfSome, IsTrue, OnOk, Some, filter, length, map};
+ghost use Rattle.std.specs.Int.{to_le_bytes, w64};
+ghost use Rattle.shm_outcomes.specs.declared.trail.Change.TheVariants.{Made};
+ghost use Rattle.shm_outcomes.specs.Changes.{all_changes, fits, is_above, is_below, no_trail, noted, patch_by, put, put_at, puts, trail_after, write_at, wrote};
+
+use crate::engine::Engine;
+use crate::keys::{is_change, is_same_event};
+use shm_areas::Place;
+use shm_base::{Call, Chunk, Event, INDEXES, Reply};
+use std::alloc::{AllocError, Global};
+use std::marker::Model;
+
+/// A byte that was written: the index of its segment, its place there, and its value.
+#[derive(Clone, Copy, Debug, PartialEq, Eq)]
+pub struct Write {
+    pub index: u32,
+    pub at: u64,
+    pub byte: u8,
+}
+
+/// A byte that was written, or a call that changed something else.
+#[derive(Clone, Copy, Debug)]
+pub enum Change {
+    Wrote(Write),
+    Made(Event),
+}
+
+/// The bytes that a call wrote from an address on.
+#[derive(Clone, Copy, Debug)]
+pub struct Patch {
+    pub addr: u64,
+    pub bytes: Chunk,
+}
+
+// The bytes, if their addresses are below 2^64.
+fn fits(addr: u64, bytes: Chunk) -> Option<Patch>
+    ensures value { result ≡ fits addr bytes }
+    ensures within { IfSome result (λ p. p.addr + length p.bytes < 2 ^ 64) }
+{
+    let count = bytes.as_slice().len() as u64;
+    let end = addr.checked_add(count)?;
+    Some(Patch { addr, bytes })
+}
+
+// What a call wrote, if it wrote no more than bytes.
+fn patch_by(call: &Call, reply: &Reply) -> Option<Patch>
+    ensures value { result ≡ patch_by call.now reply.now }
+    ensures within { IfSome result (λ p. p.addr + length p.bytes < 2 ^ 64) }
+{
+    match (call, reply) {
+        (Call::Store { addr, chunk }, _) => fits(*addr, *chunk),
+        (Call::Xadd { addr, add }, Reply::Number(old)) => sum_patch(*addr, *old, *add),
+        _ => None,
+    }
+}
+
+fn sum_patch(addr: u64, old: u64, add: u64) -> Option<Patch>
+    ensures value { result ≡ fits addr (to_le_bytes w64 ((old + add) % 2 ^ 64)) }
+    ensures within { IfSome result (λ p. p.addr + length p.bytes < 2 ^ 64) }
+{
+    let bytes = old.wrapping_add(add).to_le_bytes();
+    let chunk = Chunk::new(&bytes)?;
+    fits(addr, chunk)
+}
+
+fn write_at(place: &Place, byte: u8) -> Write
+    ensures { result ≡ write_at place.now byte }
+{
+    Write {
+        index: place.seg % INDEXES,
+        at: place.at,
+        byte,
+    }
+}
+
+fn is_below(write: &Write, other: &Write) -> bool
+    ensures { result ≡ is_below write.now other.now }
+{
+    other.index < write.index || (other.index == write.index && other.at < write.at)
+}
+
+fn is_above(write: &Write, other: &Write) -> bool
+    ensures { result ≡ is_above write.now other.now }
+{
+    write.index < other.index || (other.index == write.index && write.at < other.at)
+}
+
+fn push_below(write: &Write, writes: &[Write], all: &mut Vec<Write>) -> Result<(), AllocError>
+    ensures { OnOk result (all.new.items ≡ all.old.items ++ filter (is_below write.now) writes.now) }
+{
+    for other in writes {
+        if is_below(write, other) {
+            all.push(*other)?;
+        }
+    }
+    Ok(())
+}
+
+fn push_above(write: &Write, writes: &[Write], all: &mut Vec<Write>) -> Result<(), AllocError>
+    ensures { OnOk result (all.new.items ≡ all.old.items ++ filter (is_above write.now) writes.now) }
+{
+    for other in writes {
+        if is_above(write, other) {
+            all.push(*other)?;
+        }
+    }
+    Ok(())
+}
+
+// The bytes in order of their places, with one more.
+fn put(alloc: Global, write: &Write, writes: &[Write]) -> Result<Vec<Write>, AllocError>
+    ensures { IfOk result (λ v. v.items ≡ put write.now writes.now) }
+{
+    let mut all = Vec::with_capacity(alloc, writes.len() + 1)?;
+    push_below(write, writes, &mut all)?;
+    all.push(*write)?;
+    push_above(write, writes, &mut all)?;
+    Ok(all)
+}
+
+fn put_at(
+    alloc: Global,
+    place: &Option<Place>,
+    byte: u8,
+    writes: Vec<Write>,
+) -> Result<Vec<Write>, AllocError>
+    ensures { IfOk result (λ v. v.items ≡ put_at place.now byte writes.items) }
+{
+    match place {
+        Some(place) => put(alloc, &write_at(place, byte), &writes),
+        None => Ok(writes),
+    }
+}
+
+// The bytes with those that a process wrote on this machine.
+fn puts<M: Engine>(
+    alloc: Global,
+    machine: &M,
+    pid: u32,
+    patch: &Patch,
+    writes: &[Write],
+) -> Result<Vec<Write>, AllocError>
+    requires within { patch.now.addr + length patch.now.bytes < 2 ^ 64 }
+    ensures { IfOk result (λ v. v.items ≡ puts (M.flat machine.now) pid patch.now.addr patch.now.bytes writes.now) }
+{
+    let mut all = Vec::from_slice(alloc, writes)?;
+    let mut addr = patch.addr;
+    for byte in patch.bytes.as_slice() {
+        let place = machine.place(pid, addr);
+        all = put_at(alloc, &place, *byte, all)?;
+        addr += 1;
+    }
+    Ok(all)
+}
+
+fn is_same_change(change: &Change, other: &Change) -> bool
+    ensures { IsTrue result ↔ change.now ≡ other.now }
+{
+    match (change, other) {
+        (Change::Wrote(write), Change::Wrote(met)) => write == met,
+        (Change::Made(event), Change::Made(met)) => is_same_event(event, met),
+        _ => false,
+    }
+}
+
+fn are_same_changes(changes: &[Change], others: &[Change]) -> bool
+    ensures { IsTrue result ↔ changes.now ≡ others.now }
+{
+    if changes.len() != others.len() {
+        return false;
+    }
+    for (index, change) in changes.iter().enumerate() {
+        if !is_same_change(change, &others[index]) {
+            return false;
+        }
+    }
+    true
+}
+
+fn is_same_write(write: &Write, other: &Write) -> bool
+    ensures { IsTrue result ↔ write.now ≡ other.now }
+{
+    write == other
+}
+
+fn are_same_writes(writes: &[Write], others: &[Write]) -> bool
+    ensures { IsTrue result ↔ writes.now ≡ others.now }
+{
+    if writes.len() != others.len() {
+        return false;
+    }
+    for (index, write) in writes.iter().enumerate() {
+        if !is_same_write(write, &others[index]) {
+            return false;
+        }
+    }
+    true
+}
+
+// The changes up to the last one that wrote no bytes, and the bytes that were written since.
+#[derive(Drop)]
+pub(crate) struct Trail {
+    past: Vec<Change>,
+    writes: Vec<Write>,
+}
+
+impl Model for Trail {
+    ghost use Rattle.shm_outcomes.specs.Changes.{Trail};
+
+    ghost Value = { Trail };
+
+    ghost view = { λ t. record { past = t.past.items; writes = t.writes.items } };
+}
+
+impl Trail {
+    pub(crate) fn new(alloc: Global) -> Trail
+        ensures { result ≡ no_trail }
+    {
+        Trail {
+            past: Vec::new(alloc),
+            writes: Vec::new(alloc),
+        }
+    }
+
+    // The bytes that were written since the last other change.
+    pub(crate) fn writes(&self) -> &[Write]
+        ensures { result.now ≡ self.now.writes }
+    {
+        self.writes.as_slice()
+    }
+
+    pub(crate) fn is_same(&self, other: &Trail) -> bool
+        ensures { IsTrue result ↔ self.now ≡ other.now }
+    {
+        are_same_writes(&self.writes, &other.writes) && are_same_changes(&self.past, &other.past)
+    }
+
+    // The same once more.
+    pub(crate) fn copied(&self, alloc: Global) -> Result<Trail, AllocError>
+        ensures { IfOk result (λ t. t ≡ self.now) }
+    {
+        let past = Vec::from_slice(alloc, &self.past)?;
+        let writes = Vec::from_slice(alloc, &self.writes)?;
+        Ok(Trail { past, writes })
+    }
+
+    // The trail after one more call, made of this machine.
+    pub(crate) fn after<M: Engine>(
+        &self,
+        alloc: Global,
+        machine: &M,
+        event: &Event,
+    ) -> Result<Trail, AllocError>
+        ensures { IfOk result (λ t. t ≡ trail_after (M.flat machine.now) event.now self.now) }
+    {
+        if !is_change(event) {
+            return self.copied(alloc);
+        }
+        match patch_by(&event.call, &event.reply) {
+            Some(patch) => self.written(alloc, machine, event, &patch),
+            None => self.made(alloc, event),
+        }
+    }
+
+    fn written<M: Engine>(
+        &self,
+        alloc: Global,
+        machine: &M,
+        event: &Event,
+        patch: &Patch,
+    ) -> Result<Trail, AllocError>
+        requires within { patch.now.addr + length patch.now.bytes < 2 ^ 64 }
+        ensures { IfOk result (λ t. t ≡ noted (M.flat machine.now) event.now (Some patch.now) self.now) }
+    {
+        let past = Vec::from_slice(alloc, &self.past)?;
+        let writes = puts(alloc, machine, event.pid, patch, &self.writes)?;
+        Ok(Trail { past, writes })
+    }
+
+    fn made(&self, alloc: Global, event: &Event) -> Result<Trail, AllocError>
+        ensures { IfOk result (λ t. t ≡ record { past = all_changes self.now ++ Made event.now ∷ []; writes = [] }) }
+    {
+        let mut past = Vec::from_slice(alloc, &self.past)?;
+        push_changes(&self.writes, event, &mut past)?;
+        Ok(Trail {
+            past,
+            writes: Vec::new(alloc),
+        })
+    }
+}
+
+// Puts the bytes behind the changes, and then the call.
+fn push_changes(writes: &[Write], event: &Event, past: &mut Vec<Change>) -> Result<(), AllocError>
+    ensures { OnOk result (past.new.items ≡ (past.old.items ++ map wrote writes.now) ++ Made event.now ∷ []) }
+{
+    for write in writes {
+        past.push(Change::Wrote(*write))?;
+    }
+    past.push(Change::Made(*event))?;
+    Ok(())
+}
