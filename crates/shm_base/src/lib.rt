@@ -34,5 +34,5 @@ pub use numbers::Numbers;
 pub use owner::{Cred, Perm, Want, grants};
 pub use paging::{
     FlushReport, FrameNo, PAGE_BYTES, PAGE_SIZE, PageRef, Slot, Span, Tally, is_slot_count,
-    pages_of,
+    pages_of, zeros,
 };

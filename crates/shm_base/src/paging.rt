@@ -2,6 +2,7 @@
 ghost use Rattle.std.specs.Prelude.{◌≡◌, ◌≤◌, ◌^◌, ◌<◌};
 ghost use Rattle.shm_base.specs.State as flat;
 ghost use Rattle.shm_base.specs.Bounds.{within};
+ghost use Rattle.shm_base.specs.Page.{zero_page};
 ghost use Rattle.shm_base.specs.declared.bounds.TheConstants.{PROFILE_SLOTS};
 
 use crate::bounds::PROFILE_SLOTS;
@@ -11,6 +12,14 @@ pub const PAGE_SIZE: u64 = 4096;
 
 /// The same as the length of an array.
 pub const PAGE_BYTES: usize = PAGE_SIZE as usize;
+
+/// A page of zeros.
+#[tactic(auto, unfolding(crate::specs::Page::zero_page))]
+pub fn zeros() -> [u8; PAGE_BYTES]
+    ensures { result ≡ zero_page }
+{
+    [0; PAGE_BYTES]
+}
 
 /// The number of a frame, from 0.
 pub type FrameNo = u32;

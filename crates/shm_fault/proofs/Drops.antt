@@ -1,6 +1,6 @@
 -- A page that leaves its frame and its slot for good.
 use Rattle.shm_fault.proofs.Names.{◌≡◌, ◌≢◌, ℕ, zero, suc, ◌<◌, ◌≤◌, ◌+◌, true, List, [], ◌∷◌, length, set, map, sum_by, Option, Some, None, refl, sym, ap, ◌∙◌, inl, inr, arith, get_or-set_same, not, eqb, cases_eq, cases_lt, eq-eqb, ne_eqb, length-replicate, set-get_or, PageRef, Slot, without, SwapView, owner_of, page_in, without_slot, IsSwap, IsSteady, Frame, frame_at, PageRec, SegRec, AreApart, but, no_page, find_seg, rec_by, count_by_id, HasPage, NowhereUpTo, with_rec, page_count, locked_pages, StoreView, held_by, disowned, IsTied, IsStoreSound, outline, outlines, emptied, Given, IsBlank, Dropped, StayNowhere, AtRest, sum_by-filter_both, nat_tests, common_steps}
-use Rattle.shm_pager.specs.Pages.{zero_page}
+use Rattle.shm_base.specs.Page.{zero_page}
 use Rattle.shm_fault.specs.Store.{held}
 use Rattle.shm_fault.proofs.Entries.{apart-filter, edit-none, find-but, find-out}
 use Rattle.shm_fault.proofs.Counting.{AtRest-trans}

@@ -3,8 +3,8 @@ use Rattle.shm_fault.proofs.Names.{◌≡◌, ℕ, ◌-◌, ◌+◌, ◌<◌, �
 use Rattle.std.proofs.lemmas.List.Folds.{sum_by-replicate}
 use Rattle.std.proofs.lemmas.List.{get_or_default}
 use Rattle.std.specs.Option.{option_eq}
-use Rattle.shm_pager.specs.Padded.{padded}
-use Rattle.shm_pager.proofs.Padded.{get_or-padded, set-padded, padded-padded, within-padded, fits-padded}
+use Rattle.shm_base.specs.Stored.{padded}
+use Rattle.shm_base.proofs.Stored.{get_or-padded, set-padded, padded-padded, within-padded, fits-padded}
 
 -- the pages without a record are not swapped
 pub swapped-padded : (ps : List PageRec) (n : ℕ) → count_by is_swapped (padded ps n no_page) ≡ count_by is_swapped ps

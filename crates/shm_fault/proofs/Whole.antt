@@ -1,7 +1,7 @@
 -- Stores as they are made, and whole segments that are added, locked or unlocked.
 use Rattle.shm_fault.proofs.Names.{◌≡◌, ℕ, zero, suc, ◌≤◌, ◌+◌, ◌*◌, Bool, true, false, cond, eqb, List, [], ◌∷◌, ◌++◌, map, length, replicate, sum_by, Option, Some, None, is_some, refl, sym, ap, ◌∙◌, inl, inr, arith, flat_map, cases_Bool, cases_lt, length-replicate, map-append, get_or-replicate, get_or_past, replicate-append-replicate, sum_by-cons, sum_by-append, PageRef, Slot, is_held, held_pages, pages_in_store, pages_if_locked, locked_pages_in_store, with_zeros, with_lock, SwapView, IsSwap, swap_slots, owner_of, Frame, IsFrameBlank, SegRec, no_page, rec_at, find_seg, AreApart, rec_by, count_by_id, HasPage, with_seg_lock, new_seg, page_count, locked_pages, StoreView, page_bytes, held_by, fresh_store, IsStoreSound, outline, outlines, nat_tests, common_steps}
 use Rattle.shm_base.specs.declared.bounds.TheConstants.{MOST_FRAMES}
-use Rattle.shm_pager.specs.Pages.{zero_page}
+use Rattle.shm_base.specs.Page.{zero_page}
 use Rattle.shm_fault.specs.Store.{held}
 use Rattle.shm_fault.proofs.Entries.{apart-append, apart-edit}
 use Rattle.shm_fault.proofs.Pages.{rec-past, has-head, has-tail, find-map}

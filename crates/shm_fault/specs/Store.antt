@@ -6,7 +6,7 @@ use Rattle.shm_base.specs.declared.paging.Slot.{Slot}
 use Rattle.shm_base.specs.declared.paging.Span.{Span}
 pub use Rattle.shm_base.specs.Spans.{page_of}
 use Rattle.shm_fault.specs.Held.{Held}
-use Rattle.shm_pager.specs.Pages.{zero_page}
+use Rattle.shm_base.specs.Page.{zero_page}
 use Rattle.shm_slots.specs.View.{SwapView, page_in}
 use Rattle.shm_frames.specs.Frame.{Frame, frame_at}
 use Rattle.shm_fault.specs.declared.page_tables.PageRec.{PageRec}

@@ -13,8 +13,8 @@ ghost use Rattle.shm_fault.specs.Moving.{HasFreeOutside, FitOutside, Relocates, 
 use crate::page_tables::PageRec;
 use crate::store::PageStore;
 use crate::touched::{PagerFailed, Touched};
-use shm_base::{FrameNo, PAGE_BYTES, PageRef, Slot};
-use shm_pager::{Pager, PagerFault, zeros};
+use shm_base::{FrameNo, PAGE_BYTES, PageRef, Slot, zeros};
+use shm_pager::{Pager, PagerFault};
 use shm_slots::Swap;
 
 // Writes a page to the least free slot of the lowest-numbered other area that has one, and gives its slot

@@ -5,7 +5,7 @@
 //! somewhere, together with those of the pages before it. So pages that nobody touches cost nothing, neither when the
 //! table is made nor when it goes.
 ghost use Rattle.std.specs.Prelude.{◌≡◌, ℕ, ◌+◌, ◌<◌, ◌≤◌, ◌^◌, length, count_by, set, replicate, vec_capacity, false, true, IfOk};
-ghost use Rattle.shm_pager.specs.Padded.{padded};
+ghost use Rattle.shm_base.specs.Stored.{padded};
 ghost use Rattle.shm_fault.specs.Segs.{rec_at, no_page, is_placed};
 ghost use Rattle.shm_fault.specs.Store.{is_swapped};
 
@@ -36,7 +36,7 @@ impl Drop for PageTable {
 
 impl Model for PageTable {
     ghost use Rattle.std.specs.Prelude.{◌<◌, ◌≤◌, ◌^◌, length, vec_capacity};
-    ghost use Rattle.shm_pager.specs.Padded.{padded};
+    ghost use Rattle.shm_base.specs.Stored.{padded};
     ghost use Rattle.shm_fault.specs.Segs.{TableView, no_page};
 
     ghost Value = { TableView };

@@ -6,8 +6,8 @@ use Rattle.std.specs.Int.{from_bool}
 use Rattle.std.proofs.lemmas.List.{get_or-set_other}
 use Rattle.std.proofs.lemmas.List.Sums.{sum_by-cons, sum_by-set, count_by-le-length}
 use Rattle.shm_base.specs.declared.paging.PageRef.{PageRef}
-use Rattle.shm_pager.specs.Padded.{padded}
-use Rattle.shm_pager.proofs.Padded.{size-padded, get_or-padded}
+use Rattle.shm_base.specs.Stored.{padded}
+use Rattle.shm_base.proofs.Stored.{size-padded, get_or-padded}
 use Rattle.shm_frames.proofs.Shown.{count-padded}
 use Rattle.shm_frames.specs.declared.frames.FrameState.{FrameState}
 use Rattle.shm_frames.specs.Table.{free_entry, state_at, has_owner, has_no_owner, has_changed, UsedBelow, IsFrameTable}

@@ -3,8 +3,8 @@ use Rattle.std.proofs.Common.{◌≡◌, ◌≢◌, ℕ, ◌+◌, ◌/◌, ◌<�
 use Rattle.std.proofs.lemmas.Grind.{common_steps}
 use Rattle.std.proofs.lemmas.List.{get_or_past, get_or-set_other, get_or-set_same}
 use Rattle.std.proofs.lemmas.Bool.{cases_lt, cases_eq}
-use Rattle.shm_pager.specs.Padded.{padded}
-use Rattle.shm_pager.proofs.Padded.{get_or-padded, within-padded}
+use Rattle.shm_base.specs.Stored.{padded}
+use Rattle.shm_base.proofs.Stored.{get_or-padded, within-padded}
 use Rattle.shm_frames.specs.declared.frames.FrameState.{FrameState}
 use Rattle.std.specs.Prelude.{IfSome}
 use Rattle.shm_frames.specs.Frame.{Frame, frame_at, IsDirtyFrom, AreCleanUpTo}

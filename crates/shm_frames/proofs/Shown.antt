@@ -7,9 +7,9 @@ use Rattle.std.proofs.lemmas.List.Sums.{sum_by-cons, sum_by-append}
 use Rattle.std.proofs.lemmas.List.Folds.{sum_by-replicate}
 use Rattle.std.proofs.lemmas.List.{get_or_read, get_or_past, get_or_default}
 use Rattle.std.proofs.lemmas.Bool.{cases_lt}
-use Rattle.shm_pager.specs.Padded.{padded}
-use Rattle.shm_pager.specs.Pages.{zero_page}
-use Rattle.shm_pager.proofs.Padded.{length-padded, size-padded, fits-padded, get_or-padded, set-padded, padded-padded}
+use Rattle.shm_base.specs.Stored.{padded}
+use Rattle.shm_base.specs.Page.{zero_page}
+use Rattle.shm_base.proofs.Stored.{length-padded, size-padded, fits-padded, get_or-padded, set-padded, padded-padded}
 use Rattle.shm_frames.specs.declared.frames.FrameState.{FrameState}
 use Rattle.shm_frames.specs.declared.frames.Frames.TheInside.{Inside}
 use Rattle.shm_frames.specs.Frame.{Frame, frame_at, no_frame, is_free, is_owned, is_dirty, resident_of, dirty_of, FreeAreClear, OwnedBelow}

@@ -7,12 +7,11 @@
 //! skips the other blocks. A free frame has both bits clear, and arbitrary bytes.
 ghost use Rattle.std.specs.Prelude.{◌≡◌, ℕ, ◌+◌, ◌-◌, ◌/◌, ◌<◌, ◌≤◌, ◌^◌, [], ◌∷◌, ◌++◌, length, get_or, set, position, count_by, vec_capacity, None, Some, IfOk, IfSome, IsSome, MatchOption, true, false};
 ghost use Rattle.std.specs.Borrow.{sem};
-ghost use Rattle.shm_pager.specs.Padded.{padded};
-ghost use Rattle.shm_pager.specs.Pages.{zero_page};
+ghost use Rattle.shm_base.specs.Stored.{padded};
+ghost use Rattle.shm_base.specs.Page.{zero_page};
 
 use crate::looks::Looks;
-use shm_base::{FrameNo, HostMemory, PAGE_BYTES, PageRef};
-use shm_pager::zeros;
+use shm_base::{FrameNo, HostMemory, PAGE_BYTES, PageRef, zeros};
 use std::alloc::{AllocError, Global};
 use std::marker::Model;
 

@@ -5,7 +5,7 @@
 //! mark when a frame of the block gets a page, and all marks when it unlocks a segment. Memory is reserved
 //! once, and no mark is written before its block or a later one is skipped.
 ghost use Rattle.std.specs.Prelude.{◌≡◌, ℕ, ◌+◌, ◌/◌, ◌<◌, ◌≤◌, false, true, length, set, replicate, vec_capacity, IfOk};
-ghost use Rattle.shm_pager.specs.Padded.{padded};
+ghost use Rattle.shm_base.specs.Stored.{padded};
 ghost use Rattle.shm_frames.specs.Skips.{is_skipped};
 
 use crate::frames::{BLOCK, copied, mark};
@@ -34,7 +34,7 @@ impl Drop for Skips {
 
 impl Model for Skips {
     ghost use Rattle.std.specs.Prelude.{Bool, false, ◌≤◌, ◌<◌, ◌^◌, List, length, vec_capacity};
-    ghost use Rattle.shm_pager.specs.Padded.{padded};
+    ghost use Rattle.shm_base.specs.Stored.{padded};
 
     ghost Value = { List Bool };
 

@@ -1,4 +1,3 @@
 pub mod Merged
 mod Mirrored
 pub mod Rooms
-pub mod Padded

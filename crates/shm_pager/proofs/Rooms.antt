@@ -4,10 +4,10 @@ use Rattle.std.proofs.lemmas.Grind.{common_steps}
 use Rattle.std.specs.List.{list_all}
 use Rattle.std.proofs.lemmas.List.{map-set, take_all, length-map, get_or_default}
 use Rattle.std.proofs.Math.ListN.{get_or-map as map-get_or}
-use Rattle.shm_pager.specs.Pages.{zero_page}
-use Rattle.shm_pager.specs.Padded.{padded}
+use Rattle.shm_base.specs.Page.{zero_page}
+use Rattle.shm_base.specs.Stored.{padded}
 use Rattle.shm_pager.specs.Sparse.{page_behind, NoZeros}
-use Rattle.shm_pager.proofs.Padded.{length-padded, within-padded, fits-padded, get_or-padded, set-padded, unset-padded, padded-padded, padded-same, map-padded}
+use Rattle.shm_base.proofs.Stored.{length-padded, within-padded, fits-padded, get_or-padded, set-padded, unset-padded, padded-padded, padded-same, map-padded}
 
 zeros-from_all : (xs : List ℕ) → list_all (λ b. b == 0) xs ≡ true → xs ≡ replicate (length xs) 0
 zeros-from_all [] h = refl

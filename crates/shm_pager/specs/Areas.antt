@@ -1,6 +1,7 @@
 -- The pages and failures of an area of each kind.
 use Rattle.std.specs.Prelude.{ℕ, ◌≡◌, List, replicate}
-use Rattle.shm_pager.specs.Pages.{PagerView, zero_page}
+use Rattle.shm_base.specs.Page.{zero_page}
+use Rattle.shm_pager.specs.Pages.{PagerView}
 use Rattle.shm_pager.specs.Fuse.{FuseView, new_fuse}
 use Rattle.shm_pager.specs.Mirror.{pages_shown}
 use Rattle.shm_pager.specs.declared.area.AreaPager.{AreaPager}

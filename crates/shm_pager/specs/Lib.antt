@@ -1,6 +1,5 @@
 pub mod Pages
 pub mod Sparse
-pub mod Padded
 pub mod Fuse
 pub mod Mirror
 pub mod Areas

@@ -2,10 +2,6 @@
 use Rattle.std.specs.Prelude.{ℕ, ◌≡◌, ◌+◌, ◌-◌, ◌^◌, ◌≤◌, ◌⊎◌, Bool, true, ◌==◌, ◌&&◌, nat_lt, List, [], get_or, min, replicate, set, Result, MatchResult}
 use Rattle.shm_base.specs.declared.paging.TheConstants.{PAGE_SIZE}
 
--- a page of zeros
-unfoldable pub zero_page : List ℕ
-zero_page = replicate PAGE_SIZE 0
-
 -- the value at which a count stops
 abbrev pub last_count : ℕ
 last_count = 2 ^ 64 - 1

@@ -1,6 +1,6 @@
 -- Pages that have memory only if they are not all zeros.
 use Rattle.std.specs.Prelude.{ℕ, ◌≡◌, List, Option, Some, None, get_or}
-use Rattle.shm_pager.specs.Pages.{zero_page}
+use Rattle.shm_base.specs.Page.{zero_page}
 
 -- the page of a slot: zeros if it has no memory
 abbrev pub page_behind : Option (List ℕ) → List ℕ

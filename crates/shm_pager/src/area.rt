@@ -1,6 +1,6 @@
 //! A swap area of any kind, as one type.
 ghost use Rattle.std.specs.Prelude.{◌≡◌, IfOk, replicate};
-ghost use Rattle.shm_pager.specs.Pages.{zero_page};
+ghost use Rattle.shm_base.specs.Page.{zero_page};
 ghost use Rattle.shm_pager.specs.Areas.{area_pages, failed_in, FailsWhere, IsOfKind};
 
 use crate::fuse::FusePager;

@@ -1,6 +1,7 @@
 //! A pager that fails at chosen calls.
 ghost use Rattle.std.specs.Prelude.{◌≡◌, ◌<◌, [], length, set, get_or, replicate, true, false, not, ◌&&◌, if◌then◌else◌, is_ok, IfOk};
-ghost use Rattle.shm_pager.specs.Pages.{zero_page, last_count, next_count, pager_seen, served, SlotUnknown, CountsErr, TriesWrite, TriesRead};
+ghost use Rattle.shm_base.specs.Page.{zero_page};
+ghost use Rattle.shm_pager.specs.Pages.{last_count, next_count, pager_seen, served, SlotUnknown, CountsErr, TriesWrite, TriesRead};
 ghost use Rattle.shm_pager.specs.Fuse.{new_fuse, is_listed, read_is_bad, write_is_bad, scorched_page};
 
 use crate::pager::{ClonePager, Pager, PagerFault, read_if, try_write};

@@ -13,7 +13,7 @@ mod sparse;
 pub use area::{AreaKind, AreaPager, Failing};
 pub use fuse::FusePager;
 pub use mirror::{MirrorCause, MirrorPager, MirrorRefused};
-pub use pager::{AnyPager, ClonePager, Pager, PagerFault, try_read, try_write, zeros};
+pub use pager::{AnyPager, ClonePager, Pager, PagerFault, try_read, try_write};
 pub use ram::RamPager;
 pub use sparse::SparsePager;
 

@@ -1,6 +1,7 @@
 //! Two pagers that hold the same pages.
 ghost use Rattle.std.specs.Prelude.{◌≡◌, ◌≢◌, ◌<◌, ◌==◌, [], length, set, get_or, replicate, true, false, ◌||◌, if◌then◌else◌, is_ok, IfOk, IfErr, IsErr};
-ghost use Rattle.shm_pager.specs.Pages.{zero_page, last_count, pager_seen, served, SlotUnknown, CountsErr, TriesWrite, TriesRead};
+ghost use Rattle.shm_base.specs.Page.{zero_page};
+ghost use Rattle.shm_pager.specs.Pages.{last_count, pager_seen, served, SlotUnknown, CountsErr, TriesWrite, TriesRead};
 ghost use Rattle.shm_pager.specs.Mirror.{MirrorView, mirror_of, left_alone, both_sides, no_side, pages_shown, left_asked, left_serves, right_asked, right_serves};
 
 use crate::pager::{ClonePager, Pager, PagerFault, read_if, try_write};

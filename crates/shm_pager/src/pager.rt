@@ -1,7 +1,8 @@
 //! What each pager promises. A pager that broke its promise could change bytes of segments. One that fails in
 //! the ways named here can not.
 ghost use Rattle.std.specs.Prelude.{◌≡◌, ℕ, ◌<◌, ◌&&◌, true, false, List, [], length, set, get_or, replicate, is_ok, IfOk};
-ghost use Rattle.shm_pager.specs.Pages.{zero_page, last_count, pager_seen, served, SlotUnknown, CountsErr, TriesWrite, TriesRead};
+ghost use Rattle.shm_base.specs.Page.{zero_page};
+ghost use Rattle.shm_pager.specs.Pages.{last_count, pager_seen, served, SlotUnknown, CountsErr, TriesWrite, TriesRead};
 
 use shm_base::{HostMemory, PAGE_BYTES};
 use thiserror::Error;
@@ -63,14 +64,6 @@ pub trait ClonePager: Pager {
     /// refused memory.
     fn try_clone(&self) -> Result<Self, HostMemory>
         ensures { IfOk result (λ copy. copy ≡ self.now) };
-}
-
-/// A page of zeros.
-#[tactic(auto, unfolding(crate::specs::Pages::zero_page))]
-pub fn zeros() -> [u8; PAGE_BYTES]
-    ensures { result ≡ zero_page }
-{
-    [0; PAGE_BYTES]
 }
 
 /// Writes to a pager, unless it has counted its last failure: then the pager is not called, and the write

@@ -1,9 +1,9 @@
 //! Pages in memory.
 ghost use Rattle.std.specs.Prelude.{◌≡◌, ◌<◌, [], length, set, get_or, replicate, IsOk, IfOk};
-ghost use Rattle.shm_pager.specs.Pages.{zero_page};
+ghost use Rattle.shm_base.specs.Page.{zero_page};
 
-use crate::pager::{ClonePager, Pager, PagerFault, zeros};
-use shm_base::{HostMemory, PAGE_BYTES};
+use crate::pager::{ClonePager, Pager, PagerFault};
+use shm_base::{HostMemory, PAGE_BYTES, zeros};
 use std::alloc::{AllocError, Global};
 use std::marker::Model;
 

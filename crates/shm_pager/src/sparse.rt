@@ -1,10 +1,11 @@
 //! Pages in memory, where pages of zeros take no memory.
 ghost use Rattle.std.specs.Prelude.{◌≡◌, ◌≢◌, ◌+◌, ◌<◌, ◌≤◌, ◌↔◌, [], length, set, get_or, replicate, vec_capacity, None, Some, IsTrue, IsOk, IfOk, MatchOption, OnErr};
-ghost use Rattle.shm_pager.specs.Pages.{zero_page, last_count};
-ghost use Rattle.shm_pager.specs.Padded.{padded};
+ghost use Rattle.shm_base.specs.Page.{zero_page};
+ghost use Rattle.shm_pager.specs.Pages.{last_count};
+ghost use Rattle.shm_base.specs.Stored.{padded};
 
-use crate::pager::{ClonePager, Pager, PagerFault, zeros};
-use shm_base::{HostMemory, PAGE_BYTES};
+use crate::pager::{ClonePager, Pager, PagerFault};
+use shm_base::{HostMemory, PAGE_BYTES, zeros};
 use std::alloc::{AllocError, Global};
 use std::marker::Model;
 
@@ -63,8 +64,9 @@ pub struct SparsePager {
 
 impl Model for SparsePager {
     ghost use Rattle.std.specs.Prelude.{◌≤◌, length, map, vec_capacity};
-    ghost use Rattle.shm_pager.specs.Pages.{PagerView, zero_page};
-    ghost use Rattle.shm_pager.specs.Padded.{padded};
+    ghost use Rattle.shm_base.specs.Page.{zero_page};
+    ghost use Rattle.shm_pager.specs.Pages.{PagerView};
+    ghost use Rattle.shm_base.specs.Stored.{padded};
     ghost use Rattle.shm_pager.specs.Sparse.{page_behind, NoZeros};
 
     ghost Value = { PagerView };

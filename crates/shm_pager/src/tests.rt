@@ -2,9 +2,8 @@
 //! inside a fuse.
 use crate::{
     AreaKind, AreaPager, Failing, FusePager, Pager, PagerFault, RamPager, try_read, try_write,
-    zeros,
 };
-use shm_base::PAGE_BYTES;
+use shm_base::{PAGE_BYTES, zeros};
 use std::alloc::{AllocError, Global};
 use std::process::Abort;
 use std::sync::Arc;

@@ -1,7 +1,7 @@
 -- The items of a list with their numbers, one after another.
 use Rattle.std.proofs.Common.{◌≡◌, ℕ, zero, suc, ◌+◌, ◌-◌, List, [], ◌∷◌, ◌++◌, length, replicate, None, Option, refl, ap, ◌∙◌}
 use Rattle.shm_base.specs.declared.paging.PageRef.{PageRef}
-use Rattle.shm_pager.specs.Padded.{padded}
+use Rattle.shm_base.specs.Stored.{padded}
 use Rattle.shm_program.specs.Record.{numbered, slot_line}
 
 -- slots that nobody owns have no line

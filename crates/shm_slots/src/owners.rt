@@ -1,6 +1,6 @@
 //! The owner of each slot of an area, and the least free slot.
 ghost use Rattle.std.specs.Prelude.{◌≡◌, ◌<◌, ◌≤◌, ◌^◌, ℕ, [], length, nat_lt, is_some, set, get_or, replicate, vec_capacity, Some, None, IfOk};
-ghost use Rattle.shm_pager.specs.Padded.{padded};
+ghost use Rattle.shm_base.specs.Stored.{padded};
 ghost use Rattle.shm_base.specs.Numbers.{is_taken};
 ghost use Rattle.shm_slots.specs.Owners.{IsLeastFree, FoundLeast, used_count};
 
@@ -32,7 +32,7 @@ impl Drop for Owners {
 impl Model for Owners {
     ghost use Rattle.std.specs.Prelude.{◌<◌, ◌≤◌, ◌^◌, List, Option, None, length, vec_capacity};
     ghost use Rattle.shm_base.specs.declared.paging.PageRef.{PageRef};
-    ghost use Rattle.shm_pager.specs.Padded.{padded};
+    ghost use Rattle.shm_base.specs.Stored.{padded};
     ghost use Rattle.shm_slots.specs.Owners.{AreOwnersSound};
 
     ghost Value = { List (Option PageRef) };

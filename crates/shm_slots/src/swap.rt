@@ -38,7 +38,7 @@ impl<P: Pager> Swap<P> {
     ghost use Rattle.shm_slots.specs.View.{SwapView, new_swap, fresh, area_at, with_area, off, HasSlot, owner_of, page_in, with_slot_page, without_slot, FoundFree, Takes, OneArea, SameSlots, AfterReadFault, AfterWriteFault, size_of, sizes, swap_slots, used_in, used_slots, IsAreaSize, IsSwap, AreCountsOf};
     ghost use Rattle.shm_slots.specs.Cause.{total, had_cause, GoesOn, IsSteady};
     ghost use Rattle.shm_base.specs.declared.bounds.TheConstants.{MOST_AREAS};
-    ghost use Rattle.shm_pager.specs.Padded.{padded};
+    ghost use Rattle.shm_base.specs.Stored.{padded};
 
     /// A swap over these pagers, which become the areas 0, 1 and so on. No slot is owned. A pager that is
     /// spent when it is passed in counts as a spent area. HostMemory: the host refused memory.

@@ -1,10 +1,10 @@
 //! Worked rows for the kinds of pagers, with their expected results. Also tests that each pager is dropped
 //! once, and wiped.
 use crate::counting::{Counter, CountingPager};
-use shm_base::HostMemory;
+use shm_base::{HostMemory, zeros};
 use shm_pager::{
     AnyPager, AreaKind, AreaPager, ClonePager, Failing, FusePager, MirrorCause, MirrorPager, Pager,
-    RamPager, SparsePager, try_read, try_write, zeros,
+    RamPager, SparsePager, try_read, try_write,
 };
 use std::alloc::{AllocError, Global};
 use std::process::Abort;

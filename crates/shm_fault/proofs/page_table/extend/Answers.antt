@@ -1,6 +1,6 @@
 use Rattle.shm_fault.proofs.Names.{◌≡◌, ◌∙◌, ◌+◌, ap, arith, length, no_page}
-use Rattle.shm_pager.specs.Padded.{padded}
-use Rattle.shm_pager.proofs.Padded.{length-padded, padded-padded}
+use Rattle.shm_base.specs.Stored.{padded}
+use Rattle.shm_base.proofs.Stored.{length-padded, padded-padded}
 use Rattle.shm_fault.proofs.page_table.extend.Goals as goal
 
 pub loop-run-preserved : goal.loop-run-preserved

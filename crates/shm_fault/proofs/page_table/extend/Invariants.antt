@@ -1,6 +1,6 @@
 use Rattle.shm_fault.proofs.Names.{◌≡◌, ◌≤◌, ◌+◌, ◌-◌, ◌*◌, ◌/◌, length, no_page}
 use Rattle.std.proofs.Common.{vec_capacity}
-use Rattle.shm_pager.specs.Padded.{padded}
+use Rattle.shm_base.specs.Stored.{padded}
 use Rattle.shm_fault.proofs.page_table.extend.Given as goal
 
 abbrev pub invariant-loop-run : goal.invariant-loop-run

@@ -1,6 +1,6 @@
 use Rattle.std.proofs.Common.{◌≤◌, length, ◌∙◌, arith}
-use Rattle.shm_pager.specs.Pages.{zero_page}
-use Rattle.shm_pager.proofs.Padded.{more-padded}
+use Rattle.shm_base.specs.Page.{zero_page}
+use Rattle.shm_base.proofs.Stored.{more-padded}
 use Rattle.shm_frames.specs.Table.{free_entry}
 use Rattle.shm_frames.proofs.frames.extend.Goals as goal
 

@@ -1,6 +1,6 @@
 use Rattle.std.proofs.Common.{◌≡◌, ◌≤◌, ◌+◌, length, vec_capacity}
-use Rattle.shm_pager.specs.Pages.{zero_page}
-use Rattle.shm_pager.specs.Padded.{padded}
+use Rattle.shm_base.specs.Page.{zero_page}
+use Rattle.shm_base.specs.Stored.{padded}
 use Rattle.shm_frames.specs.Table.{free_entry}
 use Rattle.shm_frames.proofs.frames.extend.Given as goal
 

@@ -1,5 +1,5 @@
 use Rattle.std.proofs.Common.{false, refl, sym, ◌∙◌, inl, inr, arith}
-use Rattle.shm_pager.proofs.Padded.{more-padded, padded-none}
+use Rattle.shm_base.proofs.Stored.{more-padded, padded-none}
 use Rattle.shm_frames.proofs.frames.mark.Goals as goal
 
 pub loop-block-init : goal.loop-block-init

@@ -1,5 +1,5 @@
 use Rattle.std.proofs.Common.{◌≡◌, ◌≤◌, ◌+◌, ◌/◌, ◌⊎◌, length, false, vec_capacity}
-use Rattle.shm_pager.specs.Padded.{padded}
+use Rattle.shm_base.specs.Stored.{padded}
 use Rattle.shm_frames.proofs.frames.mark.Given as goal
 
 abbrev pub invariant-loop-block : goal.invariant-loop-block

@@ -1,6 +1,6 @@
 use Rattle.std.proofs.Common.{◌+◌, length, None, sym, ap, ◌∙◌, inl, inr, arith}
-use Rattle.shm_pager.specs.Padded.{padded}
-use Rattle.shm_pager.proofs.Padded.{padded-none}
+use Rattle.shm_base.specs.Stored.{padded}
+use Rattle.shm_base.proofs.Stored.{padded-none}
 use Rattle.shm_pager.proofs.sparse.reach.Goals as goal
 
 pub returns-clause-items : goal.returns-clause-items

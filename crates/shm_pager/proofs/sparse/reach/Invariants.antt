@@ -1,5 +1,5 @@
 use Rattle.std.proofs.Common.{◌≡◌, ◌≤◌, ◌+◌, ◌⊎◌, length, None, vec_capacity}
-use Rattle.shm_pager.specs.Padded.{padded}
+use Rattle.shm_base.specs.Stored.{padded}
 use Rattle.shm_pager.proofs.sparse.reach.Given as goal
 
 abbrev pub invariant-loop-i : goal.invariant-loop-i

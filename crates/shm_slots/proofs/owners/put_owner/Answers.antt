@@ -1,5 +1,5 @@
 use Rattle.std.proofs.Common.{◌≡◌, Some, None, length, arith}
-use Rattle.shm_pager.proofs.Padded.{push-padded, set-padded}
+use Rattle.shm_base.proofs.Stored.{push-padded, set-padded}
 use Rattle.shm_slots.proofs.owners.put_owner.Goals as goal
 
 pub returns-then-slot-len-clause-items : goal.returns-then-slot-len-clause-items

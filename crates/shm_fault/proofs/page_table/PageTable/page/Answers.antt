@@ -1,5 +1,5 @@
 use Rattle.shm_fault.proofs.Names.{arith, common_steps, no_page}
-use Rattle.shm_pager.proofs.Padded.{get_or-padded}
+use Rattle.shm_base.proofs.Stored.{get_or-padded}
 use Rattle.shm_fault.proofs.page_table.PageTable.page.Goals as goal
 
 pub returns : goal.returns

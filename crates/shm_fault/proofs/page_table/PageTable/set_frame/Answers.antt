@@ -1,6 +1,6 @@
 use Rattle.shm_fault.proofs.Names.{◌<◌, List, ap, no_page, PageRec, TableView, rec_at}
-use Rattle.shm_pager.specs.Padded.{padded}
-use Rattle.shm_pager.proofs.Padded.{length-padded}
+use Rattle.shm_base.specs.Stored.{padded}
+use Rattle.shm_base.proofs.Stored.{length-padded}
 use Rattle.shm_fault.proofs.Untouched.{edit-reached, read-reached}
 use Rattle.shm_fault.proofs.page_table.PageTable.set_frame.Goals as goal
 

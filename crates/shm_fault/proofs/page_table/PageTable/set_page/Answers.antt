@@ -1,5 +1,5 @@
 use Rattle.shm_fault.proofs.Names.{◌<◌, List, ap, no_page, PageRec, TableView}
-use Rattle.shm_pager.proofs.Padded.{length-padded}
+use Rattle.shm_base.proofs.Stored.{length-padded}
 use Rattle.shm_fault.proofs.Untouched.{edit-reached}
 use Rattle.shm_fault.proofs.page_table.PageTable.set_page.Goals as goal
 

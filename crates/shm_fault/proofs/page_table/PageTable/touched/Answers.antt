@@ -1,5 +1,5 @@
 use Rattle.shm_fault.proofs.Names.{arith, no_page}
-use Rattle.shm_pager.proofs.Padded.{length-padded}
+use Rattle.shm_base.proofs.Stored.{length-padded}
 use Rattle.shm_fault.proofs.Untouched.{rest-padded}
 use Rattle.shm_fault.proofs.page_table.PageTable.touched.Goals as goal
 

@@ -1,7 +1,7 @@
 use Rattle.std.proofs.Common.{◌<◌, ◌+◌, refl, sym, ◌∙◌, arith, length, length-set}
 use Rattle.std.proofs.lemmas.List.{get_or_read}
-use Rattle.shm_pager.specs.Pages.{zero_page}
-use Rattle.shm_pager.proofs.Padded.{within-padded}
+use Rattle.shm_base.specs.Page.{zero_page}
+use Rattle.shm_base.proofs.Stored.{within-padded}
 use Rattle.shm_frames.proofs.Shown.{AreFramesShown, shown, length-shown, reach-shown, paste-shown, bytes-shown}
 use Rattle.shm_frames.proofs.Counts.{kept-reach}
 use Rattle.shm_frames.proofs.Marks.{marked-reach}

@@ -1,6 +1,6 @@
 use Rattle.std.proofs.Common.{◌≡◌, ◌<◌, ◌≤◌, ◌+◌, ◌∙◌, length, set, sym, ap, arith}
 use Rattle.std.proofs.lemmas.List.{get_or_past, set-get_or}
-use Rattle.shm_pager.specs.Pages.{zero_page}
+use Rattle.shm_base.specs.Page.{zero_page}
 use Rattle.shm_frames.specs.Frame.{no_frame, frame_at}
 use Rattle.shm_frames.specs.Table.{all_frames}
 use Rattle.shm_frames.proofs.Shown.{shown, length-shown, reach-shown, paste-shown, bytes-shown}

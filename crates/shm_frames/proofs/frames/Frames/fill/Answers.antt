@@ -1,6 +1,6 @@
 use Rattle.std.proofs.Common.{◌≡◌, ◌<◌, ◌≤◌, ◌+◌, ℕ, List, length, set, None, Some, refl, sym, ap, ◌∙◌, arith}
-use Rattle.shm_pager.specs.Padded.{padded}
-use Rattle.shm_pager.proofs.Padded.{within-padded}
+use Rattle.shm_base.specs.Stored.{padded}
+use Rattle.shm_base.proofs.Stored.{within-padded}
 use Rattle.shm_frames.specs.declared.frames.FrameState.{FrameState}
 use Rattle.shm_frames.specs.Table.{free_entry, state_at, IsFrameTable, AreMarked}
 use Rattle.shm_frames.proofs.Shown.{AreFramesShown, shown, length-shown, reach-shown, edit-shown, entry-is, free-entry, used-set}

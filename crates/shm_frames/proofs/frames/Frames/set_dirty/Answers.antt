@@ -1,6 +1,6 @@
 use Rattle.std.proofs.Common.{◌≡◌, ◌<◌, ◌≤◌, ◌+◌, ◌-◌, ◌/◌, false, true, true≢false, length, set, length-set, refl, sym, ◌∙◌, arith}
-use Rattle.shm_pager.specs.Padded.{padded}
-use Rattle.shm_pager.proofs.Padded.{fits-padded}
+use Rattle.shm_base.specs.Stored.{padded}
+use Rattle.shm_base.proofs.Stored.{fits-padded}
 use Rattle.shm_frames.specs.declared.frames.FrameState.{FrameState}
 use Rattle.shm_frames.specs.Frame.{frame_at}
 use Rattle.std.specs.Int.{from_bool}

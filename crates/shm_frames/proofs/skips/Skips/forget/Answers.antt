@@ -1,7 +1,7 @@
 use Rattle.std.proofs.Common.{◌≡◌, ◌≤◌, ◌/◌, length, false, set, ap, sym, ◌∙◌, arith}
 use Rattle.std.proofs.lemmas.List.{set_past}
-use Rattle.shm_pager.specs.Padded.{padded}
-use Rattle.shm_pager.proofs.Padded.{unset-padded}
+use Rattle.shm_base.specs.Stored.{padded}
+use Rattle.shm_base.proofs.Stored.{unset-padded}
 use Rattle.shm_frames.proofs.skips.Skips.forget.Goals as goal
 
 pub returns-then-block-len : goal.returns-then-block-len

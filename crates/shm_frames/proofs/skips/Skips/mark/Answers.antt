@@ -1,6 +1,6 @@
 use Rattle.std.proofs.Common.{◌<◌, ◌+◌, ◌/◌, false, true, set, ap, ◌∙◌, arith}
-use Rattle.shm_pager.specs.Padded.{padded}
-use Rattle.shm_pager.proofs.Padded.{length-padded, set-padded, padded-padded, within-padded}
+use Rattle.shm_base.specs.Stored.{padded}
+use Rattle.shm_base.proofs.Stored.{length-padded, set-padded, padded-padded, within-padded}
 use Rattle.shm_frames.proofs.skips.Skips.mark.Goals as goal
 
 pub returns : goal.returns

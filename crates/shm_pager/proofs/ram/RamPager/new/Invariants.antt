@@ -1,5 +1,5 @@
 use Rattle.std.proofs.Common.{◌≡◌, replicate}
-use Rattle.shm_pager.specs.Pages.{zero_page}
+use Rattle.shm_base.specs.Page.{zero_page}
 use Rattle.shm_pager.proofs.ram.RamPager.new.Given as goal
 
 abbrev pub invariant-loop-i : goal.invariant-loop-i

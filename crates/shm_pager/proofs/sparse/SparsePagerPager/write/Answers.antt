@@ -1,10 +1,10 @@
 use Rattle.std.proofs.Common.{◌≡◌, ◌<◌, ◌+◌, get_or, None, refl, sym, ◌∙◌, arith, length-set}
 use Rattle.std.proofs.lemmas.List.{length-map}
 use Rattle.std.proofs.lemmas.Grind.{common_steps}
-use Rattle.shm_pager.specs.Pages.{zero_page}
-use Rattle.shm_pager.specs.Padded.{padded}
+use Rattle.shm_base.specs.Page.{zero_page}
+use Rattle.shm_base.specs.Stored.{padded}
 use Rattle.shm_pager.proofs.Rooms.{shown-clear, shown-more, shown-at, NoZeros-unset, NoZeros-padded, put-shown, put-fits, put-apart}
-use Rattle.shm_pager.proofs.Padded.{length-padded, fits-padded, get_or-padded, set-read}
+use Rattle.shm_base.proofs.Stored.{length-padded, fits-padded, get_or-padded, set-read}
 use Rattle.shm_pager.proofs.sparse.SparsePagerPager.write.Goals as goal
 use Rattle.shm_pager.proofs.sparse.SparsePagerPager.write.Goals.{After-self, After-reach}
 

@@ -1,6 +1,6 @@
 use Rattle.std.proofs.Common.{◌≡◌, true, get_or, None, is_some, length-set}
-use Rattle.shm_pager.specs.Padded.{padded}
-use Rattle.shm_pager.proofs.Padded.{unset-padded}
+use Rattle.shm_base.specs.Stored.{padded}
+use Rattle.shm_base.proofs.Stored.{unset-padded}
 use Rattle.shm_slots.proofs.Least.{sound-give}
 use Rattle.shm_slots.proofs.owners.Owners.give.Goals as goal
 

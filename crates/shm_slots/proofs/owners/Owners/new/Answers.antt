@@ -2,7 +2,7 @@ use Rattle.std.proofs.Common.{arith}
 use Rattle.std.proofs.lemmas.List.{length-replicate}
 use Rattle.std.proofs.lemmas.List.Folds.{sum_by-replicate}
 use Rattle.std.proofs.lemmas.Grind.{common_steps}
-use Rattle.shm_pager.proofs.Padded.{get_or-padded}
+use Rattle.shm_base.proofs.Stored.{get_or-padded}
 use Rattle.shm_slots.proofs.owners.Owners.new.Goals as goal
 
 pub invariant_of-result : goal.invariant_of-result

@@ -1,7 +1,7 @@
 use Rattle.std.proofs.Common.{◌<◌, None, arith}
 use Rattle.std.proofs.lemmas.Grind.{common_steps}
-use Rattle.shm_pager.proofs.Padded.{length-padded}
-use Rattle.shm_pager.specs.Padded.{padded}
+use Rattle.shm_base.proofs.Stored.{length-padded}
+use Rattle.shm_base.specs.Stored.{padded}
 use Rattle.shm_slots.proofs.Least.{sound-take}
 use Rattle.shm_slots.proofs.owners.Owners.take.Goals as goal
 use Rattle.shm_slots.proofs.owners.Owners.take.Goals.{After-self}

@@ -1,6 +1,6 @@
 use Rattle.std.proofs.Common.{◌≡◌, ◌∙◌, None, arith}
 use Rattle.std.proofs.lemmas.Grind.{common_steps}
-use Rattle.shm_pager.proofs.Padded.{length-padded, get_or-padded}
+use Rattle.shm_base.proofs.Stored.{length-padded, get_or-padded}
 use Rattle.shm_slots.proofs.owners.Owners.try_clone.Goals as goal
 
 pub invariant_of-result : goal.invariant_of-result

@@ -1,7 +1,7 @@
 use Rattle.std.proofs.Common.{◌≤◌, None, is_some, length, arith}
 use Rattle.std.proofs.lemmas.List.Sums.{count_by-le-length}
-use Rattle.shm_pager.specs.Padded.{padded}
-use Rattle.shm_pager.proofs.Padded.{length-padded}
+use Rattle.shm_base.specs.Stored.{padded}
+use Rattle.shm_base.proofs.Stored.{length-padded}
 use Rattle.shm_slots.specs.Owners.{used_count}
 use Rattle.shm_slots.proofs.owners.Owners.used.Goals as goal
 

@@ -2,7 +2,7 @@
 use Rattle.std.proofs.Common.{◌≡◌, ℕ, zero, suc, ◌<◌, ◌≤◌, ◌-◌, ◌+◌, List, [], ◌∷◌, ◌++◌, length, get_or, set, map, replicate, refl, sym, ap, ◌∙◌, inl, inr, arith, length-append, length-set}
 use Rattle.std.proofs.lemmas.List.{length-replicate, get_or_past, set_past, set-get_or, set-append_left, length-map, replicate-append-replicate, append-nil}
 use Rattle.std.proofs.lemmas.Bool.{cases_lt}
-use Rattle.shm_pager.specs.Padded.{padded}
+use Rattle.shm_base.specs.Stored.{padded}
 
 module _ {X : Type 0} where
   -- how many are stored after all below a number are
