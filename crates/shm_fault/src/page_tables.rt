@@ -2,7 +2,7 @@
 //!
 //! They are seen in the order in which they were added, which the number of each table says. They are stored in
 //! another order: where one is taken out, the last takes its place, and no other table is looked at.
-ghost use Rattle.std.specs.Prelude.{◌≡◌, ◌<◌, ◌≤◌, ◌^◌, [], ◌∷◌, ◌++◌, sum_by, map, filter, true, not, ◌==◌, None, Some, IfSome, IfNone, IfOk, OnOk, OnErr};
+ghost use Rattle.std.specs.Prelude.{◌≡◌, ◌≢◌, ◌<◌, ◌≤◌, ◌^◌, [], ◌∷◌, ◌++◌, sum_by, map, filter, true, not, ◌==◌, None, Some, IfSome, IfNone, IfOk, OnOk, OnErr};
 ghost use Rattle.shm_fault.specs.Segs.{SegRec, find_seg, rec_by, count_by_id, locked_by, page_count, HasPage, is_placed, NowhereFrom, NowhereUpTo, with_rec, with_seg_lock, new_seg};
 ghost use Rattle.shm_fault.specs.Entries.{segs_view, seg_at};
 ghost use Rattle.shm_fault.specs.Store.{swapped_pages};
@@ -83,6 +83,30 @@ fn index_near(by_id: &IndexMap<u32, PageTable>, near: usize, id: u32) -> Option<
     match by_id.get_index(near) {
         Some((other, _)) if *other == id => Some(near),
         _ => index_of(by_id, id),
+    }
+}
+
+// The place of a segment that there is.
+#[inline(never)]
+fn index_held(by_id: &IndexMap<u32, PageTable>, id: u32) -> usize
+    requires { find_seg (segs_view by_id.now.entries) id ≢ None }
+    ensures { seg_at by_id.now.entries result ≡ Some id }
+{
+    let Some(index) = index_of(by_id, id) else {
+        unreachable!();
+    };
+    index
+}
+
+// The same, where it was found at `near` before.
+#[inline(always)]
+fn index_kept(by_id: &IndexMap<u32, PageTable>, near: usize, id: u32) -> usize
+    requires { find_seg (segs_view by_id.now.entries) id ≢ None }
+    ensures { seg_at by_id.now.entries result ≡ Some id }
+{
+    match by_id.get_index(near) {
+        Some((other, _)) if *other == id => near,
+        _ => index_held(by_id, id),
     }
 }
 
@@ -189,7 +213,10 @@ impl PageTables {
 
     /// The same, where it may be at `near`: if it is, the segment is not looked for.
     pub(crate) fn find_near(&self, near: usize, id: u32) -> usize {
-        index_near(&self.by_id, near, id).unwrap_or(0)
+        match self.by_id.get_index(near) {
+            Some((other, _)) if *other == id => near,
+            _ => self.find(id),
+        }
     }
 
     /// As [`PageTables::find`], for [`PageTables::is_locked`] alone: where none is locked, that asks for no place.
@@ -205,9 +232,9 @@ impl PageTables {
     pub(crate) fn page_in(&self, near: usize, page: PageRef) -> PageRec
         ensures { result ≡ rec_by self.now page }
     {
-        match index_near(&self.by_id, near, page.seg) {
-            Some(index) => self.by_id[index].page(page.page),
-            None => PageRec::NOWHERE,
+        match self.by_id.get_index(near) {
+            Some((other, table)) if *other == page.seg => table.page(page.page),
+            _ => self.page(page),
         }
     }
 
@@ -245,9 +272,7 @@ impl PageTables {
         requires { HasPage self.old page }
         ensures { self.new ≡ with_rec self.old page (record (rec_by self.old page) { frame = frame }) }
     {
-        let Some(index) = index_near(&self.by_id, near, page.seg) else {
-            unreachable!();
-        };
+        let index = index_kept(&self.by_id, near, page.seg);
         self.by_id[index].set_frame(page.page, frame);
     }
 

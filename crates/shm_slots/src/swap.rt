@@ -1,6 +1,6 @@
 //! All swap areas. A slot has one owner or none. Areas and slots have numbers, which do not change when
 //! another area is dropped.
-ghost use Rattle.std.specs.Prelude.{◌≡◌, ◌+◌, ◌<◌, ◌≤◌, ◌&&◌, [], length, set, map, min, true, not, Some, None, All, IfOk, IfErr, OnErr, IfNone, EachIndex};
+ghost use Rattle.std.specs.Prelude.{◌≡◌, ◌+◌, ◌<◌, ◌≤◌, ◌&&◌, [], length, set, map, min, true, false, not, Some, None, All, IfOk, IfErr, OnErr, IfNone, EachIndex};
 ghost use Rattle.shm_pager.specs.Pages.{pager_seen, last_count};
 ghost use Rattle.shm_slots.specs.View.{is_spent};
 
@@ -32,6 +32,18 @@ fn stays_unspent<P: Pager>(never_spent: bool, area: &Area<P>) -> bool
     ensures { result ≡ (never_spent && not (is_spent area.now)) }
 {
     never_spent && !area.is_spent()
+}
+
+// The same after a call of the area's pager. If that did not fail, the area's count is as before, and is not
+// asked for.
+fn unspent_after<P: Pager>(failed: bool, never_spent: bool, area: &Area<P>) -> bool
+    requires { failed ≡ false → (never_spent && not (is_spent area.now)) ≡ never_spent }
+    ensures { result ≡ (never_spent && not (is_spent area.now)) }
+{
+    if !failed {
+        return never_spent;
+    }
+    stays_unspent(never_spent, area)
 }
 
 impl<P: Pager> Swap<P> {
@@ -215,7 +227,7 @@ impl<P: Pager> Swap<P> {
     {
         let area = &mut self.areas[slot.area as usize];
         let result = area.write(slot.slot, page);
-        self.never_spent = stays_unspent(self.never_spent, area);
+        self.never_spent = unspent_after(result.is_err(), self.never_spent, area);
         result
     }
 
@@ -236,7 +248,7 @@ impl<P: Pager> Swap<P> {
     {
         let area = &mut self.areas[slot.area as usize];
         let result = area.read(slot.slot, page);
-        self.never_spent = stays_unspent(self.never_spent, area);
+        self.never_spent = unspent_after(result.is_err(), self.never_spent, area);
         result
     }
 

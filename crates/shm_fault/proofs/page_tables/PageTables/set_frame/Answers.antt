@@ -14,16 +14,15 @@ set_frame-requires c =
     let has = rw same at there in
     grind (arith, entry-from, find-entry, apart-stored es c.self.invariant.apart, has)
 
-pub unreachable-requires : goal.unreachable-requires
-unreachable-requires c =
+pub index_kept-index-requires : goal.index_kept-index-requires
+index_kept-index-requires c = λ none.
     let es = c.self.inside.by_id.entries in
-    let none = find-order es c.args.page.seg c.self.invariant.apart ∙ c.in_default.ensures.none in
     let there : c.args.page.page < count_by_id (segs_in_order es) c.args.page.seg = rw (← c.self.view_is) at c.requires in
-    let few : c.args.page.page < 0 = rw none at there in
+    let few : c.args.page.page < 0 = rw (find-order es c.args.page.seg c.self.invariant.apart, none) at there in
     omega (arith, few)
 
 pub index_mut-requires : goal.index_mut-requires
-index_mut-requires c = seg_there c.self.inside.by_id.entries c.in-Some.index c.args.page.seg c.in-Some.ensures.some
+index_mut-requires c = seg_there c.self.inside.by_id.entries c.index_kept-index.result c.args.page.seg c.index_kept-index.ensures
 
 -- the page's record afterwards
 abbrev rec : After-set_frame → PageRec
@@ -34,17 +33,17 @@ found : (c : After-set_frame) → rec_at c.index_mut.result.now.pages c.args.pag
 found c =
     let es = c.self.inside.by_id.entries in
     rw (find-order es c.args.page.seg c.self.invariant.apart)
-    (grind (arith, entry-from, find-entry, apart-stored es c.self.invariant.apart, c.in-Some.ensures.some, c.index_mut.ensures.value))
+    (grind (arith, entry-from, find-entry, apart-stored es c.self.invariant.apart, c.index_kept-index.ensures, c.index_mut.ensures.value))
 
 done : (c : After-set_frame) → IsEdited (λ (g : SegRec). record g { pages = set g.pages c.args.page.page (rec c) }) c.args.page.seg c.self.inside.made c.self.inside.by_id.entries
-    (set_value_at c.self.inside.by_id.entries c.in-Some.index c.set_frame.new.self)
+    (set_value_at c.self.inside.by_id.entries c.index_kept-index.result c.set_frame.new.self)
 done c =
     let w = c.index_mut.result.now in
     let page = c.args.page.page in
     let is = c.set_frame.ensures ∙ ap (λ (p : PageRec). record w { pages = set w.pages page (record p { frame = c.args.frame }) }) (found c) in
     edited (λ (g : SegRec). record g { pages = set g.pages page (rec c) }) (λ (t : TableView). record t { pages = set t.pages page (rec c) })
-    (λ g. refl) (λ t. refl) (λ id t. refl) c.self.inside.by_id.entries c.in-Some.index c.args.page.seg c.self.inside.made w c.set_frame.new.self
-    c.self.invariant.apart c.self.invariant.rising c.self.invariant.below c.in-Some.ensures.some c.index_mut.ensures.value is
+    (λ g. refl) (λ t. refl) (λ id t. refl) c.self.inside.by_id.entries c.index_kept-index.result c.args.page.seg c.self.inside.made w c.set_frame.new.self
+    c.self.invariant.apart c.self.invariant.rising c.self.invariant.below c.index_kept-index.ensures c.index_mut.ensures.value is
 
 keeps : (r : PageRef) (p : PageRec) (g : SegRec) → (seg_with r p g).locked ≡ g.locked
 keeps r p g = elim (cases_eq g.id r.seg) [ inl e ↦ rw (eq-eqb g.id r.seg e) refl | inr ne ↦ rw (ne_eqb g.id r.seg ne) refl ]

@@ -4,9 +4,9 @@ use Rattle.shm_slots.specs.View.{HasSlot}
 use Rattle.shm_slots.proofs.Changes.{Asked, asked, asked-page}
 use Rattle.shm_slots.proofs.swap.Swap.write_slot.Given.{Over}
 use Rattle.shm_slots.proofs.swap.Swap.write_slot.Goals as goal
-use Rattle.shm_slots.proofs.swap.Swap.write_slot.Goals.{After-stays_unspent-self-inside}
+use Rattle.shm_slots.proofs.swap.Swap.write_slot.Goals.{After-unspent_after-self-inside}
 
-done : (g : Over) (c : After-stays_unspent-self-inside g)
+done : (g : Over) (c : After-unspent_after-self-inside g)
     → Asked c.write-result.result (record { areas = c.self.inside.areas.items; never_spent = c.self.inside.never_spent }) c.args.slot.area c.index_mut-area.result.now c.write-result.new.self
 done g c =
     let e = c.write-result.ensures in
@@ -14,29 +14,29 @@ done g c =
     asked _ _ _ _ c.index_mut-area.ensures.value _ _ e.rest c.write-result.result _ there c.self.invariant e.counts e.sound (IfErr-weaker c.write-result.result _ _ (λ _ fault. fault.2) e.err)
 
 pub invariant_of-self : goal.invariant_of-self
-invariant_of-self g c = rw c.stays_unspent-self-inside.ensures (done g (goal.at.invariant_of-self g c).After-stays_unspent-self-inside).sound
+invariant_of-self g c = rw c.unspent_after-self-inside.ensures (done g (goal.at.invariant_of-self g c).After-unspent_after-self-inside).sound
 
 pub returns-clause-sound : goal.returns-clause-sound
 returns-clause-sound g c = invariant_of-self g c
 
 pub returns-clause-goes_on : goal.returns-clause-goes_on
-returns-clause-goes_on g c = rw (← c.self.view_is, c.stays_unspent-self-inside.ensures) (done g (goal.at.returns-clause-goes_on g c).After-stays_unspent-self-inside).goes_on
+returns-clause-goes_on g c = rw (← c.self.view_is, c.unspent_after-self-inside.ensures) (done g (goal.at.returns-clause-goes_on g c).After-unspent_after-self-inside).goes_on
 
 pub returns-clause-sizes : goal.returns-clause-sizes
-returns-clause-sizes g c = rw (← c.self.view_is) (done g (goal.at.returns-clause-sizes g c).After-stays_unspent-self-inside).same_sizes
+returns-clause-sizes g c = rw (← c.self.view_is) (done g (goal.at.returns-clause-sizes g c).After-unspent_after-self-inside).same_sizes
 
 pub returns-clause-cause : goal.returns-clause-cause
-returns-clause-cause g c = rw (← c.self.view_is, c.stays_unspent-self-inside.ensures) (done g (goal.at.returns-clause-cause g c).After-stays_unspent-self-inside).cause
+returns-clause-cause g c = rw (← c.self.view_is, c.unspent_after-self-inside.ensures) (done g (goal.at.returns-clause-cause g c).After-unspent_after-self-inside).cause
 
 pub returns-clause-ok : goal.returns-clause-ok
 returns-clause-ok g c =
-    let d = done g (goal.at.returns-clause-ok g c).After-stays_unspent-self-inside in
-    rw (← c.self.view_is, c.stays_unspent-self-inside.ensures) (IfOk-weaker c.write-result.result _ _ (λ _ e. asked-page _ _ d e) c.write-result.ensures.ok)
+    let d = done g (goal.at.returns-clause-ok g c).After-unspent_after-self-inside in
+    rw (← c.self.view_is, c.unspent_after-self-inside.ensures) (IfOk-weaker c.write-result.result _ _ (λ _ e. asked-page _ _ d e) c.write-result.ensures.ok)
 
 pub returns-clause-err : goal.returns-clause-err
 returns-clause-err g c =
-    let d = done g (goal.at.returns-clause-err g c).After-stays_unspent-self-inside in
+    let d = done g (goal.at.returns-clause-err g c).After-unspent_after-self-inside in
     rw (← c.self.view_is, d.before, d.after) c.write-result.ensures.err
 
 pub returns-clause-others : goal.returns-clause-others
-returns-clause-others g c = rw (← c.self.view_is, c.stays_unspent-self-inside.ensures, (done g (goal.at.returns-clause-others g c).After-stays_unspent-self-inside).after) refl
+returns-clause-others g c = rw (← c.self.view_is, c.unspent_after-self-inside.ensures, (done g (goal.at.returns-clause-others g c).After-unspent_after-self-inside).after) refl
