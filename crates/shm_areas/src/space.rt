@@ -14,10 +14,10 @@ use crate::cut::{count_left, cut_of, replace};
 use crate::filling::{lowered, raised};
 use crate::piece::{Piece, Place};
 use crate::rests::{Rests, rests_of};
-use crate::search::{count_below, count_to, end_of_run, least_gap, run_in, run_of_origin};
+use crate::search::{count_below, count_to, least_gap, run_in, run_of_origin};
 use crate::stretch::Stretch;
 use crate::summary::{count_ended, narrow, widen};
-use crate::taking::take_named;
+use crate::taking::{end_of_named, take_named};
 use shm_base::{END_ADDRESS, FIRST_GAP, HostMemory, PAGE_SIZE};
 use std::alloc::{AllocError, Global};
 use std::marker::Model;
@@ -342,7 +342,7 @@ impl Space {
         ensures flat { bare_all self.new.pieces ≡ flat.without_named addr seg (bare_all self.old.pieces) }
     {
         let run = run_of_origin(&self.pieces, addr, self.reach);
-        let end = end_of_run(&self.pieces, run, addr);
+        let end = end_of_named(&self.pieces, run, addr, seg);
         self.filled = lowered(self.filled, addr);
         take_named(&mut self.pieces, run, addr, seg);
         widen(
