@@ -23,7 +23,8 @@ use std::alloc::{AllocError, Global};
 use std::marker::Model;
 
 /// The pieces of a process in order of their bases. Room for the most that the process may have is reserved
-/// at the beginning, so no change takes memory.
+/// at the beginning, so no change can fail for want of memory. With more than 64 pieces a summary of the gaps
+/// takes some memory; if the host refuses it, choosing an address takes longer.
 pub struct Space {
     pieces: Vec<Piece>,
     most: u32,
@@ -32,7 +33,7 @@ pub struct Space {
     reach: u32,
     // Each address from 0x40000000 up to this one is in a piece, so no gap begins below.
     filled: u64,
-    // What is known of the gaps, if there are many pieces.
+    // What is known of the gaps, if there are many pieces: stretches of addresses in order, and groups of them.
     stretches: Vec<Stretch>,
     groups: Vec<Stretch>,
 }
@@ -69,7 +70,7 @@ impl Model for Space {
 impl Clone for Space {
     ghost is_clone = { λ s copy. copy ≡ s };
 
-    /// A copy of the pieces. Reserves room for the most that there may be. AllocError: the host refused
+    /// A copy of the pieces, and of what is known of the gaps. Reserves room for the most that there may be. AllocError: the host refused
     /// memory.
     fn clone(&self) -> Result<Space, AllocError> {
         let mut pieces = Vec::with_capacity(*self.pieces.allocator(), self.most as usize)?;

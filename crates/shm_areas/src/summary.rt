@@ -346,5 +346,7 @@ pub(crate) fn widen(
     let low = end_below(pieces, from);
     let touched = note_free(stretches, pieces, low, from, to);
     regroup_free(groups, stretches, low, from, to);
-    regroup(groups, stretches, touched);
+    if let Touched::From(_) = touched {
+        regroup(groups, stretches, touched);
+    }
 }
