@@ -33,7 +33,7 @@ pub struct Space {
     reach: u32,
     // Each address from 0x40000000 up to this one is in a piece, so no gap begins below.
     filled: u64,
-    // What is known of the gaps, if there are many pieces: stretches of addresses in order, and groups of them.
+    // What is known of the gaps, if there are many pieces: stretches of addresses, and groups of them.
     stretches: Vec<Stretch>,
     groups: Vec<Stretch>,
 }
