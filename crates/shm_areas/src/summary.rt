@@ -298,7 +298,7 @@ fn note_free(
     }
 }
 
-// Makes room for more, if the host gives memory. Only an attach does so.
+// Makes room for more, if the host gives memory. Only an insertion does so.
 fn make_room(list: &mut Vec<Stretch>, more: usize)
     ensures { list.new.items ≡ list.old.items }
 {
