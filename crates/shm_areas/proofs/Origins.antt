@@ -102,13 +102,13 @@ taken-run addr seg reach (suc first) (suc last) (p ∷ ps) within r =
 abbrev pub NamedEnd : ℕ → ℕ → ℕ → List Piece → Type 0
 NamedEnd addr seg end ps = All (λ (p : Piece). stored_named addr seg p ≡ true → end_of (bare p) ≤ end) ps
 
--- so they do if the pieces of the run end there
+-- so they do if those of the run end there
 pub named-end : (addr seg reach first last end : ℕ) (ps : List Piece) → AreWithin reach ps → IsOriginRange addr reach ps first last
-    → ((k : ℕ) (d : Piece) → first ≤ k → k < last → end_of (bare (get_or ps k d)) ≤ end) → NamedEnd addr seg end ps
+    → ((k : ℕ) (d : Piece) → first ≤ k → k < last → stored_named addr seg (get_or ps k d) ≡ true → end_of (bare (get_or ps k d)) ≤ end) → NamedEnd addr seg end ps
 named-end addr seg reach first last end ps within r ends k d lt named = elim (cases_lt k first) [
   | inl low ↦ absurd (both_ways false refl (rw (other-below addr (get_or ps k d) (r.below k d low)) at named))
   | inr from ↦ elim (cases_lt k last) [
-    | inl there ↦ ends k d from there
+    | inl there ↦ ends k d from there named
     | inr past ↦ absurd (both_ways false refl (rw (other-above addr reach (get_or ps k d) (within k d lt) (r.above k d past lt)) at named))
   ]
 ]

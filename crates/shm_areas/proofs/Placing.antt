@@ -19,14 +19,6 @@ rising low (p ∷ ps) ar zero (suc j) d le lt = grind (arith, common_steps, low_
 rising low (p ∷ ps) ar (suc i) zero d le lt = absurd (omega arith)
 rising low (p ∷ ps) ar (suc i) (suc j) d le lt = rising (end_of (bare p)) ps ar.1.1 i j d (omega arith) (omega arith)
 
--- so do their ends
-pub ends_rise : (low : ℕ) (ps : List Piece) → Arranged low (bare_all ps) → (i j : ℕ) (d e : Piece) → i ≤ j → j < length ps → end_of (bare (get_or ps i d)) ≤ end_of (bare (get_or ps j e))
-ends_rise low [] ar i j d e le lt = absurd (omega (arith, lt))
-ends_rise low (p ∷ ps) ar zero zero d e le lt = omega arith
-ends_rise low (p ∷ ps) ar zero (suc j) d e le lt = omega (arith, low_bound (end_of (bare p)) ps j e ar.1.1 (omega (arith, lt)))
-ends_rise low (p ∷ ps) ar (suc i) zero d e le lt = absurd (omega (arith, le))
-ends_rise low (p ∷ ps) ar (suc i) (suc j) d e le lt = ends_rise (end_of (bare p)) ps ar.1.1 i j d e (omega (arith, le)) (omega (arith, lt))
-
 -- all pieces begin above the address
 pub none_above : (a low : ℕ) (ps : List Piece) → a < low → Arranged low (bare_all ps) → covering a (bare_all ps) ≡ None
 none_above a low [] lt ar = refl

@@ -11,7 +11,7 @@ ghost use Rattle.shm_areas.specs.declared.piece.Piece.{Piece as Stored};
 use crate::stretch::Stretch;
 
 /// How many stretches a group is over.
-const GROUP_SIZE: usize = 64;
+pub(crate) const GROUP_SIZE: usize = 64;
 
 /// Which stretches a change concerned.
 #[derive(Clone, Copy)]
@@ -46,9 +46,11 @@ fn renew_from(groups: &mut Vec<Stretch>, stretches: &[Stretch], index: usize)
 {
     groups.truncate(index);
     for next in index..stretches.len().div_ceil(GROUP_SIZE) {
-        if groups.push(group_at(stretches, next)).is_err() {
+        if groups.len() >= groups.capacity() {
             return;
         }
+        let put = groups.push(group_at(stretches, next));
+        prove!(put.is_ok());
     }
 }
 

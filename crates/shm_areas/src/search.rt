@@ -2,8 +2,7 @@
 ghost use Rattle.std.specs.Prelude.{◌≡◌, ◌+◌, ◌*◌, ◌<◌, ◌≤◌, ℕ, length, slice_index_or};
 ghost use Rattle.shm_base.specs.Space as flat;
 ghost use Rattle.shm_base.specs.declared.bounds.TheConstants.{MOST_SHMALL};
-ghost use Rattle.shm_base.specs.Access as access;
-ghost use Rattle.shm_areas.specs.Arranged.{bare, bare_all, Arranged};
+ghost use Rattle.shm_areas.specs.Arranged.{bare_all, Arranged};
 ghost use Rattle.shm_areas.specs.Gap.{gap_from, IsPassed};
 ghost use Rattle.shm_areas.specs.Met.{IsPieceRange, IsOriginRange};
 ghost use Rattle.shm_areas.specs.declared.piece.Piece.{Piece as Stored};
@@ -75,20 +74,6 @@ pub(crate) fn run_of_origin(pieces: &[Piece], addr: u64, reach: u32) -> PieceRan
         first: count_below(pieces, addr),
         last: count_to(pieces, to),
     }
-}
-
-/// The end of the last piece of a run, or an address if the run is empty.
-pub(crate) fn end_of_run(pieces: &[Piece], run: PieceRange, addr: u64) -> u64
-    requires arranged { Arranged flat.lowest_address (bare_all pieces.now) }
-    requires order { run.first ≤ run.last }
-    requires bound { run.last ≤ length pieces.now }
-    ensures { (k : ℕ) (d : Stored) → run.first ≤ k → k < run.last
-        → access.end_of (bare (slice_index_or pieces.now k d)) ≤ result }
-{
-    if run.first == run.last {
-        return addr;
-    }
-    pieces[run.last - 1].end()
 }
 
 /// The end of the addresses in which no gap for this many pages begins, if none begins below `from`. Goes up

@@ -14,16 +14,17 @@ use crate::cut::{count_left, cut_of, replace};
 use crate::filling::{lowered, raised};
 use crate::piece::{Piece, Place};
 use crate::rests::{Rests, rests_of};
-use crate::search::{count_below, count_to, end_of_run, least_gap, run_in, run_of_origin};
+use crate::search::{count_below, count_to, least_gap, run_in, run_of_origin};
 use crate::stretch::Stretch;
 use crate::summary::{count_ended, narrow, widen};
-use crate::taking::take_named;
+use crate::taking::{end_of_named, take_named};
 use shm_base::{END_ADDRESS, FIRST_GAP, HostMemory, PAGE_SIZE};
 use std::alloc::{AllocError, Global};
 use std::marker::Model;
 
 /// The pieces of a process in order of their bases. Room for the most that the process may have is reserved
-/// at the beginning, so no change takes memory.
+/// at the beginning, so no change can fail for want of memory. With more than 64 pieces a summary of the gaps
+/// takes some memory; if the host refuses it, choosing an address takes longer.
 pub struct Space {
     pieces: Vec<Piece>,
     most: u32,
@@ -32,7 +33,7 @@ pub struct Space {
     reach: u32,
     // Each address from 0x40000000 up to this one is in a piece, so no gap begins below.
     filled: u64,
-    // What is known of the gaps, if there are many pieces.
+    // What is known of the gaps, if there are many pieces: stretches of addresses, and groups of them.
     stretches: Vec<Stretch>,
     groups: Vec<Stretch>,
 }
@@ -69,7 +70,7 @@ impl Model for Space {
 impl Clone for Space {
     ghost is_clone = { λ s copy. copy ≡ s };
 
-    /// A copy of the pieces. Reserves room for the most that there may be. AllocError: the host refused
+    /// A copy of the pieces, and of what is known of the gaps. Reserves room for the most that there may be. AllocError: the host refused
     /// memory.
     fn clone(&self) -> Result<Space, AllocError> {
         let mut pieces = Vec::with_capacity(*self.pieces.allocator(), self.most as usize)?;
@@ -342,7 +343,7 @@ impl Space {
         ensures flat { bare_all self.new.pieces ≡ flat.without_named addr seg (bare_all self.old.pieces) }
     {
         let run = run_of_origin(&self.pieces, addr, self.reach);
-        let end = end_of_run(&self.pieces, run, addr);
+        let end = end_of_named(&self.pieces, run, addr, seg);
         self.filled = lowered(self.filled, addr);
         take_named(&mut self.pieces, run, addr, seg);
         widen(

@@ -9,7 +9,7 @@ ghost use Rattle.shm_areas.specs.Gap.{AreBetween, AreRight, AreRightOutside, Has
 ghost use Rattle.shm_areas.specs.declared.piece.Piece.{Piece as Stored};
 ghost use Rattle.shm_areas.specs.declared.stretch.Stretch.{Stretch as Known};
 
-use crate::groups::{Touched, regroup, regroup_free};
+use crate::groups::{GROUP_SIZE, Touched, regroup, regroup_free};
 use crate::piece::Piece;
 use crate::search::count_below;
 use crate::stretch::{Stretch, stretch_from};
@@ -110,7 +110,7 @@ fn add_after(stretches: &mut Vec<Stretch>, pieces: &[Piece], place: usize, most:
 {
     let end = end_at(stretches, place);
     let stretch = stretch_from(pieces, stretches[place].to, end, most);
-    if stretch.count == 0 || stretches.reserve(1).is_err() {
+    if stretch.count == 0 || stretches.len() >= stretches.capacity() {
         return false;
     }
     put(stretches, place + 1, place + 1, stretch);
@@ -141,7 +141,7 @@ fn lay(stretches: &mut Vec<Stretch>, pieces: &[Piece], run: StretchRun, most: us
     ensures right { AreRightOutside stretches.old.items run.first run.last pieces.now
         → AreRight stretches.new.items pieces.now }
 {
-    let has_room = stretches.reserve(1).is_ok();
+    let has_room = stretches.len() < stretches.capacity();
     if !has_room && run.first == run.last {
         return;
     }
@@ -298,6 +298,15 @@ fn note_free(
     }
 }
 
+// Makes room for more, if the host gives memory. Only an insertion does so.
+fn make_room(list: &mut Vec<Stretch>, more: usize)
+    ensures { list.new.items ≡ list.old.items }
+{
+    if list.reserve(more).is_err() {
+        return;
+    }
+}
+
 /// Brings the summary up to date after a piece was inserted at an index.
 pub(crate) fn narrow(
     stretches: &mut Vec<Stretch>,
@@ -316,10 +325,12 @@ pub(crate) fn narrow(
     if stretches.is_empty() && pieces.len() <= FEW_PIECES {
         return;
     }
+    make_room(stretches, 1);
     let touched = note_piece(stretches, pieces, at);
     if let Touched::Nothing = touched {
         return;
     }
+    make_room(groups, stretches.len() / GROUP_SIZE + 1);
     regroup(groups, stretches, touched);
 }
 
@@ -346,5 +357,7 @@ pub(crate) fn widen(
     let low = end_below(pieces, from);
     let touched = note_free(stretches, pieces, low, from, to);
     regroup_free(groups, stretches, low, from, to);
-    regroup(groups, stretches, touched);
+    if let Touched::From(_) = touched {
+        regroup(groups, stretches, touched);
+    }
 }

@@ -4,5 +4,5 @@ use Rattle.shm_areas.proofs.summary.add_after.Goals as goal
 
 pub returns-clause-right : goal.returns-clause-right
 returns-clause-right c right =
-    c.put.ensures.right c.args.pieces.now (rw c.reserve.ensures.items (right-all c.args.stretches.now.items (c.args.place + 1) (c.args.place + 1) c.args.pieces.now right))
+    c.put.ensures.right c.args.pieces.now (right-all c.args.stretches.now.items (c.args.place + 1) (c.args.place + 1) c.args.pieces.now right)
     c.stretch_from-stretch.ensures.right

@@ -31,12 +31,12 @@ invariant_of-self c =
     let run = c.run_of_origin-run.result in
     let own : c.deref.result.now ≡ ps = cc in
     let end-own : c.deref-2.result.now ≡ ps = cc in
-    let ends = rw end-own at c.end_of_run-end.ensures in
+    let ends = rw end-own at c.end_of_named-end.ensures in
     let fewer : length (stored_without c.args.addr c.args.seg ps) ≤ length ps = rw (length-filter stays ps) (count_by-le-length stays ps) in
     let gone = left (goal.at.invariant_of-self c).After-take_named in
-    let kept : IsKeptOutside c.args.addr c.end_of_run-end.result ps c.deref-3.result.now = rw (c.deref-3.ensures.value, gone)
-    (kept-without c.args.addr c.args.seg c.end_of_run-end.result ps
-    (named-end c.args.addr c.args.seg c.self.inside.reach run.first run.last c.end_of_run-end.result ps c.self.invariant.2 (rw own at c.run_of_origin-run.ensures) ends)) in
+    let kept : IsKeptOutside c.args.addr c.end_of_named-end.result ps c.deref-3.result.now = rw (c.deref-3.ensures.value, gone)
+    (kept-without c.args.addr c.args.seg c.end_of_named-end.result ps
+    (named-end c.args.addr c.args.seg c.self.inside.reach run.first run.last c.end_of_named-end.result ps c.self.invariant.2 (rw own at c.run_of_origin-run.ensures) ends)) in
     rw (left (goal.at.invariant_of-self c).After-take_named) (
       record {
         arranged = arranged_filter stays lowest_address ps c.self.invariant.0.arranged;
