@@ -150,14 +150,6 @@ impl<P: Pager> PageStore<P> {
         set_lock(&mut self.segs, &mut self.skips, seg, locked);
     }
 
-    /// How many pages are in frames.
-    pub fn resident(&self) -> u32
-        ensures count { result ≡ resident self.now }
-        ensures few { result ≤ length self.now.frames }
-    {
-        self.frames.resident() as u32
-    }
-
     /// How many pages are in a slot and in no frame. Walks all pages.
     pub fn swapped(&self) -> u32
         ensures { result ≡ swapped self.now }

@@ -161,7 +161,9 @@ fn answers<P: Pager>(rt: &impl Abort, store: &mut PageStore<P>, ask: Ask) -> boo
             flushes(store, pages, FlushReport { written, failed }, dirty)
         }
         MoveOff(area, goes) => move_off(rt, store, area) == goes,
-        Where(resident, swapped) => store.resident() == resident && store.swapped() == swapped,
+        Where(resident, swapped) => {
+            tally_of(store).resident == u64::from(resident) && store.swapped() == swapped
+        }
     }
 }
 
