@@ -253,9 +253,10 @@ impl<P: Pager> PageStore<P> {
         ensures count { length self.new.frames ≡ length self.old.frames }
         ensures sound { IsStoreSound self.new }
     {
+        // The bit first: then the look at it and the write share one test of the frame's number.
+        make_dirty(&mut self.frames, frame);
         let from = (span.at % PAGE_SIZE) as usize;
         paste_into(&mut self.frames, frame, from, bytes);
-        make_dirty(&mut self.frames, frame);
     }
 
     // Copies the bytes of spans out of the frames that their pages are in.
