@@ -8,7 +8,7 @@ use crate::search::Node;
 use crate::trail::Trail;
 use shm_base::{Call, Process};
 use shm_text::Script;
-use std::alloc::Global;
+use std::alloc::{AllocError, Global};
 use std::marker::Model;
 
 pub(crate) struct Branch<M: Engine> {
@@ -32,14 +32,15 @@ impl<M: Engine> Model for Branch<M> {
 
 impl<M: Engine> Branch<M> {
     // The one before the first line.
-    pub(crate) fn first(alloc: Global, machine: M) -> Branch<M>
+    pub(crate) fn first(alloc: Global, machine: M) -> Result<Branch<M>, AllocError>
         requires { M.calls machine ≡ 0 }
-        ensures { result ≡ sprout (fresh (M.flat machine)) }
+        ensures { IfOk result (λ b. b ≡ sprout (fresh (M.flat machine))) }
     {
-        Branch {
+        let trail = Trail::new(alloc)?;
+        Ok(Branch {
             run: Node::first(alloc, machine),
-            trail: Trail::new(alloc),
-        }
+            trail,
+        })
     }
 
     pub(crate) fn run(&self) -> &Node<M>

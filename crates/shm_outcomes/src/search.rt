@@ -198,7 +198,8 @@ pub fn outcomes<M: Engine>(
     let mut found = Findings::new(alloc)?;
     let mut seen = Seen::new(alloc)?;
     let mut runs = Vec::new(alloc);
-    runs.push(Branch::first(alloc, machine))?;
+    let first = Branch::first(alloc, machine)?;
+    runs.push(first)?;
     'runs: while let Some(run) = runs.pop() {
         if let Err(error) = take_up(alloc, script, most, &run, &mut runs, &mut seen, &mut found) {
             return Err(error);

@@ -10,6 +10,7 @@ use shm_areas::Place;
 use shm_base::{Call, Chunk, Event, INDEXES, Reply};
 use std::alloc::{AllocError, Global};
 use std::marker::Model;
+use std::rc::Rc;
 
 /// A byte that was written: the index of its segment, its place there, and its value.
 #[derive(Clone, Copy, Debug, PartialEq, Eq)]
@@ -198,10 +199,11 @@ fn are_same_writes(writes: &[Write], others: &[Write]) -> bool
     true
 }
 
-// The changes up to the last one that wrote no bytes, and the bytes that were written since.
+// The changes up to the last one that wrote no bytes, and the bytes that were written since. Trails share the changes,
+// which few calls add to.
 #[derive(Drop)]
 pub(crate) struct Trail {
-    past: Vec<Change>,
+    past: Rc<Vec<Change>>,
     writes: Vec<Write>,
 }
 
@@ -210,17 +212,18 @@ impl Model for Trail {
 
     ghost Value = { Trail };
 
-    ghost view = { λ t. record { past = t.past.items; writes = t.writes.items } };
+    ghost view = { λ t. record { past = t.past.value.items; writes = t.writes.items } };
 }
 
 impl Trail {
-    pub(crate) fn new(alloc: Global) -> Trail
-        ensures { result ≡ no_trail }
+    pub(crate) fn new(alloc: Global) -> Result<Trail, AllocError>
+        ensures { IfOk result (λ t. t ≡ no_trail) }
     {
-        Trail {
-            past: Vec::new(alloc),
+        let past = Rc::new(alloc, Vec::new(alloc))?;
+        Ok(Trail {
+            past,
             writes: Vec::new(alloc),
-        }
+        })
     }
 
     // The bytes that were written since the last other change.
@@ -233,14 +236,15 @@ impl Trail {
     pub(crate) fn is_same(&self, other: &Trail) -> bool
         ensures { IsTrue result ↔ self.now ≡ other.now }
     {
-        are_same_writes(&self.writes, &other.writes) && are_same_changes(&self.past, &other.past)
+        are_same_writes(&self.writes, &other.writes)
+            && are_same_changes(self.past.as_ref(), other.past.as_ref())
     }
 
     // The same once more.
     pub(crate) fn copied(&self, alloc: Global) -> Result<Trail, AllocError>
         ensures { IfOk result (λ t. t ≡ self.now) }
     {
-        let past = Vec::from_slice(alloc, &self.past)?;
+        let past = self.past.clone()?;
         let writes = Vec::from_slice(alloc, &self.writes)?;
         Ok(Trail { past, writes })
     }
@@ -273,7 +277,7 @@ impl Trail {
         requires within { patch.now.addr + length patch.now.bytes < 2 ^ 64 }
         ensures { IfOk result (λ t. t ≡ noted (M.flat machine.now) event.now (Some patch.now) self.now) }
     {
-        let past = Vec::from_slice(alloc, &self.past)?;
+        let past = self.past.clone()?;
         let writes = puts(alloc, machine, event.pid, patch, &self.writes)?;
         Ok(Trail { past, writes })
     }
@@ -281,8 +285,9 @@ impl Trail {
     fn made(&self, alloc: Global, event: &Event) -> Result<Trail, AllocError>
         ensures { IfOk result (λ t. t ≡ record { past = all_changes self.now ++ Made event.now ∷ []; writes = [] }) }
     {
-        let mut past = Vec::from_slice(alloc, &self.past)?;
-        push_changes(&self.writes, event, &mut past)?;
+        let mut changes = Vec::from_slice(alloc, self.past.as_ref())?;
+        push_changes(&self.writes, event, &mut changes)?;
+        let past = Rc::new(alloc, changes)?;
         Ok(Trail {
             past,
             writes: Vec::new(alloc),
