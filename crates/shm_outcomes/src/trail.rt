@@ -1,8 +1,8 @@
-//! What changed a machine: the calls in order, but of stores only the last byte at each place.
+//! What changed a machine: the calls in order, but of stores only the last byte at each place, with forks before them.
 ghost use Rattle.std.specs.Prelude.{◌≡◌, ◌↔◌, ◌+◌, ◌%◌, ◌^◌, ◌<◌, ◌++◌, ◌∷◌, [], IfOk, IfSome, IsTrue, OnOk, Some, filter, length, map};
 ghost use Rattle.std.specs.Int.{to_le_bytes, w64};
 ghost use Rattle.shm_outcomes.specs.declared.trail.Change.TheVariants.{Made};
-ghost use Rattle.shm_outcomes.specs.Changes.{all_changes, fits, is_above, is_below, no_trail, noted, patch_by, put, put_at, puts, trail_after, write_at, wrote};
+ghost use Rattle.shm_outcomes.specs.Changes.{fits, is_above, is_below, is_fork, made, no_trail, noted, patch_by, put, put_at, puts, trail_after, write_at, wrote};
 
 use crate::engine::Engine;
 use crate::keys::{is_change, is_same_event};
@@ -283,8 +283,11 @@ impl Trail {
     }
 
     fn made(&self, alloc: Global, event: &Event) -> Result<Trail, AllocError>
-        ensures { IfOk result (λ t. t ≡ record { past = all_changes self.now ++ Made event.now ∷ []; writes = [] }) }
+        ensures { IfOk result (λ t. t ≡ made event.now self.now) }
     {
+        if is_fork(&event.call) {
+            return self.forked(alloc, event);
+        }
         let mut changes = Vec::from_slice(alloc, self.past.as_ref())?;
         push_changes(&self.writes, event, &mut changes)?;
         let past = Rc::new(alloc, changes)?;
@@ -292,6 +295,25 @@ impl Trail {
             past,
             writes: Vec::new(alloc),
         })
+    }
+
+    fn forked(&self, alloc: Global, event: &Event) -> Result<Trail, AllocError>
+        ensures { IfOk result (λ t. t ≡ record { past = self.now.past ++ Made event.now ∷ []; writes = self.now.writes }) }
+    {
+        let mut changes = Vec::from_slice(alloc, self.past.as_ref())?;
+        changes.push(Change::Made(*event))?;
+        let past = Rc::new(alloc, changes)?;
+        let writes = Vec::from_slice(alloc, &self.writes)?;
+        Ok(Trail { past, writes })
+    }
+}
+
+fn is_fork(call: &Call) -> bool
+    ensures { result ≡ is_fork call.now }
+{
+    match call {
+        Call::Fork { .. } => true,
+        _ => false,
     }
 }
 
