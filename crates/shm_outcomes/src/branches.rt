@@ -73,7 +73,8 @@ pub(crate) fn push_branches<M: Engine>(
     branch: &Branch<M>,
     all: &mut Vec<Branch<M>>,
 ) -> Result<(), EngineError>
-    ensures { OnOk result (all.new.items ≡ all.old.items ++ branches script.now script.now.processes branch.now) }
+    ensures { OnOk result (
+        all.new.items ≡ all.old.items ++ branches script.now script.now.processes branch.now) }
 {
     for process in &script.processes {
         push_branch(alloc, script, branch, process, all)?;
@@ -89,7 +90,8 @@ fn push_branch<M: Engine>(
     process: &Process,
     all: &mut Vec<Branch<M>>,
 ) -> Result<(), EngineError>
-    ensures { OnOk result (all.new.items ≡ all.old.items ++ one_branch (grows script.now process.now.pid branch.now)) }
+    ensures { OnOk result (
+        all.new.items ≡ all.old.items ++ one_branch (grows script.now process.now.pid branch.now)) }
 {
     let Some(call) = branch.run.next(script, process.pid) else {
         return Ok(());

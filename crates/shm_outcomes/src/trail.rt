@@ -1,4 +1,5 @@
-//! What changed a machine: the calls in order, but of stores only the last byte at each place, with forks before them.
+//! What changed a machine: the calls in order, but of stores only the last byte at each place, and with forks
+//! before the stores.
 ghost use Rattle.std.specs.Prelude.{◌≡◌, ◌↔◌, ◌+◌, ◌%◌, ◌^◌, ◌<◌, ◌++◌, ◌∷◌, [], IfOk, IfSome, IsTrue, OnOk, Some, filter, length, map};
 ghost use Rattle.std.specs.Int.{to_le_bytes, w64};
 ghost use Rattle.shm_outcomes.specs.declared.trail.Change.TheVariants.{Made};
@@ -13,7 +14,7 @@ use std::marker::Model;
 use std::rc::Rc;
 
 /// A byte that was written: the index of its segment, its place there, and its value.
-#[derive(Clone, Copy, Debug, PartialEq, Eq)]
+#[derive(Clone, Copy, PartialEq, Eq)]
 pub struct Write {
     pub index: u32,
     pub at: u64,
@@ -21,14 +22,14 @@ pub struct Write {
 }
 
 /// A byte that was written, or a call that changed something else.
-#[derive(Clone, Copy, Debug)]
+#[derive(Clone, Copy)]
 pub enum Change {
     Wrote(Write),
     Made(Event),
 }
 
 /// The bytes that a call wrote from an address on.
-#[derive(Clone, Copy, Debug)]
+#[derive(Clone, Copy)]
 pub struct Patch {
     pub addr: u64,
     pub bytes: Chunk,
@@ -143,7 +144,8 @@ fn puts<M: Engine>(
     writes: &[Write],
 ) -> Result<Vec<Write>, AllocError>
     requires within { patch.now.addr + length patch.now.bytes < 2 ^ 64 }
-    ensures { IfOk result (λ v. v.items ≡ puts (M.flat machine.now) pid patch.now.addr patch.now.bytes writes.now) }
+    ensures { IfOk result (λ v.
+        v.items ≡ puts (M.flat machine.now) pid patch.now.addr patch.now.bytes writes.now) }
 {
     let mut all = Vec::from_slice(alloc, writes)?;
     let mut addr = patch.addr;
@@ -199,8 +201,8 @@ fn are_same_writes(writes: &[Write], others: &[Write]) -> bool
     true
 }
 
-// The changes up to the last one that wrote no bytes, and the bytes that were written since. Trails share the changes,
-// which few calls add to.
+// The changes up to the last one that wrote no bytes, and the bytes that were written since. Trails share the
+// changes, because most calls add none.
 #[derive(Drop)]
 pub(crate) struct Trail {
     past: Rc<Vec<Change>>,
@@ -267,6 +269,7 @@ impl Trail {
         }
     }
 
+    // The trail after a call that wrote these bytes.
     fn written<M: Engine>(
         &self,
         alloc: Global,
@@ -282,6 +285,7 @@ impl Trail {
         Ok(Trail { past, writes })
     }
 
+    // The trail after a call that changed more than bytes.
     fn made(&self, alloc: Global, event: &Event) -> Result<Trail, AllocError>
         ensures { IfOk result (λ t. t ≡ made event.now self.now) }
     {
@@ -297,8 +301,10 @@ impl Trail {
         })
     }
 
+    // The trail after a fork.
     fn forked(&self, alloc: Global, event: &Event) -> Result<Trail, AllocError>
-        ensures { IfOk result (λ t. t ≡ record { past = self.now.past ++ Made event.now ∷ []; writes = self.now.writes }) }
+        ensures { IfOk result (λ t.
+            t ≡ record { past = self.now.past ++ Made event.now ∷ []; writes = self.now.writes }) }
     {
         let mut changes = Vec::from_slice(alloc, self.past.as_ref())?;
         changes.push(Change::Made(*event))?;
