@@ -1,9 +1,10 @@
 -- Bytes that are written at different places may be written in either order; at one place the last counts.
-use Rattle.std.specs.Prelude.{◌≡◌, ◌≢◌, ℕ, suc, zero, true, false, List, [], ◌∷◌, ◌++◌, filter, Option, Some, None, slice_get, slice_set, option_map}
+use Rattle.std.specs.Prelude.{◌≡◌, ◌≢◌, ℕ, ◌%◌, suc, zero, true, false, List, [], ◌∷◌, ◌++◌, filter, Option, Some, None, slice_get, slice_set, option_map}
 use Rattle.std.proofs.Common.{refl, ap, sym, subst, ◌∙◌, arith, inl, inr}
 use Rattle.std.proofs.lemmas.Bool.{cases_Bool, cases_eq}
 use Rattle.std.proofs.lemmas.Grind.{common_steps}
 use Rattle.shm_base.specs.Access.{byte_set, entry_byte_set, set_in}
+use Rattle.shm_base.specs.Segments.{attach_all, attached, change, with_entry}
 use Rattle.shm_base.specs.State.{Entry, Machine, Segment}
 use Rattle.shm_outcomes.specs.Changes.{is_above, is_below, put}
 use Rattle.shm_outcomes.specs.declared.trail.Write.{Write}
@@ -26,6 +27,14 @@ edited-other zero zero f g (x ∷ xs) apart = absurd (apart refl)
 edited-other zero (suc j) f g (x ∷ xs) apart = refl
 edited-other (suc i) zero f g (x ∷ xs) apart = refl
 edited-other (suc i) (suc j) f g (x ∷ xs) apart = ap (λ l. x ∷ l) (edited-other i j f g xs (λ h. apart (ap (λ (n : ℕ). suc n) h)))
+
+-- edits that do the same in either order
+edited-swap : {X : Type 0} (i j : ℕ) (f g : X → X) → ((x : X) → f (g x) ≡ g (f x)) → (xs : List X) → edited i f (edited j g xs) ≡ edited j g (edited i f xs)
+edited-swap i j f g same [] = refl
+edited-swap zero zero f g same (x ∷ xs) = ap (λ y. y ∷ xs) (same x)
+edited-swap zero (suc j) f g same (x ∷ xs) = refl
+edited-swap (suc i) zero f g same (x ∷ xs) = refl
+edited-swap (suc i) (suc j) f g same (x ∷ xs) = ap (λ l. x ∷ l) (edited-swap i j f g same xs)
 
 -- two edits of one element, which are two others one after another
 edited-same : {X : Type 0} (i : ℕ) (f g h k : X → X) → ((x : X) → f (g x) ≡ h (k x)) → (xs : List X) → edited i f (edited i g xs) ≡ edited i h (edited i k xs)
@@ -102,6 +111,28 @@ table-twice t v w index at =
     (sym at)
     (edited-twice w.index (entry_byte_set w.at w.byte) (entry_byte_set w.at v.byte) (byte-twice w.at w.byte v.byte) t))
     ∙ sym (overwritten-is t w)
+
+-- a segment is attached before or after its byte is written
+entry-swap : (n pid at b : ℕ) (e : Entry) → with_entry (attached n pid) (entry_byte_set at b e) ≡ entry_byte_set at b (with_entry (attached n pid) e)
+entry-swap n pid at b e = by e.segment
+  where
+    by : (o : Option Segment) → record e { segment = option_map (attached n pid) (option_map (byte_set at b) o) } ≡ record e { segment = option_map (byte_set at b) (option_map (attached n pid) o) }
+    by None = refl
+    by (Some x) = refl
+
+change-swap : (n pid id : ℕ) (t : List Entry) (w : Write) → change (overwritten t w) id (attached n pid) ≡ overwritten (change t id (attached n pid)) w
+change-swap n pid id t w =
+    let f : Entry → Entry = with_entry (attached n pid) in
+    let g : Entry → Entry = entry_byte_set w.at w.byte in
+    edited-set (id % 32768) f (overwritten t w)
+    ∙ ap (edited (id % 32768) f) (overwritten-is t w)
+    ∙ edited-swap (id % 32768) w.index f g (entry-swap n pid w.at w.byte) t
+    ∙ sym (ap (edited w.index g) (edited-set (id % 32768) f t))
+    ∙ sym (overwritten-is (change t id (attached n pid)) w)
+
+pub attach-swap : (n pid : ℕ) (ids : List ℕ) (t : List Entry) (w : Write) → attach_all n pid (overwritten t w) ids ≡ overwritten (attach_all n pid t ids) w
+attach-swap n pid [] t w = refl
+attach-swap n pid (id ∷ ids) t w = ap (λ (u : List Entry). attach_all n pid u ids) (change-swap n pid id t w) ∙ attach-swap n pid ids (change t id (attached n pid)) w
 
 -- A MACHINE
 

@@ -7,14 +7,16 @@ use Rattle.std.proofs.lemmas.Option.{none-some, same_Some}
 use Rattle.std.specs.Int.{w64, to_le_bytes}
 use Rattle.shm_base.specs.Access.{Place, all_writable, joined, only_writable, place, places, stored}
 use Rattle.shm_base.specs.History.{is_refusal}
-use Rattle.shm_base.specs.State.{Machine}
-use Rattle.shm_base.specs.Step.{Caller, Outcome, acts, caller_of, number_at, step, step_by, store, xadd}
+use Rattle.shm_base.specs.Rules.{fork_marks}
+use Rattle.shm_base.specs.Segments.{attach_all}
+use Rattle.shm_base.specs.State.{Entry, Machine}
+use Rattle.shm_base.specs.Step.{Caller, Outcome, acts, caller_of, forks, inherited, number_at, segments_of, step, step_by, store, unborn_from, xadd}
 use Rattle.shm_base.specs.declared.call.Call.{Call}
 use Rattle.shm_base.specs.declared.call.Call.TheVariants.{Shmget, Shmat, Shmdt, Stat, Set, Rmid, Lock, Unlock, Load, Store, Xadd, Fork, Exec, Exit, Swapoff}
 use Rattle.shm_base.specs.declared.call.Event.{Event}
 use Rattle.shm_text.specs.Script.{ScriptView}
 use Rattle.shm_outcomes.specs.Alike.{is_change, looks}
-use Rattle.shm_outcomes.specs.Changes.{Trail, all_changes, fits, no_trail, noted, patch_by, place_by, place_of, put, put_at, puts, trail_after, trail_from, trail_of, write_at, wrote}
+use Rattle.shm_outcomes.specs.Changes.{Trail, all_changes, fits, is_fork, made, no_trail, noted, patch_by, place_by, place_of, put, put_at, puts, trail_after, trail_from, trail_of, write_at, wrote}
 use Rattle.shm_outcomes.specs.Schedules.{Run, after, fresh, next, Leads, schedule_of}
 use Rattle.shm_outcomes.specs.Search.{IsReached}
 use Rattle.shm_outcomes.specs.Times.{timeless}
@@ -22,7 +24,7 @@ use Rattle.shm_outcomes.specs.declared.trail.Change.{Change}
 use Rattle.shm_outcomes.specs.declared.trail.Change.TheVariants.{Made, Wrote}
 use Rattle.shm_outcomes.specs.declared.trail.Patch.{Patch}
 use Rattle.shm_outcomes.specs.declared.trail.Write.{Write}
-use Rattle.shm_outcomes.proofs.Bytes.{put-last, with_write, written}
+use Rattle.shm_outcomes.proofs.Bytes.{attach-swap, overwritten, put-last, with_write, written}
 use Rattle.shm_outcomes.proofs.Going.{event_at, not-first, one-more, still}
 use Rattle.shm_outcomes.proofs.Timeless.{times_reach_times}
 use Rattle.shm_outcomes.proofs.Timing.{stored-timeless}
@@ -155,7 +157,61 @@ first-false : (a b : Bool) → not a && not b ≡ true → a ≡ false
 first-false false b h = refl
 first-false true b h = absurd (cc)
 
+-- FORKS
+
+inherited-swap : (s : Machine) (c : Caller) (w : Write) → inherited (with_write s w) 1 c ≡ overwritten (inherited s 1 c) w
+inherited-swap s c w = by (fork_marks s.limits.rules)
+  where
+    by : (b : Bool) → cond b (attach_all 1 c.pid (overwritten s.table w) (segments_of c)) (overwritten s.table w) ≡ overwritten (cond b (attach_all 1 c.pid s.table (segments_of c)) s.table) w
+    by true = attach-swap 1 c.pid (segments_of c) s.table w
+    by false = refl
+
+fork-swap : (s : Machine) (pid child : ℕ) (w : Write) → (step (with_write s w) 1 pid (Fork child)).state ≡ with_write (step s 1 pid (Fork child)).state w
+fork-swap s pid child w = by (caller_of s pid)
+  where
+    there : (c : Caller) (o : Option ℕ) → (forks (with_write s w) 1 c child o).state ≡ with_write (forks s 1 c child o).state w
+    there c None = refl
+    there c (Some i) = ap (λ (t : List Entry). record (forks s 1 c child (Some i)).state { table = t }) (inherited-swap s c w)
+
+    by : (o : Option Caller) → (step_by (with_write s w) 1 (Fork child) o).state ≡ with_write (step_by s 1 (Fork child) o).state w
+    by None = refl
+    by (Some c) = there c (unborn_from 0 child s.runners)
+
+fork-written : (s : Machine) (pid child : ℕ) (ws : List Write) → (step (written s ws) 1 pid (Fork child)).state ≡ written (step s 1 pid (Fork child)).state ws
+fork-written s pid child [] = refl
+fork-written s pid child (w ∷ ws) = fork-written (with_write s w) pid child ws ∙ ap (λ (m : Machine). written m ws) (fork-swap s pid child w)
+
+-- a fork is made before the bytes are written, or after it
+fork-first : (s : Machine) (pid : ℕ) (call : Call) (ws : List Write) → is_fork call ≡ true → written (step s 1 pid call).state ws ≡ (step (written s ws) 1 pid call).state
+fork-first s pid (Fork child) ws h = sym (fork-written s pid child ws)
+fork-first s pid (Store addr bytes) ws h = absurd (cc)
+fork-first s pid (Xadd addr add) ws h = absurd (cc)
+fork-first s pid (Shmget key size mode flags) ws h = absurd (cc)
+fork-first s pid (Shmat id addr flags) ws h = absurd (cc)
+fork-first s pid (Shmdt addr) ws h = absurd (cc)
+fork-first s pid (Stat id) ws h = absurd (cc)
+fork-first s pid (Set id uid gid mode) ws h = absurd (cc)
+fork-first s pid (Rmid id) ws h = absurd (cc)
+fork-first s pid (Lock id) ws h = absurd (cc)
+fork-first s pid (Unlock id) ws h = absurd (cc)
+fork-first s pid (Load addr len) ws h = absurd (cc)
+fork-first s pid Exec ws h = absurd (cc)
+fork-first s pid Exit ws h = absurd (cc)
+fork-first s pid (Swapoff area) ws h = absurd (cc)
+
 -- ONE CALL
+
+made-changed : (base : Machine) (e : Event) (t : Trail) → changed base (all_changes (made e t)) ≡ (step (changed base (all_changes t)) 1 e.pid e.call).state
+made-changed base e t =
+    elim (cases_Bool (is_fork e.call)) [
+      | inl fork ↦
+          rw fork
+          (changed-all base (record { past = t.past ++ Made e ∷ []; writes = t.writes })
+          ∙ ap (λ (m : Machine). written m t.writes) (changed-append base t.past (Made e ∷ []))
+          ∙ fork-first (changed base t.past) e.pid e.call t.writes fork
+          ∙ ap (λ (m : Machine). (step m 1 e.pid e.call).state) (sym (changed-all base t)))
+      | inr other ↦ rw other (changed-all base (record { past = all_changes t ++ Made e ∷ []; writes = [] }) ∙ changed-append base (all_changes t) (Made e ∷ []))
+    ]
 
 one-changed :
     (base s : Machine) (n pid : ℕ) (call : Call) (t : Trail) → n ≢ 0 → changed base (all_changes t) ≡ timeless s
@@ -174,10 +230,7 @@ one-changed base s n pid call t not-zero at =
         let w : Trail = record { past = t.past; writes = puts s pid p.addr p.bytes t.writes } in
         changed-all base w ∙ stored-after (changed base t.past) s n pid call p t.writes (sym (changed-all base t) ∙ at) is kept
     by yes-changes None is =
-        let e : Event = event_at s n pid call in
-        let made : Trail = record { past = all_changes t ++ Made e ∷ []; writes = [] } in
-        changed-all base made
-        ∙ changed-append base (all_changes t) (Made e ∷ [])
+        made-changed base (event_at s n pid call) t
         ∙ ap (λ (m : Machine). (step m 1 pid call).state) at
         ∙ ap (λ (o : Outcome). o.state) (times_reach_times s n pid call not-zero)
 
@@ -198,13 +251,13 @@ leads-follow script base [] old new t h at = (
   record { machine = at ∙ ap (λ (r : Run). timeless r.machine) h; next = λ e. ap (λ (r : Run). trail_after r.machine e t) h },
 )
 leads-follow script base (pid ∷ schedule) old new t h at =
-    let made = made-by (next script old pid) old pid h.0 h.1 in
+    let goes = made-by (next script old pid) old pid h.0 h.1 in
     let n : ℕ = length old.events + 1 in
-    let e : Event = event_at old.machine n pid made.0 in
-    let left : Leads script schedule (after old pid made.0) new = subst (λ (r : Run). Leads script schedule r new) (sym made.2) h.2 in
-    let rest = leads-follow script base schedule (after old pid made.0) new (trail_after old.machine e t) left (one-changed base old.machine n pid made.0 t (not-first (length old.events)) at) in
+    let e : Event = event_at old.machine n pid goes.0 in
+    let left : Leads script schedule (after old pid goes.0) new = subst (λ (r : Run). Leads script schedule r new) (sym goes.2) h.2 in
+    let rest = leads-follow script base schedule (after old pid goes.0) new (trail_after old.machine e t) left (one-changed base old.machine n pid goes.0 t (not-first (length old.events)) at) in
     let long : length (old.events ++ e ∷ []) + 1 ≡ n + 1 = ap (λ (k : ℕ). k + 1) (length-append old.events (e ∷ [])) in
-    let on = subst (λ (k : ℕ). FollowsOn base (step old.machine n pid made.0).state k (trail_after old.machine e t) rest.0 new.machine) long rest.2 in (
+    let on = subst (λ (k : ℕ). FollowsOn base (step old.machine n pid goes.0).state k (trail_after old.machine e t) rest.0 new.machine) long rest.2 in (
       e ∷ rest.0,
       rest.1 ∙ one-more old.events e rest.0,
       record { machine = on.machine; next = on.next },

@@ -1,13 +1,13 @@
 -- What changed a machine, as far as later calls can tell: of the bytes that were written since the last other change, each
--- place keeps the last, so the order of stores to different places does not matter.
-use Rattle.std.specs.Prelude.{ℕ, ◌+◌, ◌%◌, ◌^◌, ◌==◌, ◌&&◌, ◌||◌, Bool, nat_lt, if◌then◌else◌, List, [], ◌∷◌, ◌++◌, filter, map, length, Option, Some, None}
+-- place keeps the last, so the order of stores to different places does not matter. A fork counts as made before them.
+use Rattle.std.specs.Prelude.{ℕ, ◌+◌, ◌%◌, ◌^◌, ◌==◌, ◌&&◌, ◌||◌, Bool, true, false, nat_lt, if◌then◌else◌, List, [], ◌∷◌, ◌++◌, filter, map, length, Option, Some, None}
 use Rattle.std.specs.Int.{w64, to_le_bytes}
 use Rattle.shm_base.specs.Access.{Place, place}
 use Rattle.shm_base.specs.State.{Machine}
 use Rattle.shm_base.specs.Step.{Caller, caller_of, step}
 use Rattle.shm_base.specs.declared.bounds.TheConstants.{INDEXES}
 use Rattle.shm_base.specs.declared.call.Call.{Call}
-use Rattle.shm_base.specs.declared.call.Call.TheVariants.{Store, Xadd}
+use Rattle.shm_base.specs.declared.call.Call.TheVariants.{Fork, Store, Xadd}
 use Rattle.shm_base.specs.declared.call.Event.{Event}
 use Rattle.shm_base.specs.declared.call.Reply.{Reply}
 use Rattle.shm_base.specs.declared.call.Reply.TheVariants.{Number}
@@ -75,9 +75,20 @@ wrote w = Wrote w
 abbrev pub all_changes : Trail → List Change
 all_changes t = t.past ++ map wrote t.writes
 
+-- a call that does the same before bytes are written and after it
+abbrev pub is_fork : Call → Bool
+is_fork (Fork child) = true
+is_fork call = false
+
+abbrev pub made : Event → Trail → Trail
+made e t =
+    if is_fork e.call
+    then record { past = t.past ++ Made e ∷ []; writes = t.writes }
+    else record { past = all_changes t ++ Made e ∷ []; writes = [] }
+
 abbrev pub noted : Machine → Event → Option Patch → Trail → Trail
 noted s e (Some p) t = record { past = t.past; writes = puts s e.pid p.addr p.bytes t.writes }
-noted s e None t = record { past = all_changes t ++ Made e ∷ []; writes = [] }
+noted s e None t = made e t
 
 -- the trail after one more call, made of this machine
 abbrev pub trail_after : Machine → Event → Trail → Trail

@@ -8,7 +8,7 @@ use crate::search::Node;
 use crate::trail::Trail;
 use shm_base::{Call, Process};
 use shm_text::Script;
-use std::alloc::Global;
+use std::alloc::{AllocError, Global};
 use std::marker::Model;
 
 pub(crate) struct Branch<M: Engine> {
@@ -32,14 +32,15 @@ impl<M: Engine> Model for Branch<M> {
 
 impl<M: Engine> Branch<M> {
     // The one before the first line.
-    pub(crate) fn first(alloc: Global, machine: M) -> Branch<M>
+    pub(crate) fn first(alloc: Global, machine: M) -> Result<Branch<M>, AllocError>
         requires { M.calls machine ≡ 0 }
-        ensures { result ≡ sprout (fresh (M.flat machine)) }
+        ensures { IfOk result (λ b. b ≡ sprout (fresh (M.flat machine))) }
     {
-        Branch {
+        let trail = Trail::new(alloc)?;
+        Ok(Branch {
             run: Node::first(alloc, machine),
-            trail: Trail::new(alloc),
-        }
+            trail,
+        })
     }
 
     pub(crate) fn run(&self) -> &Node<M>
@@ -72,7 +73,8 @@ pub(crate) fn push_branches<M: Engine>(
     branch: &Branch<M>,
     all: &mut Vec<Branch<M>>,
 ) -> Result<(), EngineError>
-    ensures { OnOk result (all.new.items ≡ all.old.items ++ branches script.now script.now.processes branch.now) }
+    ensures { OnOk result (
+        all.new.items ≡ all.old.items ++ branches script.now script.now.processes branch.now) }
 {
     for process in &script.processes {
         push_branch(alloc, script, branch, process, all)?;
@@ -88,7 +90,8 @@ fn push_branch<M: Engine>(
     process: &Process,
     all: &mut Vec<Branch<M>>,
 ) -> Result<(), EngineError>
-    ensures { OnOk result (all.new.items ≡ all.old.items ++ one_branch (grows script.now process.now.pid branch.now)) }
+    ensures { OnOk result (
+        all.new.items ≡ all.old.items ++ one_branch (grows script.now process.now.pid branch.now)) }
 {
     let Some(call) = branch.run.next(script, process.pid) else {
         return Ok(());

@@ -72,7 +72,8 @@ impl Buckets {
 fn put_place(all: &mut Vec<Bucket>, index: usize, place: usize) -> Result<(), AllocError>
     requires within { index < length all.old.items }
     ensures len { length all.new.items ≡ length all.old.items }
-    ensures items { OnOk result (all.new.items ≡ slice_set all.old.items index (slice_index_or all.old.items index [] ++ place ∷ [])) }
+    ensures items { OnOk result (let bucket = slice_index_or all.old.items index [] in
+        all.new.items ≡ slice_set all.old.items index (bucket ++ place ∷ [])) }
     ensures err { OnErr result (all.new.items ≡ all.old.items) }
 {
     all[index].places.push(place)?;

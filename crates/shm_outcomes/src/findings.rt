@@ -54,7 +54,8 @@ impl Findings {
         events: &[Event],
         outcome: Outcome,
     ) -> Result<(), AllocError>
-        ensures { OnOk result (IsNoted self.old (record { events = events.now; outcome = outcome }) self.new) }
+        ensures { OnOk result (
+            IsNoted self.old (record { events = events.now; outcome = outcome }) self.new) }
     {
         let number = digest(&outcome);
         if is_known(&self.all, self.buckets.at(number), &outcome) {

@@ -5,6 +5,7 @@ ghost use Rattle.shm_base.specs.declared.call.Reply.{Reply as FlatReply};
 ghost use Rattle.shm_outcomes.specs.Masking.{hidden, hidden_outcome};
 ghost use Rattle.shm_outcomes.specs.Outcomes.{masked, masked_ds, masked_time, told, outcome_of};
 
+use crate::plan::own_count;
 use shm_base::{Event, Process, Reply, ShmidDs};
 use shm_text::Script;
 use std::alloc::{AllocError, Global};
@@ -123,7 +124,7 @@ fn are_same_replies(replies: &[Reply], others: &[Reply]) -> bool
 fn told_in(alloc: Global, events: &[Event], process: &Process) -> Result<Told, AllocError>
     ensures { IfOk result (λ t. t ≡ told events.now process.now) }
 {
-    let mut replies = Vec::new(alloc);
+    let mut replies = Vec::with_capacity(alloc, own_count(events, process.pid))?;
     for event in events {
         if event.pid == process.pid {
             replies.push(masked(&event.reply))?;
@@ -187,7 +188,7 @@ impl Outcome {
     ) -> Result<Outcome, AllocError>
         ensures { IfOk result (λ o. o ≡ outcome_of script.now events.now) }
     {
-        let mut all = Vec::new(alloc);
+        let mut all = Vec::with_capacity(alloc, script.processes.len())?;
         for process in &script.processes {
             let one = told_in(alloc, events, process)?;
             all.push(one)?;

@@ -85,7 +85,8 @@ fn set_head(heads: &mut [Head], pid: u32, line: usize) {
     }
 }
 
-fn own_count(events: &[Event], pid: u32) -> usize {
+// How many of these calls a process made.
+pub(crate) fn own_count(events: &[Event], pid: u32) -> usize {
     let mut count = 0usize;
     for event in events {
         if event.pid == pid {

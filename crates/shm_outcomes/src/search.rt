@@ -198,7 +198,8 @@ pub fn outcomes<M: Engine>(
     let mut found = Findings::new(alloc)?;
     let mut seen = Seen::new(alloc)?;
     let mut runs = Vec::new(alloc);
-    runs.push(Branch::first(alloc, machine))?;
+    let first = Branch::first(alloc, machine)?;
+    runs.push(first)?;
     'runs: while let Some(run) = runs.pop() {
         if let Err(error) = take_up(alloc, script, most, &run, &mut runs, &mut seen, &mut found) {
             return Err(error);
@@ -219,7 +220,8 @@ fn take_up<M: Engine>(
 ) -> Result<(), SearchError>
     requires few { length seen.old ≤ most }
     ensures taken { OnOk result (
-        IsBranchTaken script.now run.now seen.old seen.new runs.old.items runs.new.items found.old found.new) }
+        IsBranchTaken script.now run.now seen.old seen.new runs.old.items runs.new.items
+        found.old found.new) }
     ensures few { OnOk result (length seen.new ≤ most) }
     ensures err { IfErr result (IsBranchBeyond script.now run.now seen.old most) }
 {
@@ -243,9 +245,12 @@ fn visit<M: Engine>(
     runs: &mut Vec<Branch<M>>,
     found: &mut Findings,
 ) -> Result<(), EngineError>
-    ensures runs { OnOk result (runs.new.items ≡ runs.old.items ++ branches script.now script.now.processes run.now) }
-    ensures over { OnOk result (branches script.now script.now.processes run.now ≡ [] → IsNoted found.old (finding_of script.now run.now.run.events) found.new) }
-    ensures goes_on { OnOk result (branches script.now script.now.processes run.now ≢ [] → found.new ≡ found.old) }
+    ensures runs { OnOk result (
+        runs.new.items ≡ runs.old.items ++ branches script.now script.now.processes run.now) }
+    ensures over { OnOk result (branches script.now script.now.processes run.now ≡ []
+        → IsNoted found.old (finding_of script.now run.now.run.events) found.new) }
+    ensures goes_on { OnOk result (branches script.now script.now.processes run.now ≢ []
+        → found.new ≡ found.old) }
 {
     let before = runs.len();
     push_branches(alloc, script, run, runs)?;

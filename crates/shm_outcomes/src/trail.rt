@@ -1,8 +1,9 @@
-//! What changed a machine: the calls in order, but of stores only the last byte at each place.
+//! What changed a machine: the calls in order, but of stores only the last byte at each place, and with forks
+//! before the stores.
 ghost use Rattle.std.specs.Prelude.{◌≡◌, ◌↔◌, ◌+◌, ◌%◌, ◌^◌, ◌<◌, ◌++◌, ◌∷◌, [], IfOk, IfSome, IsTrue, OnOk, Some, filter, length, map};
 ghost use Rattle.std.specs.Int.{to_le_bytes, w64};
 ghost use Rattle.shm_outcomes.specs.declared.trail.Change.TheVariants.{Made};
-ghost use Rattle.shm_outcomes.specs.Changes.{all_changes, fits, is_above, is_below, no_trail, noted, patch_by, put, put_at, puts, trail_after, write_at, wrote};
+ghost use Rattle.shm_outcomes.specs.Changes.{fits, is_above, is_below, is_fork, made, no_trail, noted, patch_by, put, put_at, puts, trail_after, write_at, wrote};
 
 use crate::engine::Engine;
 use crate::keys::{is_change, is_same_event};
@@ -10,9 +11,10 @@ use shm_areas::Place;
 use shm_base::{Call, Chunk, Event, INDEXES, Reply};
 use std::alloc::{AllocError, Global};
 use std::marker::Model;
+use std::rc::Rc;
 
 /// A byte that was written: the index of its segment, its place there, and its value.
-#[derive(Clone, Copy, Debug, PartialEq, Eq)]
+#[derive(Clone, Copy, PartialEq, Eq)]
 pub struct Write {
     pub index: u32,
     pub at: u64,
@@ -20,14 +22,14 @@ pub struct Write {
 }
 
 /// A byte that was written, or a call that changed something else.
-#[derive(Clone, Copy, Debug)]
+#[derive(Clone, Copy)]
 pub enum Change {
     Wrote(Write),
     Made(Event),
 }
 
 /// The bytes that a call wrote from an address on.
-#[derive(Clone, Copy, Debug)]
+#[derive(Clone, Copy)]
 pub struct Patch {
     pub addr: u64,
     pub bytes: Chunk,
@@ -142,7 +144,8 @@ fn puts<M: Engine>(
     writes: &[Write],
 ) -> Result<Vec<Write>, AllocError>
     requires within { patch.now.addr + length patch.now.bytes < 2 ^ 64 }
-    ensures { IfOk result (λ v. v.items ≡ puts (M.flat machine.now) pid patch.now.addr patch.now.bytes writes.now) }
+    ensures { IfOk result (λ v.
+        v.items ≡ puts (M.flat machine.now) pid patch.now.addr patch.now.bytes writes.now) }
 {
     let mut all = Vec::from_slice(alloc, writes)?;
     let mut addr = patch.addr;
@@ -198,10 +201,11 @@ fn are_same_writes(writes: &[Write], others: &[Write]) -> bool
     true
 }
 
-// The changes up to the last one that wrote no bytes, and the bytes that were written since.
+// The changes up to the last one that wrote no bytes, and the bytes that were written since. Trails share the
+// changes, because most calls add none.
 #[derive(Drop)]
 pub(crate) struct Trail {
-    past: Vec<Change>,
+    past: Rc<Vec<Change>>,
     writes: Vec<Write>,
 }
 
@@ -210,17 +214,18 @@ impl Model for Trail {
 
     ghost Value = { Trail };
 
-    ghost view = { λ t. record { past = t.past.items; writes = t.writes.items } };
+    ghost view = { λ t. record { past = t.past.value.items; writes = t.writes.items } };
 }
 
 impl Trail {
-    pub(crate) fn new(alloc: Global) -> Trail
-        ensures { result ≡ no_trail }
+    pub(crate) fn new(alloc: Global) -> Result<Trail, AllocError>
+        ensures { IfOk result (λ t. t ≡ no_trail) }
     {
-        Trail {
-            past: Vec::new(alloc),
+        let past = Rc::new(alloc, Vec::new(alloc))?;
+        Ok(Trail {
+            past,
             writes: Vec::new(alloc),
-        }
+        })
     }
 
     // The bytes that were written since the last other change.
@@ -233,14 +238,15 @@ impl Trail {
     pub(crate) fn is_same(&self, other: &Trail) -> bool
         ensures { IsTrue result ↔ self.now ≡ other.now }
     {
-        are_same_writes(&self.writes, &other.writes) && are_same_changes(&self.past, &other.past)
+        are_same_writes(&self.writes, &other.writes)
+            && are_same_changes(self.past.as_ref(), other.past.as_ref())
     }
 
     // The same once more.
     pub(crate) fn copied(&self, alloc: Global) -> Result<Trail, AllocError>
         ensures { IfOk result (λ t. t ≡ self.now) }
     {
-        let past = Vec::from_slice(alloc, &self.past)?;
+        let past = self.past.clone()?;
         let writes = Vec::from_slice(alloc, &self.writes)?;
         Ok(Trail { past, writes })
     }
@@ -263,6 +269,7 @@ impl Trail {
         }
     }
 
+    // The trail after a call that wrote these bytes.
     fn written<M: Engine>(
         &self,
         alloc: Global,
@@ -273,20 +280,46 @@ impl Trail {
         requires within { patch.now.addr + length patch.now.bytes < 2 ^ 64 }
         ensures { IfOk result (λ t. t ≡ noted (M.flat machine.now) event.now (Some patch.now) self.now) }
     {
-        let past = Vec::from_slice(alloc, &self.past)?;
+        let past = self.past.clone()?;
         let writes = puts(alloc, machine, event.pid, patch, &self.writes)?;
         Ok(Trail { past, writes })
     }
 
+    // The trail after a call that changed more than bytes.
     fn made(&self, alloc: Global, event: &Event) -> Result<Trail, AllocError>
-        ensures { IfOk result (λ t. t ≡ record { past = all_changes self.now ++ Made event.now ∷ []; writes = [] }) }
+        ensures { IfOk result (λ t. t ≡ made event.now self.now) }
     {
-        let mut past = Vec::from_slice(alloc, &self.past)?;
-        push_changes(&self.writes, event, &mut past)?;
+        if is_fork(&event.call) {
+            return self.forked(alloc, event);
+        }
+        let mut changes = Vec::from_slice(alloc, self.past.as_ref())?;
+        push_changes(&self.writes, event, &mut changes)?;
+        let past = Rc::new(alloc, changes)?;
         Ok(Trail {
             past,
             writes: Vec::new(alloc),
         })
+    }
+
+    // The trail after a fork.
+    fn forked(&self, alloc: Global, event: &Event) -> Result<Trail, AllocError>
+        ensures { IfOk result (λ t.
+            t ≡ record { past = self.now.past ++ Made event.now ∷ []; writes = self.now.writes }) }
+    {
+        let mut changes = Vec::from_slice(alloc, self.past.as_ref())?;
+        changes.push(Change::Made(*event))?;
+        let past = Rc::new(alloc, changes)?;
+        let writes = Vec::from_slice(alloc, &self.writes)?;
+        Ok(Trail { past, writes })
+    }
+}
+
+fn is_fork(call: &Call) -> bool
+    ensures { result ≡ is_fork call.now }
+{
+    match call {
+        Call::Fork { .. } => true,
+        _ => false,
     }
 }
 

@@ -1,9 +1,10 @@
-use Rattle.std.proofs.Common.{rules, ◌≡◌, ◌∙◌, ◌++◌, ◌∷◌, [], List, ap, length, length-append, map, subst, sym}
+use Rattle.std.proofs.Common.{rules, arith, ◌≡◌, ◌∙◌, ◌++◌, ◌∷◌, [], List, ap, length, length-append, map, subst, sym}
 use Rattle.shm_base.specs.State.{Machine}
-use Rattle.shm_outcomes.specs.Branches.{Branch, run_in}
+use Rattle.shm_outcomes.specs.Branches.{Branch, run_in, sprout}
+use Rattle.shm_outcomes.specs.Keys.{Key}
 use Rattle.shm_outcomes.specs.Schedules.{fresh}
-use Rattle.shm_outcomes.specs.Search.{AreOutcomes}
-use Rattle.shm_outcomes.proofs.Branching.{AreGrown, branch-beyond, fewer-branches, taken-branch}
+use Rattle.shm_outcomes.specs.Search.{AreOutcomes, Finding}
+use Rattle.shm_outcomes.proofs.Branching.{AreGrown, branch-beyond, fewer-branches, grown-first, taken-branch}
 use Rattle.shm_outcomes.proofs.Complete.{searched-all}
 use Rattle.shm_outcomes.proofs.Searching.{less-left}
 use Rattle.shm_outcomes.proofs.search.outcomes.Goals as goal
@@ -40,3 +41,14 @@ returns-clause-ok g c =
     let all : c.into_all.result.items ≡ c.runs.found = search rules in
     subst (AreOutcomes c.args.script.now (fresh (g.M.Engine.flat c.args.machine))) (sym all)
     (searched-all c.args.script.now (g.M.Engine.flat c.args.machine) c.runs.seen (map run_in c.runs.runs.items) c.runs.found c.runs.invariant.grown.searched (ap (map run_in) none))
+
+pub runs-init : goal.runs-init
+runs-init g c =
+    let machine : Machine = g.M.Engine.flat c.args.machine in
+    let one : c.push.new.self.items ≡ sprout (fresh machine) ∷ [] = search rules in
+    let seen : c.in_ok-seen.seen ≡ [] = search rules in
+    let found : c.in_ok-found.found ≡ [] = search rules in
+    record {
+      few = rw seen (omega arith);
+      grown = subst (λ (l : List Finding). AreGrown c.args.script.now machine c.in_ok-seen.seen c.push.new.self.items l) (sym found) (subst (λ (l : List Key). AreGrown c.args.script.now machine l c.push.new.self.items []) (sym seen) (subst (λ (l : List Branch). AreGrown c.args.script.now machine [] l []) (sym one) (grown-first c.args.script.now machine)));
+    }
