@@ -19,6 +19,8 @@ pub(crate) enum Touched {
     Nothing,
     /// One has another number of pages.
     One(usize),
+    /// The last one is new.
+    Last,
     /// Those from an index on have other indexes.
     From(usize),
 }
@@ -54,6 +56,24 @@ fn renew_from(groups: &mut Vec<Stretch>, stretches: &[Stretch], index: usize)
     }
 }
 
+// Adds the last stretch to its group.
+fn add_last(groups: &mut Vec<Stretch>, stretches: &[Stretch])
+    ensures { (ps : List Stored) → AreRight stretches.now ps → AreRight groups.old.items ps
+        → AreRight groups.new.items ps }
+{
+    let count = stretches.len();
+    if count == 0 {
+        return;
+    }
+    let place = count - 1;
+    let index = place / GROUP_SIZE;
+    if index < groups.len() {
+        groups[index] = groups[index].joined(&stretches[place]);
+    } else {
+        renew_from(groups, stretches, groups.len());
+    }
+}
+
 /// Makes the groups anew that a change of the stretches concerns.
 pub(crate) fn regroup(groups: &mut Vec<Stretch>, stretches: &[Stretch], touched: Touched)
     ensures { (ps : List Stored) → AreRight stretches.now ps → AreRight groups.old.items ps
@@ -66,6 +86,7 @@ pub(crate) fn regroup(groups: &mut Vec<Stretch>, stretches: &[Stretch], touched:
                 groups[place / GROUP_SIZE] = group_at(stretches, place / GROUP_SIZE);
             }
         }
+        Touched::Last => add_last(groups, stretches),
         Touched::From(place) => renew_from(groups, stretches, place / GROUP_SIZE),
     }
 }
