@@ -111,7 +111,9 @@ fn end_at(stretches: &[Stretch], place: usize) -> u64
 }
 
 // How many pieces a stretch has at most.
-fn most_pieces(stretches: &[Stretch]) -> usize {
+fn most_pieces(stretches: &[Stretch]) -> usize
+    ensures { 1 ≤ result }
+{
     FEW_PIECES + stretches.len() / 16
 }
 
@@ -241,10 +243,8 @@ fn is_beyond(stretches: &[Stretch], pieces: &[Piece], at: usize) -> bool
         Some(last) => last.to,
         None => 0,
     };
-    if pieces[at].base < end {
-        return false;
-    }
-    pieces.len() < FEW_PIECES || pieces[pieces.len() - FEW_PIECES].base < end
+    let most = most_pieces(stretches);
+    pieces[at].base >= end && (pieces.len() < most || pieces[pieces.len() - most].base < end)
 }
 
 // Takes note of a piece that was inserted at an index.
@@ -265,11 +265,11 @@ fn note_piece(stretches: &mut Vec<Stretch>, pieces: &[Piece], at: usize) -> Touc
     }
     let place = begun - 1;
     let stretch = stretches[place];
+    let most = most_pieces(stretches);
     if begun == stretches.len() && stretch.to <= pieces[at].base {
-        add_after(stretches, pieces, place, FEW_PIECES);
+        add_after(stretches, pieces, place, most);
         return Touched::Last;
     }
-    let most = most_pieces(stretches);
     if stretch.count < most {
         let next = narrowed(stretch, pieces, at);
         put(stretches, place, begun, next);
