@@ -1,5 +1,6 @@
 //! A sorted list of pieces that do not overlap.
-ghost use Rattle.std.specs.Prelude.{◌≡◌, ℕ, ◌+◌, ◌*◌, ◌%◌, ◌<◌, ◌≤◌, Bool, true, false, All, nat_lt, IfOk, length, IfSome, Some, option_map, find};
+ghost use Rattle.std.specs.Prelude.{◌≡◌, ℕ, ◌+◌, ◌*◌, ◌%◌, ◌<◌, ◌≤◌, Bool, true, false, All, nat_lt, IfOk, length, IfSome, Some, option_map, find, vec_capacity};
+ghost use Rattle.std.specs.List.{insert as inserted_at};
 ghost use Rattle.shm_base.specs.Access as access;
 ghost use Rattle.shm_base.specs.Space as flat;
 ghost use Rattle.shm_areas.specs.Arranged.{bare, bare_all, Arranged, IsFit, IsCovering};
@@ -36,6 +37,21 @@ pub struct Space {
     // without room for any has none.
     stretches: Vec<Stretch>,
     groups: Vec<Stretch>,
+}
+
+// Inserts a piece at an index. The next index needs no moves.
+fn put_at(pieces: &mut Vec<Piece>, at: usize, piece: Piece)
+    requires at { at ≤ length pieces.old.items }
+    requires room { length pieces.old.items < vec_capacity pieces.old }
+    ensures items { pieces.new.items ≡ inserted_at pieces.old.items at piece }
+    ensures capacity { vec_capacity pieces.old ≤ vec_capacity pieces.new }
+{
+    if at == pieces.len() {
+        pieces.push_reserved(piece);
+        return;
+    }
+    let put = pieces.insert(at, piece);
+    prove!(put.is_ok());
 }
 
 impl Drop for Space {
@@ -295,8 +311,7 @@ impl Space {
         let at = count_to(&self.pieces, piece.base);
         self.reach = self.reach.max(piece.first_page);
         self.filled = raised(self.filled, &piece);
-        let put = self.pieces.insert(at, piece);
-        prove!(put.is_ok());
+        put_at(&mut self.pieces, at, piece);
         narrow(&mut self.stretches, &mut self.groups, &self.pieces, at);
     }
 
