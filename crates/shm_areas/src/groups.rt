@@ -2,11 +2,12 @@
 //!
 //! Group k is over the stretches from index k * GROUP_SIZE on. Each group is true of the present pieces, also
 //! if the stretches below it have changed.
-ghost use Rattle.std.specs.Prelude.{◌≡◌, ◌≤◌, ◌<◌, ℕ, true, List, length};
+ghost use Rattle.std.specs.Prelude.{◌≡◌, ◌≤◌, ◌<◌, ℕ, true, List, length, slice_index_or};
 ghost use Rattle.shm_base.specs.Space as flat;
 ghost use Rattle.shm_areas.specs.Arranged.{bare_all};
 ghost use Rattle.shm_areas.specs.Gap.{AreRight, IsBarrier, IsKeptOutside, IsStretch};
 ghost use Rattle.shm_areas.specs.declared.piece.Piece.{Piece as Stored};
+ghost use Rattle.shm_areas.specs.declared.stretch.Stretch.{Stretch as Known};
 
 use crate::stretch::Stretch;
 
@@ -91,6 +92,19 @@ pub(crate) fn regroup(groups: &mut Vec<Stretch>, stretches: &[Stretch], touched:
     }
 }
 
+// Whether no group reaches beyond an address.
+fn are_ended(groups: &[Stretch], addr: u64) -> bool
+    ensures { result ≡ true → (k : ℕ) (d : Known) → k < length groups.now
+        → (slice_index_or groups.now k d).to ≤ addr }
+{
+    for group in groups {
+        if addr < group.to {
+            return false;
+        }
+    }
+    true
+}
+
 /// Makes the groups anew in which a wider gap may begin since addresses became free. The last piece below
 /// these ends at `low`.
 pub(crate) fn regroup_free(
@@ -103,6 +117,9 @@ pub(crate) fn regroup_free(
     ensures { (ps qs : List Stored) → IsKeptOutside from to ps qs → IsBarrier low from qs
         → AreRight stretches.now qs → AreRight groups.old.items ps → AreRight groups.new.items qs }
 {
+    if are_ended(groups, low) {
+        return;
+    }
     for index in 0..groups.len() {
         if low < groups[index].to && groups[index].from < to {
             groups[index] = group_at(stretches, index);
