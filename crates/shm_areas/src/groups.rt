@@ -2,11 +2,12 @@
 //!
 //! Group k is over the stretches from index k * GROUP_SIZE on. Each group is true of the present pieces, also
 //! if the stretches below it have changed.
-ghost use Rattle.std.specs.Prelude.{◌≡◌, ◌≤◌, ◌<◌, ℕ, true, List, length};
+ghost use Rattle.std.specs.Prelude.{◌≡◌, ◌≤◌, ◌<◌, ℕ, true, List, length, slice_index_or};
 ghost use Rattle.shm_base.specs.Space as flat;
 ghost use Rattle.shm_areas.specs.Arranged.{bare_all};
 ghost use Rattle.shm_areas.specs.Gap.{AreRight, IsBarrier, IsKeptOutside, IsStretch};
 ghost use Rattle.shm_areas.specs.declared.piece.Piece.{Piece as Stored};
+ghost use Rattle.shm_areas.specs.declared.stretch.Stretch.{Stretch as Known};
 
 use crate::stretch::Stretch;
 
@@ -19,6 +20,8 @@ pub(crate) enum Touched {
     Nothing,
     /// One has another number of pages.
     One(usize),
+    /// The last one is new.
+    Last,
     /// Those from an index on have other indexes.
     From(usize),
 }
@@ -54,6 +57,24 @@ fn renew_from(groups: &mut Vec<Stretch>, stretches: &[Stretch], index: usize)
     }
 }
 
+// Adds the last stretch to its group.
+fn add_last(groups: &mut Vec<Stretch>, stretches: &[Stretch])
+    ensures { (ps : List Stored) → AreRight stretches.now ps → AreRight groups.old.items ps
+        → AreRight groups.new.items ps }
+{
+    let count = stretches.len();
+    if count == 0 {
+        return;
+    }
+    let place = count - 1;
+    let index = place / GROUP_SIZE;
+    if index < groups.len() {
+        groups[index] = groups[index].joined(&stretches[place]);
+    } else {
+        renew_from(groups, stretches, groups.len());
+    }
+}
+
 /// Makes the groups anew that a change of the stretches concerns.
 pub(crate) fn regroup(groups: &mut Vec<Stretch>, stretches: &[Stretch], touched: Touched)
     ensures { (ps : List Stored) → AreRight stretches.now ps → AreRight groups.old.items ps
@@ -66,8 +87,22 @@ pub(crate) fn regroup(groups: &mut Vec<Stretch>, stretches: &[Stretch], touched:
                 groups[place / GROUP_SIZE] = group_at(stretches, place / GROUP_SIZE);
             }
         }
+        Touched::Last => add_last(groups, stretches),
         Touched::From(place) => renew_from(groups, stretches, place / GROUP_SIZE),
     }
+}
+
+// Whether no group reaches beyond an address.
+fn are_ended(groups: &[Stretch], addr: u64) -> bool
+    ensures { result ≡ true → (k : ℕ) (d : Known) → k < length groups.now
+        → (slice_index_or groups.now k d).to ≤ addr }
+{
+    for group in groups {
+        if addr < group.to {
+            return false;
+        }
+    }
+    true
 }
 
 /// Makes the groups anew in which a wider gap may begin since addresses became free. The last piece below
@@ -82,6 +117,9 @@ pub(crate) fn regroup_free(
     ensures { (ps qs : List Stored) → IsKeptOutside from to ps qs → IsBarrier low from qs
         → AreRight stretches.now qs → AreRight groups.old.items ps → AreRight groups.new.items qs }
 {
+    if are_ended(groups, low) {
+        return;
+    }
     for index in 0..groups.len() {
         if low < groups[index].to && groups[index].from < to {
             groups[index] = group_at(stretches, index);

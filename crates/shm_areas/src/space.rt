@@ -1,5 +1,6 @@
 //! A sorted list of pieces that do not overlap.
-ghost use Rattle.std.specs.Prelude.{◌≡◌, ℕ, ◌+◌, ◌*◌, ◌%◌, ◌<◌, ◌≤◌, Bool, true, false, All, nat_lt, IfOk, length, IfSome, Some, option_map, find};
+ghost use Rattle.std.specs.Prelude.{◌≡◌, ℕ, ◌+◌, ◌*◌, ◌%◌, ◌<◌, ◌≤◌, Bool, true, false, All, nat_lt, IfOk, length, IfSome, Some, option_map, find, vec_capacity};
+ghost use Rattle.std.specs.List.{insert as inserted_at};
 ghost use Rattle.shm_base.specs.Access as access;
 ghost use Rattle.shm_base.specs.Space as flat;
 ghost use Rattle.shm_areas.specs.Arranged.{bare, bare_all, Arranged, IsFit, IsCovering};
@@ -16,15 +17,14 @@ use crate::piece::{Piece, Place};
 use crate::rests::{Rests, rests_of};
 use crate::search::{count_below, count_to, least_gap, run_in, run_of_origin};
 use crate::stretch::Stretch;
-use crate::summary::{count_ended, narrow, widen};
+use crate::summary::{count_ended, group_room, narrow, stretch_room, widen};
 use crate::taking::{end_of_named, take_named};
 use shm_base::{END_ADDRESS, FIRST_GAP, HostMemory, PAGE_SIZE};
 use std::alloc::{AllocError, Global};
 use std::marker::Model;
 
 /// The pieces of a process in order of their bases. Room for the most that the process may have is reserved
-/// at the beginning, so no change can fail for want of memory. With more than 64 pieces a summary of the gaps
-/// takes some memory; if the host refuses it, choosing an address takes longer.
+/// at the beginning, and for a summary of their gaps if there may be more than 256, so no change takes memory.
 pub struct Space {
     pieces: Vec<Piece>,
     most: u32,
@@ -33,9 +33,25 @@ pub struct Space {
     reach: u32,
     // Each address from 0x40000000 up to this one is in a piece, so no gap begins below.
     filled: u64,
-    // What is known of the gaps, if there are many pieces: stretches of addresses, and groups of them.
+    // What is known of the gaps, if there are many pieces: stretches of addresses, and groups of them. A space
+    // without room for any has none.
     stretches: Vec<Stretch>,
     groups: Vec<Stretch>,
+}
+
+// Inserts a piece at an index. The next index needs no moves.
+fn put_at(pieces: &mut Vec<Piece>, at: usize, piece: Piece)
+    requires at { at ≤ length pieces.old.items }
+    requires room { length pieces.old.items < vec_capacity pieces.old }
+    ensures items { pieces.new.items ≡ inserted_at pieces.old.items at piece }
+    ensures capacity { vec_capacity pieces.old ≤ vec_capacity pieces.new }
+{
+    if at == pieces.len() {
+        pieces.push_reserved(piece);
+        return;
+    }
+    let put = pieces.insert(at, piece);
+    prove!(put.is_ok());
 }
 
 impl Drop for Space {
@@ -70,14 +86,17 @@ impl Model for Space {
 impl Clone for Space {
     ghost is_clone = { λ s copy. copy ≡ s };
 
-    /// A copy of the pieces, and of what is known of the gaps. Reserves room for the most that there may be. AllocError: the host refused
+    /// A copy of the pieces, and of what is known of the gaps, with the same room. AllocError: the host refused
     /// memory.
     fn clone(&self) -> Result<Space, AllocError> {
         let mut pieces = Vec::with_capacity(*self.pieces.allocator(), self.most as usize)?;
         pieces.extend_from_slice(&self.pieces)?;
-        let mut stretches = Vec::with_capacity(*self.pieces.allocator(), self.stretches.len())?;
+        let mut stretches = Vec::with_capacity(
+            *self.pieces.allocator(),
+            self.stretches.capacity(),
+        )?;
         stretches.extend_from_slice(&self.stretches)?;
-        let mut groups = Vec::with_capacity(*self.pieces.allocator(), self.groups.len())?;
+        let mut groups = Vec::with_capacity(*self.pieces.allocator(), self.groups.capacity())?;
         groups.extend_from_slice(&self.groups)?;
         Ok(Space {
             pieces,
@@ -100,13 +119,15 @@ impl Space {
         ensures { IfOk result (λ s. s ≡ record { pieces = []; most = most }) }
     {
         let pieces = Vec::with_capacity(alloc, most as usize)?;
+        let stretches = Vec::with_capacity(alloc, stretch_room(most))?;
+        let groups = Vec::with_capacity(alloc, group_room(most))?;
         Ok(Space {
             pieces,
             most,
             reach: 0,
             filled: FIRST_GAP,
-            stretches: Vec::new(alloc),
-            groups: Vec::new(alloc),
+            stretches,
+            groups,
         })
     }
 
@@ -290,8 +311,7 @@ impl Space {
         let at = count_to(&self.pieces, piece.base);
         self.reach = self.reach.max(piece.first_page);
         self.filled = raised(self.filled, &piece);
-        let put = self.pieces.insert(at, piece);
-        prove!(put.is_ok());
+        put_at(&mut self.pieces, at, piece);
         narrow(&mut self.stretches, &mut self.groups, &self.pieces, at);
     }
 

@@ -50,7 +50,7 @@ impl Stretch {
             from: self.from,
             to: self.to.max(piece.end()),
             pages: self.pages.max(free + 1),
-            count: self.count.saturating_add(1),
+            count: self.count,
         }
     }
 
@@ -69,8 +69,8 @@ impl Stretch {
         }
     }
 
-    // The part of the stretch below an address.
-    fn until(&self, to: u64) -> Stretch
+    // The part of the stretch below an address, which has this many pieces.
+    fn until(&self, to: u64, count: usize) -> Stretch
         ensures right { (ps : List Stored) → IsStretch self.now ps → IsStretch result ps }
         ensures from { result.from ≡ self.now.from }
         ensures below { result.to ≤ to }
@@ -78,6 +78,7 @@ impl Stretch {
     {
         Stretch {
             to: self.to.min(to),
+            count,
             ..*self
         }
     }
@@ -114,13 +115,14 @@ pub(crate) fn stretch_from(pieces: &[Piece], from: u64, to: u64, most: usize) ->
     ensures from { result.from ≡ from }
     ensures to { (from ≤ result.to) × (result.to ≤ to) }
 {
-    let run = run_in(pieces, from, from + 1);
+    let first = run_in(pieces, from, from + 1).first;
+    let last = pieces.len().min(first.saturating_add(most));
     let mut stretch = Stretch::empty(from);
-    for place in run.first..pieces.len() {
-        if to <= stretch.to || most <= stretch.count {
-            return stretch.until(to);
+    for place in first..last {
+        if to <= stretch.to {
+            return stretch.until(to, place - first);
         }
         stretch = stretch.with(&pieces[place]);
     }
-    stretch.until(to)
+    stretch.until(to, last.saturating_sub(first))
 }

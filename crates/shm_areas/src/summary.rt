@@ -1,7 +1,7 @@
 //! The summary of the gaps: a sorted list of stretches, so that a choice looks at the pieces of few.
 //!
 //! Every stretch is true of the present pieces. A space of few pieces has none. The pieces between a stretch
-//! and the next belong to the lower one.
+//! and the next belong to the lower one. Few pieces lie above the last one, which no stretch is over yet.
 ghost use Rattle.std.specs.Prelude.{◌≡◌, ◌≤◌, ◌<◌, ◌+◌, [], ℕ, List, length, vec_capacity, slice_index_or};
 ghost use Rattle.shm_base.specs.Space as flat;
 ghost use Rattle.shm_areas.specs.Arranged.{bare_all, Arranged};
@@ -15,8 +15,10 @@ use crate::search::count_below;
 use crate::stretch::{Stretch, stretch_from};
 use shm_base::{END_ADDRESS, FIRST_GAP, PAGE_SIZE};
 
-// A space of at most this many pieces needs no stretch.
+// Fewer pieces need no stretch.
 const FEW_PIECES: usize = 64;
+// A space that may have at most this many pieces has no stretch.
+const SMALL_SPACE: u32 = 256;
 
 // Consecutive stretches, by the indexes of the first and after the last, and the addresses of what replaces
 // them.
@@ -26,6 +28,20 @@ struct StretchRun {
     last: usize,
     from: u64,
     to: u64,
+}
+
+/// For how many stretches a space has room that may have at most this many pieces.
+pub(crate) fn stretch_room(most: u32) -> usize {
+    if most <= SMALL_SPACE {
+        0
+    } else {
+        most as usize / 32
+    }
+}
+
+/// For how many groups it has room.
+pub(crate) fn group_room(most: u32) -> usize {
+    stretch_room(most).div_ceil(GROUP_SIZE)
 }
 
 /// How many stretches end at an address or below it.
@@ -95,7 +111,9 @@ fn end_at(stretches: &[Stretch], place: usize) -> u64
 }
 
 // How many pieces a stretch has at most.
-fn most_pieces(stretches: &[Stretch]) -> usize {
+fn most_pieces(stretches: &[Stretch]) -> usize
+    ensures { 1 ≤ result }
+{
     FEW_PIECES + stretches.len() / 16
 }
 
@@ -192,20 +210,20 @@ fn narrowed(stretch: Stretch, pieces: &[Piece], at: usize) -> Stretch
     }
 }
 
-// Makes the first stretches, for a space that had few pieces.
+// Makes all stretches anew: the first ones, or fewer, if there is no room for more.
 fn begin(stretches: &mut Vec<Stretch>, pieces: &[Piece])
-    requires arranged { Arranged flat.lowest_address (bare_all pieces.now) }
-    requires none { stretches.old.items ≡ [] }
+    requires { Arranged flat.lowest_address (bare_all pieces.now) }
     ensures order { AreBetween 0 flat.end_address stretches.new.items }
     ensures right { AreRight stretches.new.items pieces.now }
 {
+    stretches.clear();
     let run = StretchRun {
         first: 0,
         last: 0,
         from: FIRST_GAP,
         to: END_ADDRESS,
     };
-    lay(stretches, pieces, run, FEW_PIECES / 2);
+    lay(stretches, pieces, run, FEW_PIECES);
 }
 
 // What the groups need to know, if a stretch took the place of another.
@@ -217,6 +235,18 @@ fn touched(before: Stretch, after: Stretch, place: usize) -> Touched {
     }
 }
 
+// Whether a piece lies above the last stretch, with few others.
+fn is_beyond(stretches: &[Stretch], pieces: &[Piece], at: usize) -> bool
+    requires { at < length pieces.now }
+{
+    let end = match stretches.last() {
+        Some(last) => last.to,
+        None => 0,
+    };
+    let most = most_pieces(stretches);
+    pieces[at].base >= end && (pieces.len() < most || pieces[pieces.len() - most].base < end)
+}
+
 // Takes note of a piece that was inserted at an index.
 fn note_piece(stretches: &mut Vec<Stretch>, pieces: &[Piece], at: usize) -> Touched
     requires arranged { Arranged flat.lowest_address (bare_all pieces.now) }
@@ -225,7 +255,7 @@ fn note_piece(stretches: &mut Vec<Stretch>, pieces: &[Piece], at: usize) -> Touc
     ensures order { AreBetween 0 flat.end_address stretches.new.items }
     ensures right { AreRight stretches.old.items pieces.now → AreRight stretches.new.items pieces.now }
 {
-    if stretches.is_empty() {
+    if stretches.is_empty() || stretches.len() >= stretches.capacity() {
         begin(stretches, pieces);
         return Touched::From(0);
     }
@@ -236,6 +266,10 @@ fn note_piece(stretches: &mut Vec<Stretch>, pieces: &[Piece], at: usize) -> Touc
     let place = begun - 1;
     let stretch = stretches[place];
     let most = most_pieces(stretches);
+    if begun == stretches.len() && stretch.to <= pieces[at].base {
+        add_after(stretches, pieces, place, most);
+        return Touched::Last;
+    }
     if stretch.count < most {
         let next = narrowed(stretch, pieces, at);
         put(stretches, place, begun, next);
@@ -298,15 +332,6 @@ fn note_free(
     }
 }
 
-// Makes room for more, if the host gives memory. Only an insertion does so.
-fn make_room(list: &mut Vec<Stretch>, more: usize)
-    ensures { list.new.items ≡ list.old.items }
-{
-    if list.reserve(more).is_err() {
-        return;
-    }
-}
-
 /// Brings the summary up to date after a piece was inserted at an index.
 pub(crate) fn narrow(
     stretches: &mut Vec<Stretch>,
@@ -322,15 +347,13 @@ pub(crate) fn narrow(
     ensures groups { AreRight stretches.old.items pieces.now → AreRight groups.old.items pieces.now
         → AreRight groups.new.items pieces.now }
 {
-    if stretches.is_empty() && pieces.len() <= FEW_PIECES {
+    if stretches.capacity() == 0 || is_beyond(stretches, pieces, at) {
         return;
     }
-    make_room(stretches, 1);
     let touched = note_piece(stretches, pieces, at);
     if let Touched::Nothing = touched {
         return;
     }
-    make_room(groups, stretches.len() / GROUP_SIZE + 1);
     regroup(groups, stretches, touched);
 }
 

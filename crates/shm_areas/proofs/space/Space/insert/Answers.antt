@@ -5,7 +5,7 @@ use Rattle.shm_areas.specs.declared.stretch.Stretch.{Stretch}
 use Rattle.shm_areas.proofs.Edits.{bare_inserted, inserted_at, arranged_inserted, length_inserted}
 use Rattle.shm_areas.proofs.Filled.{filled-inserted, right-inserted}
 use Rattle.shm_areas.proofs.Reaching.{within-more, within-inserted}
-use Rattle.shm_areas.proofs.space.Space.insert.Goals.{After-insert-put}
+use Rattle.shm_areas.proofs.space.Space.insert.Goals.{After-put_at}
 use Rattle.shm_areas.proofs.space.Space.insert.Goals as goal
 
 pub returns-clause-kept : goal.returns-clause-kept
@@ -30,11 +30,11 @@ invariant_of-self c =
           (c.narrow.ensures.groups (kept c.self.inside.stretches.items c.self.invariant.5) (kept c.self.inside.groups.items c.self.invariant.6)),
     )
 
-after : (c : After-insert-put) → c.insert-put.new.self.items ≡ stored_inserted c.args.piece c.self.inside.pieces.items
+after : (c : After-put_at) → c.put_at.new.pieces.items ≡ stored_inserted c.args.piece c.self.inside.pieces.items
 after c = grind (arith, common_steps, inserted_at)
 
 pub narrow-requires-clause-arranged : goal.narrow-requires-clause-arranged
 narrow-requires-clause-arranged c =
     let ps = c.self.inside.pieces.items in
-    rw (c.deref-2.ensures.value, after (goal.at.narrow-requires-clause-arranged c).After-insert-put, bare_inserted c.args.piece ps)
+    rw (c.deref-2.ensures.value, after (goal.at.narrow-requires-clause-arranged c).After-put_at, bare_inserted c.args.piece ps)
     (arranged_inserted lowest_address (bare c.args.piece) (bare_all ps) c.self.invariant.0.arranged c.requires.low c.requires.fit (rw (← c.self.view_is) at c.requires.free))
