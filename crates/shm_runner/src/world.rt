@@ -12,8 +12,7 @@ use shm_history::World;
 use shm_laws::lawful;
 use shm_pager::Pager;
 use shm_print::push_event;
-use shm_program::{RunFault, write_output};
-use shm_program::{listing, usage};
+use shm_program::{RunFault, listing, usage, write_output};
 use std::alloc::{AllocError, Global};
 use std::io::Write;
 

@@ -10,8 +10,7 @@ use shm_base::{Event, HostMemory};
 use shm_history::World;
 use shm_laws::lawful;
 use shm_pager::Pager;
-use shm_program::Values;
-use shm_program::{Action, push_step};
+use shm_program::{Action, Values, push_step};
 use shm_text::{Line, Script};
 use std::alloc::Global;
 
