@@ -1,9 +1,10 @@
-//! Runs with what changed the machine in them.
+//! Runs with what each process was told in them, and what changed the machine.
 ghost use Rattle.std.specs.Prelude.{◌≡◌, ◌++◌, IfOk, OnOk};
 ghost use Rattle.shm_outcomes.specs.Branches.{branches, grown, grows, one_branch, sprout};
 ghost use Rattle.shm_outcomes.specs.Schedules.{fresh};
 
 use crate::engine::{Engine, EngineError};
+use crate::outcome::Outcome;
 use crate::search::Node;
 use crate::trail::Trail;
 use shm_base::{Call, Process};
@@ -13,12 +14,17 @@ use std::marker::Model;
 
 pub(crate) struct Branch<M: Engine> {
     run: Node<M>,
+    told: Outcome,
     trail: Trail,
 }
 
 impl<M: Engine> Drop for Branch<M> {
     fn drop(self) {
-        let Branch { run: _, trail: _ } = self;
+        let Branch {
+            run: _,
+            told: _,
+            trail: _,
+        } = self;
     }
 }
 
@@ -27,18 +33,20 @@ impl<M: Engine> Model for Branch<M> {
 
     ghost Value = { Branch };
 
-    ghost view = { λ b. record { run = b.run; trail = b.trail } };
+    ghost view = { λ b. record { run = b.run; told = b.told; trail = b.trail } };
 }
 
 impl<M: Engine> Branch<M> {
     // The one before the first line.
-    pub(crate) fn first(alloc: Global, machine: M) -> Result<Branch<M>, AllocError>
+    pub(crate) fn first(alloc: Global, script: &Script, machine: M) -> Result<Branch<M>, AllocError>
         requires { M.calls machine ≡ 0 }
-        ensures { IfOk result (λ b. b ≡ sprout (fresh (M.flat machine))) }
+        ensures { IfOk result (λ b. b ≡ sprout script.now (fresh (M.flat machine))) }
     {
+        let told = Outcome::of(alloc, script, &[])?;
         let trail = Trail::new(alloc)?;
         Ok(Branch {
             run: Node::first(alloc, machine),
+            told,
             trail,
         })
     }
@@ -49,6 +57,12 @@ impl<M: Engine> Branch<M> {
         &self.run
     }
 
+    pub(crate) fn told(&self) -> &Outcome
+        ensures { result.now ≡ self.now.told }
+    {
+        &self.told
+    }
+
     pub(crate) fn trail(&self) -> &Trail
         ensures { result.now ≡ self.now.trail }
     {
@@ -56,13 +70,20 @@ impl<M: Engine> Branch<M> {
     }
 
     // After one more call of a process.
-    fn after(&self, alloc: Global, pid: u32, call: &Call) -> Result<Branch<M>, EngineError>
-        ensures { IfOk result (λ b. b ≡ grown self.now pid call.now) }
+    fn after(
+        &self,
+        alloc: Global,
+        script: &Script,
+        pid: u32,
+        call: &Call,
+    ) -> Result<Branch<M>, EngineError>
+        ensures { IfOk result (λ b. b ≡ grown script.now self.now pid call.now) }
     {
         let run = self.run.after(alloc, pid, call)?;
         let event = &run.events()[self.run.events().len()];
+        let told = self.told.after(alloc, script, event)?;
         let trail = self.trail.after(alloc, self.run.machine(), event)?;
-        Ok(Branch { run, trail })
+        Ok(Branch { run, told, trail })
     }
 }
 
@@ -96,7 +117,7 @@ fn push_branch<M: Engine>(
     let Some(call) = branch.run.next(script, process.pid) else {
         return Ok(());
     };
-    let next = branch.after(alloc, process.pid, &call)?;
+    let next = branch.after(alloc, script, process.pid, &call)?;
     all.push(next)?;
     Ok(())
 }

@@ -2,8 +2,8 @@
 ghost use Rattle.std.specs.Prelude.{◌≡◌, ◌≢◌, ◌++◌, [], ◌↔◌, ◌⊎◌, ◌≤◌, Contains, IfErr, IfOk, IsTrue, OnOk, length};
 ghost use Rattle.shm_outcomes.specs.Schedules.{after, fresh, goes, next};
 ghost use Rattle.shm_outcomes.specs.Outcomes.{outcome_of};
-ghost use Rattle.shm_outcomes.specs.Branches.{IsBranchBeyond, IsBranchTaken, branches};
-ghost use Rattle.shm_outcomes.specs.Search.{AreOutcomes, IsNoted, finding_of, followers, one_run};
+ghost use Rattle.shm_outcomes.specs.Branches.{IsBranchBeyond, IsBranchTaken, branches, finding_at};
+ghost use Rattle.shm_outcomes.specs.Search.{AreOutcomes, IsNoted, followers, one_run};
 ghost use Rattle.shm_outcomes.specs.Merging.{IsCause};
 ghost use Rattle.shm_outcomes.specs.declared.search.SearchError.TheVariants.{Engine};
 ghost use Rattle.shm_outcomes.specs.declared.engine.EngineError.TheVariants.{HostMemory};
@@ -198,7 +198,7 @@ pub fn outcomes<M: Engine>(
     let mut found = Findings::new(alloc)?;
     let mut seen = Seen::new(alloc)?;
     let mut runs = Vec::new(alloc);
-    let first = Branch::first(alloc, machine)?;
+    let first = Branch::first(alloc, script, machine)?;
     runs.push(first)?;
     'runs: while let Some(run) = runs.pop() {
         if let Err(error) = take_up(alloc, script, most, &run, &mut runs, &mut seen, &mut found) {
@@ -223,9 +223,9 @@ fn take_up<M: Engine>(
         IsBranchTaken script.now run.now seen.old seen.new runs.old.items runs.new.items
         found.old found.new) }
     ensures few { OnOk result (length seen.new ≤ most) }
-    ensures err { IfErr result (IsBranchBeyond script.now run.now seen.old most) }
+    ensures err { IfErr result (IsBranchBeyond run.now seen.old most) }
 {
-    let key = Key::of(alloc, script, run)?;
+    let key = Key::of(alloc, run)?;
     if seen.has(&key) {
         return Ok(());
     }
@@ -248,16 +248,15 @@ fn visit<M: Engine>(
     ensures runs { OnOk result (
         runs.new.items ≡ runs.old.items ++ branches script.now script.now.processes run.now) }
     ensures over { OnOk result (branches script.now script.now.processes run.now ≡ []
-        → IsNoted found.old (finding_of script.now run.now.run.events) found.new) }
+        → IsNoted found.old (finding_at run.now) found.new) }
     ensures goes_on { OnOk result (branches script.now script.now.processes run.now ≢ []
         → found.new ≡ found.old) }
 {
     let before = runs.len();
     push_branches(alloc, script, run, runs)?;
     if runs.len() == before {
-        let events = run.run().events();
-        let outcome = Outcome::of(alloc, script, events)?;
-        found.note(alloc, events, outcome)?;
+        let outcome = run.told().copied(alloc)?;
+        found.note(alloc, run.run().events(), outcome)?;
     }
     Ok(())
 }
