@@ -1,7 +1,7 @@
 -- The search over runs with their replies and trails is the search over runs.
-use Rattle.std.specs.Prelude.{◌≡◌, ◌≤◌, ℕ, ◌+◌, ◌⊎◌, List, [], ◌∷◌, ◌++◌, map, Option, Some, None, option_map, All, Contains, length}
+use Rattle.std.specs.Prelude.{◌≡◌, ◌≤◌, ◌<◌, ℕ, suc, zero, ◌+◌, ◌⊎◌, List, [], ◌∷◌, ◌++◌, map, Option, Some, None, option_map, All, Contains, length, slice_index_or, take}
 use Rattle.std.proofs.Common.{refl, sym, ap, subst, ◌∙◌, arith, inl, inr, length-append}
-use Rattle.std.proofs.lemmas.List.{get_or_append_left, length-map, map-append}
+use Rattle.std.proofs.lemmas.List.{append-nil, append_assoc, get_or_append_left, length-map, map-append}
 use Rattle.std.proofs.lemmas.List.Elements.{All-append, All-contains, All-push, Contains-push}
 use Rattle.shm_base.specs.State.{Machine}
 use Rattle.shm_base.specs.declared.call.Call.{Call}
@@ -31,6 +31,23 @@ branches-runs script b (p ∷ ps) =
     map-append run_in (one_branch (grows script p.pid b)) (branches script ps b)
     ∙ ap (λ (l : List Run). l ++ map run_in (branches script ps b)) (one-run script b p.pid (next script b.run p.pid))
     ∙ ap (λ (l : List Run). one_run (option_map (after b.run p.pid) (next script b.run p.pid)) ++ l) (branches-runs script b ps)
+
+branches-next :
+    (script : ScriptView) (b : Branch) (ps : List Process) (i : ℕ) (d : Process) → i < length ps
+    → branches script (take (suc i) ps) b ≡ branches script (take i ps) b ++ one_branch (grows script (slice_index_or ps i d).pid b)
+branches-next script b [] i d lt = absurd (omega (arith, lt))
+branches-next script b (p ∷ ps) zero d lt = append-nil (one_branch (grows script p.pid b))
+branches-next script b (p ∷ ps) (suc i) d lt =
+    ap (λ (l : List Branch). one_branch (grows script p.pid b) ++ l) (branches-next script b ps i d (omega (arith, lt)))
+    ∙ sym (append_assoc (one_branch (grows script p.pid b)) (branches script (take i ps) b) (one_branch (grows script (slice_index_or ps i d).pid b)))
+
+-- one more process
+pub branches-more :
+    (script : ScriptView) (b : Branch) (ps : List Process) (i : ℕ) (d : Process) → i < length ps
+    → branches script (take (i + 1) ps) b ≡ branches script (take i ps) b ++ one_branch (grows script (slice_index_or ps i d).pid b)
+branches-more script b ps i d lt =
+    let same : i + 1 ≡ suc i = omega arith in
+    ap (λ (n : ℕ). branches script (take n ps) b) same ∙ branches-next script b ps i d lt
 
 one-all : (script : ScriptView) (P : Branch → Type 0) (b : Branch) (pid : ℕ) → ((call : Call) → P (grown script b pid call)) → (o : Option Call) → All P (one_branch (option_map (grown script b pid) o))
 one-all script P b pid each None = λ k d lt. absurd (omega (arith, lt))

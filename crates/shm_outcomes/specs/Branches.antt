@@ -1,5 +1,5 @@
 -- Runs with what each process was told in them, and what changed the machine.
-use Rattle.std.specs.Prelude.{ℕ, ◌+◌, List, [], ◌∷◌, length, flat_map, Option, Some, None, option_map}
+use Rattle.std.specs.Prelude.{◌≡◌, ◌<◌, ℕ, ◌+◌, List, [], ◌∷◌, ◌++◌, length, take, flat_map, Option, Some, None, option_map}
 use Rattle.shm_base.specs.Step.{step}
 use Rattle.shm_base.specs.declared.call.Call.{Call}
 use Rattle.shm_base.specs.declared.call.Event.{Event}
@@ -12,6 +12,7 @@ use Rattle.shm_outcomes.specs.Merging.{IsBeyond, IsTakenUp, IsVisited}
 use Rattle.shm_outcomes.specs.Outcomes.{outcome_of, told_after}
 use Rattle.shm_outcomes.specs.Schedules.{Run, after, next}
 use Rattle.shm_outcomes.specs.Search.{Finding}
+use Rattle.shm_outcomes.specs.declared.branches.Last.{Last}
 use Rattle.shm_outcomes.specs.declared.search.SearchError.{SearchError}
 
 pub record Branch : Type 0 where
@@ -44,6 +45,16 @@ one_branch (Some b) = b ∷ []
 -- those to which it goes on
 abbrev pub branches : ScriptView → List Process → Branch → List Branch
 branches script processes b = flat_map (λ (p : Process). one_branch (grows script p.pid b)) processes
+
+abbrev pub branch_of : Run → List (List Reply) → Trail → Branch
+branch_of run told trail = record { run = run; told = told; trail = trail }
+
+-- by the last of the processes by which one goes on, and by those before it, it goes on to all
+abbrev pub IsLast : ScriptView → List Process → Branch → Option Last → Type 0
+IsLast script processes b None = branches script processes b ≡ []
+IsLast script processes b (Some l) =
+    (l.index < length processes)
+    × (branches script processes b ≡ branches script (take l.index processes) b ++ grown script b l.pid l.call ∷ [])
 
 abbrev pub key_at : Branch → Key
 key_at b = record { count = length b.run.events; told = b.told; trail = b.trail }

@@ -1,6 +1,6 @@
 //! Runs with what each process was told in them, and what changed the machine.
 ghost use Rattle.std.specs.Prelude.{◌≡◌, ◌++◌, IfOk, OnOk};
-ghost use Rattle.shm_outcomes.specs.Branches.{branches, grown, grows, one_branch, sprout};
+ghost use Rattle.shm_outcomes.specs.Branches.{IsLast, branch_of, branches, grown, grows, one_branch, sprout};
 ghost use Rattle.shm_outcomes.specs.Schedules.{fresh};
 
 use crate::engine::{Engine, EngineError};
@@ -79,25 +79,84 @@ impl<M: Engine> Branch<M> {
     ) -> Result<Branch<M>, EngineError>
         ensures { IfOk result (λ b. b ≡ grown script.now self.now pid call.now) }
     {
-        let run = self.run.after(alloc, pid, call)?;
-        let event = &run.events()[self.run.events().len()];
-        let told = self.told.after(alloc, script, event)?;
-        let trail = self.trail.after(alloc, self.run.machine(), event)?;
-        Ok(Branch { run, told, trail })
+        let run = self.run.copied(alloc)?;
+        grown(alloc, script, run, &self.told, &self.trail, pid, call)
+    }
+
+    // The same, where this one is not needed any more.
+    pub(crate) fn make(
+        self,
+        alloc: Global,
+        script: &Script,
+        pid: u32,
+        call: &Call,
+    ) -> Result<Branch<M>, EngineError>
+        ensures { IfOk result (λ b. b ≡ grown script.now self pid call.now) }
+    {
+        let Branch { run, told, trail } = self;
+        grown(alloc, script, run, &told, &trail, pid, call)
     }
 }
 
-// Puts each one to which this one goes on behind the others.
+// A run that was told this and has this trail, after one more call of a process.
+fn grown<M: Engine>(
+    alloc: Global,
+    script: &Script,
+    run: Node<M>,
+    told: &Outcome,
+    trail: &Trail,
+    pid: u32,
+    call: &Call,
+) -> Result<Branch<M>, EngineError>
+    ensures { IfOk result (λ b. b ≡ grown script.now (branch_of run told.now trail.now) pid call.now) }
+{
+    let count = run.events().len();
+    let run = run.make(pid, call)?;
+    let event = &run.events()[count];
+    let told = told.after(alloc, script, event)?;
+    let trail = trail.after(alloc, run.machine(), event)?;
+    Ok(Branch { run, told, trail })
+}
+
+// A process that can make its next call.
+#[derive(Clone, Copy)]
+pub(crate) struct Last {
+    pub(crate) index: usize,
+    pub(crate) pid: u32,
+    pub(crate) call: Call,
+}
+
+// The last of the processes by which this one goes on.
+pub(crate) fn last_process<M: Engine>(script: &Script, branch: &Branch<M>) -> Option<Last>
+    ensures { IsLast script.now script.now.processes branch.now result }
+{
+    let mut left = script.processes.len();
+    while left > 0 {
+        left -= 1;
+        let pid = script.processes[left].pid;
+        if let Some(call) = branch.run.next(script, pid) {
+            return Some(Last {
+                index: left,
+                pid,
+                call,
+            });
+        }
+    }
+    None
+}
+
+// Puts each one to which this one goes on by these processes behind the others.
 pub(crate) fn push_branches<M: Engine>(
     alloc: Global,
     script: &Script,
+    processes: &[Process],
     branch: &Branch<M>,
     all: &mut Vec<Branch<M>>,
 ) -> Result<(), EngineError>
     ensures { OnOk result (
-        all.new.items ≡ all.old.items ++ branches script.now script.now.processes branch.now) }
+        all.new.items ≡ all.old.items ++ branches script.now processes.now branch.now) }
 {
-    for process in &script.processes {
+    for process in processes {
         push_branch(alloc, script, branch, process, all)?;
     }
     Ok(())
