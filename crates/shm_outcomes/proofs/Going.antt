@@ -257,7 +257,7 @@ same-next script a b pid alike =
     ∙ masked-next pid no_values lines (replies_to pid b.events))
 
 -- one more event, of one process, whose replies differ only in times
-told-more : (es : List Event) (e : Event) (p : Process) → told (es ++ e ∷ []) p ≡ told es p ++ told (e ∷ []) p
+pub told-more : (es : List Event) (e : Event) (p : Process) → told (es ++ e ∷ []) p ≡ told es p ++ told (e ∷ []) p
 told-more es e p =
     ap (λ (l : List Event). map masked (map reply_of l)) (filter-append (λ (x : Event). x.pid == p.pid) es (e ∷ []))
     ∙ ap (map masked) (map-append reply_of (own_part p.pid es) (own_part p.pid (e ∷ [])))

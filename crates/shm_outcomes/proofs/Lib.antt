@@ -14,3 +14,4 @@ pub mod Verdicts
 pub mod Entries
 pub mod Ordering
 pub mod Drawing
+pub mod Telling

@@ -153,6 +153,23 @@ stored-after m s n pid call p ws at is change = by (caller_of s pid) refl is cha
         ∙ ap (λ t. record s { table = t }) (stored-timeless s.table all.0 p.bytes)
         ∙ ap timeless (sym all.2)
 
+-- a call that writes bytes leaves its caller where it was
+stored-caller :
+    (s : Machine) (n pid : ℕ) (call : Call) (p : Patch) → patch_by call (step s n pid call).reply ≡ Some p → is_refusal (step s n pid call).reply ≡ false
+    → caller_of (step s n pid call).state pid ≡ caller_of s pid
+stored-caller s n pid call p is change = by (caller_of s pid) refl is change
+  where
+    by : (o : Option Caller) → caller_of s pid ≡ o → patch_by call (step_by s n call o).reply ≡ Some p → is_refusal (step_by s n call o).reply ≡ false
+        → caller_of (step_by s n call o).state pid ≡ caller_of s pid
+    by None caller patched kept = absurd (cc)
+    by (Some c) caller patched kept = ap (λ (m : Machine). caller_of m pid) (acts-store s n c call p patched kept).2
+
+puts-same : (s m : Machine) (pid : ℕ) → caller_of s pid ≡ caller_of m pid → (bytes : List ℕ) (addr : ℕ) (ws : List Write) → puts s pid addr bytes ws ≡ puts m pid addr bytes ws
+puts-same s m pid same [] addr ws = refl
+puts-same s m pid same (b ∷ bs) addr ws =
+    puts-same s m pid same bs (addr + 1) (put_at (place_of s pid addr) b ws)
+    ∙ ap (λ (o : Option Caller). puts m pid (addr + 1) bs (put_at (place_by o addr) b ws)) same
+
 first-false : (a b : Bool) → not a && not b ≡ true → a ≡ false
 first-false false b h = refl
 first-false true b h = absurd (cc)
@@ -274,3 +291,19 @@ pub reached-next : (script : ScriptView) (machine : Machine) (run : Run) → IsR
 reached-next script machine run reached e =
     let all = leads-follow script (timeless machine) (schedule_of run.events) (fresh machine) run no_trail reached refl in
     subst (λ (events : List Event). trail_of machine (events ++ e ∷ []) ≡ trail_after run.machine e (trail_of machine events)) (sym all.1) (all.2.next e)
+
+-- the machine after the call makes the same trail
+pub late-trail : (s : Machine) (n pid : ℕ) (call : Call) (t : Trail) → trail_after (step s n pid call).state (event_at s n pid call) t ≡ trail_after s (event_at s n pid call) t
+late-trail s n pid call t =
+    let e : Event = event_at s n pid call in
+    elim (cases_Bool (is_change e)) [
+      | inl yes-changes ↦ rw yes-changes (by yes-changes (patch_by call e.reply) refl)
+      | inr no-changes ↦ rw no-changes refl
+    ]
+  where
+    by : is_change (event_at s n pid call) ≡ true → (o : Option Patch) → patch_by call (step s n pid call).reply ≡ o
+        → noted (step s n pid call).state (event_at s n pid call) o t ≡ noted s (event_at s n pid call) o t
+    by yes-changes (Some p) is =
+        let kept = first-false (is_refusal (step s n pid call).reply) (looks call) yes-changes in
+        ap (λ (ws : List Write). record { past = t.past; writes = ws }) (puts-same (step s n pid call).state s pid (stored-caller s n pid call p is kept) p.bytes p.addr t.writes)
+    by yes-changes None is = refl

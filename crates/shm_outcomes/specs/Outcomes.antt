@@ -1,5 +1,5 @@
 -- An outcome: the replies to each process in a whole run, except for times.
-use Rattle.std.specs.Prelude.{ℕ, ◌==◌, if◌then◌else◌, List, map}
+use Rattle.std.specs.Prelude.{ℕ, ◌==◌, if◌then◌else◌, List, [], ◌∷◌, ◌++◌, map}
 use Rattle.shm_base.specs.declared.call.Event.{Event}
 use Rattle.shm_base.specs.declared.call.Process.{Process}
 use Rattle.shm_base.specs.declared.call.Reply.{Reply}
@@ -27,3 +27,9 @@ told events process = map masked (replies_to process.pid events)
 -- the replies to each declared process, in the script's order of processes
 abbrev pub outcome_of : ScriptView → List Event → List (List Reply)
 outcome_of script events = map (told events) script.processes
+
+-- the replies to each process after one more call
+abbrev pub told_after : List Process → Event → List (List Reply) → List (List Reply)
+told_after [] e all = []
+told_after (p ∷ processes) e [] = told (e ∷ []) p ∷ told_after processes e []
+told_after (p ∷ processes) e (one ∷ all) = (one ++ told (e ∷ []) p) ∷ told_after processes e all

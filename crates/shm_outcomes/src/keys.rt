@@ -7,12 +7,11 @@ ghost use Rattle.shm_outcomes.specs.Digests.{key_digest};
 use crate::branches::Branch;
 use crate::buckets::Buckets;
 use crate::digests::{digest, with_writes};
-use crate::engine::{Engine, EngineError};
+use crate::engine::Engine;
 use crate::log::is_refusal;
 use crate::outcome::{Outcome, is_same_reply};
 use crate::trail::Trail;
 use shm_base::{Call, Event};
-use shm_text::Script;
 use std::alloc::{AllocError, Global};
 use std::marker::Model;
 
@@ -89,17 +88,12 @@ impl Model for Key {
 }
 
 impl Key {
-    pub(crate) fn of<M: Engine>(
-        alloc: Global,
-        script: &Script,
-        branch: &Branch<M>,
-    ) -> Result<Key, EngineError>
-        ensures { IfOk result (λ k. k ≡ key_at script.now branch.now) }
+    pub(crate) fn of<M: Engine>(alloc: Global, branch: &Branch<M>) -> Result<Key, AllocError>
+        ensures { IfOk result (λ k. k ≡ key_at branch.now) }
     {
-        let events = branch.run().events();
-        let told = Outcome::of(alloc, script, events)?;
+        let told = branch.told().copied(alloc)?;
         let trail = branch.trail().copied(alloc)?;
-        let count = events.len() as u64;
+        let count = branch.run().events().len() as u64;
         Ok(Key { count, told, trail })
     }
 

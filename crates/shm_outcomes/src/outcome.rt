@@ -1,15 +1,16 @@
 //! The replies that each process gets in a run, with the times of `stat` masked.
-ghost use Rattle.std.specs.Prelude.{◌≡◌, ◌↔◌, IfOk, IsTrue, List, map};
+ghost use Rattle.std.specs.Prelude.{◌≡◌, ◌↔◌, ◌++◌, ◌∷◌, [], IfOk, IsTrue, List, map, slice_index_or};
 ghost use Rattle.shm_base.specs.declared.call.Process.{Process as FlatProcess};
 ghost use Rattle.shm_base.specs.declared.call.Reply.{Reply as FlatReply};
 ghost use Rattle.shm_outcomes.specs.Masking.{hidden, hidden_outcome};
-ghost use Rattle.shm_outcomes.specs.Outcomes.{masked, masked_ds, masked_time, told, outcome_of};
+ghost use Rattle.shm_outcomes.specs.Outcomes.{masked, masked_ds, masked_time, told, told_after, outcome_of};
 
 use crate::plan::own_count;
 use shm_base::{Event, Process, Reply, ShmidDs};
 use shm_text::Script;
 use std::alloc::{AllocError, Global};
 use std::marker::Model;
+use std::rc::Rc;
 
 fn masked_time(time: u64) -> u64
     ensures { result ≡ masked_time time }
@@ -66,7 +67,7 @@ fn hidden_replies(alloc: Global, replies: &[Reply]) -> Result<Vec<Reply>, AllocE
 /// The replies to one process, in order. A time is 0, or 1 if it is set.
 #[derive(Drop)]
 pub struct Told {
-    replies: Vec<Reply>,
+    replies: Rc<Vec<Reply>>,
 }
 
 impl Model for Told {
@@ -75,29 +76,64 @@ impl Model for Told {
 
     ghost Value = { List Reply };
 
-    ghost view = { λ t. t.replies.items };
+    ghost view = { λ t. t.replies.value.items };
 }
 
 impl Told {
     pub fn replies(&self) -> &[Reply]
         ensures { result.now ≡ self.now }
     {
-        self.replies.as_slice()
+        self.replies.as_ref().as_slice()
+    }
+
+    fn new(alloc: Global, replies: Vec<Reply>) -> Result<Told, AllocError>
+        ensures { IfOk result (λ t. t ≡ replies.items) }
+    {
+        let replies = Rc::new(alloc, replies)?;
+        Ok(Told { replies })
+    }
+
+    // The same once more.
+    fn copied(&self) -> Result<Told, AllocError>
+        ensures { IfOk result (λ t. t ≡ self.now) }
+    {
+        let replies = self.replies.clone()?;
+        Ok(Told { replies })
+    }
+
+    // The replies to this process after one more call.
+    fn after(&self, alloc: Global, process: &Process, event: &Event) -> Result<Told, AllocError>
+        ensures { IfOk result (λ t. t ≡ self.now ++ told (event.now ∷ []) process.now) }
+    {
+        if event.pid != process.pid {
+            return self.copied();
+        }
+        let replies = with_one_more(alloc, self.replies(), masked(&event.reply))?;
+        Told::new(alloc, replies)
     }
 
     // The same without identifiers and addresses.
     fn hidden(&self, alloc: Global) -> Result<Told, AllocError>
         ensures { IfOk result (λ t. t ≡ map hidden self.now) }
     {
-        let replies = hidden_replies(alloc, &self.replies)?;
-        Ok(Told { replies })
+        let replies = hidden_replies(alloc, self.replies())?;
+        Told::new(alloc, replies)
     }
 
     fn is_same(&self, other: &Told) -> bool
         ensures { IsTrue result ↔ self.now ≡ other.now }
     {
-        are_same_replies(&self.replies, &other.replies)
+        are_same_replies(self.replies(), other.replies())
     }
+}
+
+fn with_one_more(alloc: Global, replies: &[Reply], reply: Reply) -> Result<Vec<Reply>, AllocError>
+    ensures { IfOk result (λ v. v.items ≡ replies.now ++ reply ∷ []) }
+{
+    let mut all = Vec::with_capacity(alloc, replies.len() + 1)?;
+    all.extend_from_slice(replies)?;
+    all.push(reply)?;
+    Ok(all)
 }
 
 pub(crate) fn is_same_reply(reply: &Reply, other: &Reply) -> bool
@@ -130,7 +166,7 @@ fn told_in(alloc: Global, events: &[Event], process: &Process) -> Result<Told, A
             replies.push(masked(&event.reply))?;
         }
     }
-    Ok(Told { replies })
+    Told::new(alloc, replies)
 }
 
 /// The replies to each declared process, in the script's order of processes.
@@ -173,6 +209,49 @@ fn hidden_told(alloc: Global, told: &[Told]) -> Result<Vec<Told>, AllocError>
     Ok(all)
 }
 
+fn copied_told(alloc: Global, told: &[Told]) -> Result<Vec<Told>, AllocError>
+    ensures { IfOk result (λ v. v.items ≡ told.now) }
+{
+    let mut all = Vec::with_capacity(alloc, told.len())?;
+    for one in told {
+        let copy = one.copied()?;
+        all.push(copy)?;
+    }
+    Ok(all)
+}
+
+fn told_after(
+    alloc: Global,
+    processes: &[Process],
+    event: &Event,
+    told: &[Told],
+) -> Result<Vec<Told>, AllocError>
+    ensures { IfOk result (λ v. v.items ≡ told_after processes.now event.now told.now) }
+{
+    let mut all = Vec::with_capacity(alloc, processes.len())?;
+    for (index, process) in processes.iter().enumerate() {
+        let one = one_after(alloc, told, index, process, event)?;
+        all.push(one)?;
+    }
+    Ok(all)
+}
+
+// The replies to the process at this place after one more call.
+fn one_after(
+    alloc: Global,
+    all: &[Told],
+    index: usize,
+    process: &Process,
+    event: &Event,
+) -> Result<Told, AllocError>
+    ensures { IfOk result (λ t. t ≡ slice_index_or all.now index [] ++ told (event.now ∷ []) process.now) }
+{
+    match all.get(index) {
+        Some(one) => one.after(alloc, process, event),
+        None => told_in(alloc, &[*event], process),
+    }
+}
+
 impl Outcome {
     pub fn told(&self) -> &[Told]
         ensures { result.now ≡ self.now }
@@ -194,6 +273,27 @@ impl Outcome {
             all.push(one)?;
         }
         Ok(Outcome { told: all })
+    }
+
+    // The same once more.
+    pub(crate) fn copied(&self, alloc: Global) -> Result<Outcome, AllocError>
+        ensures { IfOk result (λ o. o ≡ self.now) }
+    {
+        let told = copied_told(alloc, &self.told)?;
+        Ok(Outcome { told })
+    }
+
+    // The replies after one more call. Those to other processes are shared.
+    pub(crate) fn after(
+        &self,
+        alloc: Global,
+        script: &Script,
+        event: &Event,
+    ) -> Result<Outcome, AllocError>
+        ensures { IfOk result (λ o. o ≡ told_after script.now.processes event.now self.now) }
+    {
+        let told = told_after(alloc, &script.processes, event, &self.told)?;
+        Ok(Outcome { told })
     }
 
     // The same without identifiers and addresses.

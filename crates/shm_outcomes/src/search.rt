@@ -2,13 +2,13 @@
 ghost use Rattle.std.specs.Prelude.{◌≡◌, ◌≢◌, ◌++◌, [], ◌↔◌, ◌⊎◌, ◌≤◌, Contains, IfErr, IfOk, IsTrue, OnOk, length};
 ghost use Rattle.shm_outcomes.specs.Schedules.{after, fresh, goes, next};
 ghost use Rattle.shm_outcomes.specs.Outcomes.{outcome_of};
-ghost use Rattle.shm_outcomes.specs.Branches.{IsBranchBeyond, IsBranchTaken, branches};
-ghost use Rattle.shm_outcomes.specs.Search.{AreOutcomes, IsNoted, finding_of, followers, one_run};
+ghost use Rattle.shm_outcomes.specs.Branches.{IsBranchBeyond, IsBranchTaken, branches, finding_at};
+ghost use Rattle.shm_outcomes.specs.Search.{AreOutcomes, IsNoted, followers, one_run};
 ghost use Rattle.shm_outcomes.specs.Merging.{IsCause};
 ghost use Rattle.shm_outcomes.specs.declared.search.SearchError.TheVariants.{Engine};
 ghost use Rattle.shm_outcomes.specs.declared.engine.EngineError.TheVariants.{HostMemory};
 
-use crate::branches::{Branch, push_branches};
+use crate::branches::{Branch, last_process, push_branches};
 use crate::engine::{Engine, EngineError};
 use crate::findings::Findings;
 use crate::keys::{Key, Seen};
@@ -174,7 +174,7 @@ impl<M: Engine> Node<M> {
     }
 
     // The same run once more.
-    fn copied(&self, alloc: Global) -> Result<Node<M>, EngineError>
+    pub(crate) fn copied(&self, alloc: Global) -> Result<Node<M>, EngineError>
         ensures { IfOk result (λ run. run ≡ self.now) }
     {
         let machine = self.machine.snapshot()?;
@@ -198,10 +198,10 @@ pub fn outcomes<M: Engine>(
     let mut found = Findings::new(alloc)?;
     let mut seen = Seen::new(alloc)?;
     let mut runs = Vec::new(alloc);
-    let first = Branch::first(alloc, machine)?;
+    let first = Branch::first(alloc, script, machine)?;
     runs.push(first)?;
     'runs: while let Some(run) = runs.pop() {
-        if let Err(error) = take_up(alloc, script, most, &run, &mut runs, &mut seen, &mut found) {
+        if let Err(error) = take_up(alloc, script, most, run, &mut runs, &mut seen, &mut found) {
             return Err(error);
         }
     }
@@ -213,19 +213,19 @@ fn take_up<M: Engine>(
     alloc: Global,
     script: &Script,
     most: u64,
-    run: &Branch<M>,
+    run: Branch<M>,
     runs: &mut Vec<Branch<M>>,
     seen: &mut Seen,
     found: &mut Findings,
 ) -> Result<(), SearchError>
     requires few { length seen.old ≤ most }
     ensures taken { OnOk result (
-        IsBranchTaken script.now run.now seen.old seen.new runs.old.items runs.new.items
+        IsBranchTaken script.now run seen.old seen.new runs.old.items runs.new.items
         found.old found.new) }
     ensures few { OnOk result (length seen.new ≤ most) }
-    ensures err { IfErr result (IsBranchBeyond script.now run.now seen.old most) }
+    ensures err { IfErr result (IsBranchBeyond run seen.old most) }
 {
-    let key = Key::of(alloc, script, run)?;
+    let key = Key::of(alloc, &run)?;
     if seen.has(&key) {
         return Ok(());
     }
@@ -241,24 +241,25 @@ fn take_up<M: Engine>(
 fn visit<M: Engine>(
     alloc: Global,
     script: &Script,
-    run: &Branch<M>,
+    run: Branch<M>,
     runs: &mut Vec<Branch<M>>,
     found: &mut Findings,
 ) -> Result<(), EngineError>
     ensures runs { OnOk result (
-        runs.new.items ≡ runs.old.items ++ branches script.now script.now.processes run.now) }
-    ensures over { OnOk result (branches script.now script.now.processes run.now ≡ []
-        → IsNoted found.old (finding_of script.now run.now.run.events) found.new) }
-    ensures goes_on { OnOk result (branches script.now script.now.processes run.now ≢ []
+        runs.new.items ≡ runs.old.items ++ branches script.now script.now.processes run) }
+    ensures over { OnOk result (branches script.now script.now.processes run ≡ []
+        → IsNoted found.old (finding_at run) found.new) }
+    ensures goes_on { OnOk result (branches script.now script.now.processes run ≢ []
         → found.new ≡ found.old) }
 {
-    let before = runs.len();
-    push_branches(alloc, script, run, runs)?;
-    if runs.len() == before {
-        let events = run.run().events();
-        let outcome = Outcome::of(alloc, script, events)?;
-        found.note(alloc, events, outcome)?;
-    }
+    let Some(last) = last_process(script, &run) else {
+        let outcome = run.told().copied(alloc)?;
+        found.note(alloc, run.run().events(), outcome)?;
+        return Ok(());
+    };
+    push_branches(alloc, script, &script.processes[..last.index], &run, runs)?;
+    let next = run.make(alloc, script, last.pid, &last.call)?;
+    runs.push(next)?;
     Ok(())
 }
 

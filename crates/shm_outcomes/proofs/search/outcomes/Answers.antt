@@ -45,7 +45,7 @@ returns-clause-ok g c =
 pub runs-init : goal.runs-init
 runs-init g c =
     let machine : Machine = g.M.Engine.flat c.args.machine in
-    let one : c.push.new.self.items ≡ sprout (fresh machine) ∷ [] = search rules in
+    let one : c.push.new.self.items ≡ sprout c.args.script.now (fresh machine) ∷ [] = search rules in
     let seen : c.in_ok-seen.seen ≡ [] = search rules in
     let found : c.in_ok-found.found ≡ [] = search rules in
     record {

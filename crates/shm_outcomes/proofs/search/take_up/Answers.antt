@@ -4,8 +4,8 @@ use Rattle.shm_outcomes.proofs.search.take_up.Goals as goal
 
 pub returns-clause-taken : goal.returns-clause-taken
 returns-clause-taken g c =
-    let key : c.in_ok-key.key ≡ key_at c.args.script.now c.args.run.now = search rules in
-    let seen : c.push.new.self ≡ c.args.seen.now ++ key_at c.args.script.now c.args.run.now ∷ [] = search rules in
+    let key : c.in_ok-key.key ≡ key_at c.args.run = search rules in
+    let seen : c.push.new.self ≡ c.args.seen.now ++ key_at c.args.run ∷ [] = search rules in
     let not = c.if-has.false in
     inr
     (record {
