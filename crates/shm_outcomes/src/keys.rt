@@ -92,7 +92,7 @@ impl Key {
         ensures { IfOk result (λ k. k ≡ key_at branch.now) }
     {
         let told = branch.told().copied(alloc)?;
-        let trail = branch.trail().copied(alloc)?;
+        let trail = branch.trail().copied()?;
         let count = branch.run().events().len() as u64;
         Ok(Key { count, told, trail })
     }

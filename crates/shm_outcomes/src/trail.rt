@@ -125,14 +125,16 @@ fn put_at(
     alloc: Global,
     place: &Option<Place>,
     byte: u8,
-    writes: Vec<Write>,
-) -> Result<Vec<Write>, AllocError>
-    ensures { IfOk result (λ v. v.items ≡ put_at place.now byte writes.items) }
+    writes: Rc<Vec<Write>>,
+) -> Result<Rc<Vec<Write>>, AllocError>
+    ensures { IfOk result (λ v. v.value.items ≡ put_at place.now byte writes.value.items) }
 {
-    match place {
-        Some(place) => put(alloc, &write_at(place, byte), &writes),
-        None => Ok(writes),
-    }
+    let Some(place) = place else {
+        return Ok(writes);
+    };
+    let all = put(alloc, &write_at(place, byte), writes.as_ref())?;
+    let shared = Rc::new(alloc, all)?;
+    Ok(shared)
 }
 
 // The bytes with those that a process wrote on this machine.
@@ -141,13 +143,13 @@ fn puts<M: Engine>(
     machine: &M,
     pid: u32,
     patch: &Patch,
-    writes: &[Write],
-) -> Result<Vec<Write>, AllocError>
+    writes: &Rc<Vec<Write>>,
+) -> Result<Rc<Vec<Write>>, AllocError>
     requires within { patch.now.addr + length patch.now.bytes < 2 ^ 64 }
     ensures { IfOk result (λ v.
-        v.items ≡ puts (M.flat machine.now) pid patch.now.addr patch.now.bytes writes.now) }
+        v.value.items ≡ puts (M.flat machine.now) pid patch.now.addr patch.now.bytes writes.now.value.items) }
 {
-    let mut all = Vec::from_slice(alloc, writes)?;
+    let mut all = writes.clone()?;
     let mut addr = patch.addr;
     for byte in patch.bytes.as_slice() {
         let place = machine.place(pid, addr);
@@ -201,12 +203,12 @@ fn are_same_writes(writes: &[Write], others: &[Write]) -> bool
     true
 }
 
-// The changes up to the last one that wrote no bytes, and the bytes that were written since. Trails share the
-// changes, because most calls add none.
+// The changes up to the last one that wrote no bytes, and the bytes that were written since. Trails share both,
+// because many calls add none.
 #[derive(Drop)]
 pub(crate) struct Trail {
     past: Rc<Vec<Change>>,
-    writes: Vec<Write>,
+    writes: Rc<Vec<Write>>,
 }
 
 impl Model for Trail {
@@ -214,7 +216,7 @@ impl Model for Trail {
 
     ghost Value = { Trail };
 
-    ghost view = { λ t. record { past = t.past.value.items; writes = t.writes.items } };
+    ghost view = { λ t. record { past = t.past.value.items; writes = t.writes.value.items } };
 }
 
 impl Trail {
@@ -222,32 +224,30 @@ impl Trail {
         ensures { IfOk result (λ t. t ≡ no_trail) }
     {
         let past = Rc::new(alloc, Vec::new(alloc))?;
-        Ok(Trail {
-            past,
-            writes: Vec::new(alloc),
-        })
+        let writes = Rc::new(alloc, Vec::new(alloc))?;
+        Ok(Trail { past, writes })
     }
 
     // The bytes that were written since the last other change.
     pub(crate) fn writes(&self) -> &[Write]
         ensures { result.now ≡ self.now.writes }
     {
-        self.writes.as_slice()
+        self.writes.as_ref().as_slice()
     }
 
     pub(crate) fn is_same(&self, other: &Trail) -> bool
         ensures { IsTrue result ↔ self.now ≡ other.now }
     {
-        are_same_writes(&self.writes, &other.writes)
+        are_same_writes(self.writes(), other.writes())
             && are_same_changes(self.past.as_ref(), other.past.as_ref())
     }
 
     // The same once more.
-    pub(crate) fn copied(&self, alloc: Global) -> Result<Trail, AllocError>
+    pub(crate) fn copied(&self) -> Result<Trail, AllocError>
         ensures { IfOk result (λ t. t ≡ self.now) }
     {
         let past = self.past.clone()?;
-        let writes = Vec::from_slice(alloc, &self.writes)?;
+        let writes = self.writes.clone()?;
         Ok(Trail { past, writes })
     }
 
@@ -261,7 +261,7 @@ impl Trail {
         ensures { IfOk result (λ t. t ≡ trail_after (M.flat machine.now) event.now self.now) }
     {
         if !is_change(event) {
-            return self.copied(alloc);
+            return self.copied();
         }
         match patch_by(&event.call, &event.reply) {
             Some(patch) => self.written(alloc, machine, event, &patch),
@@ -293,12 +293,10 @@ impl Trail {
             return self.forked(alloc, event);
         }
         let mut changes = Vec::from_slice(alloc, self.past.as_ref())?;
-        push_changes(&self.writes, event, &mut changes)?;
+        push_changes(self.writes(), event, &mut changes)?;
         let past = Rc::new(alloc, changes)?;
-        Ok(Trail {
-            past,
-            writes: Vec::new(alloc),
-        })
+        let writes = Rc::new(alloc, Vec::new(alloc))?;
+        Ok(Trail { past, writes })
     }
 
     // The trail after a fork.
@@ -309,7 +307,7 @@ impl Trail {
         let mut changes = Vec::from_slice(alloc, self.past.as_ref())?;
         changes.push(Change::Made(*event))?;
         let past = Rc::new(alloc, changes)?;
-        let writes = Vec::from_slice(alloc, &self.writes)?;
+        let writes = self.writes.clone()?;
         Ok(Trail { past, writes })
     }
 }

@@ -5,6 +5,6 @@ use Rattle.shm_outcomes.proofs.trail.puts.Given as goal
 abbrev pub invariant-loop-byte : goal.invariant-loop-byte
 invariant-loop-byte g l = record {
   at : l.addr ≡ l.patch.addr + l.byte-index;
-  left : puts (g.M.Engine.flat l.machine) l.pid l.patch.addr l.patch.bytes l.writes
-      ≡ puts (g.M.Engine.flat l.machine) l.pid l.addr (drop l.byte-index l.patch.bytes) l.all.items;
+  left : puts (g.M.Engine.flat l.machine) l.pid l.patch.addr l.patch.bytes l.writes.value.items
+      ≡ puts (g.M.Engine.flat l.machine) l.pid l.addr (drop l.byte-index l.patch.bytes) l.all.value.items;
 }
