@@ -44,11 +44,8 @@ impl<M: Engine> Branch<M> {
     {
         let told = Outcome::of(alloc, script, &[])?;
         let trail = Trail::new(alloc)?;
-        Ok(Branch {
-            run: Node::first(alloc, machine),
-            told,
-            trail,
-        })
+        let run = Node::first(alloc, machine)?;
+        Ok(Branch { run, told, trail })
     }
 
     pub(crate) fn run(&self) -> &Node<M>

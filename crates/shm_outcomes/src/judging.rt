@@ -95,7 +95,7 @@ pub(crate) fn judge<M: Engine>(
     ensures ok { IfOk result (IsRight script.now log.now (fresh (M.flat machine))) }
     ensures err { IfErr result (IsDoubt script.now log.now (fresh (M.flat machine)) most) }
 {
-    let first = Node::first(alloc, machine);
+    let first = Node::first(alloc, machine)?;
     let mut stuck = stuck_at(alloc, script, &first)?;
     let mut seen = Vec::new(alloc);
     let mut runs = Vec::new(alloc);

@@ -1,5 +1,5 @@
 //! Tries a schedule near the order of a log's lines, before the whole search.
-ghost use Rattle.std.specs.Prelude.{◌≡◌, All, IfOk, IfSome, OnOk, Some};
+ghost use Rattle.std.specs.Prelude.{◌≡◌, ◌∷◌, [], All, IfOk, IfSome, OnOk, Some};
 ghost use Rattle.shm_text.specs.Script.{ScriptView};
 ghost use Rattle.shm_outcomes.specs.Schedules.{Run, fresh, goes};
 ghost use Rattle.shm_outcomes.specs.Search.{IsReached};
@@ -121,12 +121,22 @@ pub(crate) fn near_order<M: Engine>(
     ensures { IfOk result (λ r. IfSome r (IsReached script.now (fresh (M.flat machine)))) }
 {
     let mut plan = Plan::of(alloc, script, entries, way)?;
-    let mut path = Vec::new(alloc);
-    path.push(Node::first(alloc, machine))?;
+    let mut path = first_path(alloc, machine)?;
     for _ in 0..entries.len().saturating_mul(MOVES) {
         if !walk_on(alloc, script, entries, &mut plan, &mut path)? {
             break;
         }
     }
     Ok(path.pop())
+}
+
+// The run before its first line, alone.
+fn first_path<M: Engine>(alloc: Global, machine: M) -> Result<Vec<Node<M>>, EngineError>
+    requires { M.calls machine ≡ 0 }
+    ensures { IfOk result (λ path. path.items ≡ fresh (M.flat machine) ∷ []) }
+{
+    let mut path = Vec::new(alloc);
+    let first = Node::first(alloc, machine)?;
+    path.push(first)?;
+    Ok(path)
 }

@@ -32,7 +32,7 @@ pub(crate) fn in_order<M: Engine>(
     ensures none { IfOk result (λ r. IfNone r (
         DiffersInOrder script.now log.now (fresh (M.flat machine)) entries.now)) }
 {
-    let mut run = Node::first(alloc, machine);
+    let mut run = Node::first(alloc, machine)?;
     for entry in entries {
         run = match run.goes(script, entry.pid)? {
             Some(next) => next,

@@ -74,7 +74,8 @@ fn sample<M: Engine, R: Rng>(
     ensures { IfOk result (λ events.
         IsSample script.now (fresh (M.flat machine)) (R.stream rng.old) events.items (R.stream rng.new)) }
 {
-    let mut run = Node::first(alloc, machine);
+    let first = Node::first(alloc, machine)?;
+    let mut run = first;
     while let Some(turn) = draw(alloc, script, &run, rng)? {
         run = run.make(turn.pid, &turn.call)?;
     }

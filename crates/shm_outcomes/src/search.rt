@@ -69,7 +69,7 @@ impl Model for Finding {
 
 // A run so far.
 pub(crate) struct Node<M: Engine> {
-    machine: M,
+    machine: Box<M>,
     events: Vec<Event>,
 }
 
@@ -88,21 +88,22 @@ impl<M: Engine> Model for Node<M> {
 
     ghost Value = { Run };
 
-    ghost view = { λ n. record { machine = M.flat n.machine; events = n.events.items } };
+    ghost view = { λ n. record { machine = M.flat n.machine.value; events = n.events.items } };
 
-    ghost invariant = { λ n. M.calls n.machine ≡ length n.events.items };
+    ghost invariant = { λ n. M.calls n.machine.value ≡ length n.events.items };
 }
 
 impl<M: Engine> Node<M> {
     // A run before its first line.
-    pub(crate) fn first(alloc: Global, machine: M) -> Node<M>
+    pub(crate) fn first(alloc: Global, machine: M) -> Result<Node<M>, AllocError>
         requires { M.calls machine ≡ 0 }
-        ensures { result ≡ fresh (M.flat machine) }
+        ensures { IfOk result (λ run. run ≡ fresh (M.flat machine)) }
     {
-        Node {
+        let machine = Box::new(alloc, machine)?;
+        Ok(Node {
             machine,
             events: Vec::new(alloc),
-        }
+        })
     }
 
     // The calls with their replies.
@@ -177,8 +178,9 @@ impl<M: Engine> Node<M> {
     pub(crate) fn copied(&self, alloc: Global) -> Result<Node<M>, EngineError>
         ensures { IfOk result (λ run. run ≡ self.now) }
     {
-        let machine = self.machine.snapshot()?;
-        let events = Vec::from_slice(alloc, &self.events)?;
+        let machine = Box::new(alloc, self.machine.snapshot()?)?;
+        let mut events = Vec::with_capacity(alloc, self.events().len() + 1)?;
+        events.extend_from_slice(self.events())?;
         Ok(Node { machine, events })
     }
 }
