@@ -1,6 +1,6 @@
 -- What contracts see of a mirror.
-use Rattle.std.specs.Prelude.{ℕ, ◌≡◌, Bool, true, false, not, ◌&&◌, if◌then◌else◌, List, [], ◌∷◌, length, get_or, drop}
-use Rattle.shm_pager.specs.Pages.{PagerView, served}
+use Rattle.std.specs.Prelude.{ℕ, ◌≡◌, Bool, true, false, not, ◌&&◌, ◌||◌, if◌then◌else◌, List, [], ◌∷◌, length, get_or, set, drop, Result, is_ok, IfOk}
+use Rattle.shm_pager.specs.Pages.{PagerView, served, SlotUnknown, CountsErr, TriesRead, TriesWrite}
 use Rattle.shm_pager.specs.declared.mirror.Good.{Good}
 
 pub record MirrorView : Type 0 where
@@ -56,3 +56,27 @@ pub record IsMirror (m : MirrorView) : Type 0 where
   pub right : length m.right.pages ≡ length m.good
   pub same : (slot : ℕ) → (good_at m slot).left ≡ true → (good_at m slot).right ≡ true
       → get_or m.left.pages slot [] ≡ get_or m.right.pages slot []
+
+-- a write asked both sides, and those that took it are good for the slot
+pub record WritesMirror
+    {A E : Type 0} (slot : ℕ) (bytes : List ℕ) (m n : MirrorView) (result : Result A E) : Type 0 where
+  pub others : SlotUnknown slot (pages_shown m) (pages_shown n)
+  pub page : IfOk result (λ _. pages_shown n ≡ set (pages_shown m) slot bytes)
+  pub failed : CountsErr result m.failed n.failed
+  pub cause : is_ok result ≡ (served m.left n.left || served m.right n.right)
+  pub left : TriesWrite slot bytes m.left n.left
+  pub right : TriesWrite slot bytes m.right n.right
+  pub good : n.good ≡ set m.good slot (record { left = served m.left n.left; right = served m.right n.right })
+
+-- a read asked the good sides, left first, until one succeeded; a side that was not asked is unchanged
+pub record ReadsMirror
+    {A E : Type 0} (slot : ℕ) (bytes : List ℕ) (m n : MirrorView) (result : Result A E) : Type 0 where
+  pub content : pages_shown n ≡ pages_shown m
+  pub page : IfOk result (λ _. get_or (pages_shown m) slot [] ≡ bytes)
+  pub failed : CountsErr result m.failed n.failed
+  pub cause : is_ok result ≡ (left_serves slot m n || right_serves slot m n)
+  pub left : left_asked slot m ≡ true → TriesRead m.left n.left
+  pub left_unasked : left_asked slot m ≡ false → n.left ≡ m.left
+  pub right : right_asked slot m n ≡ true → TriesRead m.right n.right
+  pub right_unasked : right_asked slot m n ≡ false → n.right ≡ m.right
+  pub good : n.good ≡ m.good

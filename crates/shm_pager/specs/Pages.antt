@@ -1,6 +1,5 @@
 -- Pages by slot, counts of failures, and what a call changes in a pager.
-use Rattle.std.specs.Prelude.{ℕ, ◌≡◌, ◌+◌, ◌-◌, ◌^◌, ◌≤◌, ◌⊎◌, Bool, true, ◌==◌, ◌&&◌, nat_lt, List, [], get_or, min, replicate, set, Result, MatchResult}
-use Rattle.shm_base.specs.declared.paging.TheConstants.{PAGE_SIZE}
+use Rattle.std.specs.Prelude.{ℕ, ◌≡◌, ◌+◌, ◌-◌, ◌^◌, ◌≤◌, ◌⊎◌, Bool, true, ◌==◌, ◌&&◌, nat_lt, List, [], get_or, min, set, Result, MatchResult}
 
 -- the value at which a count stops
 abbrev pub last_count : ℕ

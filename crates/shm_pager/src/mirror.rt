@@ -1,8 +1,8 @@
 //! Two pagers that hold the same pages.
-ghost use Rattle.std.specs.Prelude.{◌≡◌, ◌≢◌, ◌<◌, ◌==◌, [], length, set, get_or, replicate, true, false, ◌||◌, if◌then◌else◌, is_ok, IfOk, IfErr, IsErr};
+ghost use Rattle.std.specs.Prelude.{◌≡◌, ◌≢◌, ◌<◌, ◌==◌, length, set, replicate, if◌then◌else◌, IfOk, IfErr, IsErr};
 ghost use Rattle.shm_base.specs.Page.{zero_page};
-ghost use Rattle.shm_pager.specs.Pages.{last_count, pager_seen, served, SlotUnknown, CountsErr, TriesWrite, TriesRead};
-ghost use Rattle.shm_pager.specs.Mirror.{MirrorView, mirror_of, left_alone, both_sides, no_side, pages_shown, left_asked, left_serves, right_asked, right_serves};
+ghost use Rattle.shm_pager.specs.Pages.{last_count, pager_seen, SlotUnknown};
+ghost use Rattle.shm_pager.specs.Mirror.{MirrorView, mirror_of, left_alone, both_sides, no_side, pages_shown, ReadsMirror, WritesMirror};
 
 use crate::pager::{ClonePager, Pager, PagerFault, read_if, try_write};
 use shm_base::{HostMemory, PAGE_BYTES};
@@ -141,17 +141,7 @@ impl<L: Pager, R: Pager> Pager for MirrorPager<L, R> {
     fn write(&mut self, slot: u32, page: &[u8; PAGE_BYTES]) -> Result<(), PagerFault>
         requires there { slot < length (pages_shown self.old) }
         requires countable { self.old.failed < last_count }
-        ensures others { SlotUnknown slot (pages_shown self.old) (pages_shown self.new) }
-        ensures page { IfOk result (λ _.
-            pages_shown self.new ≡ set (pages_shown self.old) slot page.now) }
-        ensures failed { CountsErr result self.old.failed self.new.failed }
-        ensures cause { is_ok result
-            ≡ (served self.old.left self.new.left || served self.old.right self.new.right) }
-        ensures left { TriesWrite slot page.now self.old.left self.new.left }
-        ensures right { TriesWrite slot page.now self.old.right self.new.right }
-        ensures good { let left = served self.old.left self.new.left in
-            let right = served self.old.right self.new.right in
-            self.new.good ≡ set self.old.good slot (record { left = left; right = right }) }
+        ensures { WritesMirror slot page.now self.old self.new result }
     {
         let left = try_write(&mut self.left, slot, page).is_ok();
         let right = try_write(&mut self.right, slot, page).is_ok();
@@ -167,18 +157,7 @@ impl<L: Pager, R: Pager> Pager for MirrorPager<L, R> {
     fn read(&mut self, slot: u32, page: &mut [u8; PAGE_BYTES]) -> Result<(), PagerFault>
         requires there { slot < length (pages_shown self.old) }
         requires countable { self.old.failed < last_count }
-        ensures content { pages_shown self.new ≡ pages_shown self.old }
-        ensures page { IfOk result (λ _. get_or (pages_shown self.old) slot [] ≡ page.new) }
-        ensures failed { CountsErr result self.old.failed self.new.failed }
-        ensures cause { is_ok result
-            ≡ (left_serves slot self.old self.new || right_serves slot self.old self.new) }
-        ensures left { left_asked slot self.old ≡ true → TriesRead self.old.left self.new.left }
-        ensures left_unasked { left_asked slot self.old ≡ false → self.new.left ≡ self.old.left }
-        ensures right { right_asked slot self.old self.new ≡ true
-            → TriesRead self.old.right self.new.right }
-        ensures right_unasked { right_asked slot self.old self.new ≡ false
-            → self.new.right ≡ self.old.right }
-        ensures good { self.new.good ≡ self.old.good }
+        ensures { ReadsMirror slot page.new self.old self.new result }
     {
         let good = self.good[slot as usize];
         if read_if(good.left, &mut self.left, slot, page) {
