@@ -1,2 +1,3 @@
 pub mod Clock
 pub mod Skips
+pub mod Turning

@@ -9,8 +9,9 @@
 ghost use Rattle.std.specs.Prelude.{ℕ, ◌≡◌, true, false, ◌≢◌, ◌+◌, ◌-◌, ◌*◌, ◌<◌, ◌≤◌, ◌^◌, [], Bool, length};
 ghost use Rattle.shm_base.specs.declared.paging.PageRef.{PageRef};
 ghost use Rattle.shm_frames.specs.Frame.{frame_at};
-ghost use Rattle.shm_clock.specs.Clock.{ring_at, owner_passes, may_go, candidates, victim_of, unset_all, passed_by, looked_at, next, IsClockVictim, Decides};
+ghost use Rattle.shm_clock.specs.Clock.{ring_at, owner_passes, may_go, candidates, Decides};
 ghost use Rattle.shm_clock.specs.Skips.{AreSkipped};
+ghost use Rattle.shm_clock.specs.Turning.{CanTurn, Turns, FindsVictim, CountsLooks};
 
 use shm_base::{FrameNo, PageRef};
 use shm_frames::{BLOCK_FRAMES, Frames, Looks, Skips};
@@ -130,19 +131,12 @@ fn turn<E: Fn(PageRef) -> bool>(
     skips: &mut Skips,
 ) -> FrameNo
     ghost passes: { PageRef → Bool }
-    requires hand { hand < length frames.old }
     requires eligible { Decides (E.IsAlwaysCallable eligible.now) (E.post eligible.now) passes }
-    requires one { candidates passes pinned frames.old hand ≢ [] }
+    requires turn { CanTurn passes pinned hand frames.old skips.old }
     requires countable { looks.old + length frames.old < 2 ^ 64 }
-    requires skipped { AreSkipped passes frames.old skips.old }
-    ensures victim { result ≡ victim_of frames.old (candidates passes pinned frames.old hand) }
-    ensures bits { let going = candidates passes pinned frames.old hand in
-        frames.new ≡ unset_all frames.old (passed_by frames.old going) }
-    ensures there { result < length frames.old }
-    ensures looks { looks.new ≤ looks.old + length frames.old }
-    ensures counted { let going = candidates passes pinned frames.old hand in
-        looks.new ≡ looks.old + looked_at frames.old going result }
-    ensures skipped { AreSkipped passes frames.new skips.new }
+    ensures turned { Turns passes pinned hand frames.old frames.new skips.new result }
+    ensures looks { let going = candidates passes pinned frames.old hand in
+        CountsLooks frames.old going result looks.old looks.new }
 {
     let count = frames.count();
     let mut first = None;
@@ -181,25 +175,12 @@ pub fn victim<E: Fn(PageRef) -> bool>(
     skips: &mut Skips,
 ) -> FrameNo
     ghost passes: { PageRef → Bool }
-    requires hand { hand.old < length frames.old }
     requires eligible { Decides (E.IsAlwaysCallable eligible.now) (E.post eligible.now) passes }
-    requires one { candidates passes pinned frames.old hand.old ≢ [] }
+    requires turn { CanTurn passes pinned hand.old frames.old skips.old }
     requires countable { looks.old + length frames.old < 2 ^ 64 }
-    requires skipped { AreSkipped passes frames.old skips.old }
-
-    // The rule as a list of frames: who is taken, which bits become clear, and where the hand is.
-    ensures victim { result ≡ victim_of frames.old (candidates passes pinned frames.old hand.old) }
-    ensures bits { let going = candidates passes pinned frames.old hand.old in
-        frames.new ≡ unset_all frames.old (passed_by frames.old going) }
-    ensures hand { hand.new ≡ next (length frames.old) result }
-
-    // The same, frame by frame.
-    ensures clock { IsClockVictim (may_go passes pinned frames.old) hand.old frames.old result frames.new }
-
-    ensures looks { looks.new ≤ looks.old + length frames.old }
-    ensures counted { let going = candidates passes pinned frames.old hand.old in
-        looks.new ≡ looks.old + looked_at frames.old going result }
-    ensures skipped { AreSkipped passes frames.new skips.new }
+    ensures found { FindsVictim passes pinned hand.old hand.new frames.old frames.new skips.new result }
+    ensures looks { let going = candidates passes pinned frames.old hand.old in
+        CountsLooks frames.old going result looks.old looks.new }
 {
     let count = frames.count();
     let frame = turn(frames, *hand, eligible, pinned, looks, skips);

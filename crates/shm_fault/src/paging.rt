@@ -3,8 +3,7 @@ ghost use Rattle.std.specs.Prelude.{◌≡◌, ◌≢◌, ℕ, ◌+◌, ◌<◌,
 ghost use Rattle.shm_base.specs.declared.bounds.TheConstants.{MOST_FRAMES};
 ghost use Rattle.shm_slots.specs.View.{HasSlot};
 ghost use Rattle.shm_frames.specs.Frame.{frame_at, OwnedBelow};
-ghost use Rattle.shm_clock.specs.Clock.{may_go, candidates, victim_of, passed_by, unset_all, next, IsClockVictim};
-ghost use Rattle.shm_clock.specs.Skips.{AreSkipped};
+ghost use Rattle.shm_clock.specs.Turning.{CanTurn, FindsVictim};
 ghost use Rattle.shm_fault.specs.Segs.{rec_by, HasPage};
 ghost use Rattle.shm_fault.specs.Store.{slot_bytes};
 ghost use Rattle.shm_fault.specs.Placing.{places, settled, referenced, after_visit, StopsAt};
@@ -49,18 +48,10 @@ fn choose(
     skips: &mut Skips,
     pinned: Option<FrameNo>,
 ) -> FrameNo
-    requires hand { hand.old < length frames.old }
     requires few { length frames.old ≤ MOST_FRAMES }
-    requires one { candidates (unlocked segs.now) pinned frames.old hand.old ≢ [] }
-    requires skipped { AreSkipped (unlocked segs.now) frames.old skips.old }
-    ensures clock { let may = may_go (unlocked segs.now) pinned frames.old in
-        IsClockVictim may hand.old frames.old result frames.new }
-    ensures victim { let going = candidates (unlocked segs.now) pinned frames.old hand.old in
-        result ≡ victim_of frames.old going }
-    ensures bits { let going = candidates (unlocked segs.now) pinned frames.old hand.old in
-        frames.new ≡ unset_all frames.old (passed_by frames.old going) }
-    ensures hand { hand.new ≡ next (length frames.old) result }
-    ensures skipped { AreSkipped (unlocked segs.now) frames.new skips.new }
+    requires turn { CanTurn (unlocked segs.now) pinned hand.old frames.old skips.old }
+    ensures { FindsVictim (unlocked segs.now) pinned hand.old hand.new
+        frames.old frames.new skips.new result }
 {
     let near = table_at(segs, frames, *hand);
     let eligible = |page: PageRef| !segs.is_locked(near, page.seg);

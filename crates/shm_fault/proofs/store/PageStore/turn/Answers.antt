@@ -15,14 +15,18 @@ kept g c =
     let hand = next-lt i.frames c.choose.new.frames c.choose.result clock.size clock.there c.choose.ensures.hand in
     keeps-alike (seen i) c.self.invariant.0 c.choose.new.frames c.choose.new.hand clock.size alike hand
 
-pub choose-requires-clause-one : goal.choose-requires-clause-one
-choose-requires-clause-one g c =
+pub choose-requires-clause-turn : goal.choose-requires-clause-turn
+choose-requires-clause-turn g c =
     let i = c.self.inside in
-    let full : OwnedBelow i.frames (length i.frames) = rw (← c.self.view_is) at c.requires.full in
-    two_eligible (unlocked i.segs) c.args.pinned i.frames i.hand c.self.invariant.0.hand (two_unlocked (seen i) c.self.invariant.0 full)
+    let sound = c.self.invariant.0 in
+    let full : OwnedBelow i.frames (length i.frames) = rw (← c.self.view_is) at c.requires.full in record {
+      there = sound.hand;
+      one = two_eligible (unlocked i.segs) c.args.pinned i.frames i.hand sound.hand (two_unlocked (seen i) sound full);
+      skipped = c.self.invariant.1;
+    }
 
 pub invariant_of-self : goal.invariant_of-self
-invariant_of-self g c = ((kept g c).sound, c.choose.ensures.skipped)
+invariant_of-self g c = ((kept g c).sound, c.choose.ensures.turned.skipped)
 
 pub returns : goal.returns
 returns g c =
@@ -37,9 +41,9 @@ returns g c =
       alike = clock-alike (may_go (unlocked i.segs) c.args.pinned i.frames) i.hand i.frames c.choose.result c.choose.new.frames clock;
       pin = grind (arith, common_steps);
       rest = refl;
-      victim = c.choose.ensures.victim;
-      hand = rw (← c.choose.ensures.victim) c.choose.ensures.hand;
-      placed = turn-is s (record s { frames = c.choose.new.frames; hand = c.choose.new.hand }) c.args.pinned refl refl c.choose.ensures.bits (rw (← c.choose.ensures.victim) c.choose.ensures.hand);
-      chosen = c.choose.ensures.victim ∙ victim-place s c.args.pinned;
+      victim = c.choose.ensures.turned.victim;
+      hand = rw (← c.choose.ensures.turned.victim) c.choose.ensures.hand;
+      placed = turn-is s (record s { frames = c.choose.new.frames; hand = c.choose.new.hand }) c.args.pinned refl refl c.choose.ensures.turned.bits (rw (← c.choose.ensures.turned.victim) c.choose.ensures.hand);
+      chosen = c.choose.ensures.turned.victim ∙ victim-place s c.args.pinned;
       goes = k.goes;
     })
