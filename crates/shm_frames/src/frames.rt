@@ -371,8 +371,7 @@ impl Frames {
         ensures whole { length result.now ≡ PAGE_BYTES }
     {
         let page = page_at(&self.pages, frame);
-        // Reading a byte tells the proof the length.
-        let _first = page[0];
+        prove!(page.get(PAGE_BYTES - 1).is_some());
         page
     }
 

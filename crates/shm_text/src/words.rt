@@ -116,9 +116,8 @@ impl<'a> Words<'a> {
         requires { index < length self.now }
         ensures { result.now ≡ word_at self.now index }
     {
-        // Reading the count tells the proof that there are no more words than places.
-        let _ = &self.count;
-        self.found[index]
+        let found = &self.found;
+        found[index]
     }
 
     /// Whether the word at an index is this one.
