@@ -113,8 +113,11 @@ impl<P: Pager> World<P> {
         ensures counted { AreCounted self.now.events self.now.memory.swap }
         ensures exact { IsExactly self.now.machine self.now.memory }
     {
-        // Calling this tells the proof that the memory is exact.
-        let _ = self.system.store();
+        // What the store promises: the memory is exact.
+        prove!({
+            let _ = self.system.store();
+            true
+        });
         self.history.as_slice()
     }
 
@@ -156,8 +159,11 @@ impl<P: Pager> World<P> {
         ensures room { OnErr result (self.old.room ≤ self.new.room) }
     {
         make_room(&mut self.history)?;
-        // Calling this tells the proof that the memory is exact before the call too.
-        let _ = self.system.store();
+        // What the store promises: the memory is exact before the call too.
+        prove!({
+            let _ = self.system.store();
+            true
+        });
         // The reply is written straight into the event.
         let place = self.history.len();
         self.history.push_reserved(Event {
