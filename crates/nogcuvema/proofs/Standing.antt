@@ -1,5 +1,5 @@
 -- A machine that was opened was not refused.
-use Rattle.nogcuvema.proofs.Names.{ℕ, ◌+◌, Bool, false, not, nat_lt, if◌then◌else◌, List, [], map, ap, Result, Ok, Err, ◌∙◌, refl, sym, Bounds, bad, limits_of, BadLimits, Process, start_error, Machine, AreaConfig, IsOpened, sizes_of, NogLimits, NogArea, NogFailure, NogProcess, area_of, process_of, are_kinds, are_there, bounds_of, Opens}
+use Rattle.nogcuvema.proofs.Names.{ℕ, ◌+◌, Bool, false, not, nat_lt, if◌then◌else◌, List, [], map, ap, Result, Ok, Err, ◌∙◌, refl, sym, Bounds, bad, BadLimits, Process, start_error, Machine, AreaConfig, IsOpened, sizes_of, NogLimits, NogArea, NogFailure, NogProcess, area_of, process_of, are_kinds, are_there, bounds_of, Opens}
 use Rattle.std.proofs.Common.{◌≡◌, ◌∷◌, true, None, Some, arith}
 use Rattle.std.proofs.lemmas.Bool.Decides.{nat_tests}
 use Rattle.std.proofs.lemmas.Grind.{common_steps}

@@ -1,5 +1,5 @@
 -- Changes that the host of a guest makes, through a handle.
-use Rattle.std.specs.Prelude.{ℕ, ◌≡◌, ◌+◌, ◌⊎◌, false, Option, Some, None, Result, Ok, Err}
+use Rattle.std.specs.Prelude.{ℕ, ◌≡◌, ◌⊎◌, false, Option, Some, None, Ok, Err}
 use Rattle.shm_base.specs.Codes.{code_of}
 use Rattle.shm_base.specs.declared.call.Process.{Process}
 use Rattle.shm_base.specs.declared.errno.Errno.{Errno}

@@ -1,5 +1,5 @@
 -- Unmapping and protecting ranges, through a handle.
-use Rattle.std.specs.Prelude.{ℕ, ◌≡◌, ◌⊎◌, Bool, Result, Ok, Err}
+use Rattle.std.specs.Prelude.{ℕ, ◌≡◌, ◌⊎◌, Bool, Ok, Err}
 use Rattle.shm_base.specs.Codes.{code_of}
 use Rattle.shm_base.specs.declared.errno.Errno.{Errno}
 use Rattle.shm_life.specs.Mapped.{Unmapped, IsProtected}

@@ -5,8 +5,8 @@ ghost use Rattle.shm_base.specs.declared.call.Call.TheVariants as call;
 ghost use Rattle.shm_base.specs.declared.call.Reply.TheVariants as reply;
 ghost use Rattle.nogcuvema.specs.Answers.{AnswersThrough, AnswersFor, AnswersWhere};
 
-use crate::code::{CLOSED, DONE, OUT_OF_RANGE, refusal_code};
-use crate::handle::Handle;
+use crate::code::{DONE, OUT_OF_RANGE, refusal_code};
+use crate::handle::{Handle, with_machine};
 use shm_base::LONGEST_ACCESS;
 use shm_machine::Machine;
 use std::alloc::Global;
@@ -50,12 +50,7 @@ pub extern "C" fn nog_load(
     if !is_size(bytes.len()) {
         return OUT_OF_RANGE;
     }
-    let Some(mut machine) = handle.take(alloc) else {
-        return CLOSED;
-    };
-    let code = load(&mut machine, pid, addr, bytes);
-    handle.put(machine);
-    code
+    with_machine!(alloc, handle, |machine| load(machine, pid, addr, bytes))
 }
 
 #[tactic(auto, using(crate::proofs::Answering::refused))]
@@ -85,12 +80,7 @@ pub extern "C" fn nog_store(
     if !is_size(bytes.len()) {
         return OUT_OF_RANGE;
     }
-    let Some(mut machine) = handle.take(alloc) else {
-        return CLOSED;
-    };
-    let code = store(&mut machine, pid, addr, bytes);
-    handle.put(machine);
-    code
+    with_machine!(alloc, handle, |machine| store(machine, pid, addr, bytes))
 }
 
 #[tactic(auto, using(crate::proofs::Answering::refused))]
@@ -124,10 +114,9 @@ pub extern "C" fn nog_add(
         (reply.Number before.new) result handle.new.kept.value }
     ensures before { result ≢ 0 → before.new ≡ before.old }
 {
-    let Some(mut machine) = handle.take(alloc) else {
-        return CLOSED;
-    };
-    let code = add_to(&mut machine, pid, addr, add, before);
-    handle.put(machine);
-    code
+    with_machine!(
+        alloc,
+        handle,
+        |machine| add_to(machine, pid, addr, add, before)
+    )
 }

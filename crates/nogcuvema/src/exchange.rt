@@ -6,8 +6,8 @@ ghost use Rattle.shm_base.specs.State.{Machine as Flat};
 ghost use Rattle.nogcuvema.specs.Exchanges.{ExchangesFor, ExchangesWhere};
 
 use crate::access::is_size;
-use crate::code::{CLOSED, DONE, OUT_OF_RANGE, refusal_code};
-use crate::handle::Handle;
+use crate::code::{DONE, OUT_OF_RANGE, refusal_code};
+use crate::handle::{Handle, with_machine};
 use shm_machine::Machine;
 use std::alloc::Global;
 
@@ -64,12 +64,11 @@ pub extern "C" fn nog_exchange(
     if !is_size(bytes.len()) || before.len() != bytes.len() {
         return OUT_OF_RANGE;
     }
-    let Some(mut machine) = handle.take(alloc) else {
-        return CLOSED;
-    };
-    let code = exchange(&mut machine, pid, addr, bytes, before);
-    handle.put(machine);
-    code
+    with_machine!(
+        alloc,
+        handle,
+        |machine| exchange(machine, pid, addr, bytes, before)
+    )
 }
 
 /// As nog_exchange, but replaces the bytes only if they equal the expected ones. All three lengths are equal.
@@ -92,10 +91,9 @@ pub extern "C" fn nog_compare_exchange(
     if !is_size(bytes.len()) || before.len() != bytes.len() || expected.len() != bytes.len() {
         return OUT_OF_RANGE;
     }
-    let Some(mut machine) = handle.take(alloc) else {
-        return CLOSED;
-    };
-    let code = compare(&mut machine, pid, addr, expected, bytes, before);
-    handle.put(machine);
-    code
+    with_machine!(
+        alloc,
+        handle,
+        |machine| compare(machine, pid, addr, expected, bytes, before)
+    )
 }

@@ -54,3 +54,22 @@ impl Handle {
         };
     }
 }
+
+// The code of what is done with the machine in a handle; CLOSED if there is none. The machine is back in the
+// handle afterwards. A macro, because the contract of a function could not say what a closure writes through the
+// references that it captures.
+macro_rules! with_machine {
+    ($alloc:expr, $handle:expr, |$machine:ident| $act:expr) => {
+        match $handle.take($alloc) {
+            Some(mut kept) => {
+                let $machine = &mut *kept;
+                let code = $act;
+                $handle.put(kept);
+                code
+            }
+            None => $crate::code::CLOSED,
+        }
+    };
+}
+
+pub(crate) use with_machine;

@@ -3,8 +3,8 @@ ghost use Rattle.std.specs.Prelude.{◌≡◌};
 ghost use Rattle.nogcuvema.specs.Hosting.{admit_code, dismiss_code, HostedThrough, AdmitsBy, DismissesBy, RecreditsBy, TellsTime};
 ghost use Rattle.nogcuvema.specs.Opens.{process_of};
 
-use crate::code::{CLOSED, DONE, NO_MEMORY};
-use crate::handle::Handle;
+use crate::code::{DONE, NO_MEMORY};
+use crate::handle::{Handle, with_machine};
 use crate::open::process_of;
 use crate::structs::NogProcess;
 use shm_base::{AdmitRefusal, Cred, DismissRefusal, Process};
@@ -65,12 +65,11 @@ pub extern "C" fn nog_admit(alloc: Global, handle: &mut Handle, process: &NogPro
     ensures { HostedThrough (AdmitsBy (process_of process.now))
         handle.old.kept.value result handle.new.kept.value }
 {
-    let Some(mut machine) = handle.take(alloc) else {
-        return CLOSED;
-    };
-    let code = admitted(alloc, &mut machine, &process_of(process));
-    handle.put(machine);
-    code
+    with_machine!(
+        alloc,
+        handle,
+        |machine| admitted(alloc, machine, &process_of(process))
+    )
 }
 
 /// A process that ended, or a child that is not born yet, leaves. Its pid can be used again. Not counted as a
@@ -79,12 +78,7 @@ pub extern "C" fn nog_admit(alloc: Global, handle: &mut Handle, process: &NogPro
 pub extern "C" fn nog_dismiss(alloc: Global, handle: &mut Handle, pid: u32) -> u32
     ensures { HostedThrough (DismissesBy pid) handle.old.kept.value result handle.new.kept.value }
 {
-    let Some(mut machine) = handle.take(alloc) else {
-        return CLOSED;
-    };
-    let code = dismissed(&mut machine, pid);
-    handle.put(machine);
-    code
+    with_machine!(alloc, handle, |machine| dismissed(machine, pid))
 }
 
 /// Gives a live process another effective user and group. Its pieces stay. Not counted as a call.
@@ -99,12 +93,11 @@ pub extern "C" fn nog_set_user(
     ensures { HostedThrough (RecreditsBy pid (record { uid = uid; gid = gid }))
         handle.old.kept.value result handle.new.kept.value }
 {
-    let Some(mut machine) = handle.take(alloc) else {
-        return CLOSED;
-    };
-    let code = recredited(&mut machine, pid, Cred { uid, gid });
-    handle.put(machine);
-    code
+    with_machine!(
+        alloc,
+        handle,
+        |machine| recredited(machine, pid, Cred { uid, gid })
+    )
 }
 
 /// Sets the time that calls note from now on. Not counted as a call.
@@ -112,10 +105,8 @@ pub extern "C" fn nog_set_user(
 pub extern "C" fn nog_set_time(alloc: Global, handle: &mut Handle, time: u64) -> u32
     ensures { HostedThrough (TellsTime time) handle.old.kept.value result handle.new.kept.value }
 {
-    let Some(mut machine) = handle.take(alloc) else {
-        return CLOSED;
-    };
-    machine.system.set_time(Some(time));
-    handle.put(machine);
-    DONE
+    with_machine!(alloc, handle, |machine| {
+        machine.system.set_time(Some(time));
+        DONE
+    })
 }

@@ -4,8 +4,8 @@ ghost use Rattle.shm_life.specs.Counts.{Counts};
 ghost use Rattle.nogcuvema.specs.Shown.{tally_by, report_by};
 ghost use Rattle.nogcuvema.specs.Reads.{Reads, AnswersSegment, FlushedTo};
 
-use crate::code::{CLOSED, DONE, OUT_OF_RANGE};
-use crate::handle::Handle;
+use crate::code::{DONE, OUT_OF_RANGE};
+use crate::handle::{Handle, with_machine};
 use crate::structs::{NogFlushed, NogSegment, NogTally};
 use std::alloc::Global;
 
@@ -22,12 +22,10 @@ pub extern "C" fn nog_flush(
         handle.new.kept.value }
     ensures flushed { result ≢ 0 → flushed.new ≡ flushed.old }
 {
-    let Some(mut machine) = handle.take(alloc) else {
-        return CLOSED;
-    };
-    *flushed = NogFlushed::of(&machine.system.flush(pages));
-    handle.put(machine);
-    DONE
+    with_machine!(alloc, handle, |machine| {
+        *flushed = NogFlushed::of(&machine.system.flush(pages));
+        DONE
+    })
 }
 
 /// The counts of the machine.
@@ -38,12 +36,10 @@ pub extern "C" fn nog_tally_of(alloc: Global, handle: &mut Handle, tally: &mut N
         result handle.new.kept.value }
     ensures tally { result ≢ 0 → tally.new ≡ tally.old }
 {
-    let Some(machine) = handle.take(alloc) else {
-        return CLOSED;
-    };
-    *tally = NogTally::of(&machine.system.tally());
-    handle.put(machine);
-    DONE
+    with_machine!(alloc, handle, |machine| {
+        *tally = NogTally::of(&machine.system.tally());
+        DONE
+    })
 }
 
 /// How many indexes of the table of segments were ever used.
@@ -53,12 +49,10 @@ pub extern "C" fn nog_indexes(alloc: Global, handle: &mut Handle, indexes: &mut 
         result handle.new.kept.value }
     ensures indexes { result ≢ 0 → indexes.new ≡ indexes.old }
 {
-    let Some(machine) = handle.take(alloc) else {
-        return CLOSED;
-    };
-    *indexes = machine.system.indexes();
-    handle.put(machine);
-    DONE
+    with_machine!(alloc, handle, |machine| {
+        *indexes = machine.system.indexes();
+        DONE
+    })
 }
 
 /// How many calls were answered.
@@ -68,12 +62,10 @@ pub extern "C" fn nog_calls(alloc: Global, handle: &mut Handle, calls: &mut u64)
         result handle.new.kept.value }
     ensures calls { result ≢ 0 → calls.new ≡ calls.old }
 {
-    let Some(machine) = handle.take(alloc) else {
-        return CLOSED;
-    };
-    *calls = machine.system.calls();
-    handle.put(machine);
-    DONE
+    with_machine!(alloc, handle, |machine| {
+        *calls = machine.system.calls();
+        DONE
+    })
 }
 
 /// The segment at an index of the table, as `stat` shows it, without a permission test. Out of range: the
@@ -88,16 +80,15 @@ pub extern "C" fn nog_segment_at(
     ensures machine { AnswersSegment handle.old.kept.value index segment.new result handle.new.kept.value }
     ensures segment { result ≢ 0 → segment.new ≡ segment.old }
 {
-    let Some(machine) = handle.take(alloc) else {
-        return CLOSED;
-    };
-    let found = machine.system.segment(index);
-    handle.put(machine);
-    match found {
-        Some((id, shown)) => {
-            *segment = NogSegment::of(id, index, &shown);
-            DONE
+    with_machine!(
+        alloc,
+        handle,
+        |machine| match machine.system.segment(index) {
+            Some((id, shown)) => {
+                *segment = NogSegment::of(id, index, &shown);
+                DONE
+            }
+            None => OUT_OF_RANGE,
         }
-        None => OUT_OF_RANGE,
-    }
+    )
 }

@@ -5,8 +5,8 @@ ghost use Rattle.nogcuvema.specs.Shown.{piece_by};
 ghost use Rattle.nogcuvema.specs.Listed.{Uses, AnswersStat, StatOf, AnswersPiece, PieceOf, AnswersProcess, ProcessOf, AnswersAbsent, AnswersFailed};
 ghost use Rattle.nogcuvema.specs.Reads.{Reads};
 
-use crate::code::{CLOSED, DONE, OUT_OF_RANGE};
-use crate::handle::Handle;
+use crate::code::{DONE, OUT_OF_RANGE};
+use crate::handle::{Handle, with_machine};
 use crate::structs::{NogPiece, NogProcess, NogSegment, NogUsage};
 use shm_base::Errno;
 use shm_machine::Machine;
@@ -19,12 +19,10 @@ pub extern "C" fn nog_info(alloc: Global, handle: &mut Handle, usage: &mut NogUs
         result handle.new.kept.value }
     ensures usage { result ≢ 0 → usage.new ≡ usage.old }
 {
-    let Some(machine) = handle.take(alloc) else {
-        return CLOSED;
-    };
-    *usage = NogUsage::of(&machine.system.info(), machine.system.highest_index());
-    handle.put(machine);
-    DONE
+    with_machine!(alloc, handle, |machine| {
+        *usage = NogUsage::of(&machine.system.info(), machine.system.highest_index());
+        DONE
+    })
 }
 
 fn stat_at(machine: &Machine, pid: u32, index: u32, segment: &mut NogSegment) -> u32
@@ -52,12 +50,11 @@ pub extern "C" fn nog_stat_at(
     ensures machine { AnswersStat handle.old.kept.value pid index segment.new result handle.new.kept.value }
     ensures segment { result ≢ 0 → segment.new ≡ segment.old }
 {
-    let Some(machine) = handle.take(alloc) else {
-        return CLOSED;
-    };
-    let code = stat_at(&machine, pid, index, segment);
-    handle.put(machine);
-    code
+    with_machine!(
+        alloc,
+        handle,
+        |machine| stat_at(machine, pid, index, segment)
+    )
 }
 
 fn piece_at(machine: &Machine, pid: u32, index: u32, piece: &mut NogPiece) -> u32
@@ -90,12 +87,11 @@ pub extern "C" fn nog_piece_at(
         result handle.new.kept.value }
     ensures piece { result ≢ 0 → piece.new ≡ piece.old }
 {
-    let Some(machine) = handle.take(alloc) else {
-        return CLOSED;
-    };
-    let code = piece_at(&machine, pid, index, piece);
-    handle.put(machine);
-    code
+    with_machine!(
+        alloc,
+        handle,
+        |machine| piece_at(machine, pid, index, piece)
+    )
 }
 
 fn process_at(machine: &Machine, index: u32, process: &mut NogProcess) -> u32
@@ -122,12 +118,7 @@ pub extern "C" fn nog_process_at(
     ensures machine { AnswersProcess handle.old.kept.value index process.new result handle.new.kept.value }
     ensures process { result ≢ 0 → process.new ≡ process.old }
 {
-    let Some(machine) = handle.take(alloc) else {
-        return CLOSED;
-    };
-    let code = process_at(&machine, index, process);
-    handle.put(machine);
-    code
+    with_machine!(alloc, handle, |machine| process_at(machine, index, process))
 }
 
 /// The first byte of an access that has no piece or, for a write, is in a read-only piece. Out of range:
@@ -146,19 +137,16 @@ pub extern "C" fn nog_failed_at(
         at.new result handle.new.kept.value }
     ensures at { result ≢ 0 → at.new ≡ at.old }
 {
-    let Some(machine) = handle.take(alloc) else {
-        return CLOSED;
-    };
-    let spaces = machine.system.spaces();
-    let failed = spaces.failed_at(pid, addr, len, is_write != 0);
-    handle.put(machine);
-    match failed {
-        Some(found) => {
-            *at = found;
-            DONE
+    with_machine!(alloc, handle, |machine| {
+        let spaces = machine.system.spaces();
+        match spaces.failed_at(pid, addr, len, is_write != 0) {
+            Some(found) => {
+                *at = found;
+                DONE
+            }
+            None => OUT_OF_RANGE,
         }
-        None => OUT_OF_RANGE,
-    }
+    })
 }
 
 /// The first byte of an access whose page is in no frame, if all bytes before it are in pieces. Out of range:
@@ -175,16 +163,15 @@ pub extern "C" fn nog_absent_at(
     ensures machine { AnswersAbsent handle.old.kept.value pid addr len at.new result handle.new.kept.value }
     ensures at { result ≢ 0 → at.new ≡ at.old }
 {
-    let Some(machine) = handle.take(alloc) else {
-        return CLOSED;
-    };
-    let absent = machine.system.absent_at(pid, addr, len);
-    handle.put(machine);
-    match absent {
-        Some(found) => {
-            *at = found;
-            DONE
+    with_machine!(
+        alloc,
+        handle,
+        |machine| match machine.system.absent_at(pid, addr, len) {
+            Some(found) => {
+                *at = found;
+                DONE
+            }
+            None => OUT_OF_RANGE,
         }
-        None => OUT_OF_RANGE,
-    }
+    )
 }

@@ -3,8 +3,8 @@ ghost use Rattle.std.specs.Prelude.{◌≡◌, Bool, false, not, ◌==◌};
 ghost use Rattle.nogcuvema.specs.Hosting.{HostedThrough};
 ghost use Rattle.nogcuvema.specs.Mapped.{UnmapsBy, ProtectsBy};
 
-use crate::code::{CLOSED, DONE, SPENT};
-use crate::handle::Handle;
+use crate::code::{DONE, SPENT};
+use crate::handle::{Handle, with_machine};
 use shm_machine::Machine;
 use std::alloc::Global;
 
@@ -45,12 +45,7 @@ pub extern "C" fn nog_unmap(
 ) -> u32
     ensures { HostedThrough (UnmapsBy pid addr len) handle.old.kept.value result handle.new.kept.value }
 {
-    let Some(mut machine) = handle.take(alloc) else {
-        return CLOSED;
-    };
-    let code = unmapped(&mut machine, pid, addr, len);
-    handle.put(machine);
-    code
+    with_machine!(alloc, handle, |machine| unmapped(machine, pid, addr, len))
 }
 
 /// mprotect(2) of a range of a live process, which becomes writable, or read-only if `is_writable` is 0. Not
@@ -67,10 +62,9 @@ pub extern "C" fn nog_protect(
     ensures { HostedThrough (ProtectsBy pid addr len (not (is_writable == 0)))
         handle.old.kept.value result handle.new.kept.value }
 {
-    let Some(mut machine) = handle.take(alloc) else {
-        return CLOSED;
-    };
-    let code = protected(&mut machine, pid, addr, len, is_writable != 0);
-    handle.put(machine);
-    code
+    with_machine!(
+        alloc,
+        handle,
+        |machine| protected(machine, pid, addr, len, is_writable != 0)
+    )
 }

@@ -5,8 +5,8 @@ ghost use Rattle.shm_base.specs.declared.call.Reply.TheVariants as reply;
 ghost use Rattle.shm_machine.specs.Answered.{fits};
 ghost use Rattle.nogcuvema.specs.Answers.{AnswersThrough, AnswersFor, AnswersWhere};
 
-use crate::code::{CLOSED, DONE, OUT_OF_RANGE, refusal_code};
-use crate::handle::Handle;
+use crate::code::{DONE, OUT_OF_RANGE, refusal_code};
+use crate::handle::{Handle, with_machine};
 use shm_base::Call;
 use shm_machine::Machine;
 use std::alloc::Global;
@@ -26,12 +26,7 @@ fn perform(alloc: Global, handle: &mut Handle, pid: u32, call: &Call) -> u32
     requires { fits call.now reply.Done ≡ true }
     ensures { AnswersThrough handle.old.kept.value pid call.now reply.Done result handle.new.kept.value }
 {
-    let Some(mut machine) = handle.take(alloc) else {
-        return CLOSED;
-    };
-    let code = performed(&mut machine, pid, call);
-    handle.put(machine);
-    code
+    with_machine!(alloc, handle, |machine| performed(machine, pid, call))
 }
 
 /// shmdt(2): detaches what is left of one attach.

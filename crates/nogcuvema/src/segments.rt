@@ -6,8 +6,8 @@ ghost use Rattle.nogcuvema.specs.Answers.{AnswersThrough, AnswersFor, AnswersWhe
 ghost use Rattle.shm_base.specs.Index.{index_of};
 ghost use Rattle.nogcuvema.specs.Shown.{shown_by};
 
-use crate::code::{CLOSED, DONE, OUT_OF_RANGE, refusal_code};
-use crate::handle::Handle;
+use crate::code::{DONE, OUT_OF_RANGE, refusal_code};
+use crate::handle::{Handle, with_machine};
 use crate::structs::NogSegment;
 use bitflags::Flags;
 use shm_base::{AtFlags, GetFlags, index_of};
@@ -55,12 +55,11 @@ pub extern "C" fn nog_get(
     if mode > u32::from(u16::MAX) || flags > u32::from(u16::MAX) {
         return OUT_OF_RANGE;
     }
-    let Some(mut machine) = handle.take(alloc) else {
-        return CLOSED;
-    };
-    let code = get(&mut machine, pid, key, size, mode as u16, flags as u16, id);
-    handle.put(machine);
-    code
+    with_machine!(
+        alloc,
+        handle,
+        |machine| get(machine, pid, key, size, mode as u16, flags as u16, id)
+    )
 }
 
 #[tactic(auto, using(crate::proofs::Answering::refused))]
@@ -97,12 +96,11 @@ pub extern "C" fn nog_attach(
     if flags > u32::from(u16::MAX) {
         return OUT_OF_RANGE;
     }
-    let Some(mut machine) = handle.take(alloc) else {
-        return CLOSED;
-    };
-    let code = attach(&mut machine, pid, id, addr, flags as u16, at);
-    handle.put(machine);
-    code
+    with_machine!(
+        alloc,
+        handle,
+        |machine| attach(machine, pid, id, addr, flags as u16, at)
+    )
 }
 
 #[tactic(auto, using(crate::proofs::Answering::refused))]
@@ -135,10 +133,5 @@ pub extern "C" fn nog_stat(
     ensures place { result ≡ 0 → (segment.new.id ≡ id) × (segment.new.index ≡ index_of id) }
     ensures segment { result ≢ 0 → segment.new ≡ segment.old }
 {
-    let Some(mut machine) = handle.take(alloc) else {
-        return CLOSED;
-    };
-    let code = stat(&mut machine, pid, id, segment);
-    handle.put(machine);
-    code
+    with_machine!(alloc, handle, |machine| stat(machine, pid, id, segment))
 }

@@ -2,8 +2,8 @@
 ghost use Rattle.std.specs.Prelude.{◌≡◌};
 ghost use Rattle.nogcuvema.specs.Through.{stop_code, CopiedBy, CopiedThrough, ReadBy, ReadThrough, WrittenBy, WrittenThrough};
 
-use crate::code::{CLOSED, DONE, NO_MEMORY, refusal_code};
-use crate::handle::Handle;
+use crate::code::{DONE, NO_MEMORY, refusal_code};
+use crate::handle::{Handle, with_machine};
 use shm_machine::{Machine, Refusal};
 use std::alloc::Global;
 
@@ -40,12 +40,11 @@ pub extern "C" fn nog_read(
     ensures { ReadThrough handle.old.kept.value pid addr bytes.old done.old result
         bytes.new done.new handle.new.kept.value }
 {
-    let Some(mut machine) = handle.take(alloc) else {
-        return CLOSED;
-    };
-    let code = read(&mut machine, pid, addr, bytes, done);
-    handle.put(machine);
-    code
+    with_machine!(
+        alloc,
+        handle,
+        |machine| read(machine, pid, addr, bytes, done)
+    )
 }
 
 #[tactic(auto, using(crate::proofs::Answering::written_by))]
@@ -71,12 +70,11 @@ pub extern "C" fn nog_write(
     ensures { WrittenThrough handle.old.kept.value pid addr bytes.now done.old result
         done.new handle.new.kept.value }
 {
-    let Some(mut machine) = handle.take(alloc) else {
-        return CLOSED;
-    };
-    let code = write(&mut machine, pid, addr, bytes, done);
-    handle.put(machine);
-    code
+    with_machine!(
+        alloc,
+        handle,
+        |machine| write(machine, pid, addr, bytes, done)
+    )
 }
 
 #[tactic(auto, using(crate::proofs::Answering::copied_by))]
@@ -113,17 +111,16 @@ pub extern "C" fn nog_copy(
     ensures { CopiedThrough handle.old.kept.value (from, from_addr) (to, to_addr) len done.old result
         done.new handle.new.kept.value }
 {
-    let Some(mut machine) = handle.take(alloc) else {
-        return CLOSED;
-    };
-    let code = copy(
+    with_machine!(
         alloc,
-        &mut machine,
-        (from, from_addr),
-        (to, to_addr),
-        len as usize,
-        done,
-    );
-    handle.put(machine);
-    code
+        handle,
+        |machine| copy(
+            alloc,
+            machine,
+            (from, from_addr),
+            (to, to_addr),
+            len as usize,
+            done,
+        )
+    )
 }
