@@ -55,9 +55,9 @@ impl Handle {
     }
 }
 
-// The code of what is done with the machine in a handle; CLOSED if there is none. The machine is back in the
-// handle afterwards. A macro, because the contract of a function could not say what a closure writes through the
-// references that it captures.
+// The code of what is done with the machine in a handle, which has the machine again afterwards; CLOSED if
+// there is none. A macro, because the contract of a generic function can't say what a closure writes through
+// the references that it captures.
 macro_rules! with_machine {
     ($alloc:expr, $handle:expr, |$machine:ident| $act:expr) => {
         match $handle.take($alloc) {
