@@ -23,6 +23,10 @@ pub(crate) struct Tables {
     alloc: Global,
     keys: HashMap<u32, usize>,
     slab: Slab<Table>,
+    // The keys under which the segments of the last pages that left and that came were found. Tables of other
+    // segments, or none, may be there now.
+    last_gone: usize,
+    last_came: usize,
 }
 
 impl Drop for Tables {
@@ -31,6 +35,8 @@ impl Drop for Tables {
             alloc: _,
             keys: _,
             slab: _,
+            last_gone: _,
+            last_came: _,
         } = self;
     }
 }
@@ -46,6 +52,8 @@ impl Tables {
             alloc,
             keys: HashMap::new(alloc),
             slab: Slab::new(alloc),
+            last_gone: 0,
+            last_came: 0,
         }
     }
 
@@ -59,6 +67,8 @@ impl Tables {
             alloc: self.alloc,
             keys,
             slab,
+            last_gone: self.last_gone,
+            last_came: self.last_came,
         })
     }
 
@@ -67,6 +77,18 @@ impl Tables {
         ensures { result ≡ key_of self.now seg }
     {
         self.keys.get(&seg).copied()
+    }
+
+    // The key of a segment's table, which may be `near`. If it is, no key is looked for.
+    #[inline(always)]
+    fn key_near(&self, near: usize, seg: u32) -> Option<usize>
+        requires { OneTableEach self.now }
+        ensures { result ≡ key_of self.now seg }
+    {
+        match self.slab.get(near) {
+            Some(table) if table.seg() == seg => Some(near),
+            _ => self.key(seg),
+        }
     }
 
     /// The number of pieces of a segment.
@@ -189,8 +211,9 @@ impl Tables {
         }
     }
 
-    // Notes the frame of a page.
-    fn set(&mut self, page: PageRef, frame: Option<FrameNo>)
+    // Notes the frame of a page, whose segment's table may have the key `near`. Returns the key, if the segment
+    // has a table.
+    fn set(&mut self, near: usize, page: PageRef, frame: Option<FrameNo>) -> usize
         requires { OneTableEach self.old }
         ensures counts { KeepCounts self.old self.new }
         ensures tables { KeepTables self.old.slab self.new.slab }
@@ -198,11 +221,15 @@ impl Tables {
             → AllTrue (with_frame page frame at) self.new.slab }
         ensures tied { OneTableEach self.new }
     {
-        let Some(key) = self.key(page.seg) else {
-            return;
+        let Some(key) = self.key_near(near, page.seg) else {
+            return near;
         };
-        if let Some(table) = self.slab.get_mut(key) {
-            table.set(page, frame);
+        match self.slab.get_mut(key) {
+            Some(table) => {
+                table.set(page, frame);
+                key
+            }
+            None => near,
         }
     }
 
@@ -218,8 +245,12 @@ impl Tables {
     {
         for entry in moves {
             match *entry {
-                PageMove::Gone(page) => self.set(page, None),
-                PageMove::Came(page, frame) => self.set(page, Some(frame)),
+                PageMove::Gone(page) => {
+                    self.last_gone = self.set(self.last_gone, page, None);
+                }
+                PageMove::Came(page, frame) => {
+                    self.last_came = self.set(self.last_came, page, Some(frame));
+                }
             }
         }
     }
