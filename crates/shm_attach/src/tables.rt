@@ -1,7 +1,7 @@
 //! The attach counts, and the frames of the pages of attached segments. The pieces of a segment share one
 //! table, and each has its key, so a move of a page is noted in one place. A segment without pieces has no
 //! table.
-ghost use Rattle.std.specs.Prelude.{◌≡◌, ℕ, ◌+◌, ◌^◌, ◌<◌, ◌≤◌, [], ◌∷◌, Option, Some, IfOk, OnOk, OnErr};
+ghost use Rattle.std.specs.Prelude.{◌≡◌, ℕ, ◌+◌, ◌^◌, ◌<◌, ◌≤◌, true, [], ◌∷◌, Option, Some, IfOk, OnOk, OnErr};
 ghost use Rattle.slab.specs.Slab.{get};
 ghost use Rattle.shm_fault.specs.Steps.{moved};
 ghost use Rattle.shm_fault.specs.Store.{frame_of};
@@ -79,15 +79,14 @@ impl Tables {
         self.keys.get(&seg).copied()
     }
 
-    // The key of a segment's table, which may be `near`. If it is, no key is looked for.
+    // Whether the table of a segment has this key.
     #[inline(always)]
-    fn key_near(&self, near: usize, seg: u32) -> Option<usize>
-        requires { OneTableEach self.now }
-        ensures { result ≡ key_of self.now seg }
+    fn is_at(&self, key: usize, seg: u32) -> bool
+        ensures { result ≡ true → seg_in (get self.now.slab key) ≡ Some seg }
     {
-        match self.slab.get(near) {
-            Some(table) if table.seg() == seg => Some(near),
-            _ => self.key(seg),
+        match self.slab.get(key) {
+            Some(table) => table.seg() == seg,
+            None => false,
         }
     }
 
@@ -211,8 +210,42 @@ impl Tables {
         }
     }
 
-    // Notes the frame of a page, whose segment's table may have the key `near`. Returns the key, if the segment
-    // has a table.
+    // Notes the frame of a page of the segment whose table has this key.
+    #[inline(always)]
+    fn set_at(&mut self, key: usize, page: PageRef, frame: Option<FrameNo>)
+        requires own { seg_in (get self.old.slab key) ≡ Some page.seg }
+        requires tied { OneTableEach self.old }
+        ensures counts { KeepCounts self.old self.new }
+        ensures tables { KeepTables self.old.slab self.new.slab }
+        ensures translated { (at : ℕ → ℕ → Option ℕ) → AllTrue at self.old.slab
+            → AllTrue (with_frame page frame at) self.new.slab }
+        ensures tied { OneTableEach self.new }
+    {
+        if let Some(table) = self.slab.get_mut(key) {
+            table.set(page, frame);
+        }
+    }
+
+    // Notes the frame of a page. Returns the key of its segment's table, or `near` if there is none.
+    #[inline(never)]
+    fn set_sought(&mut self, near: usize, page: PageRef, frame: Option<FrameNo>) -> usize
+        requires { OneTableEach self.old }
+        ensures counts { KeepCounts self.old self.new }
+        ensures tables { KeepTables self.old.slab self.new.slab }
+        ensures translated { (at : ℕ → ℕ → Option ℕ) → AllTrue at self.old.slab
+            → AllTrue (with_frame page frame at) self.new.slab }
+        ensures tied { OneTableEach self.new }
+    {
+        let Some(key) = self.key(page.seg) else {
+            return near;
+        };
+        self.set_at(key, page, frame);
+        key
+    }
+
+    // As `set_sought`, but the key may be `near`, which needs no search. Kept out of line, so that accesses to
+    // resident pages do not pay for it.
+    #[inline(never)]
     fn set(&mut self, near: usize, page: PageRef, frame: Option<FrameNo>) -> usize
         requires { OneTableEach self.old }
         ensures counts { KeepCounts self.old self.new }
@@ -221,16 +254,11 @@ impl Tables {
             → AllTrue (with_frame page frame at) self.new.slab }
         ensures tied { OneTableEach self.new }
     {
-        let Some(key) = self.key_near(near, page.seg) else {
+        if self.is_at(near, page.seg) {
+            self.set_at(near, page, frame);
             return near;
-        };
-        match self.slab.get_mut(key) {
-            Some(table) => {
-                table.set(page, frame);
-                key
-            }
-            None => near,
         }
+        self.set_sought(near, page, frame)
     }
 
     /// Notes the frames of pages that moved, in order, each in its segment's table. Takes no memory.
