@@ -35,6 +35,23 @@ pub(crate) fn count_to(pieces: &[Piece], addr: u64) -> usize
     pieces.partition_point(|p| p.base <= addr)
 }
 
+/// How many pieces begin at or below an address, if the first `least` do. Often that is all, which needs no
+/// search.
+fn count_on(pieces: &[Piece], least: usize, addr: u64) -> usize
+    requires arranged { Arranged flat.lowest_address (bare_all pieces.now) }
+    requires bound { least ≤ length pieces.now }
+    requires below { (k : ℕ) (d : Stored) → k < least → (slice_index_or pieces.now k d).base ≤ addr }
+    ensures bound { result ≤ length pieces.now }
+    ensures below { (k : ℕ) (d : Stored) → k < result → (slice_index_or pieces.now k d).base ≤ addr }
+    ensures above { (k : ℕ) (d : Stored) → result ≤ k → k < length pieces.now
+        → addr < (slice_index_or pieces.now k d).base }
+{
+    if least < pieces.len() && pieces[least].base <= addr {
+        return count_to(pieces, addr);
+    }
+    least
+}
+
 /// How many pieces begin below an address.
 pub(crate) fn count_below(pieces: &[Piece], addr: u64) -> usize
     requires { Arranged flat.lowest_address (bare_all pieces.now) }
@@ -54,7 +71,7 @@ pub(crate) fn run_in(pieces: &[Piece], from: u64, to: u64) -> PieceRange
     ensures { IsPieceRange from to pieces.now result.first result.last }
 {
     let count = count_to(pieces, from);
-    let last = count_to(pieces, to - 1);
+    let last = count_on(pieces, count, to - 1);
     if count > 0 && from < pieces[count - 1].end() {
         return PieceRange {
             first: count - 1,

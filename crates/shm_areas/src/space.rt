@@ -24,7 +24,8 @@ use std::alloc::{AllocError, Global};
 use std::marker::Model;
 
 /// The pieces of a process in order of their bases. Room for the most that the process may have is reserved
-/// at the beginning, and for a summary of their gaps if there may be more than 256, so no change takes memory.
+/// at the beginning, so no change takes memory. If there may be more than 256, and there are many, room for a
+/// summary of their gaps may be reserved too ([`Space::reserve_summary`]).
 pub struct Space {
     pieces: Vec<Piece>,
     most: u32,
@@ -119,16 +120,28 @@ impl Space {
         ensures { IfOk result (λ s. s ≡ record { pieces = []; most = most }) }
     {
         let pieces = Vec::with_capacity(alloc, most as usize)?;
-        let stretches = Vec::with_capacity(alloc, stretch_room(most))?;
-        let groups = Vec::with_capacity(alloc, group_room(most))?;
         Ok(Space {
             pieces,
             most,
             reach: 0,
             filled: FIRST_GAP,
-            stretches,
-            groups,
+            stretches: Vec::new(alloc),
+            groups: Vec::new(alloc),
         })
+    }
+
+    /// Reserves the room for the summary of the gaps, once there are many pieces. Without it a choice of an
+    /// address looks at more pieces. HostMemory: the host refused memory, and nothing changed.
+    pub fn reserve_summary(&mut self) -> Result<(), HostMemory>
+        ensures { self.new ≡ self.old }
+    {
+        let room = stretch_room(self.pieces.len(), self.most);
+        if room <= self.stretches.capacity() {
+            return Ok(());
+        }
+        self.groups.reserve(group_room(room))?;
+        self.stretches.reserve(room)?;
+        Ok(())
     }
 
     /// The most pieces that there may be.

@@ -30,18 +30,18 @@ struct StretchRun {
     to: u64,
 }
 
-/// For how many stretches a space has room that may have at most this many pieces.
-pub(crate) fn stretch_room(most: u32) -> usize {
-    if most <= SMALL_SPACE {
+/// For how many stretches a space of this many pieces needs room, if it may have at most `most`.
+pub(crate) fn stretch_room(pieces: usize, most: u32) -> usize {
+    if pieces < FEW_PIECES || most <= SMALL_SPACE {
         0
     } else {
         most as usize / 32
     }
 }
 
-/// For how many groups it has room.
-pub(crate) fn group_room(most: u32) -> usize {
-    stretch_room(most).div_ceil(GROUP_SIZE)
+/// For how many groups it needs room, if it has room for this many stretches.
+pub(crate) fn group_room(stretches: usize) -> usize {
+    stretches.div_ceil(GROUP_SIZE)
 }
 
 /// How many stretches end at an address or below it.
@@ -235,13 +235,17 @@ fn touched(before: Stretch, after: Stretch, place: usize) -> Touched {
     }
 }
 
-// Whether a piece lies above the last stretch, with few others.
+// Whether a piece needs no stretch: it lies below all addresses that are chosen, or above the last stretch with
+// few others.
 fn is_beyond(stretches: &[Stretch], pieces: &[Piece], at: usize) -> bool
     requires { at < length pieces.now }
 {
+    if pieces[at].base < FIRST_GAP {
+        return true;
+    }
     let end = match stretches.last() {
         Some(last) => last.to,
-        None => 0,
+        None => FIRST_GAP,
     };
     let most = most_pieces(stretches);
     pieces[at].base >= end && (pieces.len() < most || pieces[pieces.len() - most].base < end)

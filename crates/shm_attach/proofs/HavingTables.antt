@@ -91,6 +91,12 @@ module _ (t : Slab TableView) where
       All-append (HasTable t) (stored_parts from to p) (stored_cut from to ps)
       (tables-parts from to p (All-head (HasTable t) p ps all)) (tables-cut from to ps (All-tail (HasTable t) p ps all))
 
+-- a process that keeps its pieces
+pub same-set : (es : List (ℕ × Runner)) (i : ℕ) (w : Runner) → Some w ≡ slice_get (values_of es) i → set_value_at es i w ≡ es
+same-set [] i w at = refl
+same-set (e ∷ es) zero w at = grind (arith, common_steps)
+same-set (e ∷ es) (suc i) w at = ap (λ (fs : List (ℕ × Runner)). e ∷ fs) (same-set es i w at)
+
 -- ALL PIECES
 
 -- a piece is counted

@@ -7,7 +7,7 @@ ghost use Rattle.shm_attach.specs.Place.{IsRange};
 ghost use Rattle.shm_base.specs.declared.bounds.TheConstants.{MOST_SHMALL};
 ghost use Rattle.shm_base.specs.declared.paging.TheConstants.{PAGE_SIZE};
 
-use crate::changes::{exchange, space_at};
+use crate::changes::{exchange, reserve_summary, space_at};
 use crate::process::Caller;
 use crate::spaces::Spaces;
 use shm_areas::Piece;
@@ -16,12 +16,17 @@ use shm_fault::PageStore;
 use shm_pager::Pager;
 
 impl Spaces {
-    /// Attaches all pages of a segment at a base, in place of whatever its range has: pieces in the range are
-    /// removed, and those that reach beyond it are cut. The segments that lost pages to it are noted. If the
-    /// piece is the first of its segment, the translations are read from the store. All memory is taken
-    /// first, and the segment's table is reserved, since the pieces that are removed may be its last.
-    /// HostMemory: the host refused memory, and nothing changed.
-    pub fn attach<P: Pager>(
+    // Reserves the room for a summary of the gaps of a process that has many pieces.
+    fn make_room(&mut self, caller: &Caller) -> Result<(), HostMemory>
+        requires { IsCaller caller.now self.old.runners }
+        ensures { self.new ≡ self.old }
+    {
+        reserve_summary(&mut self.processes, caller.index)?;
+        Ok(())
+    }
+
+    // As [`Spaces::attach`], if there is room for a summary of the gaps, or none is needed.
+    fn attach_pages<P: Pager>(
         &mut self,
         caller: &Caller,
         seg: u32,
@@ -57,6 +62,38 @@ impl Spaces {
             key,
         };
         exchange(&mut self.processes, &mut self.tables, caller.index, piece);
+        Ok(())
+    }
+
+    /// Attaches all pages of a segment at a base, in place of whatever its range has: pieces in the range are
+    /// removed, and those that reach beyond it are cut. The segments that lost pages to it are noted. If the
+    /// piece is the first of its segment, the translations are read from the store. All memory is taken
+    /// first, and the segment's table is reserved, since the pieces that are removed may be its last.
+    /// HostMemory: the host refused memory, and nothing changed.
+    pub fn attach<P: Pager>(
+        &mut self,
+        caller: &Caller,
+        seg: u32,
+        base: u64,
+        pages: u32,
+        writable: bool,
+        store: &PageStore<P>,
+    ) -> Result<(), HostMemory>
+        requires live { IsCaller caller.now self.old.runners }
+        requires pages { (1 ≤ pages) × (pages ≤ MOST_SHMALL) }
+        requires range { IsRange pages base }
+        requires room { length (left_beside self.old caller.now base pages) + 1 ≤ self.old.most }
+        ensures lost { OnOk result (self.new.lost
+            ≡ cut_segments base (base + PAGE_SIZE * pages) (own_pieces self.old caller.now)) }
+        ensures runners { OnOk result (self.new.runners
+            ≡ attached self.old caller.now seg base pages writable) }
+        ensures most { self.new.most ≡ self.old.most }
+        ensures translated { AreTrue self.old.translations store.now
+            → AreTrue self.new.translations store.now }
+        ensures err { OnErr result (self.new ≡ self.old) }
+    {
+        self.make_room(caller)?;
+        self.attach_pages(caller, seg, base, pages, writable, store)?;
         Ok(())
     }
 }

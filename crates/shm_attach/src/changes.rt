@@ -22,6 +22,7 @@ use crate::process::{Life, Runner};
 use crate::tables::Tables;
 use indexmap::IndexMap;
 use shm_areas::{Piece, Space};
+use shm_base::HostMemory;
 
 /// What is removed from the pieces of a process.
 #[derive(Clone, Copy)]
@@ -41,6 +42,19 @@ pub(crate) fn space_at(processes: &IndexMap<u32, Runner>, index: usize) -> &Spac
     ensures most { result.now.most ≡ most_at processes.now.entries index }
 {
     &processes[index].space
+}
+
+/// Reserves the room that the pieces of a process need for a summary of their gaps, once there are many.
+/// HostMemory: the host refused memory, and nothing changed.
+pub(crate) fn reserve_summary(
+    processes: &mut IndexMap<u32, Runner>,
+    index: usize,
+) -> Result<(), HostMemory>
+    requires { index < length processes.old.entries }
+    ensures { processes.new.entries ≡ processes.old.entries }
+{
+    processes[index].space.reserve_summary()?;
+    Ok(())
 }
 
 /// Adds a piece. Its segment's table exists.

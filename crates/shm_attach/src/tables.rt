@@ -1,7 +1,7 @@
 //! The attach counts, and the frames of the pages of attached segments. The pieces of a segment share one
 //! table, and each has its key, so a move of a page is noted in one place. A segment without pieces has no
 //! table.
-ghost use Rattle.std.specs.Prelude.{◌≡◌, ℕ, ◌+◌, ◌^◌, ◌<◌, ◌≤◌, [], ◌∷◌, Option, Some, IfOk, OnOk, OnErr};
+ghost use Rattle.std.specs.Prelude.{◌≡◌, ℕ, ◌+◌, ◌^◌, ◌<◌, ◌≤◌, true, [], ◌∷◌, Option, Some, IfOk, OnOk, OnErr};
 ghost use Rattle.slab.specs.Slab.{get};
 ghost use Rattle.shm_fault.specs.Steps.{moved};
 ghost use Rattle.shm_fault.specs.Store.{frame_of};
@@ -23,6 +23,10 @@ pub(crate) struct Tables {
     alloc: Global,
     keys: HashMap<u32, usize>,
     slab: Slab<Table>,
+    // The keys under which the segments of the last pages that left and that came were found. Tables of other
+    // segments, or none, may be there now.
+    last_gone: usize,
+    last_came: usize,
 }
 
 impl Drop for Tables {
@@ -31,6 +35,8 @@ impl Drop for Tables {
             alloc: _,
             keys: _,
             slab: _,
+            last_gone: _,
+            last_came: _,
         } = self;
     }
 }
@@ -46,6 +52,8 @@ impl Tables {
             alloc,
             keys: HashMap::new(alloc),
             slab: Slab::new(alloc),
+            last_gone: 0,
+            last_came: 0,
         }
     }
 
@@ -59,6 +67,8 @@ impl Tables {
             alloc: self.alloc,
             keys,
             slab,
+            last_gone: self.last_gone,
+            last_came: self.last_came,
         })
     }
 
@@ -67,6 +77,17 @@ impl Tables {
         ensures { result ≡ key_of self.now seg }
     {
         self.keys.get(&seg).copied()
+    }
+
+    // Whether the table of a segment has this key.
+    #[inline(always)]
+    fn is_at(&self, key: usize, seg: u32) -> bool
+        ensures { result ≡ true → seg_in (get self.now.slab key) ≡ Some seg }
+    {
+        match self.slab.get(key) {
+            Some(table) => table.seg() == seg,
+            None => false,
+        }
     }
 
     /// The number of pieces of a segment.
@@ -189,8 +210,25 @@ impl Tables {
         }
     }
 
-    // Notes the frame of a page.
-    fn set(&mut self, page: PageRef, frame: Option<FrameNo>)
+    // Notes the frame of a page of the segment whose table has this key.
+    #[inline(always)]
+    fn set_at(&mut self, key: usize, page: PageRef, frame: Option<FrameNo>)
+        requires own { seg_in (get self.old.slab key) ≡ Some page.seg }
+        requires tied { OneTableEach self.old }
+        ensures counts { KeepCounts self.old self.new }
+        ensures tables { KeepTables self.old.slab self.new.slab }
+        ensures translated { (at : ℕ → ℕ → Option ℕ) → AllTrue at self.old.slab
+            → AllTrue (with_frame page frame at) self.new.slab }
+        ensures tied { OneTableEach self.new }
+    {
+        if let Some(table) = self.slab.get_mut(key) {
+            table.set(page, frame);
+        }
+    }
+
+    // Notes the frame of a page. Returns the key of its segment's table, or `near` if there is none.
+    #[inline(never)]
+    fn set_sought(&mut self, near: usize, page: PageRef, frame: Option<FrameNo>) -> usize
         requires { OneTableEach self.old }
         ensures counts { KeepCounts self.old self.new }
         ensures tables { KeepTables self.old.slab self.new.slab }
@@ -199,11 +237,28 @@ impl Tables {
         ensures tied { OneTableEach self.new }
     {
         let Some(key) = self.key(page.seg) else {
-            return;
+            return near;
         };
-        if let Some(table) = self.slab.get_mut(key) {
-            table.set(page, frame);
+        self.set_at(key, page, frame);
+        key
+    }
+
+    // As `set_sought`, but the key may be `near`, which needs no search. Kept out of line, so that accesses to
+    // resident pages do not pay for it.
+    #[inline(never)]
+    fn set(&mut self, near: usize, page: PageRef, frame: Option<FrameNo>) -> usize
+        requires { OneTableEach self.old }
+        ensures counts { KeepCounts self.old self.new }
+        ensures tables { KeepTables self.old.slab self.new.slab }
+        ensures translated { (at : ℕ → ℕ → Option ℕ) → AllTrue at self.old.slab
+            → AllTrue (with_frame page frame at) self.new.slab }
+        ensures tied { OneTableEach self.new }
+    {
+        if self.is_at(near, page.seg) {
+            self.set_at(near, page, frame);
+            return near;
         }
+        self.set_sought(near, page, frame)
     }
 
     /// Notes the frames of pages that moved, in order, each in its segment's table. Takes no memory.
@@ -218,8 +273,12 @@ impl Tables {
     {
         for entry in moves {
             match *entry {
-                PageMove::Gone(page) => self.set(page, None),
-                PageMove::Came(page, frame) => self.set(page, Some(frame)),
+                PageMove::Gone(page) => {
+                    self.last_gone = self.set(self.last_gone, page, None);
+                }
+                PageMove::Came(page, frame) => {
+                    self.last_came = self.set(self.last_came, page, Some(frame));
+                }
             }
         }
     }

@@ -84,7 +84,7 @@ impl<P: Pager> PageStore<P> {
         ensures { Drops seg self.old self.new }
     {
         let near = self.segs.find(seg);
-        let touched = self.segs.touched(seg);
+        let touched = self.segs.touched_in(near, seg);
         let mut page = 0;
         while page < touched {
             page = self.forget_next(near, PageRef { seg, page }, touched);

@@ -192,6 +192,17 @@ impl PageTables {
         }
     }
 
+    /// The same, where the segment's table was found at `near`.
+    pub(crate) fn touched_in(&self, near: usize, id: u32) -> u32
+        ensures few { result ≤ count_by_id self.now id }
+        ensures rest { NowhereFrom result id self.now }
+    {
+        match self.by_id.get_index(near) {
+            Some((other, table)) if *other == id => table.touched(),
+            _ => self.touched(id),
+        }
+    }
+
     /// Whether a segment is locked, whose table may be at `near`.
     pub(crate) fn is_locked(&self, near: usize, id: u32) -> bool
         ensures { result ≡ locked_by self.now id }

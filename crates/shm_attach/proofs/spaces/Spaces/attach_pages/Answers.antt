@@ -4,9 +4,9 @@ use Rattle.shm_attach.proofs.Callers.{caller_within, caller_lives, with_pieces_n
 use Rattle.shm_attach.proofs.HavingTables.{room_kept}
 use Rattle.shm_attach.proofs.Sound.{none_reserved, sound-reserved, counts-small}
 use Rattle.shm_attach.proofs.Translations.{all-true, true-all}
-use Rattle.shm_attach.proofs.spaces.Spaces.attach.Given.{Over}
-use Rattle.shm_attach.proofs.spaces.Spaces.attach.Goals.{After-self, In_ok-key}
-use Rattle.shm_attach.proofs.spaces.Spaces.attach.Goals as goal
+use Rattle.shm_attach.proofs.spaces.Spaces.attach_pages.Given.{Over}
+use Rattle.shm_attach.proofs.spaces.Spaces.attach_pages.Goals.{After-self, In_ok-key}
+use Rattle.shm_attach.proofs.spaces.Spaces.attach_pages.Goals as goal
 
 -- THE CALLER
 
