@@ -83,9 +83,9 @@ fn run_in<W: Write, P: Pager>(
     }
 }
 
-// Runs the lines of a script in file order, in a world without history. It stops at the first line that is out of
-// memory. The first half of the lines is freed before the second half runs, so the memory never holds all lines beside all
-// events.
+// Runs the lines of a script in file order, in a world without history. It stops at the first line that is
+// out of memory. The first half of the lines is freed before the second half runs, so the memory never holds
+// all lines and all events.
 fn run_lines<P: Pager>(
     alloc: Global,
     world: &mut World<P>,
