@@ -1,5 +1,6 @@
 mod Causes
 mod Flatness
+mod Halves
 mod Lives
 mod Asking
 mod Reordering

@@ -25,6 +25,14 @@ RunsInOrder hs (Command c ∷ ls) [] = ⊥
 RunsInOrder hs (Command c ∷ ls) (e ∷ es) =
     (e.pid ≡ c.pid) × (e.call ≡ call_of (values_of hs c.pid) c.call) × RunsInOrder (with_answer hs c (Some e.reply)) ls es
 
+-- these lines, in order, made these events and left these variables, beginning from the first of them
+abbrev pub Reaches : List HolderView → List Line → List HolderView → List Event → Type 0
+Reaches start lines hs es = (rest : List Line) (more : List Event) → RunsInOrder hs rest more → RunsInOrder start (lines ++ rest) (es ++ more)
+
+-- the lines ran, from these variables and events to others, whatever ran before
+abbrev pub Runs : List Line → List HolderView → List Event → List HolderView → List Event → Type 0
+Runs lines hs es later all = (start : List HolderView) (before : List Line) → Reaches start before hs es → Reaches start (before ++ lines) later all
+
 -- the output for a world: the event lines, the listing, and the counts
 abbrev pub world_text : WorldState → List ℕ
 world_text w = events_text 1 w.events ++ listing_of w.machine ++ usage_text (tally_of w)

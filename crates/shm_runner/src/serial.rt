@@ -3,7 +3,7 @@ ghost use Rattle.std.specs.Prelude.{◌≡◌, ◌⊎◌, [], length, true, map,
 ghost use Rattle.std.specs.Io.KnownBytes.{IsAtEnd};
 ghost use Rattle.shm_slots.specs.Cause.{GoesOn};
 ghost use Rattle.shm_program.specs.Runs.{Prints, IsWritten, IsCause, IsCauseIn, is_serial, IsSilent, IsOpening, handed_in};
-ghost use Rattle.shm_runner.specs.Output.{IsOutput, RunsInOrder};
+ghost use Rattle.shm_runner.specs.Output.{IsOutput, Runs, RunsInOrder};
 ghost use Rattle.shm_program.specs.Values.{fresh_holder};
 
 use crate::world::write_world;
@@ -77,30 +77,49 @@ fn run_in<W: Write, P: Pager>(
     ensures fault { IfErr result (λ f. (f ≡ RunFault.HostMemory) ⊎ (f ≡ RunFault.WriteFailed)) }
     ensures silent { IfErr result (λ f. IsSilent f (W.contents writer.old) (W.contents writer.new)) }
 {
-    let ran = run_lines(alloc, world, &script);
-    drop(script);
-    match ran {
+    match run_lines(alloc, world, script) {
         Ok(()) => write_world(alloc, writer, world),
         Err(HostMemory) => Err(RunFault::HostMemory),
     }
 }
 
-// Runs the lines of a script in file order, in a world without history. It stops at the first line that is out of
-// memory.
+// Runs the lines of a script in file order, in a world without history. It stops at the first line that is
+// out of memory. The first half of the lines is freed before the second half runs, so the memory never holds
+// all lines and all events.
 fn run_lines<P: Pager>(
     alloc: Global,
     world: &mut World<P>,
-    script: &Script,
+    mut script: Script,
 ) -> Result<(), HostMemory>
     requires { world.old.events ≡ [] }
     ensures follows { OnOk result
-        (RunsInOrder (map fresh_holder script.now.processes) script.now.lines world.new.events) }
+        (RunsInOrder (map fresh_holder script.processes) script.lines world.new.events) }
     ensures opening { world.new.opening ≡ world.old.opening }
     ensures counts { OnOk result (GoesOn world.old.memory.swap world.new.memory.swap) }
 {
     let mut values = Values::new(alloc, &script.processes)?;
     world.reserve(script.lines.len())?;
-    for line in &script.lines {
+    let middle = script.lines.len() / 2;
+    let rest = script.lines.split_off(middle)?;
+    script.lines.shrink_to_fit();
+    run_part(world, &mut values, &script.lines)?;
+    drop(script);
+    run_part(world, &mut values, &rest)?;
+    Ok(())
+}
+
+// Runs some lines in order. It stops at the first that is out of memory.
+fn run_part<P: Pager>(
+    world: &mut World<P>,
+    values: &mut Values,
+    lines: &[Line],
+) -> Result<(), HostMemory>
+    ensures follows { OnOk result
+        (Runs lines.now values.old world.old.events values.new world.new.events) }
+    ensures opening { world.new.opening ≡ world.old.opening }
+    ensures counts { OnOk result (GoesOn world.old.memory.swap world.new.memory.swap) }
+{
+    for line in lines {
         match line {
             Line::Command(command) => {
                 let call = values.call(command);

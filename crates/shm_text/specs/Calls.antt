@@ -123,7 +123,7 @@ store_call ws i = do
   addr ← addr_word (word_at ws i)
   bytes ← chunk_word (word_at ws (i + 1))
   addr ← ranged_addr addr
-  Ok (Store addr bytes)
+  Ok (Store bytes addr)
 
 unfoldable pub set_call : List (List ℕ) → ℕ → Result LineCall FaultKind
 set_call ws i = do

@@ -251,7 +251,7 @@ fn store_call(words: &Words<'_>, index: usize) -> Result<LineCall, FaultKind>
     let addr = addr_word(words.at(index))?;
     let chunk = chunk_word(words.at(index + 1))?;
     let addr = ranged_addr(addr)?;
-    Ok(LineCall::Store { addr, chunk })
+    Ok(LineCall::Store { chunk, addr })
 }
 
 #[tactic(auto, unfolding(crate::specs::Calls::set_call))]

@@ -97,9 +97,10 @@ pub enum LineCall {
         addr: LineAddr,
         len: AccessLen,
     },
+    // The bytes come first: after the tag, they need no padding.
     Store {
-        addr: LineAddr,
         chunk: Chunk,
+        addr: LineAddr,
     },
     Xadd {
         addr: LineAddr,

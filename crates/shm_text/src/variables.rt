@@ -129,7 +129,7 @@ impl Vars {
                 addr: self.addr(*addr),
                 len: *len,
             },
-            LineCall::Store { addr, chunk } => Call::Store {
+            LineCall::Store { chunk, addr } => Call::Store {
                 addr: self.addr(*addr),
                 chunk: *chunk,
             },

@@ -4,3 +4,4 @@ mod Following
 mod Found
 mod LeastWrong
 mod Own
+mod Placed

@@ -1,6 +1,6 @@
 -- The entries and the events of their process.
 use Rattle.std.specs.Prelude.{◌≡◌, ◌<◌, ◌≤◌, ◌↔◌, ℕ, ◌+◌, nat_le, List, [], ◌∷◌, true, is_some, length, drop, slice_get}
-use Rattle.std.proofs.Common.{zero, suc, ap, ◌∙◌, refl, sym, arith, inl, inr, eq-eqb, le-leb, leb-true}
+use Rattle.std.proofs.Common.{zero, suc, ap, ◌∙◌, refl, sym, arith, inl, inr, le-leb, leb-true}
 use Rattle.std.proofs.Math.ListN.{get_or}
 use Rattle.std.proofs.lemmas.List.{drop_more, drop_all}
 use Rattle.std.proofs.lemmas.Bool.{cases_lt}
@@ -37,10 +37,22 @@ told-first pid k [] e v w more lt is at eq = absurd (omega (arith, lt))
 told-first pid zero (x ∷ es) e v w more lt is at eq = rw (sym at) (first-event pid x.call x.answer (transcript_events pid es) w more is eq)
 told-first pid (suc k) (x ∷ es) e v w more lt is at eq = told-first pid k es e v w more (omega (arith, lt)) is at eq
 
-pub own-next : (pid i : ℕ) (hs : List Event) (v : Event) → i < length hs → v ≡ get_or hs i v → v.pid ≡ pid → own_part pid (drop i hs) ≡ v ∷ own_part pid (drop (i + 1) hs)
-own-next pid i hs v lt is same =
-    let first : drop i hs ≡ v ∷ drop (i + 1) hs = drop_more hs i v lt ∙ ap (λ x. x ∷ drop (i + 1) hs) (sym is) in
-    rw (first, eq-eqb v.pid pid same) refl
+told-one : (pid : ℕ) (e : Entry) (v : Event) (rest : List Event) → e.call ≡ v.call → e.answer ≡ Replied v.reply → v.pid ≡ pid → events_of pid e.call e.answer rest ≡ v ∷ rest
+told-one pid e v rest call answer same = rw (answer, call, ← same) refl
+
+-- an entry that is the next event of its process: the rest agrees exactly if the whole does
+pub own-next :
+    {W : Type 0} → (pid k i : ℕ) (es : List Entry) (hs : List Event) (e : Entry) (v : Event)
+    → k < length es → e ≡ get_or es k e → (e.call ≡ v.call) × (e.answer ≡ Replied v.reply) → v.pid ≡ pid
+    → own_part pid (drop i hs) ≡ v ∷ own_part pid (drop (i + 1) hs)
+    → (transcript_events pid (drop k es) ≡ own_part pid (drop i hs) ↔ W) → (transcript_events pid (drop (k + 1) es) ≡ own_part pid (drop (i + 1) hs) ↔ W)
+own-next pid k i es hs e v lt at is same own whole =
+    let first : drop k es ≡ e ∷ drop (k + 1) es = drop_more es k e lt ∙ ap (λ x. x ∷ drop (k + 1) es) (sym at) in
+    let told : transcript_events pid (drop k es) ≡ v ∷ transcript_events pid (drop (k + 1) es) =
+    ap (transcript_events pid) first ∙ told-one pid e v (transcript_events pid (drop (k + 1) es)) is.0 is.1 same in (
+      λ agree. whole.0 (told ∙ ap (λ (xs : List Event). v ∷ xs) agree ∙ sym own),
+      λ w. ap (λ (xs : List Event). drop 1 xs) (sym told ∙ whole.1 w ∙ own),
+    )
 
 -- if no event is left, exactly the entries without replies agree
 pub no-more-events :

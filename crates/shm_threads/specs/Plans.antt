@@ -1,9 +1,8 @@
 -- The memory that a run takes before its workers start.
-use Rattle.std.specs.Prelude.{◌≡◌, ◌==◌, ℕ, ◌+◌, ◌≤◌, Bool, false, List, [], length, All, Vec, vec_len, vec_capacity}
+use Rattle.std.specs.Prelude.{◌≡◌, ◌+◌, ◌≤◌, List, [], length, All, Vec, vec_len, vec_capacity}
 use Rattle.std.specs.declared.alloc.Global.{Global}
 use Rattle.std.specs.declared.thread.JoinHandle.{JoinHandle}
 use Rattle.shm_text.specs.declared.script.Line.{Line}
-use Rattle.shm_text.specs.declared.script.Line.TheVariants.{Command, Flush}
 use Rattle.shm_threads.specs.Transcripts.{commands_of}
 use Rattle.shm_threads.specs.declared.transcript.Transcript.{Transcript}
 use Rattle.shm_threads.specs.declared.worker.Ended.{Ended}
@@ -11,10 +10,6 @@ use Rattle.shm_threads.specs.declared.worker.Ended.{Ended}
 -- the transcript is empty and has room for its process's lines
 abbrev pub HasRoom : List Line → Transcript → Type 0
 HasRoom lines t = (t.entries.items ≡ []) × (length (commands_of t.pid lines) ≤ vec_capacity t.entries)
-
-abbrev pub is_line_of : ℕ → Line → Bool
-is_line_of pid (Command c) = c.pid == pid
-is_line_of pid (Flush n) = false
 
 -- each job is empty and has room for its process's lines, and both lists have room for each job
 pub record IsPlan (lines : List Line) (jobs : Vec Transcript Global) (handles : Vec (JoinHandle Ended) Global) (transcripts : Vec Transcript Global) : Type 0 where

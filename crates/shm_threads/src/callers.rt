@@ -1,6 +1,7 @@
 //! What the threads of a run use: the gate, without the lock, and the world, under the lock.
-ghost use Rattle.std.specs.Prelude.{◌≡◌};
+ghost use Rattle.std.specs.Prelude.{◌≡◌, map};
 ghost use Rattle.shm_threads.specs.Keepers.{cell_of};
+ghost use Rattle.shm_threads.specs.Pids.{line_pid};
 ghost use Rattle.shm_threads.specs.Plans.{HasRoom};
 
 use crate::flusher::{Flusher, flush_all};
@@ -50,10 +51,12 @@ pub(crate) fn run_process<R: Wait, G: Gate, P: Pager>(
     rt: &R,
     shared: &Shared<P>,
     lines: &[Line],
+    pids: &[u32],
     gate: &G,
     transcript: Transcript,
 ) -> Ended
-    requires { HasRoom lines.now transcript }
+    requires room { HasRoom lines.now transcript }
+    requires pids { pids.now ≡ map line_pid lines.now }
     ensures { result.transcript.pid ≡ transcript.pid }
 {
     let mut caller = ProcessCaller {
@@ -62,7 +65,7 @@ pub(crate) fn run_process<R: Wait, G: Gate, P: Pager>(
         gate,
         pid: transcript.pid,
     };
-    work(&mut caller, lines, transcript)
+    work(&mut caller, lines, pids, transcript)
 }
 
 #[derive(Drop)]

@@ -3,8 +3,10 @@
 ghost use Rattle.std.specs.Prelude.{◌≡◌, ℕ, ◌↔◌, ◌<◌, ◌≤◌, IsTrue, All, map, length, drop, true, slice_get};
 ghost use Rattle.shm_base.specs.History.{own_part};
 ghost use Rattle.shm_text.specs.Variables.{no_values};
+ghost use Rattle.shm_threads.specs.Pids.{ArePids, line_pid};
 ghost use Rattle.shm_threads.specs.Transcripts.{commands_of, Follows, transcript_events, is_fork_of, is_forked, is_child, pid_in, pid_of, HasLines, IsMarkAllowed, IsTranscript, IsAdmitted, is_answered, least_of, pid_at, IsFound, IsLeastOf};
 
+use crate::pids::{Pids, own_command, own_event};
 use crate::transcript::{Answer, Entry, Transcript};
 use shm_base::{Call, Errno, Event, Process, Reply, has_pid};
 use shm_text::{Line, Script, Vars};
@@ -20,11 +22,29 @@ pub fn disagreement(
 ) -> Option<u32>
     ensures { IsFound script.now history.now transcripts.now.items result }
 {
+    let none = Pids {
+        lines: &[],
+        events: &[],
+    };
+    disagreement_by(script, history, none, transcripts)
+}
+
+/// As `disagreement`, with the pids of the first lines and events.
+pub(crate) fn disagreement_by(
+    script: &Script,
+    history: &[Event],
+    pids: Pids<'_>,
+    transcripts: &Vec<Transcript>,
+) -> Option<u32>
+    requires lines { ArePids line_pid script.now.lines pids.lines.now }
+    requires events { ArePids pid_at history.now pids.events.now }
+    ensures { IsFound script.now history.now transcripts.now.items result }
+{
     if !has_each(&script.processes, transcripts) {
         return Some(0);
     }
     let stranger = first_stranger(&script.processes, history);
-    let broken = first_broken(script, history, transcripts);
+    let broken = first_broken(script, history, pids, transcripts);
     match broken {
         Some(pid) => Some(least(stranger, pid)),
         None => stranger,
@@ -73,30 +93,46 @@ pub fn least(so_far: Option<u32>, pid: u32) -> u32
 }
 
 // The least pid whose transcript is not its process's.
-fn first_broken(script: &Script, history: &[Event], transcripts: &[Transcript]) -> Option<u32>
+fn first_broken(
+    script: &Script,
+    history: &[Event],
+    pids: Pids<'_>,
+    transcripts: &[Transcript],
+) -> Option<u32>
+    requires lines { ArePids line_pid script.now.lines pids.lines.now }
+    requires events { ArePids pid_at history.now pids.events.now }
     ensures { IsLeastOf pid_of (IsTranscript script.now history.now) transcripts.now result }
 {
     let mut found = None;
     for transcript in transcripts {
-        if !is_whole(script, history, transcript) {
+        if !is_whole(script, history, pids, transcript) {
             found = Some(least(found, transcript.pid));
         }
     }
     found
 }
 
-fn is_whole(script: &Script, history: &[Event], transcript: &Transcript) -> bool
+fn is_whole(script: &Script, history: &[Event], pids: Pids<'_>, transcript: &Transcript) -> bool
+    requires lines { ArePids line_pid script.now.lines pids.lines.now }
+    requires events { ArePids pid_at history.now pids.events.now }
     ensures { IsTrue result ↔ IsTranscript script.now history.now transcript.now }
 {
-    has_lines(script, history, transcript)
-        && is_own(history, transcript.pid, &transcript.entries)
+    has_lines(script, history, pids, transcript)
+        && is_own(history, pids.events, transcript.pid, &transcript.entries)
         && are_marks_allowed(&transcript.entries)
 }
 
-fn has_lines(script: &Script, history: &[Event], transcript: &Transcript) -> bool
+fn has_lines(script: &Script, history: &[Event], pids: Pids<'_>, transcript: &Transcript) -> bool
+    requires lines { ArePids line_pid script.now.lines pids.lines.now }
+    requires events { ArePids pid_at history.now pids.events.now }
     ensures { IsTrue result ↔ HasLines script.now history.now transcript.now }
 {
-    if follow(&script.lines, transcript.pid, &transcript.entries) {
+    if follow(
+        &script.lines,
+        pids.lines,
+        transcript.pid,
+        &transcript.entries,
+    ) {
         return true;
     }
     is_child(&script.processes, transcript.pid)
@@ -145,18 +181,16 @@ fn is_mark_allowed(entry: &Entry) -> bool
 }
 
 // Whether the entries follow the lines of the process.
-fn follow(lines: &[Line], pid: u32, entries: &[Entry]) -> bool
+fn follow(lines: &[Line], pids: &[u32], pid: u32, entries: &[Entry]) -> bool
+    requires { ArePids line_pid lines.now pids.now }
     ensures { IsTrue result ↔ Follows no_values (commands_of pid lines.now) entries.now }
 {
     let mut vars = Vars::new();
     let mut next = 0;
-    for line in lines {
-        let Line::Command(command) = line else {
+    for index in 0..lines.len() {
+        let Some(command) = own_command(lines, pids, pid, index) else {
             continue;
         };
-        if command.pid() != pid {
-            continue;
-        }
         if next >= entries.len() {
             return false;
         }
@@ -181,14 +215,15 @@ fn has_call(entry: &Entry, call: &Call) -> bool
 }
 
 // Whether the answered entries are the process's own part of the history.
-fn is_own(history: &[Event], pid: u32, entries: &[Entry]) -> bool
+fn is_own(history: &[Event], pids: &[u32], pid: u32, entries: &[Entry]) -> bool
+    requires { ArePids pid_at history.now pids.now }
     ensures { IsTrue result ↔ transcript_events pid entries.now ≡ own_part pid history.now }
 {
     let mut next = 0;
-    for event in history {
-        if event.pid != pid {
+    for index in 0..history.len() {
+        let Some(event) = own_event(history, pids, pid, index) else {
             continue;
-        }
+        };
         next = next_answered(entries, next);
         if next >= entries.len() || !is_event(&entries[next], event) {
             return false;

@@ -8,6 +8,7 @@ mod flusher;
 mod gate;
 mod mismatch;
 mod outcome;
+mod pids;
 mod plan;
 mod run;
 mod shared;

@@ -1,9 +1,11 @@
 //! Compares the result of a run with its input, once all workers have ended.
-ghost use Rattle.std.specs.Prelude.{◌≡◌, ◌↔◌, IfOk, IsTrue};
+ghost use Rattle.std.specs.Prelude.{◌≡◌, ◌↔◌, [], map, IfOk, IsTrue};
 ghost use Rattle.shm_slots.specs.View.{first_counts};
 ghost use Rattle.shm_threads.specs.Outcomes.{IsMismatch, StartedFrom};
+ghost use Rattle.shm_threads.specs.Pids.{line_pid};
 
-use crate::compare::disagreement;
+use crate::compare::disagreement_by;
+use crate::pids::{Pids, event_pids};
 use crate::transcript::Transcript;
 use shm_base::{HostMemory, Process};
 use shm_history::{Opening, World};
@@ -100,13 +102,23 @@ pub(crate) fn mismatch<P: Pager>(
     origin: &Origin,
     world: &World<P>,
     script: &Script,
+    pids: &[u32],
+    room: Vec<u32>,
     transcripts: &Vec<Transcript>,
 ) -> Option<u32>
+    requires pids { pids.now ≡ map line_pid script.now.lines }
+    requires room { room.items ≡ [] }
     ensures { let counts = origin.now.counts.items in
         IsMismatch script.now origin.now.opening counts world.now transcripts.now.items result }
 {
     if !origin.is_of(world) {
         return Some(0);
     }
-    disagreement(script, world.history(), transcripts)
+    let history = world.history();
+    let events = event_pids(room, history);
+    let found = Pids {
+        lines: pids,
+        events: &events,
+    };
+    disagreement_by(script, history, found, transcripts)
 }

@@ -1,9 +1,10 @@
 //! A run with threads: it starts them, joins them, and compares the result.
-ghost use Rattle.std.specs.Prelude.{◌≡◌, ◌+◌, ◌≤◌, true, false, All, IfOk, OnOk, IfNone, IfSome, length, vec_len, vec_capacity};
+ghost use Rattle.std.specs.Prelude.{◌≡◌, ◌+◌, ◌≤◌, [], map, true, false, All, IfOk, OnOk, IfNone, IfSome, length, vec_len, vec_capacity};
 ghost use Rattle.shm_slots.specs.View.{first_counts};
 ghost use Rattle.shm_threads.specs.Ends.{IsFirst};
 ghost use Rattle.shm_threads.specs.Keepers.{cell_of, IsCaughtUp};
 ghost use Rattle.shm_threads.specs.Outcomes.{IsMismatch, IsOutcome};
+ghost use Rattle.shm_threads.specs.Pids.{line_pid};
 ghost use Rattle.shm_threads.specs.Plans.{HasRoom, IsPlan};
 
 use crate::births::{ProcessState, states};
@@ -12,6 +13,7 @@ use crate::compare::least;
 use crate::gate::Gate;
 use crate::mismatch::{Origin, mismatch};
 use crate::outcome::{Outcome, RunError};
+use crate::pids::line_pids;
 use crate::plan::jobs;
 use crate::shared::Shared;
 use crate::transcript::Transcript;
@@ -110,6 +112,8 @@ fn run_prepared<R: Threads + Wait + Sync, G: Gate, P: Pager + Send>(
     requires opening { start.origin.opening ≡ world.opening }
     requires counts { start.origin.counts.items ≡ first_counts world.memory.swap }
     requires plan { IsPlan script.now.lines start.plan.jobs start.plan.handles start.plan.transcripts }
+    requires pids { start.pids.items ≡ map line_pid script.now.lines }
+    requires room_of_pids { start.room.items ≡ [] }
     requires room { length script.now.lines ≤ world.room }
     ensures outcome { let counts = first_counts world.memory.swap in
         IfOk result (λ r. IsOutcome script.now world.opening counts r.0.world r.0.transcripts.items) }
@@ -118,12 +122,14 @@ fn run_prepared<R: Threads + Wait + Sync, G: Gate, P: Pager + Send>(
     let Start {
         origin,
         processes,
+        pids,
+        room,
         plan,
     } = start;
     let shared = Shared::new(world, processes);
-    let run = run_all(rt, &shared, keeper, script, gate, plan);
+    let run = run_all(rt, &shared, keeper, script, &pids, gate, plan);
     let world = shared.into_world();
-    match run_error(&origin, &world, script, &run) {
+    match run_error(&origin, &world, script, &pids, room, &run) {
         None => Ok(outcome_of(world, run)),
         Some(error) => Err(error),
     }
@@ -134,6 +140,10 @@ fn run_prepared<R: Threads + Wait + Sync, G: Gate, P: Pager + Send>(
 struct Start {
     origin: Origin,
     processes: Vec<ProcessState>,
+    // The pid of each line.
+    pids: Vec<u32>,
+    // An empty list with room for the pid of each event.
+    room: Vec<u32>,
     plan: Plan,
 }
 
@@ -156,24 +166,31 @@ fn prepared<P: Pager>(
     ensures opening { IfOk result (λ s. s.origin.opening ≡ world.old.opening) }
     ensures counts { IfOk result (λ s. s.origin.counts.items ≡ first_counts world.old.memory.swap) }
     ensures plan { IfOk result (λ s. IsPlan script.now.lines s.plan.jobs s.plan.handles s.plan.transcripts) }
+    ensures pids { IfOk result (λ s. s.pids.items ≡ map line_pid script.now.lines) }
+    ensures room_of_pids { IfOk result (λ s. s.room.items ≡ []) }
     ensures room { OnOk result (length script.now.lines ≤ world.new.room) }
     ensures rest { world.new ≡ record world.old { room = world.new.room } }
 {
     let origin = Origin::of(alloc, world)?;
     let processes = states(alloc, &script.processes)?;
-    let plan = planned(alloc, script)?;
+    let pids = line_pids(alloc, &script.lines)?;
+    let room = Vec::with_capacity(alloc, script.lines.len())?;
+    let plan = planned(alloc, script, &pids)?;
     world.reserve(script.lines.len())?;
     Ok(Start {
         origin,
         processes,
+        pids,
+        room,
         plan,
     })
 }
 
-fn planned(alloc: Global, script: &Script) -> Result<Plan, HostMemory>
+fn planned(alloc: Global, script: &Script, pids: &[u32]) -> Result<Plan, HostMemory>
+    requires { pids.now ≡ map line_pid script.now.lines }
     ensures { IfOk result (λ p. IsPlan script.now.lines p.jobs p.handles p.transcripts) }
 {
-    let jobs = jobs(alloc, script)?;
+    let jobs = jobs(alloc, script, pids)?;
     let handles = Vec::with_capacity(alloc, jobs.len())?;
     let transcripts = Vec::with_capacity(alloc, jobs.len())?;
     Ok(Plan {
@@ -198,8 +215,12 @@ fn run_error<P: Pager>(
     origin: &Origin,
     world: &World<P>,
     script: &Script,
+    pids: &[u32],
+    room: Vec<u32>,
     run: &Joined,
 ) -> Option<RunError>
+    requires pids { pids.now ≡ map line_pid script.now.lines }
+    requires room { room.items ≡ [] }
     ensures outcome { let counts = origin.now.counts.items in
         IfNone result (IsOutcome script.now origin.now.opening counts world.now run.now.transcripts.items) }
     ensures started { IfNone result (run.now.is_refused ≡ false) }
@@ -213,7 +234,7 @@ fn run_error<P: Pager>(
     if let Some(pid) = run.expired {
         return Some(RunError::GateExpired { pid });
     }
-    match mismatch(origin, world, script, &run.transcripts) {
+    match mismatch(origin, world, script, pids, room, &run.transcripts) {
         None => None,
         Some(pid) => Some(RunError::HistoryMismatch { pid }),
     }
@@ -251,10 +272,12 @@ fn run_all<R: Threads + Wait + Sync, G: Gate, P: Pager + Send>(
     shared: &Shared<P>,
     keeper: Option<Keeper>,
     script: &Script,
+    pids: &[u32],
     gate: &G,
     plan: Plan,
 ) -> Joined
-    requires { IsPlan script.now.lines plan.jobs plan.handles plan.transcripts }
+    requires plan { IsPlan script.now.lines plan.jobs plan.handles plan.transcripts }
+    requires pids { pids.now ≡ map line_pid script.now.lines }
     ensures { result.is_refused ≡ false → cell_of result.keeper ≡ cell_of keeper }
 {
     let Plan {
@@ -266,7 +289,8 @@ fn run_all<R: Threads + Wait + Sync, G: Gate, P: Pager + Send>(
         thread::scope_env(),
         rt,
         move |scope| -> Joined
-            requires { IsPlan script.now.lines jobs handles transcripts }
+            requires plan { IsPlan script.now.lines jobs handles transcripts }
+            requires pids { pids.now ≡ map line_pid script.now.lines }
             ensures { result.is_refused ≡ false → cell_of result.keeper ≡ cell_of keeper }
         {
             let same = SameCell(Snapshot::of(&keeper));
@@ -281,6 +305,7 @@ fn run_all<R: Threads + Wait + Sync, G: Gate, P: Pager + Send>(
                 rt,
                 shared,
                 &script.lines,
+                pids,
                 gate,
                 jobs,
                 handles,
@@ -307,11 +332,13 @@ fn start_all<'s, E, R: Threads + Wait + Sync, G: Gate, P: Pager + Send>(
     rt: &'s R,
     shared: &'s Shared<P>,
     lines: &'s [Line],
+    pids: &'s [u32],
     gate: &'s G,
     jobs: Vec<Transcript>,
     mut handles: Vec<JoinHandle<Ended>>,
 ) -> (Vec<JoinHandle<Ended>>, bool)
     requires lines { All (HasRoom lines.now) jobs.items }
+    requires pids { pids.now ≡ map line_pid lines.now }
     requires room { vec_len handles + vec_len jobs ≤ vec_capacity handles }
     ensures { vec_len result.0 ≤ vec_len handles + vec_len jobs }
 {
@@ -325,8 +352,9 @@ fn start_all<'s, E, R: Threads + Wait + Sync, G: Gate, P: Pager + Send>(
         let started = Builder::new().spawn_scoped(
             scope,
             move || -> Ended
-                requires { HasRoom lines.now job }
-            { run_process(rt, shared, lines, gate, job) },
+                requires room { HasRoom lines.now job }
+                requires pids { pids.now ≡ map line_pid lines.now }
+            { run_process(rt, shared, lines, pids, gate, job) },
         );
         if let Ok(handle) = started {
             handles.push_reserved(handle);

@@ -15,7 +15,8 @@ use shm_base::{Call, FlushReport, HostMemory, Reply};
 use shm_history::{Keeper, World};
 use shm_pager::Pager;
 use shm_text::{Command, Vars};
-use std::sync::{Condvar, Mutex, Wait};
+use std::sync::{Condvar, Mutex, MutexGuard, Wait};
+use std::thread::yield_now;
 
 #[derive(Drop)]
 struct RunState<P: Pager> {
@@ -85,6 +86,9 @@ pub(crate) struct Shared<P: Pager> {
     changed: Condvar,
 }
 
+// How often a thread tries to take the lock before it sleeps.
+const TRIES: u32 = 100;
+
 impl<P: Pager> Shared<P> {
     pub(crate) fn new(world: World<P>, processes: Vec<ProcessState>) -> Shared<P> {
         Shared {
@@ -93,12 +97,23 @@ impl<P: Pager> Shared<P> {
         }
     }
 
+    // The lock. A call is short, so a thread that finds it taken lets others run a few times before it sleeps.
+    fn locked<R: Wait>(&self, rt: &R) -> MutexGuard<'_, RunState<P>> {
+        for _ in 0..TRIES {
+            if let Some(guard) = self.state.try_lock() {
+                return guard;
+            }
+            yield_now();
+        }
+        self.state.lock(rt)
+    }
+
     /// Makes a command line's call. Only the call itself is made under the lock.
     pub(crate) fn call<R: Wait>(&self, rt: &R, command: &Command, vars: &Vars) -> Entry
         ensures { result.call ≡ call_of vars.now command.now.call }
     {
         let call = vars.call(command);
-        let (answer, news) = self.state.lock(rt).call(command.pid(), &call);
+        let (answer, news) = self.locked(rt).call(command.pid(), &call);
         match news {
             Some(news) => news.announce(&self.changed),
             None => {}

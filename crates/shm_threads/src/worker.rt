@@ -2,12 +2,14 @@
 //!
 //! A worker asks its caller for each step. The worker's contract says what it asks for and in which order;
 //! the caller may do anything.
-ghost use Rattle.std.specs.Prelude.{◌≡◌, [], ◌∷◌, List, not};
+ghost use Rattle.std.specs.Prelude.{◌≡◌, map, [], ◌∷◌, List, not};
 ghost use Rattle.shm_text.specs.Variables.{call_of};
 ghost use Rattle.shm_threads.specs.Asked.{Asked, Adds, Born, Before, Called, After, Left, RunsLines, Works};
+ghost use Rattle.shm_threads.specs.Pids.{line_pid};
 ghost use Rattle.shm_threads.specs.Plans.{HasRoom};
 ghost use Rattle.shm_threads.specs.Transcripts.{commands_of};
 
+use crate::pids::own_command;
 use crate::transcript::{Entry, Transcript};
 use shm_text::{Command, Line, Vars};
 
@@ -46,14 +48,20 @@ pub(crate) struct Ended {
 }
 
 /// Runs one process, from its birth to its end.
-pub(crate) fn work<C: Caller>(caller: &mut C, lines: &[Line], mut transcript: Transcript) -> Ended
-    requires { HasRoom lines.now transcript }
+pub(crate) fn work<C: Caller>(
+    caller: &mut C,
+    lines: &[Line],
+    pids: &[u32],
+    mut transcript: Transcript,
+) -> Ended
+    requires room { HasRoom lines.now transcript }
+    requires pids { pids.now ≡ map line_pid lines.now }
     ensures pid { result.transcript.pid ≡ transcript.pid }
     ensures works { let own = commands_of transcript.pid lines.now in
         Works (C.asked caller.old) (C.asked caller.new) own result.transcript.entries.items
         (not result.is_expired) }
 {
-    let is_expired = caller.born() && !run_lines(caller, lines, &mut transcript);
+    let is_expired = caller.born() && !run_lines(caller, lines, pids, &mut transcript);
     caller.leave();
     Ended {
         transcript,
@@ -62,8 +70,14 @@ pub(crate) fn work<C: Caller>(caller: &mut C, lines: &[Line], mut transcript: Tr
 }
 
 // Runs the lines of a born process. False if the gate ended it.
-fn run_lines<C: Caller>(caller: &mut C, lines: &[Line], transcript: &mut Transcript) -> bool
-    requires { HasRoom lines.now transcript.old }
+fn run_lines<C: Caller>(
+    caller: &mut C,
+    lines: &[Line],
+    pids: &[u32],
+    transcript: &mut Transcript,
+) -> bool
+    requires room { HasRoom lines.now transcript.old }
+    requires pids { pids.now ≡ map line_pid lines.now }
     ensures pid { transcript.new.pid ≡ transcript.old.pid }
     ensures runs { let own = commands_of transcript.old.pid lines.now in
         RunsLines (C.asked caller.old) (C.asked caller.new) own transcript.new.entries.items result }
@@ -71,13 +85,10 @@ fn run_lines<C: Caller>(caller: &mut C, lines: &[Line], transcript: &mut Transcr
     let pid = transcript.pid;
     let mut vars = Vars::new();
     let mut n = 0u64;
-    for line in lines {
-        let Line::Command(command) = line else {
+    for index in 0..lines.len() {
+        let Some(command) = own_command(lines, pids, pid, index) else {
             continue;
         };
-        if command.pid() != pid {
-            continue;
-        }
         n += 1;
         if !caller.before(n) {
             return false;

@@ -1,17 +1,12 @@
-use Rattle.std.proofs.Common.{arith, ◌≡◌, sym, subst, List, [], append-nil, drop, map}
-use Rattle.shm_base.specs.declared.call.Event.{Event}
-use Rattle.shm_text.specs.declared.script.Line.{Line}
-use Rattle.std.proofs.lemmas.Grind.{common_steps}
+use Rattle.std.proofs.Common.{rules, ◌≡◌, ◌/◌, map, take, drop}
 use Rattle.shm_program.specs.Values.{fresh_holder}
-use Rattle.shm_runner.specs.Output.{RunsInOrder}
+use Rattle.shm_runner.proofs.Halves.{both_ran}
 use Rattle.shm_runner.proofs.serial.run_lines.Goals as goal
 
--- no line is left
 pub returns-clause-follows : goal.returns-clause-follows
 returns-clause-follows g c =
-    let done : drop c.loop-line.line-index c.args.script.now.lines ≡ [] = grind (arith, common_steps) in
-    let none : RunsInOrder c.loop-line.values (drop c.loop-line.line-index c.args.script.now.lines) [] =
-    subst (λ (ls : List Line). RunsInOrder c.loop-line.values ls []) (sym done) tt in
-    subst (λ (es : List Event). RunsInOrder (map fresh_holder c.args.script.now.processes) c.args.script.now.lines es)
-    (append-nil c.loop-line.world.events)
-    (c.loop-line.invariant.follows [] none)
+    let lines = c.args.script.lines in
+    let k = c.len-middle.result / 2 in
+    let first : c.deref-2.result.now ≡ take k lines = search rules in
+    let second : c.deref-3.result.now ≡ drop k lines = search rules in
+    both_ran (map fresh_holder c.args.script.processes) _ _ _ k lines _ _ _ _ c.run_part-2.new.world.events first second (search rules) (search rules) c.in_ok-run_part.ensures.follows c.in_ok-run_part-2.ensures.follows

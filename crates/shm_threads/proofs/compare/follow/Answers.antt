@@ -4,5 +4,5 @@ use Rattle.shm_threads.proofs.compare.follow.Goals as goal
 
 pub returns : goal.returns
 returns c =
-    let end = no_more_lines c.loop-line.vars c.args.pid c.loop-line.line-index c.loop-line.next c.args.lines.now c.args.entries.now c.loop-line-test.false c.loop-line.invariant.0 in
-    (λ t. c.loop-line.invariant.1.0 (end.1 (eqb-true _ _ t)), λ whole. eq-eqb _ _ (end.0 (c.loop-line.invariant.1.1 whole)))
+    let end = no_more_lines c.loop-index.vars c.args.pid c.loop-index.index c.loop-index.next c.args.lines.now c.args.entries.now c.loop-index-test.false c.loop-index.invariant.0 in
+    (λ t. c.loop-index.invariant.1.0 (end.1 (eqb-true _ _ t)), λ whole. eq-eqb _ _ (end.0 (c.loop-index.invariant.1.1 whole)))

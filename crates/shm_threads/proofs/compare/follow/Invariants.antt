@@ -4,7 +4,7 @@ use Rattle.shm_threads.specs.Transcripts.{Follows, commands_of}
 use Rattle.shm_threads.proofs.compare.follow.Given as goal
 
 -- the rest follows exactly if the whole does
-abbrev pub invariant-loop-line : goal.invariant-loop-line
-invariant-loop-line l =
+abbrev pub invariant-loop-index : goal.invariant-loop-index
+invariant-loop-index l =
     (l.next ≤ length l.entries)
-    × (Follows l.vars (commands_of l.pid (drop l.line-index l.lines)) (drop l.next l.entries) ↔ Follows no_values (commands_of l.pid l.lines) l.entries)
+    × (Follows l.vars (commands_of l.pid (drop l.index l.lines)) (drop l.next l.entries) ↔ Follows no_values (commands_of l.pid l.lines) l.entries)

@@ -4,7 +4,7 @@ use Rattle.shm_text.specs.Variables.{no_values, values_after}
 use Rattle.shm_threads.specs.Transcripts.{commands_of, reply_in, is_end}
 use Rattle.shm_threads.specs.declared.transcript.Entry.{Entry}
 use Rattle.shm_threads.specs.Asked.{Asked, Before, Adds, asks_of, FollowsTo, RunsLines}
-use Rattle.shm_threads.proofs.Steps.{adds_none, line_asked, exit_asked, line_follows, exit_follows, next_command, other_command, no_command}
+use Rattle.shm_threads.proofs.Steps.{adds_none, line_asked, exit_asked, line_follows, exit_follows, no_command}
 use Rattle.shm_threads.proofs.worker.run_lines.Goals as goal
 
 -- the whole, once nothing is left
@@ -17,67 +17,54 @@ whole A B all entries is_whole follows asked =
 
 pub returns-then-not-before-clause-runs : goal.returns-then-not-before-clause-runs
 returns-then-not-before-clause-runs g c =
-    let inv = c.loop-line.invariant in
-    let rest = next_command c.args.transcript.now.pid c.loop-line.line-index c.args.lines.now c.line-item.result c.in-Command.command c.loop-line-test.true c.line-item.is c.in-Command.is (search rules) in
-    let no : c.before-in-loop-line.result ≡ false = search rules in
-    let told : Adds (g.C.Caller.asked c.loop-line.caller) (Before (c.loop-line.n + 1) false ∷ []) (g.C.Caller.asked c.before-in-loop-line.new.self) = rw no at c.before-in-loop-line.ensures in
-    whole _ _ _ c.loop-line.transcript.entries.items false (inv.follows [] false (rw rest refl)) (inv.asked [] _ (rw rest told))
+    let inv = c.loop-index.invariant in
+    let rest = c.in-Some.ensures.own in
+    let no : c.before-in-loop-index.result ≡ false = search rules in
+    let told : Adds (g.C.Caller.asked c.loop-index.caller) (Before (c.loop-index.n + 1) false ∷ []) (g.C.Caller.asked c.before-in-loop-index.new.self) = rw no at c.before-in-loop-index.ensures in
+    whole _ _ _ c.loop-index.transcript.entries.items false (inv.follows [] false (rw rest refl)) (inv.asked [] _ (rw rest told))
 
 pub returns-clause-runs : goal.returns-clause-runs
 returns-clause-runs g c =
-    let inv = c.loop-line.invariant in
-    let rest = no_command c.args.transcript.now.pid c.loop-line.line-index c.args.lines.now c.loop-line-test.false in
-    whole _ _ _ c.loop-line.transcript.entries.items true (inv.follows [] true (rw rest refl)) (inv.asked [] _ (rw rest (adds_none (g.C.Caller.asked c.loop-line.caller))))
+    let inv = c.loop-index.invariant in
+    let rest = no_command c.args.transcript.now.pid c.loop-index.index c.args.lines.now c.loop-index-test.false in
+    whole _ _ _ c.loop-index.transcript.entries.items true (inv.follows [] true (rw rest refl)) (inv.asked [] _ (rw rest (adds_none (g.C.Caller.asked c.loop-index.caller))))
 
 pub returns-then-has_ended-clause-runs : goal.returns-then-has_ended-clause-runs
 returns-then-has_ended-clause-runs g c =
-    let inv = c.loop-line.invariant in
-    let n = c.loop-line.n in
-    let vars = c.loop-line.vars in
-    let command = c.in-Command.command in
+    let inv = c.loop-index.invariant in
+    let n = c.loop-index.n in
+    let vars = c.loop-index.vars in
+    let command = c.in-Some.command.now in
     let e = c.call-entry.result in
     let all = commands_of c.args.transcript.now.pid c.args.lines.now in
-    let left = commands_of c.args.transcript.now.pid (drop (c.loop-line.line-index + 1) c.args.lines.now) in
-    let rest = next_command c.args.transcript.now.pid c.loop-line.line-index c.args.lines.now c.line-item.result command c.loop-line-test.true c.line-item.is c.in-Command.is (search rules) in
-    let yes : c.before-in-loop-line.result ≡ true = search rules in
-    let before : Adds (g.C.Caller.asked c.loop-line.caller) (Before (n + 1) true ∷ []) (g.C.Caller.asked c.before-in-loop-line.new.self) = rw yes at c.before-in-loop-line.ensures in
+    let left = commands_of c.args.transcript.now.pid (drop (c.loop-index.index + 1) c.args.lines.now) in
+    let rest = c.in-Some.ensures.own in
+    let yes : c.before-in-loop-index.result ≡ true = search rules in
+    let before : Adds (g.C.Caller.asked c.loop-index.caller) (Before (n + 1) true ∷ []) (g.C.Caller.asked c.before-in-loop-index.new.self) = rw yes at c.before-in-loop-index.ensures in
     let ends : is_end e.call e.answer ≡ true = search rules in
     let follows = inv.follows (e ∷ []) true (rw rest (exit_follows vars command left e c.call-entry.ensures.line ends)) in
-    let asked = inv.asked (e ∷ []) c.after.new.self (rw rest (exit_asked (g.C.Caller.asked c.loop-line.caller) (g.C.Caller.asked c.before-in-loop-line.new.self) (g.C.Caller.asked c.call-entry.new.self) (g.C.Caller.asked c.after.new.self) vars (n + 1) command left e before c.call-entry.ensures.asked c.after.ensures ends)) in
+    let asked = inv.asked (e ∷ []) c.after.new.self (rw rest (exit_asked (g.C.Caller.asked c.loop-index.caller) (g.C.Caller.asked c.before-in-loop-index.new.self) (g.C.Caller.asked c.call-entry.new.self) (g.C.Caller.asked c.after.new.self) vars (n + 1) command left e before c.call-entry.ensures.asked c.after.ensures ends)) in
     let Follow : List Entry → Type 0 = λ es. FollowsTo no_values all es true in
     let Ask : List Entry → Type 0 = λ es. Adds (g.C.Caller.asked c.args.caller.now) (asks_of no_values 1 all es) (g.C.Caller.asked c.after.new.self) in
     record { follows = subst Follow (sym c.push_reserved.ensures.items) follows; asked = subst Ask (sym c.push_reserved.ensures.items) asked }
 
--- a line of another process
-pub loop-line-preserved-then-pid : goal.loop-line-preserved-then-pid
-loop-line-preserved-then-pid g c =
-    let inv = c.loop-line.invariant in
-    let rest = other_command c.args.transcript.now.pid c.loop-line.line-index c.args.lines.now c.line-item.result c.in-Command.command c.loop-line-test.true c.line-item.is c.in-Command.is (search rules) in
-    record {
-      counted = omega (arith, inv.counted);
-      room = rw (← rest) inv.room;
-      pid = inv.pid;
-      follows = λ es whole. rw (← rest) (inv.follows es whole);
-      asked = λ es end. rw (← rest) (inv.asked es end);
-    }
-
-pub loop-line-preserved : goal.loop-line-preserved
-loop-line-preserved g c =
-    let inv = c.loop-line.invariant in
-    let n = c.loop-line.n in
-    let vars = c.loop-line.vars in
-    let command = c.in-Command.command in
+pub loop-index-preserved : goal.loop-index-preserved
+loop-index-preserved g c =
+    let inv = c.loop-index.invariant in
+    let n = c.loop-index.n in
+    let vars = c.loop-index.vars in
+    let command = c.in-Some.command.now in
     let e = c.call-entry.result in
     let all = commands_of c.args.transcript.now.pid c.args.lines.now in
-    let left = commands_of c.args.transcript.now.pid (drop (c.loop-line.line-index + 1) c.args.lines.now) in
-    let rest = next_command c.args.transcript.now.pid c.loop-line.line-index c.args.lines.now c.line-item.result command c.loop-line-test.true c.line-item.is c.in-Command.is (search rules) in
-    let long : length (commands_of c.args.transcript.now.pid (drop c.loop-line.line-index c.args.lines.now)) ≡ length (command ∷ left) = ap length rest in
-    let yes : c.before-in-loop-line.result ≡ true = search rules in
-    let before : Adds (g.C.Caller.asked c.loop-line.caller) (Before (n + 1) true ∷ []) (g.C.Caller.asked c.before-in-loop-line.new.self) = rw yes at c.before-in-loop-line.ensures in
+    let left = commands_of c.args.transcript.now.pid (drop (c.loop-index.index + 1) c.args.lines.now) in
+    let rest = c.in-Some.ensures.own in
+    let long : length (commands_of c.args.transcript.now.pid (drop c.loop-index.index c.args.lines.now)) ≡ length (command ∷ left) = ap length rest in
+    let yes : c.before-in-loop-index.result ≡ true = search rules in
+    let before : Adds (g.C.Caller.asked c.loop-index.caller) (Before (n + 1) true ∷ []) (g.C.Caller.asked c.before-in-loop-index.new.self) = rw yes at c.before-in-loop-index.ensures in
     let goes : is_end e.call e.answer ≡ false = search rules in
     let after : c.took.new.self ≡ values_after vars command.var (reply_in e.answer) = search rules in
-    let done : (es : List Entry) → c.loop-line.transcript.entries.items ++ (e ∷ es) ≡ c.push_reserved.new.self.items ++ es =
-    λ es. sym (ap (λ xs. xs ++ es) c.push_reserved.ensures.items ∙ append_assoc c.loop-line.transcript.entries.items (e ∷ []) es) in
+    let done : (es : List Entry) → c.loop-index.transcript.entries.items ++ (e ∷ es) ≡ c.push_reserved.new.self.items ++ es =
+    λ es. sym (ap (λ xs. xs ++ es) c.push_reserved.ensures.items ∙ append_assoc c.loop-index.transcript.entries.items (e ∷ []) es) in
     record {
       counted = omega (arith, inv.counted);
       room = omega (arith, long, inv.room, c.push_reserved.ensures.len, c.push_reserved.ensures.capacity);
@@ -89,5 +76,5 @@ loop-line-preserved g c =
       asked = λ es end later.
           (let Ask : List Entry → Type 0 = λ xs. Adds (g.C.Caller.asked c.args.caller.now) (asks_of no_values 1 all xs) (g.C.Caller.asked end) in
           let On : List (Option ℕ) → Type 0 = λ values. Adds (g.C.Caller.asked c.after.new.self) (asks_of values (n + 1 + 1) left es) (g.C.Caller.asked end) in
-          subst Ask (done es) (inv.asked (e ∷ es) end (rw rest (line_asked (g.C.Caller.asked c.loop-line.caller) (g.C.Caller.asked c.before-in-loop-line.new.self) (g.C.Caller.asked c.call-entry.new.self) (g.C.Caller.asked c.after.new.self) vars (n + 1) command left e before c.call-entry.ensures.asked c.after.ensures (g.C.Caller.asked end) es goes (subst On after later)))));
+          subst Ask (done es) (inv.asked (e ∷ es) end (rw rest (line_asked (g.C.Caller.asked c.loop-index.caller) (g.C.Caller.asked c.before-in-loop-index.new.self) (g.C.Caller.asked c.call-entry.new.self) (g.C.Caller.asked c.after.new.self) vars (n + 1) command left e before c.call-entry.ensures.asked c.after.ensures (g.C.Caller.asked end) es goes (subst On after later)))));
     }

@@ -3,8 +3,8 @@ use Rattle.shm_base.specs.declared.call.Process.{Process}
 use Rattle.shm_threads.specs.Transcripts.{IsTranscript, IsAdmitted, IsLeastOf, IsFound, AreListed, pid_of, pid_at}
 use Rattle.shm_threads.specs.declared.transcript.Transcript.{Transcript}
 use Rattle.shm_threads.proofs.LeastWrong.{with_broken, none_broken, found}
-use Rattle.shm_threads.proofs.compare.disagreement.Goals as goal
-use Rattle.shm_threads.proofs.compare.disagreement.Goals.{After-first_broken-broken}
+use Rattle.shm_threads.proofs.compare.disagreement_by.Goals as goal
+use Rattle.shm_threads.proofs.compare.disagreement_by.Goals.{After-first_broken-broken}
 
 -- what both searches found, for the script and the list that were passed in
 stranger : (c : After-first_broken-broken) → IsLeastOf pid_at (IsAdmitted c.args.script.now.processes) c.args.history.now c.first_stranger-stranger.result

@@ -1,0 +1,101 @@
+//! The pids of lines and of events, one after the other. A search for those of one process reads few bytes there.
+ghost use Rattle.std.specs.Prelude.{◌≡◌, ◌+◌, [], ◌∷◌, ◌<◌, IfNone, IfOk, IfSome, drop, length, map};
+ghost use Rattle.shm_base.specs.History.{own_part};
+ghost use Rattle.shm_threads.specs.Pids.{ArePids, line_pid};
+ghost use Rattle.shm_threads.specs.Transcripts.{commands_of, pid_at};
+
+use shm_base::{Event, HostMemory};
+use shm_text::{Command, Line};
+use std::alloc::Global;
+
+/// The pids of the first lines of a script and of the first events of a history.
+#[derive(Clone, Copy)]
+pub(crate) struct Pids<'a> {
+    pub(crate) lines: &'a [u32],
+    pub(crate) events: &'a [u32],
+}
+
+/// The pid of each line, 0 of a flush line.
+pub(crate) fn line_pids(alloc: Global, lines: &[Line]) -> Result<Vec<u32>, HostMemory>
+    ensures { IfOk result (λ pids. pids.items ≡ map line_pid lines.now) }
+{
+    let mut pids = Vec::with_capacity(alloc, lines.len())?;
+    for line in lines {
+        pids.push(line_pid(line))?;
+    }
+    Ok(pids)
+}
+
+fn line_pid(line: &Line) -> u32
+    ensures { result ≡ line_pid line.now }
+{
+    match line {
+        Line::Command(command) => command.pid(),
+        Line::Flush(_) => 0,
+    }
+}
+
+/// The pids of a history's first events, as many as there is room for in an empty list.
+pub(crate) fn event_pids(room: Vec<u32>, history: &[Event]) -> Vec<u32>
+    requires { room.items ≡ [] }
+    ensures { ArePids pid_at history.now result.items }
+{
+    let mut pids = room;
+    let count = history.len().min(pids.capacity());
+    for index in 0..count {
+        pids.push_reserved(history[index].pid);
+    }
+    pids
+}
+
+/// The command line at an index, if it is one of the process. The pids are those of the first lines.
+#[inline(always)]
+pub(crate) fn own_command<'a>(
+    lines: &'a [Line],
+    pids: &[u32],
+    pid: u32,
+    index: usize,
+) -> Option<&'a Command>
+    requires pids { ArePids line_pid lines.now pids.now }
+    requires index { index < length lines.now }
+    ensures pid { IfSome result (λ c. c.now.pid ≡ pid) }
+    ensures own { let later = commands_of pid (drop (index + 1) lines.now) in
+        IfSome result (λ c. commands_of pid (drop index lines.now) ≡ c.now ∷ later) }
+    ensures other { let later = commands_of pid (drop (index + 1) lines.now) in
+        IfNone result (commands_of pid (drop index lines.now) ≡ later) }
+{
+    if index < pids.len() && pids[index] != pid {
+        return None;
+    }
+    let Line::Command(command) = &lines[index] else {
+        return None;
+    };
+    if command.pid() == pid {
+        Some(command)
+    } else {
+        None
+    }
+}
+
+/// The event at an index, if it is one of the process. The pids are those of the first events.
+#[inline(always)]
+pub(crate) fn own_event<'a>(
+    history: &'a [Event],
+    pids: &[u32],
+    pid: u32,
+    index: usize,
+) -> Option<&'a Event>
+    requires pids { ArePids pid_at history.now pids.now }
+    requires index { index < length history.now }
+    ensures pid { IfSome result (λ e. e.now.pid ≡ pid) }
+    ensures own { let later = own_part pid (drop (index + 1) history.now) in
+        IfSome result (λ e. own_part pid (drop index history.now) ≡ e.now ∷ later) }
+    ensures other { let later = own_part pid (drop (index + 1) history.now) in
+        IfNone result (own_part pid (drop index history.now) ≡ later) }
+{
+    if index < pids.len() && pids[index] != pid {
+        return None;
+    }
+    let event = &history[index];
+    if event.pid == pid { Some(event) } else { None }
+}
