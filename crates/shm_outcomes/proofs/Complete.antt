@@ -1,73 +1,389 @@
--- When no run is left to be visited, each schedule's outcome was found.
-use Rattle.std.specs.Prelude.{◌≡◌, ℕ, List, [], ◌∷◌, Contains}
-use Rattle.std.proofs.Common.{ap, refl, sym, subst, ◌∙◌, inl, inr}
-use Rattle.std.proofs.lemmas.List.Elements.{All-contains}
+-- The levels of a search, and what it has when none is left.
+use Rattle.std.specs.Prelude.{◌≡◌, ◌<◌, ◌≤◌, ℕ, suc, zero, ◌+◌, ◌-◌, List, [], ◌∷◌, ◌++◌, map, All, Contains, length, slice_index_or, Some}
+use Rattle.std.specs.List.{AllPairs}
+use Rattle.std.proofs.Common.{refl, sym, ap, subst, ◌∙◌, arith, inl, inr, length-append}
+use Rattle.std.proofs.lemmas.Bool.{cases_eq, cases_lt}
+use Rattle.std.proofs.lemmas.List.{append-nil, append_assoc, get_or-map, get_or_append_left, get_or-append_right, get_or_default, length-map}
+use Rattle.std.proofs.lemmas.List.Elements.{All-append, All-cons, All-contains, All-head, All-nil, All-tail, Contains-append_right}
 use Rattle.shm_base.specs.State.{Machine}
-use Rattle.shm_base.specs.declared.call.Reply.{Reply}
 use Rattle.shm_text.specs.Script.{ScriptView}
-use Rattle.shm_outcomes.specs.Changes.{all_changes}
-use Rattle.shm_outcomes.specs.Keys.{Key, key_of}
+use Rattle.shm_outcomes.specs.Branches.{sprout}
+use Rattle.shm_outcomes.specs.Groups.{Groups, mark_by, mark_of}
+use Rattle.shm_outcomes.specs.Keys.{AreMoreRuns, AreOther, IsKeyOf, Key, key_of}
+use Rattle.shm_outcomes.specs.Known.{IsAt}
+use Rattle.shm_outcomes.specs.Levels.{IsFirstCause, IsLevelCause, IsLevelFull, IsNextLevel, Level, first_level}
+use Rattle.shm_outcomes.specs.Merging.{IsCause}
+use Rattle.shm_outcomes.specs.declared.search.SearchError.{SearchError}
+use Rattle.shm_outcomes.specs.declared.search.SearchError.TheVariants.{Bound, Engine}
+use Rattle.shm_outcomes.specs.Members.{Member, Way, member, member_in, members_in, no_members, way}
 use Rattle.shm_outcomes.specs.Outcomes.{outcome_of}
-use Rattle.shm_outcomes.specs.Schedules.{Run, fresh, Leads, IsSchedule}
-use Rattle.shm_outcomes.specs.Search.{AreOutcomes, Finding, IsReached, outcomes_in}
-use Rattle.shm_outcomes.proofs.Going.{GoAlike, go-trans, goes-alike, over-alike}
-use Rattle.shm_outcomes.proofs.Searching.{AreSearched, IsKept, follower-reached}
-use Rattle.shm_outcomes.specs.Times.{timeless}
-use Rattle.shm_outcomes.proofs.Trails.{changed, reached-changed}
-use Rattle.shm_outcomes.proofs.Walking.{contains-none}
+use Rattle.shm_outcomes.specs.Schedules.{Run, fresh, goes, IsOver, Leads, schedule_of}
+use Rattle.shm_outcomes.specs.Search.{AreOutcomes, Finding, IsFinding, IsReached, outcomes_in}
+use Rattle.shm_outcomes.proofs.Branching.{AreCarried}
+use Rattle.shm_outcomes.proofs.Grouping.{AreGroups, IsGroup, IsOne, at-once, group-of, next-groups, one-long, own-mark}
+use Rattle.shm_outcomes.proofs.Searching.{AreKnown, AreMembers, HasOne, IsWay, Steps, adds-all, members-push, no-ways, step-all, ways-after}
+use Rattle.shm_outcomes.proofs.Walking.{follower-reached, goes-length, goes-schedule}
 
--- runs with one key go on alike
-key-alike : (script : ScriptView) (a b : Run) (machine : Machine) → IsReached script (fresh machine) a → IsReached script (fresh machine) b → key_of script (fresh machine) a ≡ key_of script (fresh machine) b → GoAlike script a b
-key-alike script a b machine left right same =
-    record {
-      machine = sym (reached-changed script machine a left) ∙ ap (λ (k : Key). changed (timeless machine) (all_changes k.trail)) same ∙ reached-changed script machine b right;
-      count = ap (λ (k : Key). k.count) same;
-      told = ap (λ (k : Key). k.told) same;
-    }
+-- SCHEDULES
 
-module _ (script : ScriptView) (machine : Machine) (seen : List Key) (found : List Finding) (all : AreSearched script (fresh machine) seen [] found) where
+-- on the way to a run there is one with each smaller number of calls
+on-the-way : (script : ScriptView) (first : Run) (n : ℕ) (schedule : List ℕ) (a c : Run) → Leads script schedule a c → IsReached script first a → length a.events ≤ n → n ≤ length c.events
+    → (b : Run) × IsReached script first b × (length b.events ≡ n)
+on-the-way script first n [] a c same reached low high = (a, reached, (let e = ap (λ (r : Run). length r.events) same in omega (arith, e, low, high)))
+on-the-way script first n (pid ∷ schedule) a c (mid, follows, rest) reached low high =
+    elim (cases_eq (length a.events) n) [
+      | inl is ↦ (a, reached, is)
+      | inr other ↦
+          let more = goes-length script pid a mid follows in
+          on-the-way script first n schedule mid c rest (follower-reached script first a reached pid mid follows) (omega (arith, more, low, other)) high
+    ]
+
+leads-long : (script : ScriptView) (schedule : List ℕ) (a c : Run) → Leads script schedule a c → length c.events ≡ length a.events + length schedule
+leads-long script [] a c same = (let e = ap (λ (r : Run). length r.events) same in omega (arith, e))
+leads-long script (pid ∷ schedule) a c (mid, follows, rest) =
+    let more = goes-length script pid a mid follows in
+    let long = leads-long script schedule mid c rest in
+    omega (arith, more, long)
+
+none-more : (script : ScriptView) (schedule : List ℕ) (a c : Run) → Leads script schedule a c → length c.events ≡ length a.events → a ≡ c
+none-more script [] a c same long = same
+none-more script (pid ∷ schedule) a c leads long = absurd (let more = leads-long script (pid ∷ schedule) a c leads in omega (arith, more, long))
+
+leads-schedule : (script : ScriptView) (schedule : List ℕ) (a c : Run) → Leads script schedule a c → schedule_of c.events ≡ schedule_of a.events ++ schedule
+leads-schedule script [] a c same = ap (λ (r : Run). schedule_of r.events) (sym same) ∙ sym (append-nil (schedule_of a.events))
+leads-schedule script (pid ∷ schedule) a c (mid, follows, rest) =
+    leads-schedule script schedule mid c rest
+    ∙ ap (λ (l : List ℕ). l ++ schedule) (goes-schedule script pid a mid follows)
+    ∙ append_assoc (schedule_of a.events) (pid ∷ []) schedule
+
+All-left : (P : Way → Type 0) (xs ys : List Way) → All P (xs ++ ys) → All P xs
+All-left P xs ys all k d lt =
+    let long = length-append xs ys in
+    subst P (get_or_append_left xs ys d k lt) (all k d (omega (arith, long, lt)))
+
+-- a run with a call follows one with a call less
+last-call : (script : ScriptView) (first : Run) (n : ℕ) (schedule : List ℕ) (a c : Run) → Leads script schedule a c → IsReached script first a → length a.events ≤ n → length c.events ≡ n + 1
+    → (b : Run) × (pid : ℕ) × IsReached script first b × (length b.events ≡ n) × (goes script pid b ≡ Some c)
+last-call script first n [] a c same reached low long = absurd (let e = ap (λ (r : Run). length r.events) same in omega (arith, e, low, long))
+last-call script first n (pid ∷ schedule) a c (mid, follows, rest) reached low long =
+    let more = goes-length script pid a mid follows in
+    elim (cases_eq (length a.events) n) [
+      | inl is ↦
+          let end : mid ≡ c = none-more script schedule mid c rest (omega (arith, long, more, is)) in
+          (a, pid, reached, is, subst (λ (r : Run). goes script pid a ≡ Some r) end follows)
+      | inr other ↦ last-call script first n schedule mid c rest (follower-reached script first a reached pid mid follows) (omega (arith, more, low, other)) long
+    ]
+
+-- KEYS
+
+-- keys of runs with fewer calls, of which no two are the same
+pub record AreKeys (script : ScriptView) (machine : Machine) (n : ℕ) (keys : List Key) : Type 0 where
+  pub each : All (IsKeyOf script (fresh machine)) keys
+  pub apart : AllPairs AreOther keys
+  pub below : All (λ (k : Key). k.count < n) keys
+
+module _ (script : ScriptView) (machine : Machine) (n : ℕ) (g : Groups) (all : AreGroups script machine n g) where
   abbrev first : Run
   first = fresh machine
 
-  abbrev Kept : Key → Type 0
-  Kept key = IsKept script first seen [] found key
+  -- the key of a member's runs
+  abbrev key_in : Way → Key
+  key_in w = record { count = n; told = w.member.told; trail = (slice_index_or g.all w.member.group (sprout script first)).trail }
 
-  -- a visited run with the key of a run to which a schedule leads continues as that one does
-  kept-like : (m : Run) → IsReached script first m → Contains seen (key_of script first m) → (key : Key) × (k : Kept key) × GoAlike script m k.run
-  kept-like m reached met =
-      let k = All-contains Kept seen (key_of script first m) all.kept met in
-      (key_of script first m, k, key-alike script m k.run machine reached k.reached k.is)
+  key-is : (w : Way) (is : IsWay script machine g w) → key_in w ≡ key_of script first is.run
+  key-is w is =
+      let own = group-of script machine n g w.member is.run all is.one in
+      let trail = ap (λ b. b.trail) (get_or_default g.all w.member.group (sprout script first) own.b own.within ∙ own.at) ∙ own.is.carried.trail ∙ sym own.same.trail in
+      let count = sym (one-long script machine n g w.member is.run all is.one) in
+      λ j. record { count = count j; told = is.one.told j; trail = trail j }
 
-  follow : (schedule : List ℕ) (a end : Run) (key : Key) (k : Kept key) → Leads script schedule a end → GoAlike script a k.run → (last : Key) × (l : Kept last) × GoAlike script end l.run
-  follow [] a end key k h alike = (key, k, subst (λ (r : Run). GoAlike script r k.run) h alike)
-  follow (pid ∷ schedule) a end key k h alike =
-      let there = goes-alike script a k.run pid h.0 alike h.1 in
-      elim (k.onwards pid there.0 there.1) [
-        | inl met ↦
-            let next = kept-like there.0 (follower-reached script first k.run k.reached pid there.0 there.1) met in
-            follow schedule h.0 end next.0 next.1 h.2 (go-trans script h.0 there.0 next.1.run there.2 next.2)
-        | inr none ↦ absurd (contains-none there.0 none)
-      ]
+  -- members with one key are the same
+  key-once : (v w : Way) → IsWay script machine g v → IsWay script machine g w → key_in v ≡ key_in w → v.member ≡ w.member
+  key-once v w left right same =
+      let keys : key_of script first left.run ≡ key_of script first right.run = sym (key-is v left) ∙ same ∙ key-is w right in
+      let group : v.member.group ≡ w.member.group =
+      at-once g.marks all.apart v.member.group w.member.group (mark_of script first right.run)
+      (subst (IsAt g.marks v.member.group) (ap (mark_by script) keys) left.one.at) right.one.at in
+      let told = ap (λ (k : Key). k.told) same in
+      λ j. record { group = group j; told = told j }
 
-  begun : Contains seen (key_of script first first)
-  begun =
-      elim all.begun [
-        | inl there ↦ there
-        | inr none ↦ absurd (contains-none first none)
-      ]
+  keys-apart : (ways : List Way) → AreMembers script machine g ways → AllPairs AreOther (map key_in ways)
+  keys-apart ways members i j d ij within same =
+      let long : length (map key_in ways) ≡ length ways = length-map ways key_in in
+      let j-lt : j < length ways = omega (arith, within, long) in
+      let i-lt : i < length ways = omega (arith, ij, j-lt) in
+      let v = way-at ways i i-lt in
+      let w = way-at ways j j-lt in
+      let at-v : slice_index_or (map key_in ways) i d ≡ key_in v.0 = get_or-map key_in ways i v.0 d i-lt ∙ ap key_in v.1 in
+      let at-w : slice_index_or (map key_in ways) j d ≡ key_in w.0 = get_or-map key_in ways j w.0 d j-lt ∙ ap key_in w.1 in
+      let one = key-once v.0 w.0 (All-contains (IsWay script machine g) ways v.0 members.each (i, i-lt, v.1)) (All-contains (IsWay script machine g) ways w.0 members.each (j, j-lt, w.1)) (sym at-v ∙ same ∙ at-w) in
+      members.apart i j v.0.member ij (omega (arith, j-lt, length-map ways member_in))
+      (get_or-map member_in ways i v.0 v.0.member i-lt ∙ ap member_in v.1 ∙ one ∙ sym (get_or-map member_in ways j w.0 v.0.member j-lt ∙ ap member_in w.1))
+    where
+      way-at : (ways : List Way) (i : ℕ) → i < length ways → (w : Way) × (slice_index_or ways i w ≡ w)
+      way-at [] i lt = absurd (omega (arith, lt))
+      way-at (w ∷ ws) zero lt = (w, refl)
+      way-at (w ∷ ws) (suc i) lt = way-at ws i (omega (arith, lt))
 
-  complete : (schedule : List ℕ) (end : Run) → IsSchedule script first schedule end → Contains (outcomes_in found) (outcome_of script end.events)
-  complete schedule end is =
-      let start = kept-like first refl begun in
-      let last = follow schedule first end start.0 start.1 is.0 start.2 in
-      let there = last.1.over (over-alike script end last.1.run last.2 is.1) in
-      subst (λ (o : List (List Reply)). Contains (outcomes_in found) o) (sym last.2.told) there
+  keys-each : (ways : List Way) → All (IsWay script machine g) ways → All (IsKeyOf script first) (map key_in ways)
+  keys-each [] each = All-nil (IsKeyOf script first)
+  keys-each (w ∷ ws) each =
+      let is = All-head (IsWay script machine g) w ws each in
+      All-cons (IsKeyOf script first) (key_in w) (map key_in ws) (is.run, is.one.reached, key-is w is) (keys-each ws (All-tail (IsWay script machine g) w ws each))
 
--- after the last visit
-pub searched-all : (script : ScriptView) (machine : Machine) (seen : List Key) (runs : List Run) (found : List Finding) → AreSearched script (fresh machine) seen runs found → runs ≡ [] → AreOutcomes script (fresh machine) found
-searched-all script machine seen runs found all none =
+  keys-count : (ways : List Way) → All (λ (k : Key). k.count ≡ n) (map key_in ways)
+  keys-count [] = All-nil (λ (k : Key). k.count ≡ n)
+  keys-count (w ∷ ws) = All-cons (λ (k : Key). k.count ≡ n) (key_in w) (map key_in ws) refl (keys-count ws)
+
+  -- the keys of a level are others than those of runs with fewer calls
+  pub more-keys : (keys : List Key) (ways : List Way) → AreKeys script machine n keys → AreMembers script machine g ways → AreKeys script machine (n + 1) (keys ++ map key_in ways)
+  more-keys keys ways before members =
+      let news = map key_in ways in
+      record {
+        each = All-append (IsKeyOf script first) keys news before.each (keys-each ways members.each);
+        apart = pairs-append keys news before.apart (keys-apart ways members) before.below (keys-count ways);
+        below = All-append (λ (k : Key). k.count < n + 1) keys news (λ k d lt. (let b = before.below k d lt in omega (arith, b))) (λ k d lt. (let e = keys-count ways k d lt in omega (arith, e)));
+      }
+    where
+      pairs-append : (xs ys : List Key) → AllPairs AreOther xs → AllPairs AreOther ys → All (λ (k : Key). k.count < n) xs → All (λ (k : Key). k.count ≡ n) ys → AllPairs AreOther (xs ++ ys)
+      pairs-append xs ys left right low high i j d ij within =
+          let long = length-append xs ys in
+          elim (cases_lt j (length xs)) [
+            | inl below ↦ rw (get_or_append_left xs ys d i (omega (arith, ij, below)), get_or_append_left xs ys d j below) (left i j d ij below)
+            | inr above ↦
+                let at-j : slice_index_or (xs ++ ys) j d ≡ slice_index_or ys (j - length xs) d = get_or-append_right xs ys (length xs) j d refl above in
+                let j-lt : j - length xs < length ys = omega (arith, long, within, above) in
+                elim (cases_lt i (length xs)) [
+                  | inl below ↦
+                      λ same.
+                      (let a = low i d below in
+                      let b = high (j - length xs) d j-lt in
+                      let e = ap (λ (k : Key). k.count) (sym (get_or_append_left xs ys d i below) ∙ same ∙ at-j) in
+                      omega (arith, a, b, e))
+                  | inr over ↦
+                      rw (get_or-append_right xs ys (length xs) i d refl over, at-j) (right (i - length xs) (j - length xs) d (omega (arith, ij, over)) j-lt)
+                ]
+          ]
+
+-- LEVELS
+
+-- a level has all runs with n calls
+pub record AreLevel (script : ScriptView) (machine : Machine) (n : ℕ) (level : Level) : Type 0 where
+  pub groups : AreGroups script machine n level.groups
+  pub members : AreMembers script machine level.groups level.members.ways
+  pub complete : (run : Run) → IsReached script (fresh machine) run → length run.events ≡ n → HasOne script machine level.groups level.members.ways run
+
+-- the search so far: this is the level with n calls, and the outcomes of runs with fewer were found
+pub record AreSearched (script : ScriptView) (machine : Machine) (most : ℕ) (level : Level) (found : List Finding) : Type 0 where
+  pub n : ℕ
+  pub is : AreLevel script machine n level
+  pub known : AreKnown script machine found
+  pub ended : (run : Run) → IsReached script (fresh machine) run → IsOver script run → length run.events < n → Contains (outcomes_in found) (outcome_of script run.events)
+  pub keys : List Key
+  pub are : AreKeys script machine n keys
+  pub counted : level.members.count ≡ length keys + length level.members.ways
+  pub few : level.members.count ≤ most
+
+module _ (script : ScriptView) (machine : Machine) (most : ℕ) (level : Level) (before : List Finding) (all : AreSearched script machine most level before) where
+  abbrev ways : List Way
+  ways = level.members.ways
+
+  taken-up : (next : Level) (found : List Finding) (h : IsNextLevel script (fresh machine) most level next before found) → Steps script machine all.n level.groups next.groups all.is.groups h.moves h.all most ways (no_members level.members.count) next.members before found
+  taken-up next found h = step-all script machine all.n level.groups next.groups all.is.groups h.moves h.all most ways (no_members level.members.count) next.members before found (no-ways script machine next.groups) all.known all.is.members.each h.taken
+
+  pub next-counted : (next : Level) (found : List Finding) → IsNextLevel script (fresh machine) most level next before found → next.members.count ≡ level.members.count + length next.members.ways
+  next-counted next found h = (let e = (taken-up next found h).counted in omega (arith, e))
+
+  -- the member of a run of this level
+  member-of : (run : Run) → IsReached script (fresh machine) run → length run.events ≡ all.n → (w : Way) × Contains ways w × IsOne script machine level.groups w.member run
+  member-of run reached long =
+      let h = all.is.complete run reached long in
+      let w = way-in ways h.x h.there in
+      (w.0, w.1, subst (λ (x : Member). IsOne script machine level.groups x run) (sym w.2) h.one)
+    where
+      way-in : (ways : List Way) (x : Member) → Contains (members_in ways) x → (w : Way) × Contains ways w × (w.member ≡ x)
+      way-in [] x (i, lt, at) = absurd (omega (arith, lt))
+      way-in (w ∷ ws) x (zero, lt, at) = (w, (0, omega arith, refl), at)
+      way-in (w ∷ ws) x (suc i, lt, at) =
+          let rest = way-in ws x (i, omega (arith, lt), at) in
+          let there = rest.1 in
+          (rest.0, (suc there.0, (let l = there.1 in omega (arith, l)), there.2), rest.2)
+
+  -- the next level is searched too
+  pub next-searched : (next : Level) (found : List Finding) → IsNextLevel script (fresh machine) most level next before found → AreSearched script machine most next found
+  next-searched next found h =
+      let groups = next-groups script machine all.n level.groups next.groups all.is.groups h.put in
+      let steps = taken-up next found h in
+      let keys = all.keys ++ map (key_in script machine all.n level.groups all.is.groups) ways in
+      record {
+        n = all.n + 1;
+        is = record {
+          groups = groups;
+          members = steps.members;
+          complete = λ run reached long.
+              let last = last-call script (fresh machine) all.n (schedule_of run.events) (fresh machine) run reached refl (omega arith) long in
+              let m = member-of last.0 last.2 last.3 in
+              steps.takes.onwards m.0 m.1 last.0 m.2 last.1 run last.4;
+        };
+        known = record { sound = steps.takes.sound; distinct = steps.takes.distinct };
+        ended = λ run reached over less.
+            elim (cases_lt (length run.events) all.n) [
+              | inl fewer ↦ steps.takes.earlier (outcome_of script run.events) (all.ended run reached over fewer)
+              | inr more ↦
+                  let m = member-of run reached (omega (arith, less, more)) in
+                  steps.takes.over m.0 m.1 run m.2 over
+            ];
+        keys = keys;
+        are = more-keys script machine all.n level.groups all.is.groups all.keys ways all.are all.is.members;
+        counted = (
+            let c = steps.counted in
+            let b = all.counted in
+            let long = length-append all.keys (map (key_in script machine all.n level.groups all.is.groups) ways) in
+            let one = length-map ways (key_in script machine all.n level.groups all.is.groups) in
+            omega (arith, c, b, long, one)
+            );
+        few = steps.few all.few;
+      }
+
+  -- each member is of a group
+  pub within-level : (w : Way) → Contains ways w → w.member.group < length level.groups.all
+  within-level w there =
+      let is = All-contains (IsWay script machine level.groups) ways w all.is.members.each there in
+      (group-of script machine all.n level.groups w.member is.run all.is.groups is.one).within
+
+  -- there are more runs than the bound
+  pub full-level : IsLevelFull script (fresh machine) level before most → AreMoreRuns script (fresh machine) most
+  full-level h =
+      let s = h.stopped in
+      let groups = next-groups script machine all.n level.groups h.groups all.is.groups h.put in
+      let each : All (IsWay script machine level.groups) (s.done ++ s.way ∷ s.rest) = subst (All (IsWay script machine level.groups)) s.all all.is.members.each in
+      let own : IsWay script machine level.groups s.way = All-contains (IsWay script machine level.groups) (s.done ++ s.way ∷ s.rest) s.way each (Contains-append_right s.done (s.way ∷ s.rest) s.way (0, omega arith, refl)) in
+      let steps = step-all script machine all.n level.groups h.groups all.is.groups h.moves h.all most s.done (no_members level.members.count) s.mid before s.noted (no-ways script machine h.groups) all.known (All-left (IsWay script machine level.groups) s.done (s.way ∷ s.rest) each) s.taken in
+      let m = s.many in
+      let on : All (IsWay script machine h.groups) (m.before ++ m.way ∷ m.after) = subst (All (IsWay script machine h.groups)) m.all (ways-after script machine all.n level.groups h.groups all.is.groups h.moves h.all most s.way own) in
+      let adds = adds-all script machine most h.groups m.before s.mid m.mid steps.members (All-left (IsWay script machine h.groups) m.before (m.way ∷ m.after) on) m.added in
+      let last : IsWay script machine h.groups m.way = All-contains (IsWay script machine h.groups) (m.before ++ m.way ∷ m.after) m.way on (Contains-append_right m.before (m.way ∷ m.after) m.way (0, omega arith, refl)) in
+      let nexts = m.mid.ways ++ m.way ∷ [] in
+      let members = members-push script machine h.groups m.mid.ways m.way adds.members last m.many.0 in
+      let olds = all.keys ++ map (key_in script machine all.n level.groups all.is.groups) ways in
+      let here = more-keys script machine all.n level.groups all.is.groups all.keys ways all.are all.is.members in
+      let there = more-keys script machine (all.n + 1) h.groups groups olds nexts here members in (
+        olds ++ map (key_in script machine (all.n + 1) h.groups groups) nexts,
+        (
+            let a = all.counted in
+            let b = steps.counted in
+            let c = adds.counted in
+            let d = m.many.1 in
+            let e = length-append all.keys (map (key_in script machine all.n level.groups all.is.groups) ways) in
+            let f = length-map ways (key_in script machine all.n level.groups all.is.groups) in
+            let i = length-append olds (map (key_in script machine (all.n + 1) h.groups groups) nexts) in
+            let j = length-map nexts (key_in script machine (all.n + 1) h.groups groups) in
+            let k = length-append m.mid.ways (m.way ∷ []) in
+            omega (arith, a, b, c, d, e, f, i, j, k)
+            ),
+        there.each,
+        there.apart,
+      )
+
+  -- when no run is left, each schedule's outcome was found
+  pub searched-all : ways ≡ [] → AreOutcomes script (fresh machine) before
+  searched-all none =
+      record {
+        sound = all.known.sound;
+        complete = λ schedule end is.
+            let s : schedule_of end.events ≡ schedule = leads-schedule script schedule (fresh machine) end is.0 in
+            let reached : IsReached script (fresh machine) end = subst (λ (l : List ℕ). Leads script l (fresh machine) end) (sym s) is.0 in
+            elim (cases_lt (length end.events) all.n) [
+              | inl fewer ↦ all.ended end reached is.1 fewer
+              | inr more ↦
+                  let b = on-the-way script (fresh machine) all.n (schedule_of end.events) (fresh machine) end reached refl (omega arith) more in
+                  let m = member-of b.0 b.1 b.2 in
+                  absurd (no-way m.0 (subst (λ (l : List Way). Contains l m.0) none m.1))
+            ];
+        distinct = all.known.distinct;
+      }
+    where
+      no-way : (w : Way) → Contains ([]) w → ⊥
+      no-way w (i, lt, at) = omega (arith, lt)
+
+-- WHAT IS LEFT TO DO
+
+abbrev at_most_one : ℕ → ℕ
+at_most_one zero = 0
+at_most_one (suc n) = 1
+
+-- the members that there may still be, and the level if it has some
+abbrev pub left_of : ℕ → Level → ℕ
+left_of most level = (most - level.members.count) + at_most_one (length level.members.ways)
+
+pub less-left : (most : ℕ) (level next : Level) → (level.members.ways ≡ [] → ⊥) → next.members.count ≡ level.members.count + length next.members.ways → next.members.count ≤ most → left_of most next < left_of most level
+less-left most level next some counted few = by level.members.ways refl (length next.members.ways) refl
+  where
+    by : (ws : List Way) → level.members.ways ≡ ws → (n : ℕ) → length next.members.ways ≡ n → left_of most next < left_of most level
+    by [] is n long = absurd (some is)
+    by (w ∷ ws) is zero long = rw (is, long) (omega (arith, counted, few, long))
+    by (w ∷ ws) is (suc n) long = rw (is, long) (omega (arith, counted, few, long))
+
+-- THE FIRST LEVEL
+
+pub first-searched : (script : ScriptView) (machine : Machine) (most : ℕ) → 0 < most → AreSearched script machine most (first_level script (fresh machine)) []
+first-searched script machine most some =
+    let first = fresh machine in
+    let b = sprout script first in
+    let level = first_level script first in
+    let carried : AreCarried script machine b = record { told = refl; trail = refl } in
+    let is : IsGroup script machine 0 b = record { reached = refl; long = refl; carried = carried } in
+    let one : (run : Run) → IsReached script first run → length run.events ≡ 0 → HasOne script machine level.groups level.members.ways run =
+    λ run reached long.
+    let same : first ≡ run = none-more script (schedule_of run.events) first run reached long in
+    subst (HasOne script machine level.groups level.members.ways) same
+    (record { x = member 0 b.told; there = (0, omega arith, refl); one = start-one script machine }) in
     record {
-      sound = all.sound;
-      complete = complete script machine seen found (subst (λ (rs : List Run). AreSearched script (fresh machine) seen rs found) none all);
-      distinct = all.distinct;
+      n = 0;
+      is = record {
+        groups = record {
+          each = All-cons (IsGroup script machine 0) b [] is (All-nil (IsGroup script machine 0));
+          marked = refl;
+          apart = λ i j d ij lt. absurd (omega (arith, ij, lt));
+        };
+        members = record {
+          each = All-cons (IsWay script machine level.groups) (way (member 0 b.told) []) [] (record { run = first; one = start-one script machine; schedule = refl }) (All-nil (IsWay script machine level.groups));
+          apart = λ i j d ij lt. absurd (omega (arith, ij, lt));
+        };
+        complete = one;
+      };
+      known = record { sound = All-nil (IsFinding script first); distinct = λ i j o ij j-lt at-i at-j. omega (arith, j-lt) };
+      ended = λ run reached over less. absurd (omega (arith, less));
+      keys = [];
+      are = record { each = All-nil (IsKeyOf script first); apart = λ i j d ij none. absurd (omega (arith, none)); below = All-nil (λ (k : Key). k.count < 0) };
+      counted = refl;
+      few = omega (arith, some);
     }
+  where
+    start-one : (script : ScriptView) (machine : Machine) → IsOne script machine (first_level script (fresh machine)).groups (member 0 (sprout script (fresh machine)).told) (fresh machine)
+    start-one script machine =
+        record {
+          reached = refl;
+          told = refl;
+          at = (omega arith, λ d. own-mark script machine (sprout script (fresh machine)) (record { told = refl; trail = refl }));
+        }
+
+-- at a bound of 0 the first run is one too many
+pub first-full : (script : ScriptView) (machine : Machine) (most : ℕ) → most ≡ 0 → AreMoreRuns script (fresh machine) most
+first-full script machine most none =
+    let first = fresh machine in (
+      key_of script first first ∷ [],
+      omega (arith, none),
+      All-cons (IsKeyOf script first) (key_of script first first) [] (first, refl, refl) (All-nil (IsKeyOf script first)),
+      λ i j d ij lt. absurd (omega (arith, ij, lt)),
+    )
+
+-- CAUSES
+
+pub first-cause : (script : ScriptView) (machine : Machine) (most : ℕ) (error : SearchError) → IsFirstCause most error → IsCause script (fresh machine) most error
+first-cause script machine most (Engine e) h = tt
+first-cause script machine most Bound h = first-full script machine most h
+
+pub next-cause : (script : ScriptView) (machine : Machine) (most : ℕ) (level : Level) (before : List Finding) (error : SearchError) → AreSearched script machine most level before → IsLevelCause script (fresh machine) level before most error → IsCause script (fresh machine) most error
+next-cause script machine most level before (Engine e) all h = tt
+next-cause script machine most level before Bound all h = full-level script machine most level before all h

@@ -201,7 +201,7 @@ masked-value : (r : Reply) (values : List (Option ℕ)) (v : Option ℕ) → val
 masked-value r values v = grind (arith, common_steps)
 
 -- it depends on no time in its replies
-masked-next : (pid : ℕ) (values : List (Option ℕ)) (lines : List Line) (replies : List Reply) → next_call pid values lines (map masked replies) ≡ next_call pid values lines replies
+pub masked-next : (pid : ℕ) (values : List (Option ℕ)) (lines : List Line) (replies : List Reply) → next_call pid values lines (map masked replies) ≡ next_call pid values lines replies
 masked-next pid values [] replies = refl
 masked-next pid values (Flush n ∷ lines) replies = masked-next pid values lines replies
 masked-next pid values (Command c ∷ lines) [] = by (c.pid == pid)
@@ -214,10 +214,10 @@ masked-next pid values (Command c ∷ lines) (r ∷ replies) =
     let other = masked-next pid values lines (r ∷ replies) in
     grind (arith, common_steps)
 
-map-head : (f g : Process → List Reply) (p : Process) (ps : List Process) → map f (p ∷ ps) ≡ map g (p ∷ ps) → f p ≡ g p
+pub map-head : (f g : Process → List Reply) (p : Process) (ps : List Process) → map f (p ∷ ps) ≡ map g (p ∷ ps) → f p ≡ g p
 map-head f g p ps h = grind (arith, h)
 
-map-tail : (f g : Process → List Reply) (p : Process) (ps : List Process) → map f (p ∷ ps) ≡ map g (p ∷ ps) → map f ps ≡ map g ps
+pub map-tail : (f g : Process → List Reply) (p : Process) (ps : List Process) → map f (p ∷ ps) ≡ map g (p ∷ ps) → map f ps ≡ map g ps
 map-tail f g p ps h = grind (arith, h)
 
 -- all processes got the same replies, so each did
@@ -234,11 +234,11 @@ told-pid es fs pid (p ∷ ps) same has =
       | inr other ↦ told-pid es fs pid ps (map-tail (told es) (told fs) p ps same) (grind (arith, has, other))
     ]
 
-same-if : (b : Bool) (x y : Option Call) → (b ≡ true → x ≡ y) → cond b x None ≡ cond b y None
+pub same-if : (b : Bool) (x y : Option Call) → (b ≡ true → x ≡ y) → cond b x None ≡ cond b y None
 same-if true x y h = h refl
 same-if false x y h = refl
 
-first-true : (a b : Bool) → a && b ≡ true → a ≡ true
+pub first-true : (a b : Bool) → a && b ≡ true → a ≡ true
 first-true true b h = refl
 first-true false b h = absurd (cc)
 
@@ -263,7 +263,7 @@ told-more es e p =
     ∙ ap (map masked) (map-append reply_of (own_part p.pid es) (own_part p.pid (e ∷ [])))
     ∙ map-append masked (replies_to p.pid es) (replies_to p.pid (e ∷ []))
 
-told-one : (e f : Event) (p : Process) → e.pid ≡ f.pid → masked e.reply ≡ masked f.reply → told (e ∷ []) p ≡ told (f ∷ []) p
+pub told-one : (e f : Event) (p : Process) → e.pid ≡ f.pid → masked e.reply ≡ masked f.reply → told (e ∷ []) p ≡ told (f ∷ []) p
 told-one e f p pid same =
     elim (cases_Bool (e.pid == p.pid)) [
       | inl own ↦ (let other : f.pid == p.pid ≡ true = ap (λ (q : ℕ). q == p.pid) (sym pid) ∙ own in rw (own, other) (ap (λ (r : Reply). r ∷ []) same))
@@ -280,16 +280,16 @@ all-told-more es fs e f pid same (p ∷ ps) h =
     λ j. here j ∷ rest j
 
 -- the outcomes of one call of two runs that are alike
-same-step : (script : ScriptView) (a b : Run) (pid : ℕ) (call : Call) → GoAlike script a b
+pub same-step : (a b : Run) (pid : ℕ) (call : Call) → timeless a.machine ≡ timeless b.machine
     → timeless_outcome (step a.machine (length a.events + 1) pid call) ≡ timeless_outcome (step b.machine (length b.events + 1) pid call)
-same-step script a b pid call alike =
+same-step a b pid call same =
     sym (times_reach_times a.machine (length a.events + 1) pid call (not-first (length a.events)))
-    ∙ ap (λ (m : Machine). step m 1 pid call) alike.machine
+    ∙ ap (λ (m : Machine). step m 1 pid call) same
     ∙ times_reach_times b.machine (length b.events + 1) pid call (not-first (length b.events))
 
 after-alike : (script : ScriptView) (a b : Run) (pid : ℕ) (call : Call) → GoAlike script a b → GoAlike script (after a pid call) (after b pid call)
 after-alike script a b pid call alike =
-    let outcome = same-step script a b pid call alike in
+    let outcome = same-step a b pid call alike.machine in
     record {
       machine = ap (λ (o : Outcome). o.state) outcome;
       count = length-append a.events _ ∙ ap (λ (n : ℕ). n + 1) alike.count ∙ sym (length-append b.events _);

@@ -15,3 +15,7 @@ pub mod Entries
 pub mod Ordering
 pub mod Drawing
 pub mod Telling
+pub mod Keeping
+pub mod Grouping
+pub mod Adding
+pub mod Placing

@@ -1,27 +1,23 @@
--- The steps of the search.
-use Rattle.std.specs.Prelude.{◌≡◌, ◌≢◌, ◌<◌, ◌≤◌, ℕ, suc, ◌+◌, ◌-◌, ◌*◌, ◌⊎◌, List, [], ◌∷◌, ◌++◌, Option, Some, None, All, Contains, length, slice_index_or}
+-- Findings, members and levels: the steps of the search.
+use Rattle.std.specs.Prelude.{◌≡◌, ◌<◌, ◌≤◌, ℕ, suc, zero, ◌+◌, ◌⊎◌, List, [], ◌∷◌, ◌++◌, Option, Some, None, All, Contains, length, slice_index_or}
 use Rattle.std.specs.List.{AllPairs}
-use Rattle.std.proofs.Common.{refl, sym, ap, subst, ◌∙◌, arith, inl, inr, length-append}
+use Rattle.std.proofs.Common.{true, false, refl, sym, ap, subst, ◌∙◌, arith, inl, inr, length-append}
 use Rattle.std.proofs.lemmas.List.{map-append, get_or_append_left, get_or_push}
-use Rattle.std.proofs.lemmas.List.Elements.{All-append, All-contains, All-push, Contains-append_left, Contains-append_right, Contains-get_or, Contains-push, Contains-push_cases}
+use Rattle.std.proofs.lemmas.List.Elements.{All-cons, All-head, All-nil, All-push, All-tail, Contains-append_left, Contains-append_right, Contains-get_or, Contains-push}
 use Rattle.std.proofs.lemmas.List.Quantifiers.{all_pairs_push}
 use Rattle.std.proofs.lemmas.Bool.{cases_lt}
+use Rattle.std.proofs.lemmas.Option.{none-some}
 use Rattle.shm_base.specs.State.{Machine}
-use Rattle.shm_base.specs.declared.call.Process.{Process}
 use Rattle.shm_base.specs.declared.call.Reply.{Reply}
 use Rattle.shm_text.specs.Script.{ScriptView}
-use Rattle.shm_outcomes.specs.Keys.{AreOther, IsKeyOf, Key, key_of}
-use Rattle.shm_outcomes.specs.Merging.{IsBeyond, IsCause, IsTakenUp, IsVisited}
+use Rattle.shm_outcomes.specs.Groups.{AreAllMoves, Groups, are_over}
+use Rattle.shm_outcomes.specs.Members.{AreAdded, AreTakenUp, IsAdded, IsEndNoted, IsTakenUp, Member, Members, Way, member_in, members_in, one_way, walked, way_after, ways_on}
 use Rattle.shm_outcomes.specs.Schedules.{Run, fresh, goes, Leads, IsOver, schedule_of}
 use Rattle.shm_outcomes.specs.Outcomes.{outcome_of}
-use Rattle.shm_outcomes.specs.Search.{Finding, AreDistinct, IsFinding, IsNoted, IsReached, finding_of, followers, one_run, outcome_in, outcomes_in}
-use Rattle.shm_outcomes.specs.declared.search.SearchError.{SearchError}
-use Rattle.shm_outcomes.specs.declared.search.SearchError.TheVariants.{Engine, Bound}
-use Rattle.shm_outcomes.proofs.Walking.{followers-all, followers-contain, goes-schedule, leads-more, none-over, over-none}
-
-list-cases : (runs : List Run) → (runs ≡ []) ⊎ (runs ≢ [])
-list-cases [] = inl refl
-list-cases (r ∷ rs) = inr (λ h. (let e : length (r ∷ rs) ≡ 0 = ap length h in omega (arith, e)))
+use Rattle.shm_outcomes.specs.Search.{AreDistinct, Finding, IsFinding, IsNoted, outcome_in, outcomes_in}
+use Rattle.shm_outcomes.specs.declared.moves.Move.{Move}
+use Rattle.shm_outcomes.proofs.Grouping.{AreGroups, IsOne, goes-by-move, moved, moves-by-goes, not-over, over-all}
+use Rattle.shm_outcomes.proofs.Walking.{goes-schedule}
 
 pub noted-kept :
     (olds news : List Finding) (f : Finding) → IsNoted olds f news
@@ -70,223 +66,261 @@ noted-distinct olds news f noted before =
       | inr new ↦ rw new.1 (subst AreDistinct (sym (map-append outcome_in olds (f ∷ []))) (distinct-append (outcomes_in olds) f.outcome new.0 before))
     ]
 
-abbrev pub IsRunVisited : ScriptView → Run → List Finding → List Finding → Type 0
-IsRunVisited script run olds news = IsVisited (followers script script.processes run) (finding_of script run.events) olds news
+-- ENDS
 
-abbrev pub IsRunTaken : ScriptView → Run → Run → List Key → List Key → List Run → List Run → List Finding → List Finding → Type 0
-IsRunTaken script first run seen news runs others olds found =
-    IsTakenUp (key_of script first run) (followers script script.processes run) (finding_of script run.events) seen news runs others olds found
+-- a schedule leads to the run that one walks to
+pub walked-leads : (script : ScriptView) (schedule : List ℕ) (a b : Run) → Leads script schedule a b → walked script schedule a ≡ Some b
+walked-leads script [] a b h = ap (λ (r : Run). Some r) h
+walked-leads script (pid ∷ schedule) a b h = rw (h.1) (walked-leads script schedule h.0 b h.2)
 
-visited-kept :
-    (script : ScriptView) (run : Run) (olds news : List Finding) → IsRunVisited script run olds news
-    → (o : List (List Reply)) → Contains (outcomes_in olds) o → Contains (outcomes_in news) o
-visited-kept script run olds news visited o here =
-    elim (list-cases (followers script script.processes run)) [
-      | inl none ↦ noted-kept olds news (finding_of script run.events) (visited.over none) o here
-      | inr some ↦ rw (visited.goes_on some) here
-    ]
+-- MEMBERS
 
-visited-sound :
-    (script : ScriptView) (first run : Run) (olds news : List Finding)
-    → IsRunVisited script run olds news → IsReached script first run → All (IsFinding script first) olds → All (IsFinding script first) news
-visited-sound script first run olds news visited reached all =
-    elim (list-cases (followers script script.processes run)) [
-      | inl none ↦ noted-sound script first olds news (finding_of script run.events) (visited.over none) (run, (reached, none-over script run none), refl, refl) all
-      | inr some ↦ rw (visited.goes_on some) all
-    ]
-
-visited-distinct :
-    (script : ScriptView) (run : Run) (olds news : List Finding)
-    → IsRunVisited script run olds news → AreDistinct (outcomes_in olds) → AreDistinct (outcomes_in news)
-visited-distinct script run olds news visited before =
-    elim (list-cases (followers script script.processes run)) [
-      | inl none ↦ noted-distinct olds news (finding_of script run.events) (visited.over none) before
-      | inr some ↦ rw (visited.goes_on some) before
-    ]
-
-pub follower-reached :
-    (script : ScriptView) (first run : Run) → IsReached script first run
-    → (pid : ℕ) (m : Run) → goes script pid run ≡ Some m → IsReached script first m
-follower-reached script first run reached pid m goes =
-    subst (λ (s : List ℕ). Leads script s first m) (sym (goes-schedule script pid run m goes)) (leads-more script (schedule_of run.events) pid first run m reached goes)
-
-pub last-of : (P : Run → Type 0) (rest : List Run) (run : Run) → All P (rest ++ run ∷ []) → P run
-last-of P rest run all = All-contains P (rest ++ run ∷ []) run all (Contains-push rest run)
-
-pub rest-of : (P : Run → Type 0) (rest : List Run) (run : Run) → All P (rest ++ run ∷ []) → All P rest
-rest-of P rest run all k d lt =
-    let long : length (rest ++ run ∷ []) ≡ length rest + 1 = length-append rest (run ∷ []) in
-    subst P (get_or_append_left rest (run ∷ []) d k lt) (all k d (omega (arith, long, lt)))
-
--- THE KEYS THAT WERE MET
-
-apart-more : (seen : List Key) (key : Key) → AllPairs AreOther seen → (Contains seen key → ⊥) → AllPairs AreOther (seen ++ key ∷ [])
-apart-more seen key apart unmet = all_pairs_push AreOther seen key apart (λ k d lt same. unmet (subst (Contains seen) same (Contains-get_or seen k d lt)))
-
--- a run with this key was visited: if it is over its outcome was found, else its followers were met or are left to be visited
-pub record IsKept (script : ScriptView) (first : Run) (seen : List Key) (runs : List Run) (found : List Finding) (key : Key) : Type 0 where
+-- a schedule leads to a run of the member
+pub record IsWay (script : ScriptView) (machine : Machine) (g : Groups) (w : Way) : Type 0 where
   pub run : Run
-  pub reached : IsReached script first run
-  pub is : key ≡ key_of script first run
-  pub over : IsOver script run → Contains (outcomes_in found) (outcome_of script run.events)
-  pub onwards : (pid : ℕ) (m : Run) → goes script pid run ≡ Some m → Contains seen (key_of script first m) ⊎ Contains runs m
+  pub one : IsOne script machine g w.member run
+  pub schedule : schedule_of run.events ≡ w.schedule
 
--- the search so far: these keys were met, these runs are still to be visited, these outcomes were found
-pub record AreSearched (script : ScriptView) (first : Run) (seen : List Key) (runs : List Run) (found : List Finding) : Type 0 where
-  pub reached : All (IsReached script first) runs
-  pub sound : All (IsFinding script first) found
-  pub distinct : AreDistinct (outcomes_in found)
-  pub apart : AllPairs AreOther seen
-  pub kept : All (IsKept script first seen runs found) seen
-  pub begun : Contains seen (key_of script first first) ⊎ Contains runs first
+abbrev pub AreApart : List Member → Type 0
+AreApart members = AllPairs (λ (a b : Member). a ≡ b → ⊥) members
 
-module _ (script : ScriptView) (first run : Run) (rest : List Run) (seen : List Key) where
-  abbrev all_runs : List Run
-  all_runs = rest ++ run ∷ []
+pub record AreMembers (script : ScriptView) (machine : Machine) (g : Groups) (ways : List Way) : Type 0 where
+  pub each : All (IsWay script machine g) ways
+  pub apart : AreApart (members_in ways)
 
-  abbrev own_key : Key
-  own_key = key_of script first run
+pub no-ways : (script : ScriptView) (machine : Machine) (g : Groups) → AreMembers script machine g []
+no-ways script machine g = record { each = All-nil (IsWay script machine g); apart = λ i j d ij none. absurd (omega (arith, none)) }
 
-  -- a run that is left is met
-  left : (m : Run) → Contains seen own_key → Contains seen (key_of script first m) ⊎ Contains all_runs m → Contains seen (key_of script first m) ⊎ Contains rest m
-  left m met (inl there) = inl there
-  left m met (inr offered) =
-      elim (Contains-push_cases rest run m offered) [
-        | inl there ↦ inr there
-        | inr same ↦ inl (subst (λ (r : Run). Contains seen (key_of script first r)) same met)
-      ]
+-- what adding members does
+pub record Adds (script : ScriptView) (machine : Machine) (most : ℕ) (g : Groups) (ways : List Way) (olds news : Members) : Type 0 where
+  pub members : AreMembers script machine g news.ways
+  pub keeps : (x : Member) → Contains (members_in olds.ways) x → Contains (members_in news.ways) x
+  pub has : (w : Way) → Contains ways w → Contains (members_in news.ways) w.member
+  pub counted : news.count + length olds.ways ≡ olds.count + length news.ways
+  pub few : olds.count ≤ most → news.count ≤ most
 
-  kept-left : (found : List Finding) (key : Key) → Contains seen own_key → IsKept script first seen all_runs found key → IsKept script first seen rest found key
-  kept-left found key met k = record { run = k.run; reached = k.reached; is = k.is; over = k.over; onwards = λ pid m goes. left m met (k.onwards pid m goes) }
-
-  passed : (found : List Finding) → AreSearched script first seen all_runs found → Contains seen own_key → AreSearched script first seen rest found
-  passed found all met =
-      record {
-        reached = rest-of (IsReached script first) rest run all.reached;
-        sound = all.sound;
-        distinct = all.distinct;
-        apart = all.apart;
-        kept = λ k d lt. kept-left found (slice_index_or seen k d) met (all.kept k d lt);
-        begun = left first met all.begun;
-      }
-
-  abbrev news : List Key
-  news = seen ++ own_key ∷ []
-
-  abbrev others : List Run
-  others = rest ++ followers script script.processes run
-
-  -- a run that is visited is met from now on
-  gone : (m : Run) → Contains seen (key_of script first m) ⊎ Contains all_runs m → Contains news (key_of script first m) ⊎ Contains others m
-  gone m (inl there) = inl (Contains-append_left seen (own_key ∷ []) (key_of script first m) there)
-  gone m (inr offered) =
-      elim (Contains-push_cases rest run m offered) [
-        | inl there ↦ inr (Contains-append_left rest (followers script script.processes run) m there)
-        | inr same ↦ inl (subst (λ (r : Run). Contains news (key_of script first r)) same (Contains-push seen own_key))
-      ]
-
-  kept-gone : (olds found : List Finding) (key : Key) → IsRunVisited script run olds found → IsKept script first seen all_runs olds key → IsKept script first news others found key
-  kept-gone olds found key visited k =
-      record {
-        run = k.run;
-        reached = k.reached;
-        is = k.is;
-        over = λ over. visited-kept script run olds found visited (outcome_of script k.run.events) (k.over over);
-        onwards = λ pid m goes. gone m (k.onwards pid m goes);
-      }
-
-  kept-own : (olds found : List Finding) → IsRunVisited script run olds found → IsReached script first run → IsKept script first news others found own_key
-  kept-own olds found visited reached =
-      record {
-        run = run;
-        reached = reached;
-        is = refl;
-        over = λ over. noted-there olds found (finding_of script run.events) (visited.over (over-none script run over));
-        onwards = λ pid m goes. inr (Contains-append_right rest (followers script script.processes run) m (followers-contain script pid run m goes));
-      }
-
-  gone-on : (olds found : List Finding) → AreSearched script first seen all_runs olds → (Contains seen own_key → ⊥) → IsRunVisited script run olds found → AreSearched script first news others found
-  gone-on olds found all unmet visited =
-      let reached = last-of (IsReached script first) rest run all.reached in
-      let P : Key → Type 0 = IsKept script first news others found in
-      record {
-        reached = All-append (IsReached script first) rest (followers script script.processes run) (rest-of (IsReached script first) rest run all.reached) (followers-all script (IsReached script first) run (follower-reached script first run reached) script.processes);
-        sound = visited-sound script first run olds found visited reached all.sound;
-        distinct = visited-distinct script run olds found visited all.distinct;
-        apart = apart-more seen own_key all.apart unmet;
-        kept = All-push P seen own_key (λ k d lt. kept-gone olds found (slice_index_or seen k d) visited (all.kept k d lt)) (kept-own olds found visited reached);
-        begun = gone first all.begun;
-      }
-
-  -- at the bound
-  pub beyond : (found : List Finding) (most : ℕ) (error : SearchError) → AreSearched script first seen all_runs found → IsBeyond (key_of script first run) seen most error → IsCause script first most error
-  beyond found most (Engine e) all h = tt
-  beyond found most Bound all h = (
-    news,
-    (let e = length-append seen (own_key ∷ []) in omega (arith, e, h.1)),
-    All-push (IsKeyOf script first) seen own_key (λ k d lt. (let x = all.kept k d lt in (x.run, x.reached, x.is))) (run, last-of (IsReached script first) rest run all.reached, refl),
-    apart-more seen own_key all.apart h.0,
-  )
-
--- one run more was taken up
-pub taken-up :
-    (script : ScriptView) (first run : Run) (rest others : List Run) (seen news : List Key) (olds found : List Finding)
-    → AreSearched script first seen (rest ++ run ∷ []) olds → IsRunTaken script first run seen news rest others olds found → AreSearched script first news others found
-taken-up script first run rest others seen news olds found all (inl left) = rw (left.seen, left.runs, left.found) (passed script first run rest seen olds all left.met)
-taken-up script first run rest others seen news olds found all (inr on) = rw (on.seen, on.runs) (gone-on script first run rest seen olds found all on.unmet on.found)
-
--- a run has at most a follower for each process
-few-followers : (script : ScriptView) (run : Run) (ps : List Process) → length (followers script ps run) ≤ length ps
-few-followers script run [] = omega arith
-few-followers script run (p ∷ ps) =
-    let rest = few-followers script run ps in
-    let one = few-one (goes script p.pid run) in
-    let all = length-append (one_run (goes script p.pid run)) (followers script ps run) in
-    omega (arith, rest, one, all)
-  where
-    few-one : (o : Option Run) → length (one_run o) ≤ 1
-    few-one None = omega arith
-    few-one (Some m) = omega arith
-
--- a run less is left, or a key more was met
-pub fewer-left :
-    (script : ScriptView) (first run : Run) (rest others : List Run) (seen news : List Key) (olds found : List Finding)
-    → IsRunTaken script first run seen news rest others olds found
-    → ((length news ≡ length seen) × (length others ≡ length rest)) ⊎ ((length news ≡ length seen + 1) × (length others ≤ length rest + length script.processes))
-fewer-left script first run rest others seen news olds found (inl left) = inl (ap (λ (l : List Key). length l) left.seen, ap (λ (l : List Run). length l) left.runs)
-fewer-left script first run rest others seen news olds found (inr on) =
-    let more = length-append seen (key_of script first run ∷ []) in
-    let all = length-append rest (followers script script.processes run) in
-    let few = few-followers script run script.processes in
-    inr (ap (λ (l : List Key). length l) on.seen ∙ more, (let e = ap (λ (l : List Run). length l) on.runs in omega (arith, e, all, few)))
-
--- what is left to do: the keys that may still be met, each with the followers of its run, and the runs that are left
-abbrev pub left_of : ℕ → ℕ → ℕ → ℕ → ℕ
-left_of most met runs processes = (most - met) * (processes + 1) + runs
-
-more-keys : (k p : ℕ) → suc k * (p + 1) ≡ k * (p + 1) + (p + 1)
-more-keys k p = grind arith
-
-pub less-left :
-    (most met now_met runs rest others processes : ℕ) → runs ≡ rest + 1 → now_met ≤ most
-    → ((now_met ≡ met) × (others ≡ rest)) ⊎ ((now_met ≡ met + 1) × (others ≤ rest + processes))
-    → left_of most now_met others processes < left_of most met runs processes
-less-left most met now_met runs rest others processes was few (inl left) = rw (left.0, left.1) (omega (arith, was))
-less-left most met now_met runs rest others processes was few (inr on) =
-    let k : ℕ = most - now_met in
-    let is : most - met ≡ suc k = (let e = on.0 in omega (arith, e, few)) in
-    let times : (most - met) * (processes + 1) ≡ k * (processes + 1) + (processes + 1) = ap (λ (n : ℕ). n * (processes + 1)) is ∙ more-keys k processes in
-    let e = on.1 in
-    omega (arith, times, was, e)
-
--- before the first visit
-pub searched-first : (script : ScriptView) (machine : Machine) → AreSearched script (fresh machine) [] (fresh machine ∷ []) []
-searched-first script machine =
+pub members-push : (script : ScriptView) (machine : Machine) (g : Groups) (ways : List Way) (w : Way) → AreMembers script machine g ways → IsWay script machine g w → (Contains (members_in ways) w.member → ⊥) → AreMembers script machine g (ways ++ w ∷ [])
+members-push script machine g ways w all is unmet =
     record {
-      reached = All-push (IsReached script (fresh machine)) [] (fresh machine) (λ k d lt. absurd (omega (arith, lt))) refl;
-      sound = λ k d lt. absurd (omega (arith, lt));
-      distinct = λ i j o ij j-lt at-i at-j. omega (arith, j-lt);
-      apart = λ i j d ij none. absurd (omega (arith, none));
-      kept = λ k d lt. absurd (omega (arith, lt));
-      begun = inr (0, omega arith, refl);
+      each = All-push (IsWay script machine g) ways w all.each is;
+      apart = subst AreApart (sym (map-append member_in ways (w ∷ [])))
+          (all_pairs_push (λ (a b : Member). a ≡ b → ⊥) (members_in ways) w.member all.apart (λ k d lt same. unmet (subst (Contains (members_in ways)) same (Contains-get_or (members_in ways) k d lt))));
     }
+
+one-there : (w x : Way) → Contains (w ∷ []) x → w ≡ x
+one-there w x (zero, lt, at) = at
+one-there w x (suc i, lt, at) = absurd (omega (arith, lt))
+
+adds-one : (script : ScriptView) (machine : Machine) (most : ℕ) (g : Groups) (w : Way) (olds news : Members) → AreMembers script machine g olds.ways → IsWay script machine g w → IsAdded most w olds news → Adds script machine most g (w ∷ []) olds news
+adds-one script machine most g w olds news all is (inl (met, same)) =
+    rw same
+    (record {
+      members = all;
+      keeps = λ x h. h;
+      has = λ x there. subst (λ (v : Way). Contains (members_in olds.ways) v.member) (one-there w x there) met;
+      counted = refl;
+      few = λ h. h;
+    })
+adds-one script machine most g w olds news all is (inr (unmet, less, same)) =
+    let longer = map-append member_in olds.ways (w ∷ []) in
+    rw same
+    (record {
+      members = members-push script machine g olds.ways w all is unmet;
+      keeps = λ x h. subst (λ (l : List Member). Contains l x) (sym longer) (Contains-append_left (members_in olds.ways) (w.member ∷ []) x h);
+      has = λ x there. subst (λ (v : Way). Contains (members_in (olds.ways ++ w ∷ [])) v.member) (one-there w x there) (subst (λ (l : List Member). Contains l w.member) (sym longer) (Contains-push (members_in olds.ways) w.member));
+      counted = (let long = length-append olds.ways (w ∷ []) in omega (arith, long));
+      few = λ h. omega (arith, less);
+    })
+
+contains-cons : (w : Way) (ws : List Way) (x : Way) → Contains (w ∷ ws) x → (w ≡ x) ⊎ Contains ws x
+contains-cons w ws x (zero, lt, at) = inl at
+contains-cons w ws x (suc i, lt, at) = inr (i, omega (arith, lt), at)
+
+pub adds-all : (script : ScriptView) (machine : Machine) (most : ℕ) (g : Groups) (ways : List Way) (olds news : Members) → AreMembers script machine g olds.ways → All (IsWay script machine g) ways → AreAdded most ways olds news → Adds script machine most g ways olds news
+adds-all script machine most g [] olds news all each same =
+    subst (Adds script machine most g [] olds) same
+    (record { members = all; keeps = λ x h. h; has = λ x (i, lt, at). absurd (omega (arith, lt)); counted = refl; few = λ h. h })
+adds-all script machine most g (w ∷ ws) olds news all each (mid, added, more) =
+    let one = adds-one script machine most g w olds mid all (All-head (IsWay script machine g) w ws each) added in
+    let rest = adds-all script machine most g ws mid news one.members (All-tail (IsWay script machine g) w ws each) more in
+    record {
+      members = rest.members;
+      keeps = λ x h. rest.keeps x (one.keeps x h);
+      has = λ x there. elim (contains-cons w ws x there) [
+        | inl same ↦ rest.keeps x.member (one.has x (0, omega arith, same))
+        | inr later ↦ rest.has x later
+      ];
+      counted = (let a = one.counted in let b = rest.counted in omega (arith, a, b));
+      few = λ h. rest.few (one.few h);
+    }
+
+-- WHERE A MEMBER GOES
+
+some-way : (script : ScriptView) (w : Way) (moves : List (Option Move)) (m : Move) → Contains moves (Some m) → Contains (ways_on script.processes w moves) (way_after script.processes w m)
+some-way script w [] m (i, lt, at) = absurd (omega (arith, lt))
+some-way script w (o ∷ moves) m (zero, lt, at) =
+    Contains-append_left (one_way script.processes w o) (ways_on script.processes w moves) (way_after script.processes w m)
+    (subst (λ (x : Option Move). Contains (one_way script.processes w x) (way_after script.processes w m)) (sym at) (0, omega arith, refl))
+some-way script w (o ∷ moves) m (suc i, lt, at) =
+    Contains-append_right (one_way script.processes w o) (ways_on script.processes w moves) (way_after script.processes w m) (some-way script w moves m (i, omega (arith, lt), at))
+
+all-ways : (script : ScriptView) (w : Way) (P : Way → Type 0) (moves : List (Option Move)) → ((m : Move) → Contains moves (Some m) → P (way_after script.processes w m)) → All P (ways_on script.processes w moves)
+all-ways script w P [] each = All-nil P
+all-ways script w P (None ∷ moves) each = all-ways script w P moves (λ m (i, lt, at). each m (suc i, omega (arith, lt), at))
+all-ways script w P (Some m ∷ moves) each =
+    All-cons P (way_after script.processes w m) (ways_on script.processes w moves) (each m (0, omega arith, refl))
+    (all-ways script w P moves (λ x (i, lt, at). each x (suc i, omega (arith, lt), at)))
+
+-- a member of this group has this run
+pub record HasOne (script : ScriptView) (machine : Machine) (g : Groups) (ways : List Way) (run : Run) : Type 0 where
+  pub x : Member
+  pub there : Contains (members_in ways) x
+  pub one : IsOne script machine g x run
+
+-- what taking up members does
+pub record Takes (script : ScriptView) (machine : Machine) (olds nexts : Groups) (ways : List Way) (next : Members) (before news : List Finding) : Type 0 where
+  pub sound : All (IsFinding script (fresh machine)) news
+  pub distinct : AreDistinct (outcomes_in news)
+  pub earlier : (o : List (List Reply)) → Contains (outcomes_in before) o → Contains (outcomes_in news) o
+  pub onwards : (w : Way) → Contains ways w → (run : Run) → IsOne script machine olds w.member run → (pid : ℕ) (m : Run) → goes script pid run ≡ Some m → HasOne script machine nexts next.ways m
+  pub over : (w : Way) → Contains ways w → (run : Run) → IsOne script machine olds w.member run → IsOver script run → Contains (outcomes_in news) (outcome_of script run.events)
+
+pub record AreKnown (script : ScriptView) (machine : Machine) (found : List Finding) : Type 0 where
+  pub sound : All (IsFinding script (fresh machine)) found
+  pub distinct : AreDistinct (outcomes_in found)
+
+module _ (script : ScriptView) (machine : Machine) (n : ℕ) (olds nexts : Groups) (all : AreGroups script machine n olds) (moves : List (List (Option Move))) (are : AreAllMoves script nexts olds.all moves) (most : ℕ) where
+  abbrev first : Run
+  first = fresh machine
+
+  abbrev mine : Way → List (Option Move)
+  mine w = slice_index_or moves w.member.group []
+
+  -- the members to which one goes on
+  pub ways-after : (w : Way) → IsWay script machine olds w → All (IsWay script machine nexts) (ways_on script.processes w (mine w))
+  ways-after w is =
+      all-ways script w (IsWay script machine nexts) (mine w)
+      (λ m there.
+      let g = goes-by-move script machine n olds nexts w.member is.run all is.one moves are m there in
+      record {
+        run = g.0;
+        one = g.2;
+        schedule = goes-schedule script m.event.pid is.run g.0 g.1 ∙ ap (λ (s : List ℕ). s ++ m.event.pid ∷ []) is.schedule;
+      })
+
+  -- one that is over
+  takes-over : (w : Way) (next : Members) (before news : List Finding) → IsWay script machine olds w → AreKnown script machine before → are_over (mine w) ≡ true
+      → IsEndNoted (walked script w.schedule first) w.member.told before news → Takes script machine olds nexts (w ∷ []) next before news
+  takes-over w next before news is known over noted =
+      let run = is.run in
+      let leads : Leads script w.schedule first run = subst (λ (s : List ℕ). Leads script s first run) is.schedule is.one.reached in
+      let finding : Finding = record { events = run.events; outcome = w.member.told } in
+      let by : IsNoted before finding news = subst (λ (o : Option Run). IsEndNoted o w.member.told before news) (walked-leads script w.schedule first run leads) noted in
+      let ends = over-all script machine n olds nexts w.member run all is.one moves are over in
+      record {
+        sound = noted-sound script first before news finding by (run, (is.one.reached, ends), refl, is.one.told) known.sound;
+        distinct = noted-distinct before news finding by known.distinct;
+        earlier = noted-kept before news finding by;
+        onwards = λ x there r one pid m follows.
+            none-left x there r one pid m follows;
+        over = λ x there r one o.
+            subst (Contains (outcomes_in news)) (ap (λ (v : Way). v.member.told) (one-there w x there) ∙ one.told) (noted-there before news finding by);
+      }
+    where
+      none-left : (x : Way) → Contains (w ∷ []) x → (r : Run) → IsOne script machine olds x.member r → (pid : ℕ) (m : Run) → goes script pid r ≡ Some m → HasOne script machine nexts next.ways m
+      none-left x there r one pid m follows =
+          let own : IsOne script machine olds w.member r = subst (λ (v : Way). IsOne script machine olds v.member r) (sym (one-there w x there)) one in
+          absurd (none-some m (sym (over-all script machine n olds nexts w.member r all own moves are over pid) ∙ follows))
+
+  -- one that goes on
+  takes-on : (w : Way) (next mid : Members) (before : List Finding) → IsWay script machine olds w → AreKnown script machine before → are_over (mine w) ≡ false
+      → Adds script machine most nexts (ways_on script.processes w (mine w)) next mid → Takes script machine olds nexts (w ∷ []) mid before before
+  takes-on w next mid before is known some adds =
+      record {
+        sound = known.sound;
+        distinct = known.distinct;
+        earlier = λ o h. h;
+        onwards = λ x there r one pid m follows.
+            let own : IsOne script machine olds w.member r = subst (λ (v : Way). IsOne script machine olds v.member r) (sym (one-there w x there)) one in
+            let move = moves-by-goes script machine n olds nexts w.member r all own moves are pid m follows in
+            record {
+              x = moved script w.member move.0;
+              there = adds.has (way_after script.processes w move.0) (some-way script w (mine w) move.0 move.1);
+              one = move.2;
+            };
+        over = λ x there r one o.
+            let own : IsOne script machine olds w.member r = subst (λ (v : Way). IsOne script machine olds v.member r) (sym (one-there w x there)) one in
+            absurd (not-over script machine n olds nexts w.member r all own moves are some o);
+      }
+
+  -- a member is taken up
+  pub record Steps (ways : List Way) (next news : Members) (before found : List Finding) : Type 0 where
+    pub members : AreMembers script machine nexts news.ways
+    pub keeps : (x : Member) → Contains (members_in next.ways) x → Contains (members_in news.ways) x
+    pub counted : news.count + length next.ways ≡ next.count + length news.ways
+    pub few : next.count ≤ most → news.count ≤ most
+    pub takes : Takes script machine olds nexts ways news before found
+
+  known-of : (ways : List Way) (next news : Members) (before found : List Finding) → Steps ways next news before found → AreKnown script machine found
+  known-of ways next news before found steps = record { sound = steps.takes.sound; distinct = steps.takes.distinct }
+
+  step-one : (w : Way) (next news : Members) (before found : List Finding) → AreMembers script machine nexts next.ways → AreKnown script machine before → IsWay script machine olds w
+      → IsTakenUp script first most (mine w) w next news before found → Steps (w ∷ []) next news before found
+  step-one w next news before found members known is (inl (over, same, noted)) =
+      record {
+        members = subst (λ (m : Members). AreMembers script machine nexts m.ways) (sym same) members;
+        keeps = λ x h. subst (λ (m : Members). Contains (members_in m.ways) x) (sym same) h;
+        counted = rw same refl;
+        few = rw same (λ h. h);
+        takes = takes-over w news before found is known over noted;
+      }
+  step-one w next news before found members known is (inr (some, same, added)) =
+      let adds = adds-all script machine most nexts (ways_on script.processes w (mine w)) next news members (ways-after w is) added in
+      record {
+        members = adds.members;
+        keeps = adds.keeps;
+        counted = adds.counted;
+        few = adds.few;
+        takes = subst (Takes script machine olds nexts (w ∷ []) news before) (sym same) (takes-on w next news before is known some adds);
+      }
+
+  pub step-all : (ways : List Way) (next news : Members) (before found : List Finding) → AreMembers script machine nexts next.ways → AreKnown script machine before → All (IsWay script machine olds) ways
+      → AreTakenUp script first most moves ways next news before found → Steps ways next news before found
+  step-all [] next news before found members known each (same, kept) =
+      subst (λ (m : Members). Steps [] next m before found) same
+      (subst (Steps [] next next before) kept
+      (record {
+        members = members;
+        keeps = λ x h. h;
+        counted = refl;
+        few = λ h. h;
+        takes = record {
+          sound = known.sound;
+          distinct = known.distinct;
+          earlier = λ o h. h;
+          onwards = λ w (i, lt, at). absurd (omega (arith, lt));
+          over = λ w (i, lt, at). absurd (omega (arith, lt));
+        };
+      }))
+  step-all (w ∷ ws) next news before found members known each (mid, noted, taken, more) =
+      let one = step-one w next mid before noted members known (All-head (IsWay script machine olds) w ws each) taken in
+      let rest = step-all ws mid news noted found one.members (known-of (w ∷ []) next mid before noted one) (All-tail (IsWay script machine olds) w ws each) more in
+      record {
+        members = rest.members;
+        keeps = λ x h. rest.keeps x (one.keeps x h);
+        counted = (let a = one.counted in let b = rest.counted in omega (arith, a, b));
+        few = λ h. rest.few (one.few h);
+        takes = record {
+          sound = rest.takes.sound;
+          distinct = rest.takes.distinct;
+          earlier = λ o h. rest.takes.earlier o (one.takes.earlier o h);
+          onwards = λ x there run is pid m follows. elim (contains-cons w ws x there) [
+            | inl same ↦ (let y = one.takes.onwards x (0, omega arith, same) run is pid m follows in record { x = y.x; there = rest.keeps y.x y.there; one = y.one })
+            | inr later ↦ rest.takes.onwards x later run is pid m follows
+          ];
+          over = λ x there run is o. elim (contains-cons w ws x there) [
+            | inl same ↦ rest.takes.earlier (outcome_of script run.events) (one.takes.over x (0, omega arith, same) run is o)
+            | inr later ↦ rest.takes.over x later run is o
+          ];
+        };
+      }

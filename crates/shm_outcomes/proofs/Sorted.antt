@@ -1,10 +1,11 @@
 -- Places in buckets.
-use Rattle.std.specs.Prelude.{◌≡◌, ◌≢◌, ◌<◌, ℕ, Bool, true, false, List, [], ◌∷◌, ◌++◌, Contains, length, map, slice_index_or, slice_set}
+use Rattle.std.specs.Prelude.{◌≡◌, ◌≢◌, ◌<◌, ℕ, Bool, true, false, IfNone, Option, Some, None, List, [], ◌∷◌, ◌++◌, Contains, length, map, slice_index_or, slice_set}
 use Rattle.std.proofs.Common.{refl, ap, sym, subst, ◌∙◌, arith, inl, inr, length-append}
 use Rattle.std.proofs.lemmas.Bool.{cases_eq, cases_lt}
 use Rattle.std.proofs.lemmas.Grind.{get_or-set_at}
 use Rattle.std.proofs.lemmas.List.{get_or-map, get_or-set_other, get_or_append_left, get_or_push, length-map, map-append}
 use Rattle.shm_outcomes.specs.Buckets.{AreIndexed, IsIn, bucket_of}
+use Rattle.shm_outcomes.specs.Known.{IsAtNone}
 
 in-more : (bucket : List ℕ) (x i : ℕ) → IsIn bucket i → IsIn (bucket ++ x ∷ []) i
 in-more bucket x i h none =
@@ -46,10 +47,6 @@ indexed-more digests d all before there i lt =
           subst (λ (n : ℕ). IsIn (bucket_of all n) i) (sym (get_or_push digests d 0 i (sym last))) (subst (λ (k : ℕ). IsIn (bucket_of all d) k) (sym last) there)
     ]
 
--- a thing is at none of these places
-abbrev pub IsAtNone : {X : Type 0} → List X → List ℕ → X → Type 0
-IsAtNone given places x = (k : ℕ) → k < length places → slice_index_or places k 0 < length given → slice_index_or given (slice_index_or places k 0) x ≢ x
-
 module _ {X : Type 0} (f : X → ℕ) (xs : List X) (all : List (List ℕ)) (before : AreIndexed (map f xs) all) where
   pub things-kept : (news : List (List ℕ)) → ((d i : ℕ) → IsIn (bucket_of all d) i → IsIn (bucket_of news d) i) → AreIndexed (map f xs) news
   things-kept news kept = indexed-kept (map f xs) all news before kept
@@ -76,3 +73,10 @@ module _ {X : Type 0} (f : X → ℕ) (xs : List X) (all : List (List ℕ)) (bef
       (subst (λ (l : List X). IsAtNone l (bucket_of all (f x)) x) same
       (subst (λ (ps : List ℕ). IsAtNone given ps x) (at ∙ ap (bucket_of all) digest) (none refl)))
       there)
+
+  pub none-there : (x : X) (d : ℕ) (given : List X) (places : List ℕ) (found : Option ℕ) → d ≡ f x → given ≡ xs → places ≡ bucket_of all d → IfNone found (IsAtNone given places x) → IfNone found (Contains xs x → ⊥)
+  none-there x d given places (Some place) digest same at none = tt
+  none-there x d given places None digest same at none =
+      not-there x
+      (subst (λ (l : List X). IsAtNone l (bucket_of all (f x)) x) same
+      (subst (λ (ps : List ℕ). IsAtNone given ps x) (at ∙ ap (bucket_of all) digest) none))

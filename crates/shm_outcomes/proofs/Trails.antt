@@ -16,10 +16,11 @@ use Rattle.shm_base.specs.declared.call.Call.TheVariants.{Shmget, Shmat, Shmdt, 
 use Rattle.shm_base.specs.declared.call.Event.{Event}
 use Rattle.shm_text.specs.Script.{ScriptView}
 use Rattle.shm_outcomes.specs.Alike.{is_change, looks}
-use Rattle.shm_outcomes.specs.Changes.{Trail, all_changes, fits, is_fork, made, no_trail, noted, patch_by, place_by, place_of, put, put_at, puts, trail_after, trail_from, trail_of, write_at, wrote}
+use Rattle.shm_outcomes.specs.Changes.{Trail, all_changes, call_of, fits, is_fork, made, no_trail, noted, patch_by, place_by, place_of, put, put_at, puts, trail_after, trail_from, trail_of, write_at, wrote}
 use Rattle.shm_outcomes.specs.Schedules.{Run, after, fresh, next, Leads, schedule_of}
 use Rattle.shm_outcomes.specs.Search.{IsReached}
 use Rattle.shm_outcomes.specs.Times.{timeless}
+use Rattle.shm_outcomes.specs.declared.trail.CallBy.{CallBy}
 use Rattle.shm_outcomes.specs.declared.trail.Change.{Change}
 use Rattle.shm_outcomes.specs.declared.trail.Change.TheVariants.{Made, Wrote}
 use Rattle.shm_outcomes.specs.declared.trail.Patch.{Patch}
@@ -34,7 +35,7 @@ use Rattle.shm_outcomes.proofs.Walking.{made-by}
 
 abbrev pub changed_by : Machine → Change → Machine
 changed_by s (Wrote w) = with_write s w
-changed_by s (Made e) = (step s 1 e.pid e.call).state
+changed_by s (Made c) = (step s 1 c.pid c.call).state
 
 abbrev pub changed : Machine → List Change → Machine
 changed s [] = s
@@ -164,7 +165,7 @@ stored-caller s n pid call p is change = by (caller_of s pid) refl is change
     by None caller patched kept = absurd (cc)
     by (Some c) caller patched kept = ap (λ (m : Machine). caller_of m pid) (acts-store s n c call p patched kept).2
 
-puts-same : (s m : Machine) (pid : ℕ) → caller_of s pid ≡ caller_of m pid → (bytes : List ℕ) (addr : ℕ) (ws : List Write) → puts s pid addr bytes ws ≡ puts m pid addr bytes ws
+pub puts-same : (s m : Machine) (pid : ℕ) → caller_of s pid ≡ caller_of m pid → (bytes : List ℕ) (addr : ℕ) (ws : List Write) → puts s pid addr bytes ws ≡ puts m pid addr bytes ws
 puts-same s m pid same [] addr ws = refl
 puts-same s m pid same (b ∷ bs) addr ws =
     puts-same s m pid same bs (addr + 1) (put_at (place_of s pid addr) b ws)
@@ -218,16 +219,16 @@ fork-first s pid (Swapoff area) ws h = absurd (cc)
 
 -- ONE CALL
 
-made-changed : (base : Machine) (e : Event) (t : Trail) → changed base (all_changes (made e t)) ≡ (step (changed base (all_changes t)) 1 e.pid e.call).state
-made-changed base e t =
-    elim (cases_Bool (is_fork e.call)) [
+made-changed : (base : Machine) (c : CallBy) (t : Trail) → changed base (all_changes (made c t)) ≡ (step (changed base (all_changes t)) 1 c.pid c.call).state
+made-changed base c t =
+    elim (cases_Bool (is_fork c.call)) [
       | inl fork ↦
           rw fork
-          (changed-all base (record { past = t.past ++ Made e ∷ []; writes = t.writes })
-          ∙ ap (λ (m : Machine). written m t.writes) (changed-append base t.past (Made e ∷ []))
-          ∙ fork-first (changed base t.past) e.pid e.call t.writes fork
-          ∙ ap (λ (m : Machine). (step m 1 e.pid e.call).state) (sym (changed-all base t)))
-      | inr other ↦ rw other (changed-all base (record { past = all_changes t ++ Made e ∷ []; writes = [] }) ∙ changed-append base (all_changes t) (Made e ∷ []))
+          (changed-all base (record { past = t.past ++ Made c ∷ []; writes = t.writes })
+          ∙ ap (λ (m : Machine). written m t.writes) (changed-append base t.past (Made c ∷ []))
+          ∙ fork-first (changed base t.past) c.pid c.call t.writes fork
+          ∙ ap (λ (m : Machine). (step m 1 c.pid c.call).state) (sym (changed-all base t)))
+      | inr other ↦ rw other (changed-all base (record { past = all_changes t ++ Made c ∷ []; writes = [] }) ∙ changed-append base (all_changes t) (Made c ∷ []))
     ]
 
 one-changed :
@@ -247,7 +248,7 @@ one-changed base s n pid call t not-zero at =
         let w : Trail = record { past = t.past; writes = puts s pid p.addr p.bytes t.writes } in
         changed-all base w ∙ stored-after (changed base t.past) s n pid call p t.writes (sym (changed-all base t) ∙ at) is kept
     by yes-changes None is =
-        made-changed base (event_at s n pid call) t
+        made-changed base (call_of (event_at s n pid call)) t
         ∙ ap (λ (m : Machine). (step m 1 pid call).state) at
         ∙ ap (λ (o : Outcome). o.state) (times_reach_times s n pid call not-zero)
 

@@ -24,8 +24,7 @@ use Rattle.shm_outcomes.specs.Text.{reply_words, time_text}
 use Rattle.shm_outcomes.specs.declared.search.SearchError.{SearchError}
 use Rattle.shm_outcomes.specs.declared.search.SearchError.TheVariants.{Engine, Bound}
 use Rattle.shm_outcomes.proofs.Going.{GoAlike, alike-go, go-refl, go-sym, go-trans, goes-alike, leads-redone, over-alike, told-at}
-use Rattle.shm_outcomes.proofs.Searching.{follower-reached, last-of, rest-of}
-use Rattle.shm_outcomes.proofs.Walking.{contains-none, followers-all, followers-contain, none-over, over-none}
+use Rattle.shm_outcomes.proofs.Walking.{contains-none, follower-reached, followers-all, followers-contain, last-of, none-over, over-none, rest-of}
 
 -- WHAT BEGINS A LOG
 

@@ -2,8 +2,8 @@
 use Rattle.std.specs.Prelude.{◌≡◌, ℕ, ◌+◌, ◌&&◌, ◌⊎◌, Bool, true, false, List, [], ◌∷◌, ◌++◌, Option, Some, None, cond, All, Contains, length, option_map}
 use Rattle.std.proofs.Common.{ap, refl, sym, subst, arith, inl, inr, length-append}
 use Rattle.std.proofs.lemmas.Bool.{cases_eq}
-use Rattle.std.proofs.lemmas.List.{map-append}
-use Rattle.std.proofs.lemmas.List.Elements.{All-append, Contains-append_left, Contains-append_right}
+use Rattle.std.proofs.lemmas.List.{get_or_append_left, map-append}
+use Rattle.std.proofs.lemmas.List.Elements.{All-append, All-contains, Contains-append_left, Contains-append_right, Contains-push}
 use Rattle.std.proofs.lemmas.Option.{none-some, same_Some}
 use Rattle.shm_base.specs.Step.{step}
 use Rattle.shm_base.specs.Processes.{has_pid}
@@ -12,7 +12,7 @@ use Rattle.shm_base.specs.declared.call.Event.{Event}
 use Rattle.shm_base.specs.declared.call.Process.{Process}
 use Rattle.shm_text.specs.Script.{ScriptView}
 use Rattle.shm_outcomes.specs.Schedules.{Run, after, goes, is_live, next, Leads, IsOver, pid_of, schedule_of}
-use Rattle.shm_outcomes.specs.Search.{followers, one_run}
+use Rattle.shm_outcomes.specs.Search.{IsReached, followers, one_run}
 
 -- a run that follows another is the one after some call
 pub made-by : (o : Option Call) (run : Run) (pid : ℕ) (m : Run) → option_map (after run pid) o ≡ Some m → (call : Call) × (o ≡ Some call) × (after run pid call ≡ m)
@@ -43,6 +43,20 @@ pub leads-more :
     → Leads script schedule a b → goes script pid b ≡ Some c → Leads script (schedule ++ pid ∷ []) a c
 leads-more script [] pid a b c h eq = (c, subst (λ (m : Run). goes script pid m ≡ Some c) (sym h) eq, refl)
 leads-more script (q ∷ schedule) pid a b c h eq = (h.0, h.1, leads-more script schedule pid h.0 b c h.2 eq)
+
+pub follower-reached :
+    (script : ScriptView) (first run : Run) → IsReached script first run
+    → (pid : ℕ) (m : Run) → goes script pid run ≡ Some m → IsReached script first m
+follower-reached script first run reached pid m goes =
+    subst (λ (s : List ℕ). Leads script s first m) (sym (goes-schedule script pid run m goes)) (leads-more script (schedule_of run.events) pid first run m reached goes)
+
+pub last-of : (P : Run → Type 0) (rest : List Run) (run : Run) → All P (rest ++ run ∷ []) → P run
+last-of P rest run all = All-contains P (rest ++ run ∷ []) run all (Contains-push rest run)
+
+pub rest-of : (P : Run → Type 0) (rest : List Run) (run : Run) → All P (rest ++ run ∷ []) → All P rest
+rest-of P rest run all k d lt =
+    let long : length (rest ++ run ∷ []) ≡ length rest + 1 = length-append rest (run ∷ []) in
+    subst P (get_or_append_left rest (run ∷ []) d k lt) (all k d (omega (arith, long, lt)))
 
 one-all : (P : Run → Type 0) (o : Option Run) → ((m : Run) → o ≡ Some m → P m) → All P (one_run o)
 one-all P None each = λ k d lt. absurd (omega (arith, lt))
@@ -76,7 +90,7 @@ followers-some script pid run m h (p ∷ ps) has =
       | inr more ↦ Contains-append_right (one_run (goes script p.pid run)) (followers script ps run) m (followers-some script pid run m h ps more)
     ]
 
-test-first : (a b : Bool) (o : Option Call) (call : Call) → cond (a && b) o None ≡ Some call → a ≡ true
+pub test-first : (a b : Bool) (o : Option Call) (call : Call) → cond (a && b) o None ≡ Some call → a ≡ true
 test-first true b o call h = refl
 test-first false b o call h = absurd (none-some call h)
 

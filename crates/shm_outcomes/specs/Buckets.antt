@@ -1,9 +1,9 @@
 -- Places of things in a list, sorted by digests of the things.
-use Rattle.std.specs.Prelude.{◌≢◌, ◌<◌, ◌/◌, ℕ, List, [], length, slice_index_or}
+use Rattle.std.specs.Prelude.{◌≢◌, ◌<◌, ◌/◌, ◌%◌, ℕ, List, [], length, slice_index_or}
 
--- the places of the things whose digests have these highest 16 bits
+-- the places in the bucket of a digest
 abbrev pub bucket_of : List (List ℕ) → ℕ → List ℕ
-bucket_of buckets digest = slice_index_or buckets (digest / 281474976710656) []
+bucket_of buckets digest = slice_index_or buckets (digest / 4294967296 % length buckets) []
 
 abbrev pub IsIn : List ℕ → ℕ → Type 0
 IsIn bucket place = ((k : ℕ) → k < length bucket → slice_index_or bucket k 0 ≢ place) → ⊥

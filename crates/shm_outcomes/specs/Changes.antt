@@ -12,6 +12,7 @@ use Rattle.shm_base.specs.declared.call.Event.{Event}
 use Rattle.shm_base.specs.declared.call.Reply.{Reply}
 use Rattle.shm_base.specs.declared.call.Reply.TheVariants.{Number}
 use Rattle.shm_outcomes.specs.Alike.{is_change}
+use Rattle.shm_outcomes.specs.declared.trail.CallBy.{CallBy}
 use Rattle.shm_outcomes.specs.declared.trail.Change.{Change}
 use Rattle.shm_outcomes.specs.declared.trail.Change.TheVariants.{Made, Wrote}
 use Rattle.shm_outcomes.specs.declared.trail.Patch.{Patch}
@@ -80,15 +81,19 @@ abbrev pub is_fork : Call → Bool
 is_fork (Fork child) = true
 is_fork call = false
 
-abbrev pub made : Event → Trail → Trail
-made e t =
-    if is_fork e.call
-    then record { past = t.past ++ Made e ∷ []; writes = t.writes }
-    else record { past = all_changes t ++ Made e ∷ []; writes = [] }
+-- the call of an event. Its reply follows from what changed the machine before
+abbrev pub call_of : Event → CallBy
+call_of e = record { pid = e.pid; call = e.call }
+
+abbrev pub made : CallBy → Trail → Trail
+made c t =
+    if is_fork c.call
+    then record { past = t.past ++ Made c ∷ []; writes = t.writes }
+    else record { past = all_changes t ++ Made c ∷ []; writes = [] }
 
 abbrev pub noted : Machine → Event → Option Patch → Trail → Trail
 noted s e (Some p) t = record { past = t.past; writes = puts s e.pid p.addr p.bytes t.writes }
-noted s e None t = made e t
+noted s e None t = made (call_of e) t
 
 -- the trail after one more call, made of this machine
 abbrev pub trail_after : Machine → Event → Trail → Trail

@@ -3,6 +3,7 @@ use Rattle.std.specs.Prelude.{ℕ, ◌+◌, ◌*◌, ◌%◌, ◌^◌, List, [],
 use Rattle.shm_base.specs.declared.call.Reply.{Reply}
 use Rattle.shm_base.specs.declared.call.Reply.TheVariants.{Bytes, Number}
 use Rattle.shm_outcomes.specs.Keys.{Key}
+use Rattle.shm_outcomes.specs.Members.{Member}
 use Rattle.shm_outcomes.specs.declared.trail.Write.{Write}
 
 abbrev pub mixed : ℕ → ℕ → ℕ
@@ -21,9 +22,13 @@ abbrev pub with_replies : ℕ → List Reply → ℕ
 with_replies h [] = mixed h 257
 with_replies h (r ∷ replies) = with_replies (with_reply h r) replies
 
+-- the digest of one process's replies
+abbrev pub list_digest : List Reply → ℕ
+list_digest replies = with_replies 1 replies
+
 abbrev pub with_told : ℕ → List (List Reply) → ℕ
 with_told h [] = h
-with_told h (t ∷ told) = with_told (with_replies h t) told
+with_told h (t ∷ told) = with_told (mixed h (list_digest t)) told
 
 abbrev pub with_writes : ℕ → List Write → ℕ
 with_writes h [] = h
@@ -34,3 +39,6 @@ digest outcome = with_told 1 outcome
 
 abbrev pub key_digest : Key → ℕ
 key_digest key = with_writes (digest key.told) key.trail.writes
+
+abbrev pub member_digest : Member → ℕ
+member_digest m = mixed (digest m.told) m.group

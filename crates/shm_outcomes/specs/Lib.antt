@@ -18,3 +18,7 @@ pub mod Reading
 pub mod Refusals
 pub mod Report
 pub mod Sampling
+pub mod Groups
+pub mod Known
+pub mod Levels
+pub mod Members

@@ -1,14 +1,12 @@
 //! Places of things in a list, sorted by digests of the things.
-ghost use Rattle.std.specs.Prelude.{◌≡◌, ◌<◌, ◌++◌, ◌∷◌, [], ℕ, OnErr, OnOk, length, slice_index_or, slice_set};
+ghost use Rattle.std.specs.Prelude.{◌≡◌, ◌<◌, ◌/◌, ◌%◌, ◌++◌, ◌∷◌, [], ℕ, OnErr, OnOk, length, slice_index_or, slice_set};
 ghost use Rattle.shm_outcomes.specs.Buckets.{IsIn, bucket_of};
 
 use std::alloc::{AllocError, Global};
 use std::marker::Model;
 
-const BUCKETS: usize = 65536;
-
-// A digest's bucket is numbered by its highest 16 bits.
-const DIGESTS_IN_BUCKET: u64 = 281474976710656;
+// The bucket of a digest depends on its upper half.
+const LOWER_HALF: u64 = 4294967296;
 
 #[derive(Drop)]
 struct Bucket {
@@ -29,23 +27,26 @@ pub(crate) struct Buckets {
 }
 
 impl Model for Buckets {
-    ghost use Rattle.std.specs.Prelude.{◌≡◌, List, ℕ, length};
+    ghost use Rattle.std.specs.Prelude.{◌<◌, List, ℕ, length};
 
     ghost Value = { List (List ℕ) };
 
     ghost view = { λ b. b.all.items };
 
-    ghost invariant = { λ b. length b.all.items ≡ 65536 };
+    ghost invariant = { λ b. 0 < length b.all.items };
 }
 
 impl Buckets {
-    pub(crate) fn new(alloc: Global) -> Result<Buckets, AllocError> {
-        let mut all = Vec::with_capacity(alloc, BUCKETS)?;
-        for _ in 0..BUCKETS {
-            let bucket = Bucket {
+    // Room for some so many things in short buckets.
+    pub(crate) fn new(alloc: Global, things: usize) -> Result<Buckets, AllocError> {
+        let mut all = Vec::new(alloc);
+        all.push(Bucket {
+            places: Vec::new(alloc),
+        })?;
+        for _ in 0..things {
+            all.push(Bucket {
                 places: Vec::new(alloc),
-            };
-            all.push(bucket)?;
+            })?;
         }
         Ok(Buckets { all })
     }
@@ -54,9 +55,13 @@ impl Buckets {
     pub(crate) fn at(&self, digest: u64) -> &[usize]
         ensures { result.now ≡ bucket_of self.now digest }
     {
-        self.all[(digest / DIGESTS_IN_BUCKET) as usize]
-            .places
-            .as_slice()
+        self.all[self.bucket(digest)].places.as_slice()
+    }
+
+    fn bucket(&self, digest: u64) -> usize
+        ensures { result ≡ digest / 4294967296 % length self.now }
+    {
+        (digest / LOWER_HALF) as usize % self.all.len()
     }
 
     // Puts the place of a thing with this digest into its bucket.
@@ -64,7 +69,8 @@ impl Buckets {
         ensures kept { (other i : ℕ) → IsIn (bucket_of self.old other) i → IsIn (bucket_of self.new other) i }
         ensures put { OnOk result (IsIn (bucket_of self.new digest) place) }
     {
-        put_place(&mut self.all, (digest / DIGESTS_IN_BUCKET) as usize, place)?;
+        let bucket = self.bucket(digest);
+        put_place(&mut self.all, bucket, place)?;
         Ok(())
     }
 }

@@ -2,11 +2,12 @@
 ghost use Rattle.std.specs.Prelude.{◌≡◌};
 ghost use Rattle.shm_outcomes.specs.Digests.{digest, mixed, with_bytes, with_replies, with_reply, with_told, with_writes};
 
+use crate::known::Digested;
 use crate::outcome::{Outcome, Told};
 use crate::trail::Write;
 use shm_base::Reply;
 
-fn mixed(digest: u64, number: u64) -> u64
+pub(crate) fn mixed(digest: u64, number: u64) -> u64
     ensures { result ≡ mixed digest number }
 {
     digest
@@ -34,7 +35,7 @@ fn with_reply(digest: u64, reply: &Reply) -> u64
     }
 }
 
-fn with_replies(digest: u64, replies: &[Reply]) -> u64
+pub(crate) fn with_replies(digest: u64, replies: &[Reply]) -> u64
     ensures { result ≡ with_replies digest replies.now }
 {
     let mut all = digest;
@@ -49,7 +50,7 @@ fn with_told(digest: u64, told: &[Told]) -> u64
 {
     let mut all = digest;
     for one in told {
-        all = with_replies(all, one.replies());
+        all = mixed(all, one.digest());
     }
     all
 }

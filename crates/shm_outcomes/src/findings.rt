@@ -1,5 +1,5 @@
 //! The outcomes that a search found, each once, with a run that has it.
-ghost use Rattle.std.specs.Prelude.{◌≡◌, ◌≢◌, ◌<◌, ℕ, [], Contains, IfOk, IsFalse, IsTrue, OnOk, length, slice_index_or};
+ghost use Rattle.std.specs.Prelude.{◌≡◌, ◌≢◌, ◌<◌, ◌↔◌, ℕ, [], Contains, IfOk, IsFalse, IsTrue, OnOk, length, slice_index_or};
 ghost use Rattle.shm_outcomes.specs.Search.{IsNoted, outcomes_in};
 
 use crate::buckets::Buckets;
@@ -9,6 +9,9 @@ use crate::search::Finding;
 use shm_base::Event;
 use std::alloc::{AllocError, Global};
 use std::marker::Model;
+
+// Most scripts have fewer outcomes.
+const OUTCOMES: usize = 65536;
 
 #[derive(Drop)]
 pub(crate) struct Findings {
@@ -33,7 +36,7 @@ impl Findings {
     pub(crate) fn new(alloc: Global) -> Result<Findings, AllocError>
         ensures { IfOk result (λ f. f ≡ []) }
     {
-        let buckets = Buckets::new(alloc)?;
+        let buckets = Buckets::new(alloc, OUTCOMES)?;
         Ok(Findings {
             all: Vec::new(alloc),
             buckets,
@@ -45,6 +48,13 @@ impl Findings {
     {
         let Findings { all, buckets: _ } = self;
         all
+    }
+
+    // Whether the outcome is among them.
+    pub(crate) fn has(&self, outcome: &Outcome) -> bool
+        ensures { IsTrue result ↔ Contains (outcomes_in self.now) outcome.now }
+    {
+        is_known(&self.all, self.buckets.at(digest(outcome)), outcome)
     }
 
     // Notes an outcome with a run that has it, unless it is there.

@@ -2,9 +2,13 @@
 ghost use Rattle.std.specs.Prelude.{◌≡◌, ◌↔◌, ◌++◌, ◌∷◌, [], IfOk, IsTrue, List, map, slice_index_or};
 ghost use Rattle.shm_base.specs.declared.call.Process.{Process as FlatProcess};
 ghost use Rattle.shm_base.specs.declared.call.Reply.{Reply as FlatReply};
+ghost use Rattle.shm_outcomes.specs.Groups.{kept_all};
 ghost use Rattle.shm_outcomes.specs.Masking.{hidden, hidden_outcome};
 ghost use Rattle.shm_outcomes.specs.Outcomes.{masked, masked_ds, masked_time, told, told_after, outcome_of};
 
+use crate::digests::with_replies;
+use crate::kept::kept_all;
+use crate::known::{Digested, Known};
 use crate::plan::own_count;
 use shm_base::{Event, Process, Reply, ShmidDs};
 use shm_text::Script;
@@ -68,15 +72,19 @@ fn hidden_replies(alloc: Global, replies: &[Reply]) -> Result<Vec<Reply>, AllocE
 #[derive(Drop)]
 pub struct Told {
     replies: Rc<Vec<Reply>>,
+    digest: u64,
 }
 
 impl Model for Told {
-    ghost use Rattle.std.specs.Prelude.{List};
+    ghost use Rattle.std.specs.Prelude.{◌≡◌, List};
     ghost use Rattle.shm_base.specs.declared.call.Reply.{Reply};
+    ghost use Rattle.shm_outcomes.specs.Digests.{list_digest};
 
     ghost Value = { List Reply };
 
     ghost view = { λ t. t.replies.value.items };
+
+    ghost invariant = { λ t. t.digest ≡ list_digest t.replies.value.items };
 }
 
 impl Told {
@@ -86,11 +94,12 @@ impl Told {
         self.replies.as_ref().as_slice()
     }
 
-    fn new(alloc: Global, replies: Vec<Reply>) -> Result<Told, AllocError>
+    pub(crate) fn new(alloc: Global, replies: Vec<Reply>) -> Result<Told, AllocError>
         ensures { IfOk result (λ t. t ≡ replies.items) }
     {
+        let digest = with_replies(1, &replies);
         let replies = Rc::new(alloc, replies)?;
-        Ok(Told { replies })
+        Ok(Told { replies, digest })
     }
 
     // The same once more.
@@ -98,18 +107,28 @@ impl Told {
         ensures { IfOk result (λ t. t ≡ self.now) }
     {
         let replies = self.replies.clone()?;
-        Ok(Told { replies })
+        Ok(Told {
+            replies,
+            digest: self.digest,
+        })
     }
 
     // The replies to this process after one more call.
-    fn after(&self, alloc: Global, process: &Process, event: &Event) -> Result<Told, AllocError>
+    fn after(
+        &self,
+        alloc: Global,
+        process: &Process,
+        event: &Event,
+        lists: &mut Lists,
+    ) -> Result<Told, AllocError>
         ensures { IfOk result (λ t. t ≡ self.now ++ told (event.now ∷ []) process.now) }
     {
         if event.pid != process.pid {
             return self.copied();
         }
         let replies = with_one_more(alloc, self.replies(), masked(&event.reply))?;
-        Told::new(alloc, replies)
+        let told = Told::new(alloc, replies)?;
+        shared(lists, told)
     }
 
     // The same without identifiers and addresses.
@@ -119,12 +138,35 @@ impl Told {
         let replies = hidden_replies(alloc, self.replies())?;
         Told::new(alloc, replies)
     }
+}
 
-    fn is_same(&self, other: &Told) -> bool
-        ensures { IsTrue result ↔ self.now ≡ other.now }
-    {
-        are_same_replies(self.replies(), other.replies())
+impl Digested for Told {
+    ghost use Rattle.shm_outcomes.specs.Digests.{list_digest};
+
+    ghost number = { list_digest };
+
+    fn digest(&self) -> u64 {
+        self.digest
     }
+
+    fn is_same(&self, other: &Told) -> bool {
+        self.digest == other.digest && are_same_replies(self.replies(), other.replies())
+    }
+}
+
+/// Lists of replies that runs share.
+pub(crate) type Lists = Known<Told>;
+
+// The list that is known already, if there is one, so that the same replies are kept once.
+fn shared(lists: &mut Lists, told: Told) -> Result<Told, AllocError>
+    ensures { IfOk result (λ t. t ≡ told) }
+{
+    if let Some(place) = lists.place(&told) {
+        return lists.all()[place].copied();
+    }
+    let copy = told.copied()?;
+    lists.push(told)?;
+    Ok(copy)
 }
 
 fn with_one_more(alloc: Global, replies: &[Reply], reply: Reply) -> Result<Vec<Reply>, AllocError>
@@ -225,12 +267,13 @@ fn told_after(
     processes: &[Process],
     event: &Event,
     told: &[Told],
+    lists: &mut Lists,
 ) -> Result<Vec<Told>, AllocError>
     ensures { IfOk result (λ v. v.items ≡ told_after processes.now event.now told.now) }
 {
     let mut all = Vec::with_capacity(alloc, processes.len())?;
     for (index, process) in processes.iter().enumerate() {
-        let one = one_after(alloc, told, index, process, event)?;
+        let one = one_after(alloc, told, index, process, event, lists)?;
         all.push(one)?;
     }
     Ok(all)
@@ -243,11 +286,12 @@ fn one_after(
     index: usize,
     process: &Process,
     event: &Event,
+    lists: &mut Lists,
 ) -> Result<Told, AllocError>
     ensures { IfOk result (λ t. t ≡ slice_index_or all.now index [] ++ told (event.now ∷ []) process.now) }
 {
     match all.get(index) {
-        Some(one) => one.after(alloc, process, event),
+        Some(one) => one.after(alloc, process, event, lists),
         None => told_in(alloc, &[*event], process),
     }
 }
@@ -289,10 +333,19 @@ impl Outcome {
         alloc: Global,
         script: &Script,
         event: &Event,
+        lists: &mut Lists,
     ) -> Result<Outcome, AllocError>
         ensures { IfOk result (λ o. o ≡ told_after script.now.processes event.now self.now) }
     {
-        let told = told_after(alloc, &script.processes, event, &self.told)?;
+        let told = told_after(alloc, &script.processes, event, &self.told, lists)?;
+        Ok(Outcome { told })
+    }
+
+    // What each process keeps of its replies.
+    pub(crate) fn kept(&self, alloc: Global, script: &Script) -> Result<Outcome, AllocError>
+        ensures { IfOk result (λ o. o ≡ kept_all script.now.lines script.now.processes self.now) }
+    {
+        let told = kept_all(alloc, &script.lines, &script.processes, &self.told)?;
         Ok(Outcome { told })
     }
 

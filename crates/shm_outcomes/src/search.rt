@@ -1,23 +1,25 @@
-//! The search: it goes on from each run by each process that can, depth first, but only once from runs with one key.
-ghost use Rattle.std.specs.Prelude.{◌≡◌, ◌≢◌, ◌++◌, [], ◌↔◌, ◌⊎◌, ◌≤◌, Contains, IfErr, IfOk, IsTrue, OnOk, length};
+//! The search: it goes through the runs with 0, 1, 2 and more calls, in groups of which each makes its calls once.
+ghost use Rattle.std.specs.Prelude.{◌≡◌, ◌++◌, IfErr, IfOk, OnOk};
 ghost use Rattle.shm_outcomes.specs.Schedules.{after, fresh, goes, next};
-ghost use Rattle.shm_outcomes.specs.Outcomes.{outcome_of};
-ghost use Rattle.shm_outcomes.specs.Branches.{IsBranchBeyond, IsBranchTaken, branches, finding_at};
-ghost use Rattle.shm_outcomes.specs.Search.{AreOutcomes, IsNoted, followers, one_run};
+ghost use Rattle.shm_outcomes.specs.Members.{walked};
+ghost use Rattle.shm_outcomes.specs.Search.{AreOutcomes, followers, one_run};
 ghost use Rattle.shm_outcomes.specs.Merging.{IsCause};
 ghost use Rattle.shm_outcomes.specs.declared.search.SearchError.TheVariants.{Engine};
 ghost use Rattle.shm_outcomes.specs.declared.engine.EngineError.TheVariants.{HostMemory};
 
-use crate::branches::{Branch, last_process, push_branches};
 use crate::engine::{Engine, EngineError};
 use crate::findings::Findings;
-use crate::keys::{Key, Seen};
+use crate::known::Known;
+use crate::levels::Level;
 use crate::lines::next_call;
 use crate::outcome::Outcome;
 use shm_base::{Call, Event, Process, has_pid};
 use shm_text::Script;
 use std::alloc::{AllocError, AllocFailed, Global};
 use std::marker::Model;
+
+// Most scripts have fewer different lists of replies.
+const LISTS: usize = 4096;
 
 /// Why a search has no answer.
 #[derive(Clone, Copy, Debug, PartialEq, Eq)]
@@ -166,6 +168,25 @@ impl<M: Engine> Node<M> {
         &self.machine
     }
 
+    // The run to which a schedule leads, if each process that it names can continue.
+    pub(crate) fn walk(
+        &self,
+        alloc: Global,
+        script: &Script,
+        pids: &[u32],
+    ) -> Result<Option<Node<M>>, EngineError>
+        ensures { IfOk result (λ end. end ≡ walked script.now pids.now self.now) }
+    {
+        let mut run = self.copied(alloc)?;
+        for pid in pids {
+            let Some(next) = run.goes(script, *pid)? else {
+                return Ok(None);
+            };
+            run = next;
+        }
+        Ok(Some(run))
+    }
+
     // The run after one more call of a process.
     pub(crate) fn after(&self, alloc: Global, pid: u32, call: &Call) -> Result<Node<M>, EngineError>
         ensures { IfOk result (λ run. run ≡ after self.now pid call.now) }
@@ -197,72 +218,14 @@ pub fn outcomes<M: Engine>(
     ensures ok { IfOk result (λ found. AreOutcomes script.now (fresh (M.flat machine)) found.items) }
     ensures err { IfErr result (IsCause script.now (fresh (M.flat machine)) most) }
 {
+    let start = Node::first(alloc, machine)?;
+    let mut lists = Known::new(alloc, LISTS)?;
     let mut found = Findings::new(alloc)?;
-    let mut seen = Seen::new(alloc)?;
-    let mut runs = Vec::new(alloc);
-    let first = Branch::first(alloc, script, machine)?;
-    runs.push(first)?;
-    'runs: while let Some(run) = runs.pop() {
-        if let Err(error) = take_up(alloc, script, most, run, &mut runs, &mut seen, &mut found) {
-            return Err(error);
-        }
+    let mut level = Level::first(alloc, script, &start, most)?;
+    'levels: while !level.is_empty() {
+        level = level.next(alloc, script, &start, most, &mut lists, &mut found)?;
     }
     Ok(found.into_all())
-}
-
-// Visits a run, unless its key was met.
-fn take_up<M: Engine>(
-    alloc: Global,
-    script: &Script,
-    most: u64,
-    run: Branch<M>,
-    runs: &mut Vec<Branch<M>>,
-    seen: &mut Seen,
-    found: &mut Findings,
-) -> Result<(), SearchError>
-    requires few { length seen.old ≤ most }
-    ensures taken { OnOk result (
-        IsBranchTaken script.now run seen.old seen.new runs.old.items runs.new.items
-        found.old found.new) }
-    ensures few { OnOk result (length seen.new ≤ most) }
-    ensures err { IfErr result (IsBranchBeyond run seen.old most) }
-{
-    let key = Key::of(alloc, &run)?;
-    if seen.has(&key) {
-        return Ok(());
-    }
-    if seen.count() >= most {
-        return Err(SearchError::Bound);
-    }
-    seen.push(key)?;
-    visit(alloc, script, run, runs, found)?;
-    Ok(())
-}
-
-// Goes on from a run by each process that can; if none can, its outcome is noted.
-fn visit<M: Engine>(
-    alloc: Global,
-    script: &Script,
-    run: Branch<M>,
-    runs: &mut Vec<Branch<M>>,
-    found: &mut Findings,
-) -> Result<(), EngineError>
-    ensures runs { OnOk result (
-        runs.new.items ≡ runs.old.items ++ branches script.now script.now.processes run) }
-    ensures over { OnOk result (branches script.now script.now.processes run ≡ []
-        → IsNoted found.old (finding_at run) found.new) }
-    ensures goes_on { OnOk result (branches script.now script.now.processes run ≢ []
-        → found.new ≡ found.old) }
-{
-    let Some(last) = last_process(script, &run) else {
-        let outcome = run.told().copied(alloc)?;
-        found.note(alloc, run.run().events(), outcome)?;
-        return Ok(());
-    };
-    push_branches(alloc, script, &script.processes[..last.index], &run, runs)?;
-    let next = run.make(alloc, script, last.pid, &last.call)?;
-    runs.push(next)?;
-    Ok(())
 }
 
 // Puts each run to which this one goes on behind the others.

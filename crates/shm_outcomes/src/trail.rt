@@ -3,10 +3,10 @@
 ghost use Rattle.std.specs.Prelude.{◌≡◌, ◌↔◌, ◌+◌, ◌%◌, ◌^◌, ◌<◌, ◌++◌, ◌∷◌, [], IfOk, IfSome, IsTrue, OnOk, Some, filter, length, map};
 ghost use Rattle.std.specs.Int.{to_le_bytes, w64};
 ghost use Rattle.shm_outcomes.specs.declared.trail.Change.TheVariants.{Made};
-ghost use Rattle.shm_outcomes.specs.Changes.{fits, is_above, is_below, is_fork, made, no_trail, noted, patch_by, put, put_at, puts, trail_after, write_at, wrote};
+ghost use Rattle.shm_outcomes.specs.Changes.{call_of, fits, is_above, is_below, is_fork, made, no_trail, noted, patch_by, put, put_at, puts, trail_after, write_at, wrote};
 
 use crate::engine::Engine;
-use crate::keys::{is_change, is_same_event};
+use crate::keys::is_change;
 use shm_areas::Place;
 use shm_base::{Call, Chunk, Event, INDEXES, Reply};
 use std::alloc::{AllocError, Global};
@@ -21,11 +21,18 @@ pub struct Write {
     pub byte: u8,
 }
 
+/// A call of a process.
+#[derive(Clone, Copy, PartialEq, Eq)]
+pub struct CallBy {
+    pub pid: u32,
+    pub call: Call,
+}
+
 /// A byte that was written, or a call that changed something else.
 #[derive(Clone, Copy)]
 pub enum Change {
     Wrote(Write),
-    Made(Event),
+    Made(CallBy),
 }
 
 /// The bytes that a call wrote from an address on.
@@ -159,12 +166,28 @@ fn puts<M: Engine>(
     Ok(all)
 }
 
+fn is_same_call_by(call: &CallBy, other: &CallBy) -> bool
+    ensures { IsTrue result ↔ call.now ≡ other.now }
+{
+    call == other
+}
+
+// The call of an event.
+fn call_of(event: &Event) -> CallBy
+    ensures { result ≡ call_of event.now }
+{
+    CallBy {
+        pid: event.pid,
+        call: event.call,
+    }
+}
+
 fn is_same_change(change: &Change, other: &Change) -> bool
     ensures { IsTrue result ↔ change.now ≡ other.now }
 {
     match (change, other) {
         (Change::Wrote(write), Change::Wrote(met)) => write == met,
-        (Change::Made(event), Change::Made(met)) => is_same_event(event, met),
+        (Change::Made(call), Change::Made(met)) => is_same_call_by(call, met),
         _ => false,
     }
 }
@@ -287,7 +310,7 @@ impl Trail {
 
     // The trail after a call that changed more than bytes.
     fn made(&self, alloc: Global, event: &Event) -> Result<Trail, AllocError>
-        ensures { IfOk result (λ t. t ≡ made event.now self.now) }
+        ensures { IfOk result (λ t. t ≡ made (call_of event.now) self.now) }
     {
         if is_fork(&event.call) {
             return self.forked(alloc, event);
@@ -302,10 +325,10 @@ impl Trail {
     // The trail after a fork.
     fn forked(&self, alloc: Global, event: &Event) -> Result<Trail, AllocError>
         ensures { IfOk result (λ t.
-            t ≡ record { past = self.now.past ++ Made event.now ∷ []; writes = self.now.writes }) }
+            t ≡ record { past = self.now.past ++ Made (call_of event.now) ∷ []; writes = self.now.writes }) }
     {
         let mut changes = Vec::from_slice(alloc, self.past.as_ref())?;
-        changes.push(Change::Made(*event))?;
+        changes.push(Change::Made(call_of(event)))?;
         let past = Rc::new(alloc, changes)?;
         let writes = self.writes.clone()?;
         Ok(Trail { past, writes })
@@ -323,11 +346,11 @@ fn is_fork(call: &Call) -> bool
 
 // Puts the bytes behind the changes, and then the call.
 fn push_changes(writes: &[Write], event: &Event, past: &mut Vec<Change>) -> Result<(), AllocError>
-    ensures { OnOk result (past.new.items ≡ (past.old.items ++ map wrote writes.now) ++ Made event.now ∷ []) }
+    ensures { OnOk result (past.new.items ≡ (past.old.items ++ map wrote writes.now) ++ Made (call_of event.now) ∷ []) }
 {
     for write in writes {
         past.push(Change::Wrote(*write))?;
     }
-    past.push(Change::Made(*event))?;
+    past.push(Change::Made(call_of(event)))?;
     Ok(())
 }

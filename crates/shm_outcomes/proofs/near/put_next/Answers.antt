@@ -2,7 +2,7 @@ use Rattle.std.proofs.Common.{rules, ◌≡◌, All, Some, subst, sym}
 use Rattle.std.proofs.lemmas.List.Elements.{All-push}
 use Rattle.shm_outcomes.specs.Schedules.{goes}
 use Rattle.shm_outcomes.specs.Search.{IsReached}
-use Rattle.shm_outcomes.proofs.Searching.{follower-reached}
+use Rattle.shm_outcomes.proofs.Walking.{follower-reached}
 use Rattle.shm_outcomes.proofs.near.put_next.Goals as goal
 
 pub returns : goal.returns

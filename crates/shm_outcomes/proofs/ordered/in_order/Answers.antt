@@ -2,8 +2,8 @@ use Rattle.std.proofs.Common.{rules, ◌≡◌, List, arith, None, Some, map, su
 use Rattle.shm_outcomes.specs.Judge.{IsExplained, pid_in}
 use Rattle.shm_outcomes.specs.Logs.{Entry}
 use Rattle.shm_outcomes.specs.Schedules.{Leads, fresh, goes}
+use Rattle.shm_outcomes.proofs.Walking.{follower-reached}
 use Rattle.shm_outcomes.proofs.Ordering.{differs, explained, halts, one-more-led, take-past}
-use Rattle.shm_outcomes.proofs.Searching.{follower-reached}
 use Rattle.shm_outcomes.proofs.ordered.in_order.Goals as goal
 
 pub returns-in-None-clause-none : goal.returns-in-None-clause-none

@@ -1,5 +1,5 @@
-use Rattle.std.proofs.Common.{◌≡◌, length}
+use Rattle.std.proofs.Common.{◌<◌, length}
 use Rattle.shm_outcomes.proofs.buckets.Buckets.new.Given as goal
 
 abbrev pub invariant-loop : goal.invariant-loop
-invariant-loop l = length l.all.items ≡ l.counter
+invariant-loop l = 0 < length l.all.items

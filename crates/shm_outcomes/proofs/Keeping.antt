@@ -1,0 +1,256 @@
+-- Runs whose processes keep the same of their replies go on alike.
+use Rattle.std.specs.Prelude.{◌≡◌, ℕ, suc, zero, take, ◌+◌, ◌==◌, ◌&&◌, ◌<◌, drop, slice_index_or, Bool, true, false, not, cond, List, [], ◌∷◌, ◌++◌, map, length, Option, Some, None}
+use Rattle.std.proofs.Common.{refl, ap, sym, subst, ◌∙◌, arith, inl, inr, length-append}
+use Rattle.std.proofs.lemmas.Bool.{cases_Bool, cases_eq}
+use Rattle.std.proofs.lemmas.Grind.{common_steps}
+use Rattle.std.proofs.Math.Seq.{drop-cons}
+use Rattle.std.proofs.lemmas.List.{append-nil, append_assoc}
+use Rattle.shm_base.specs.History.{is_refusal}
+use Rattle.shm_base.specs.Processes.{has_pid}
+use Rattle.shm_base.specs.State.{Machine}
+use Rattle.shm_base.specs.Step.{Outcome, caller_of}
+use Rattle.shm_base.specs.declared.call.Call.{Call}
+use Rattle.shm_base.specs.declared.call.Event.{Event}
+use Rattle.shm_base.specs.declared.call.Process.{Process}
+use Rattle.shm_base.specs.declared.call.Reply.{Reply}
+use Rattle.shm_text.specs.Script.{ScriptView}
+use Rattle.shm_text.specs.Form.{CommandView}
+use Rattle.shm_text.specs.Variables.{no_values, values_after}
+use Rattle.shm_text.specs.declared.script.Line.{Line}
+use Rattle.shm_text.specs.declared.script.Line.TheVariants.{Command, Flush}
+use Rattle.shm_outcomes.specs.Alike.{is_change, looks}
+use Rattle.shm_outcomes.specs.Branches.{event_after}
+use Rattle.shm_outcomes.specs.Changes.{Trail, noted, patch_by, trail_after, trail_of}
+use Rattle.shm_outcomes.specs.Groups.{kept, kept_all, kept_reply, mark_of}
+use Rattle.shm_outcomes.specs.Keys.{Key}
+use Rattle.shm_outcomes.specs.Outcomes.{masked, told}
+use Rattle.shm_outcomes.specs.Schedules.{Run, after, fresh, is_live, next, next_call, replies_to}
+use Rattle.shm_outcomes.specs.Search.{IsReached}
+use Rattle.shm_outcomes.specs.Times.{timeless}
+use Rattle.shm_outcomes.specs.declared.trail.Patch.{Patch}
+use Rattle.shm_outcomes.proofs.Going.{first-true, map-head, map-tail, masked-next, same-if, same-step, told-more, told-one}
+use Rattle.shm_outcomes.proofs.Trails.{changed, puts-same, reached-changed, reached-next}
+use Rattle.shm_outcomes.specs.Changes.{all_changes}
+
+-- WHAT A PROCESS KEEPS
+
+kept-value : (r : Reply) (values : List (Option ℕ)) (v : Option ℕ) → values_after values v (Some (kept_reply v r)) ≡ values_after values v (Some r)
+kept-value r values None = refl
+kept-value r values (Some v) = refl
+
+-- it decides what it does next
+kept-next : (pid : ℕ) (values : List (Option ℕ)) (lines : List Line) (replies : List Reply) → next_call pid values lines (kept pid lines replies) ≡ next_call pid values lines replies
+kept-next pid values [] replies = refl
+kept-next pid values (Flush n ∷ lines) replies = kept-next pid values lines replies
+kept-next pid values (Command c ∷ lines) [] = refl
+kept-next pid values (Command c ∷ lines) (r ∷ replies) =
+    let taken = kept-value r values c.var in
+    let own = kept-next pid (values_after values c.var (Some r)) lines replies in
+    let other = kept-next pid values lines (r ∷ replies) in
+    elim (cases_Bool (c.pid == pid)) [
+      | inl same ↦ grind (arith, common_steps, same, taken, own)
+      | inr apart ↦ grind (arith, common_steps, apart, other)
+    ]
+
+kept-none : (pid : ℕ) (lines : List Line) → kept pid lines [] ≡ []
+kept-none pid [] = refl
+kept-none pid (Flush n ∷ lines) = kept-none pid lines
+kept-none pid (Command c ∷ lines) = refl
+
+first-kept : (v : Option ℕ) (x y : Reply) (xs ys : List Reply) → kept_reply v x ∷ xs ≡ kept_reply v y ∷ ys → xs ≡ ys
+first-kept v x y xs ys h = grind (arith, h)
+
+-- a line of another process
+pub kept-skip : (pid : ℕ) (lines : List Line) (i : ℕ) (line : Line) (c : CommandView) (replies : List Reply) → i < length lines → line ≡ slice_index_or lines i line → line ≡ Command c → (c.pid ≡ pid → ⊥)
+    → kept pid (drop i lines) replies ≡ kept pid (drop (i + 1) lines) replies
+kept-skip pid lines i line c replies lt is command other =
+    let a : drop i lines ≡ Command c ∷ drop (i + 1) lines = grind (arith, drop-cons lines i line) in
+    rw a (by replies)
+  where
+    by : (replies : List Reply) → kept pid (Command c ∷ drop (i + 1) lines) replies ≡ kept pid (drop (i + 1) lines) replies
+    by [] = sym (kept-none pid (drop (i + 1) lines))
+    by (r ∷ rs) = grind (arith, other)
+
+abbrev Grows : ℕ → List Line → Reply → Type 0
+Grows pid lines r = (xs ys : List Reply) → kept pid lines xs ≡ kept pid lines ys → kept pid lines (xs ++ r ∷ []) ≡ kept pid lines (ys ++ r ∷ [])
+
+own-more : (pid : ℕ) (c : CommandView) (lines : List Line) (r : Reply) → Grows pid lines r → c.pid == pid ≡ true → Grows pid (Command c ∷ lines) r
+own-more pid c lines r rest same [] [] h = refl
+own-more pid c lines r rest same [] (y ∷ ys) h = absurd (grind (arith, h, same))
+own-more pid c lines r rest same (x ∷ xs) [] h = absurd (grind (arith, h, same))
+own-more pid c lines r rest same (x ∷ xs) (y ∷ ys) h =
+    let both : kept_reply c.var x ∷ kept pid lines xs ≡ kept_reply c.var y ∷ kept pid lines ys = grind (arith, h, same) in
+    let more = rest xs ys (first-kept c.var x y (kept pid lines xs) (kept pid lines ys) both) in
+    grind (arith, same, both, more)
+
+other-more : (pid : ℕ) (c : CommandView) (lines : List Line) (r : Reply) → Grows pid lines r → c.pid == pid ≡ false → Grows pid (Command c ∷ lines) r
+other-more pid c lines r rest apart [] [] h = refl
+other-more pid c lines r rest apart [] (y ∷ ys) h =
+    let both : kept pid lines [] ≡ kept pid lines (y ∷ ys) = kept-none pid lines ∙ grind (arith, h, apart) in
+    let more = rest [] (y ∷ ys) both in
+    grind (arith, apart, more)
+other-more pid c lines r rest apart (x ∷ xs) [] h =
+    let both : kept pid lines (x ∷ xs) ≡ kept pid lines [] = grind (arith, h, apart, kept-none pid lines) in
+    let more = rest (x ∷ xs) [] both in
+    grind (arith, apart, more)
+other-more pid c lines r rest apart (x ∷ xs) (y ∷ ys) h =
+    let both : kept pid lines (x ∷ xs) ≡ kept pid lines (y ∷ ys) = grind (arith, h, apart) in
+    let more = rest (x ∷ xs) (y ∷ ys) both in
+    grind (arith, apart, more)
+
+-- one more reply
+kept-more : (pid : ℕ) (lines : List Line) (r : Reply) → Grows pid lines r
+kept-more pid [] r xs ys h = refl
+kept-more pid (Flush n ∷ lines) r xs ys h = kept-more pid lines r xs ys h
+kept-more pid (Command c ∷ lines) r xs ys h =
+    elim (cases_Bool (c.pid == pid)) [
+      | inl same ↦ own-more pid c lines r (kept-more pid lines r) same xs ys h
+      | inr apart ↦ other-more pid c lines r (kept-more pid lines r) apart xs ys h
+    ]
+
+-- no reply more, or one, which is the same but for its times
+kept-told : (pid : ℕ) (lines : List Line) (xs ys : List Reply) (rs : List Reply) → kept pid lines xs ≡ kept pid lines ys → kept pid lines (xs ++ rs) ≡ kept pid lines (ys ++ rs)
+kept-told pid lines xs ys rs h = by rs xs ys h
+  where
+    by : (rs xs ys : List Reply) → kept pid lines xs ≡ kept pid lines ys → kept pid lines (xs ++ rs) ≡ kept pid lines (ys ++ rs)
+    by [] xs ys h = ap (kept pid lines) (append-nil xs) ∙ h ∙ sym (ap (kept pid lines) (append-nil ys))
+    by (r ∷ rs) xs ys h =
+        ap (kept pid lines) (sym (append_assoc xs (r ∷ []) rs))
+        ∙ by rs (xs ++ r ∷ []) (ys ++ r ∷ []) (kept-more pid lines r xs ys h)
+        ∙ ap (kept pid lines) (append_assoc ys (r ∷ []) rs)
+
+-- ALL PROCESSES
+
+kept-process : (lines : List Line) (ps : List Process) (all : List (List Reply)) (i : ℕ) (d : Process) → i < length ps
+    → kept_all lines (take (suc i) ps) all ≡ kept_all lines (take i ps) all ++ kept (slice_index_or ps i d).pid lines (slice_index_or all i []) ∷ []
+kept-process lines [] all i d lt = absurd (omega (arith, lt))
+kept-process lines (p ∷ ps) [] zero d lt = refl
+kept-process lines (p ∷ ps) (one ∷ all) zero d lt = refl
+kept-process lines (p ∷ ps) [] (suc i) d lt = ap (λ (l : List (List Reply)). kept p.pid lines [] ∷ l) (kept-process lines ps [] i d (omega (arith, lt)))
+kept-process lines (p ∷ ps) (one ∷ all) (suc i) d lt = ap (λ (l : List (List Reply)). kept p.pid lines one ∷ l) (kept-process lines ps all i d (omega (arith, lt)))
+
+-- one more process
+pub kept-all-more : (lines : List Line) (ps : List Process) (all : List (List Reply)) (i : ℕ) (d : Process) → i < length ps
+    → kept_all lines (take (i + 1) ps) all ≡ kept_all lines (take i ps) all ++ kept (slice_index_or ps i d).pid lines (slice_index_or all i []) ∷ []
+kept-all-more lines ps all i d lt =
+    let more : i + 1 ≡ suc i = omega arith in
+    ap (λ (n : ℕ). kept_all lines (take n ps) all) more ∙ kept-process lines ps all i d lt
+
+abbrev kept_in : ScriptView → List Event → Process → List Reply
+kept_in script events p = kept p.pid script.lines (told events p)
+
+pub kept-map : (lines : List Line) (events : List Event) (ps : List Process) → kept_all lines ps (map (told events) ps) ≡ map (λ (p : Process). kept p.pid lines (told events p)) ps
+kept-map lines events [] = refl
+kept-map lines events (p ∷ ps) = ap (λ (l : List (List Reply)). kept p.pid lines (told events p) ∷ l) (kept-map lines events ps)
+
+kept-pid : (script : ScriptView) (es fs : List Event) (pid : ℕ) (ps : List Process) → map (kept_in script es) ps ≡ map (kept_in script fs) ps → has_pid pid ps ≡ true
+    → kept pid script.lines (map masked (replies_to pid es)) ≡ kept pid script.lines (map masked (replies_to pid fs))
+kept-pid script es fs pid [] same has = absurd (cc)
+kept-pid script es fs pid (p ∷ ps) same has =
+    elim (cases_eq p.pid pid) [
+      | inl own ↦
+          subst (λ (q : ℕ). kept q script.lines (map masked (replies_to q es)) ≡ kept q script.lines (map masked (replies_to q fs))) own
+          (map-head (kept_in script es) (kept_in script fs) p ps same)
+      | inr other ↦ kept-pid script es fs pid ps (map-tail (kept_in script es) (kept_in script fs) p ps same) (grind (arith, has, other))
+    ]
+
+-- one more event, of one process, whose replies differ only in times
+all-kept-more : (script : ScriptView) (es fs : List Event) (e f : Event) → e.pid ≡ f.pid → masked e.reply ≡ masked f.reply
+    → (ps : List Process) → map (kept_in script es) ps ≡ map (kept_in script fs) ps → map (kept_in script (es ++ e ∷ [])) ps ≡ map (kept_in script (fs ++ f ∷ [])) ps
+all-kept-more script es fs e f pid same [] h = refl
+all-kept-more script es fs e f pid same (p ∷ ps) h =
+    let lines = script.lines in
+    let here : kept_in script (es ++ e ∷ []) p ≡ kept_in script (fs ++ f ∷ []) p =
+    ap (kept p.pid lines) (told-more es e p)
+    ∙ kept-told p.pid lines (told es p) (told fs p) (told (e ∷ []) p) (map-head (kept_in script es) (kept_in script fs) p ps h)
+    ∙ ap (λ (l : List Reply). kept p.pid lines (told fs p ++ l)) (told-one e f p pid same)
+    ∙ ap (kept p.pid lines) (sym (told-more fs f p)) in
+    let rest = all-kept-more script es fs e f pid same ps (map-tail (kept_in script es) (kept_in script fs) p ps h) in
+    λ j. here j ∷ rest j
+
+-- THE TRAIL OF ONE CALL
+
+refusal-masked : (r : Reply) → is_refusal (masked r) ≡ is_refusal r
+refusal-masked r = grind (arith, common_steps)
+
+patch-masked : (call : Call) (r : Reply) → patch_by call (masked r) ≡ patch_by call r
+patch-masked call r = grind (arith, common_steps)
+
+abbrev event_with : ℕ → Call → Reply → Event
+event_with pid call reply = record { pid = pid; call = call; reply = reply }
+
+-- it is the same if the machines, and the replies, differ only in times
+trail-same : (s m : Machine) (pid : ℕ) (call : Call) (r q : Reply) (t : Trail) → timeless s ≡ timeless m → masked r ≡ masked q
+    → trail_after s (event_with pid call r) t ≡ trail_after m (event_with pid call q) t
+trail-same s m pid call r q t machines replies =
+    let refusals : is_refusal r ≡ is_refusal q = sym (refusal-masked r) ∙ ap is_refusal replies ∙ refusal-masked q in
+    let patches : patch_by call r ≡ patch_by call q = sym (patch-masked call r) ∙ ap (patch_by call) replies ∙ patch-masked call q in
+    let callers : caller_of s pid ≡ caller_of m pid = ap (λ (x : Machine). caller_of x pid) machines in
+    ap (λ (b : Bool). cond (not b && not (looks call)) (noted s (event_with pid call r) (patch_by call r) t) t) refusals
+    ∙ ap (λ (p : Option Patch). cond (is_change (event_with pid call q)) (noted s (event_with pid call r) p t) t) patches
+    ∙ ap (λ (n : Trail). cond (is_change (event_with pid call q)) n t) (by (patch_by call q) callers)
+  where
+    by : (p : Option Patch) → caller_of s pid ≡ caller_of m pid → noted s (event_with pid call r) p t ≡ noted m (event_with pid call q) p t
+    by None callers = refl
+    by (Some p) callers = ap (λ ws. record { past = t.past; writes = ws }) (puts-same s m pid callers p.bytes p.addr t.writes)
+
+-- RUNS OF ONE GROUP
+
+pub record GoSame (script : ScriptView) (machine : Machine) (a b : Run) : Type 0 where
+  pub state : timeless a.machine ≡ timeless b.machine
+  pub count : length a.events ≡ length b.events
+  pub kept : map (kept_in script a.events) script.processes ≡ map (kept_in script b.events) script.processes
+  pub trail : trail_of machine a.events ≡ trail_of machine b.events
+
+abbrev mark : ScriptView → Machine → Run → Key
+mark script machine run = mark_of script (fresh machine) run
+
+pub go-same : (script : ScriptView) (machine : Machine) (a b : Run) → IsReached script (fresh machine) a → IsReached script (fresh machine) b → mark script machine a ≡ mark script machine b → GoSame script machine a b
+go-same script machine a b left right same =
+    record {
+      state = sym (reached-changed script machine a left) ∙ ap (λ (k : Key). changed (timeless machine) (all_changes k.trail)) same ∙ reached-changed script machine b right;
+      count = ap (λ (k : Key). k.count) same;
+      kept = sym (kept-map script.lines a.events script.processes) ∙ ap (λ (k : Key). k.told) same ∙ kept-map script.lines b.events script.processes;
+      trail = ap (λ (k : Key). k.trail) same;
+    }
+
+pub same-mark : (script : ScriptView) (machine : Machine) (a b : Run) → GoSame script machine a b → mark script machine a ≡ mark script machine b
+same-mark script machine a b h =
+    let kept = kept-map script.lines a.events script.processes ∙ h.kept ∙ sym (kept-map script.lines b.events script.processes) in
+    λ j. record { count = h.count j; told = kept j; trail = h.trail j }
+
+-- they make the same calls next
+pub next-same : (script : ScriptView) (machine : Machine) (a b : Run) (pid : ℕ) → GoSame script machine a b → next script a pid ≡ next script b pid
+next-same script machine a b pid same =
+    let live : is_live a.machine pid ≡ is_live b.machine pid = ap (λ (m : Machine). is_live m pid) same.state in
+    let lines = script.lines in
+    ap (λ (l : Bool). cond (has_pid pid script.processes && l) (next_call pid no_values lines (replies_to pid a.events)) None) live
+    ∙ same-if (has_pid pid script.processes && is_live b.machine pid) _ _
+    (λ h.
+    sym (masked-next pid no_values lines (replies_to pid a.events))
+    ∙ sym (kept-next pid no_values lines (map masked (replies_to pid a.events)))
+    ∙ ap (next_call pid no_values lines) (kept-pid script a.events b.events pid script.processes same.kept (first-true (has_pid pid script.processes) (is_live b.machine pid) h))
+    ∙ kept-next pid no_values lines (map masked (replies_to pid b.events))
+    ∙ masked-next pid no_values lines (replies_to pid b.events))
+
+-- the replies of one call differ only in times
+pub reply-same : (script : ScriptView) (machine : Machine) (a b : Run) (pid : ℕ) (call : Call) → GoSame script machine a b → masked (event_after a pid call).reply ≡ masked (event_after b pid call).reply
+reply-same script machine a b pid call same = ap (λ (o : Outcome). o.reply) (same-step a b pid call same.state)
+
+-- and they are of one group after it
+pub after-same :
+    (script : ScriptView) (machine : Machine) (a b : Run) (pid : ℕ) (call : Call) → IsReached script (fresh machine) a → IsReached script (fresh machine) b
+    → GoSame script machine a b → GoSame script machine (after a pid call) (after b pid call)
+after-same script machine a b pid call left right same =
+    let e = event_after a pid call in
+    let f = event_after b pid call in
+    let replies = reply-same script machine a b pid call same in
+    record {
+      state = ap (λ (o : Outcome). o.state) (same-step a b pid call same.state);
+      count = length-append a.events _ ∙ ap (λ (n : ℕ). n + 1) same.count ∙ sym (length-append b.events _);
+      kept = all-kept-more script a.events b.events e f refl replies script.processes same.kept;
+      trail = reached-next script machine a left e
+          ∙ ap (λ (t : Trail). trail_after a.machine e t) same.trail
+          ∙ trail-same a.machine b.machine pid call e.reply f.reply (trail_of machine b.events) same.state replies
+          ∙ sym (reached-next script machine b right f);
+    }
