@@ -6,8 +6,11 @@ use std::alloc::Global;
 use std::env;
 use std::rt::Env;
 
-/// The most runs from which a search continues, unless the command line gives another number.
-const MOST: u64 = 1_000_000;
+/// The most runs that a list of outcomes may take, unless the command line gives another number.
+const MOST_LISTED: u64 = 10_000_000;
+
+/// The most runs that a judge keeps, unless the command line gives another number.
+const MOST_JUDGED: u64 = 1_000_000;
 
 /// The most runs from which a search continues, the rules of the machine, and whether identifiers and
 /// addresses are masked.
@@ -47,7 +50,7 @@ fn read_words(alloc: Global, words: &[String]) -> Result<Asked, Stop> {
         return Err(Stop::Usage);
     }
     match words[1].as_str() {
-        "outcomes" => Ok(Asked::Outcomes(read_options(&words[2..])?)),
+        "outcomes" => Ok(Asked::Outcomes(read_options(&words[2..], MOST_LISTED)?)),
         "judge" => read_judge(alloc, &words[2..]),
         "sample" => Ok(Asked::Sample(read_draws(&words[2..])?)),
         _ => Err(Stop::Usage),
@@ -58,7 +61,7 @@ fn read_judge(alloc: Global, words: &[String]) -> Result<Asked, Stop> {
     let Some(log) = words.first() else {
         return Err(Stop::Usage);
     };
-    let options = read_options(&words[1..])?;
+    let options = read_options(&words[1..], MOST_JUDGED)?;
     if options.masked {
         return Err(Stop::Usage);
     }
@@ -101,10 +104,11 @@ fn with_draw(draws: Draws, name: &str, value: &str) -> Result<Draws, Stop> {
     }
 }
 
-// Reads options in any order. If an option is given twice, the last one counts.
-fn read_options(words: &[String]) -> Result<Options, Stop> {
+// Reads options in any order. If an option is given twice, the last one counts. Without one, a search takes
+// at most this many runs.
+fn read_options(words: &[String], most: u64) -> Result<Options, Stop> {
     let mut options = Options {
-        most: MOST,
+        most,
         rules: RuleSet::Profile,
         masked: false,
     };
