@@ -46,7 +46,7 @@ no_members count = record { ways = []; count = count }
 
 -- ADDING
 
--- the member is put behind the others, unless it is there. There may be at most so many
+-- the member is put behind the others, unless it is there; the bound is on all members
 abbrev pub IsAdded : ℕ → Way → Members → Members → Type 0
 IsAdded most w olds news =
     (Contains (members_in olds.ways) w.member × (news ≡ olds))

@@ -37,7 +37,7 @@ impl Model for Buckets {
 }
 
 impl Buckets {
-    // Room for some so many things in short buckets.
+    // Empty buckets. They stay short for about this number of things.
     pub(crate) fn new(alloc: Global, things: usize) -> Result<Buckets, AllocError> {
         let mut all = Vec::new(alloc);
         all.push(Bucket {

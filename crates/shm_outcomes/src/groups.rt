@@ -30,7 +30,7 @@ impl<M: Engine> Model for Groups<M> {
 }
 
 impl<M: Engine> Groups<M> {
-    // No groups yet, and room for some so many.
+    // No groups yet. They are found fast up to about this number.
     pub(crate) fn new(alloc: Global, groups: usize) -> Result<Groups<M>, AllocError>
         ensures { IfOk result (λ g. g ≡ no_groups) }
     {

@@ -41,7 +41,7 @@ impl<T: Digested> Model for Known<T> {
 }
 
 impl<T: Digested> Known<T> {
-    // No things yet, and room for some so many.
+    // No things yet. They are found fast up to about this number.
     pub(crate) fn new(alloc: Global, things: usize) -> Result<Known<T>, AllocError>
         ensures { IfOk result (λ k. k ≡ []) }
     {

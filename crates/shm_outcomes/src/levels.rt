@@ -58,7 +58,7 @@ impl<M: Engine> Level<M> {
         Ok(Level { groups, members })
     }
 
-    // Whether there are no runs with so many calls.
+    // Whether the level has no runs.
     pub(crate) fn is_empty(&self) -> bool
         ensures { IsTrue result ↔ self.now.members.ways ≡ [] }
     {

@@ -119,7 +119,7 @@ impl Model for Members {
 }
 
 impl Members {
-    // No members yet, room for some so many, and as many of fewer calls as counted.
+    // No members yet. They are found fast up to about this number. `count` counts those with fewer calls.
     pub(crate) fn new(alloc: Global, members: usize, count: u64) -> Result<Members, AllocError>
         ensures { IfOk result (λ m. m ≡ no_members count) }
     {
@@ -163,7 +163,7 @@ impl Members {
         self.known.place(member).is_some()
     }
 
-    // Puts a member behind the others, unless it is there. There may be at most so many, with those of fewer calls.
+    // Puts a member behind the others, unless it is there. `most` bounds all members, with those of fewer calls.
     pub(crate) fn add(
         &mut self,
         most: u64,
