@@ -87,8 +87,7 @@ impl Chunk {
         requires zeros { bytes ≡ take len bytes ++ replicate (64 - len) 0 }
         ensures { result ≡ take len bytes }
     {
-        // Reading the length tells the proof its range.
-        let _ = len.get();
+        prove!(len.get() <= LONGEST_ACCESS);
         Chunk { bytes, len }
     }
 
