@@ -5,11 +5,11 @@ ghost use Rattle.shm_text.specs.Calls.{verb_of, access_verb_of, control_verb_of,
 
 use crate::fault::FaultKind;
 use crate::operand::{
-    addr_word, at_flags_word, chunk_word, get_flags_word, id_word, is_word, key_word, mode_word,
+    addr_word, at_flags_word, chunk_word, get_flags_word, id_word, key_word, mode_word,
     ranged, ranged_addr, ranged_id, required_number, within_64_bits,
 };
 use crate::script::{LineAddr, LineCall, LineId};
-use crate::words::Words;
+use crate::words::{Words, is_word};
 use shm_base::{AccessLen, LAST_PID, LONGEST_ACCESS, MOST_AREAS};
 
 /// The number of the last swap area that a machine can have.

@@ -1,13 +1,13 @@
 //! The operands of a line: one word each. Words that can't be read make a bad line; ranges are tested
 //! afterwards, so a bad line is reported before a bad number.
 ghost use Rattle.std.specs.Prelude.{◌≡◌, ◌≤◌, ◌<◌, ◌==◌, true, length, drop, Ok, IfOk, Some};
-ghost use Rattle.std.specs.Str.{bytes_eq};
 ghost use Rattle.shm_text.specs.Operand.{required_number, ranged, within_64_bits, key_word, letter_of, addr_by, id_word, addr_word, ranged_id, ranged_addr, mode_word, get_flags_word, names_of, times, at_flags_word, chunk_word};
 ghost use Rattle.shm_text.specs.Form.{is_id, is_get_flags, is_at_flags};
 
 use crate::fault::FaultKind;
 use crate::number::{Number, read_number};
 use crate::script::{LineAddr, LineId, Variable};
+use crate::words::is_word;
 use bitflags::Flags;
 use shm_base::{AtFlags, Chunk, GetFlags, LAST_ID, LONGEST_ACCESS};
 
@@ -24,14 +24,6 @@ pub(crate) enum AddrWord {
     Literal(Number),
     Letter(Variable),
     LetterPlus(Variable, Number),
-}
-
-/// Whether a word equals a text. The text may be an array, which `==` does not compare with a slice.
-#[inline(always)]
-pub(crate) fn is_word(word: &[u8], text: &[u8]) -> bool
-    ensures { result ≡ bytes_eq word.now text.now }
-{
-    word == text
 }
 
 /// A word that has to be a number.

@@ -25,6 +25,14 @@ fn is_space(byte: u8) -> bool
     byte == b' ' || byte == b'\t'
 }
 
+/// Whether a word equals a text. Most words differ from a text in their length, which is tested without a call.
+#[inline(always)]
+pub(crate) fn is_word(word: &[u8], text: &[u8]) -> bool
+    ensures { result ≡ bytes_eq word.now text.now }
+{
+    word.len() == text.len() && word == text
+}
+
 /// The first words of a line.
 #[derive(Drop)]
 pub(crate) struct Words<'a> {
@@ -125,6 +133,6 @@ impl<'a> Words<'a> {
         requires { index < length self.now }
         ensures { result ≡ bytes_eq (word_at self.now index) word.now }
     {
-        self.at(index) == word
+        is_word(self.at(index), word)
     }
 }
