@@ -2,6 +2,7 @@ pub mod Asked
 pub mod Births
 pub mod Ends
 pub mod Keepers
+pub mod Noted
 pub mod Outcomes
 pub mod Pids
 pub mod Plans

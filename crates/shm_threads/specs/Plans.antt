@@ -6,6 +6,8 @@ use Rattle.shm_text.specs.declared.script.Line.{Line}
 use Rattle.shm_threads.specs.Transcripts.{commands_of}
 use Rattle.shm_threads.specs.declared.transcript.Transcript.{Transcript}
 use Rattle.shm_threads.specs.declared.worker.Ended.{Ended}
+use Rattle.shm_threads.specs.declared.mismatch.Rooms.{Rooms}
+use Rattle.shm_text.specs.Script.{ScriptView}
 
 -- the transcript is empty and has room for its process's lines
 abbrev pub HasRoom : List Line → Transcript → Type 0
@@ -17,3 +19,7 @@ pub record IsPlan (lines : List Line) (jobs : Vec Transcript Global) (handles : 
   pub no_handle : vec_len handles ≡ 0
   pub handles_fit : vec_len jobs ≤ vec_capacity handles
   pub transcripts_fit : vec_len transcripts + vec_len jobs ≤ vec_capacity transcripts
+
+-- an empty list, and a place for each process
+abbrev pub AreRooms : ScriptView → Rooms → Type 0
+AreRooms script rooms = (rooms.pids.items ≡ []) × (length rooms.whole.items ≡ length script.processes)

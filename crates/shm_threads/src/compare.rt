@@ -1,50 +1,75 @@
 //! Compares transcripts with a history. Each worker guarantees its own transcript, and the lock guards one
 //! history. This checks that the history has exactly the calls of the transcripts.
-ghost use Rattle.std.specs.Prelude.{◌≡◌, ℕ, ◌↔◌, ◌<◌, ◌≤◌, IsTrue, All, map, length, drop, true, slice_get};
+ghost use Rattle.std.specs.Prelude.{◌≡◌, ℕ, ◌↔◌, ◌<◌, ◌≤◌, IsTrue, IfOk, All, map, length, drop, true, slice_get};
 ghost use Rattle.shm_base.specs.History.{own_part};
 ghost use Rattle.shm_text.specs.Variables.{no_values};
 ghost use Rattle.shm_threads.specs.Pids.{ArePids, line_pid};
 ghost use Rattle.shm_threads.specs.Transcripts.{commands_of, Follows, transcript_events, is_fork_of, is_forked, is_child, pid_in, pid_of, HasLines, IsMarkAllowed, IsTranscript, IsAdmitted, is_answered, least_of, pid_at, IsFound, IsLeastOf};
+ghost use Rattle.shm_threads.specs.Noted.{AreNoted};
 
 use crate::pids::{Pids, own_command, own_event};
 use crate::transcript::{Answer, Entry, Transcript};
-use shm_base::{Call, Errno, Event, Process, Reply, has_pid};
+use shm_base::{Call, Errno, Event, HostMemory, Process, Reply, has_pid};
 use shm_text::{Line, Script, Vars};
+use std::alloc::Global;
+use std::thread;
+use std::thread::Threads;
+
+// The most threads that compare a history.
+const MOST_THREADS: usize = 4;
+
+// As many events are compared before another thread would have started.
+const FEW_EVENTS: usize = 4096;
 
 /// The least pid with a disagreement: its transcript is not that of its process; or the history has an event
 /// of it, although the process is not declared or was not live. 0 if there is not exactly one transcript for
 /// each process of the script, in the script's order. None exactly if the transcripts are those of the
-/// script's processes in this history.
-pub fn disagreement(
+/// script's processes in this history. A long history is compared by up to four threads, or by this one if
+/// the host refuses them. HostMemory: the host refused memory.
+pub fn disagreement<R: Threads + Sync>(
+    rt: &R,
+    alloc: Global,
     script: &Script,
     history: &[Event],
     transcripts: &Vec<Transcript>,
-) -> Option<u32>
-    ensures { IsFound script.now history.now transcripts.now.items result }
+) -> Result<Option<u32>, HostMemory>
+    ensures { IfOk result (λ found. IsFound script.now history.now transcripts.now.items found) }
 {
     let none = Pids {
         lines: &[],
         events: &[],
     };
-    disagreement_by(script, history, none, transcripts)
+    let mut whole = places(alloc, script.processes.len())?;
+    Ok(disagreement_by(rt, script, history, none, transcripts, &mut whole))
 }
 
-/// As `disagreement`, with the pids of the first lines and events.
-pub(crate) fn disagreement_by(
+/// A place for what is found of each of so many transcripts.
+pub(crate) fn places(alloc: Global, count: usize) -> Result<Vec<bool>, HostMemory>
+    ensures { IfOk result (λ places. length places.items ≡ count) }
+{
+    Ok(vec![in alloc; false; count]?)
+}
+
+/// As `disagreement`, with the pids of the first lines and events, and a place for each process of the
+/// script. It takes no memory.
+pub(crate) fn disagreement_by<R: Threads + Sync>(
+    rt: &R,
     script: &Script,
     history: &[Event],
     pids: Pids<'_>,
     transcripts: &Vec<Transcript>,
+    whole: &mut [bool],
 ) -> Option<u32>
     requires lines { ArePids line_pid script.now.lines pids.lines.now }
     requires events { ArePids pid_at history.now pids.events.now }
+    requires places { length whole.old ≡ length script.now.processes }
     ensures { IsFound script.now history.now transcripts.now.items result }
 {
     if !has_each(&script.processes, transcripts) {
         return Some(0);
     }
     let stranger = first_stranger(&script.processes, history);
-    let broken = first_broken(script, history, pids, transcripts);
+    let broken = first_broken(rt, script, history, pids, transcripts, whole);
     match broken {
         Some(pid) => Some(least(stranger, pid)),
         None => stranger,
@@ -92,24 +117,57 @@ pub fn least(so_far: Option<u32>, pid: u32) -> u32
     so_far.map_or(pid, |other| other.min(pid))
 }
 
-// The least pid whose transcript is not its process's.
-fn first_broken(
+// The least pid whose transcript is not its process's. There is a place for each transcript.
+fn first_broken<R: Threads + Sync>(
+    rt: &R,
     script: &Script,
     history: &[Event],
     pids: Pids<'_>,
     transcripts: &[Transcript],
+    whole: &mut [bool],
 ) -> Option<u32>
     requires lines { ArePids line_pid script.now.lines pids.lines.now }
     requires events { ArePids pid_at history.now pids.events.now }
+    requires places { length whole.old ≡ length transcripts.now }
     ensures { IsLeastOf pid_of (IsTranscript script.now history.now) transcripts.now result }
 {
+    look(rt, script, history, pids, transcripts, whole);
     let mut found = None;
-    for transcript in transcripts {
-        if !is_whole(script, history, pids, transcript) {
+    for (index, transcript) in transcripts.iter().enumerate() {
+        if !whole[index] {
             found = Some(least(found, transcript.pid));
         }
     }
     found
+}
+
+// Looks at each transcript, and notes in its place whether it is its process's. Transcripts of a long history
+// are shared among threads.
+fn look<R: Threads + Sync>(
+    rt: &R,
+    script: &Script,
+    history: &[Event],
+    pids: Pids<'_>,
+    transcripts: &[Transcript],
+    whole: &mut [bool],
+)
+    requires lines { ArePids line_pid script.now.lines pids.lines.now }
+    requires events { ArePids pid_at history.now pids.events.now }
+    requires places { length whole.old ≡ length transcripts.now }
+    ensures places { length whole.new ≡ length transcripts.now }
+    ensures noted { AreNoted (IsTranscript script.now history.now) transcripts.now whole.new }
+{
+    let threads = if history.len() < FEW_EVENTS {
+        1
+    } else {
+        MOST_THREADS
+    };
+    thread::for_each_mut(
+        rt,
+        whole,
+        threads,
+        &|index, is_whole_at| *is_whole_at = is_whole(script, history, pids, &transcripts[index]),
+    );
 }
 
 fn is_whole(script: &Script, history: &[Event], pids: Pids<'_>, transcript: &Transcript) -> bool

@@ -3,8 +3,9 @@ ghost use Rattle.std.specs.Prelude.{◌≡◌, ◌↔◌, [], map, IfOk, IsTrue}
 ghost use Rattle.shm_slots.specs.View.{first_counts};
 ghost use Rattle.shm_threads.specs.Outcomes.{IsMismatch, StartedFrom};
 ghost use Rattle.shm_threads.specs.Pids.{line_pid};
+ghost use Rattle.shm_threads.specs.Plans.{AreRooms};
 
-use crate::compare::disagreement_by;
+use crate::compare::{disagreement_by, places};
 use crate::pids::{Pids, event_pids};
 use crate::transcript::Transcript;
 use shm_base::{HostMemory, Process};
@@ -13,6 +14,7 @@ use shm_pager::Pager;
 use shm_slots::Swap;
 use shm_text::Script;
 use std::alloc::Global;
+use std::thread::Threads;
 
 /// The start of a world: its opening and the areas' counts of failures.
 #[derive(Drop)]
@@ -96,29 +98,53 @@ fn are_same(one: &[Process], other: &[Process]) -> bool
     one == other
 }
 
+/// What a comparison writes to, so that it takes no memory: an empty list with room for the pid of each event,
+/// and a place for each process.
+#[derive(Drop)]
+pub(crate) struct Rooms {
+    pids: Vec<u32>,
+    whole: Vec<bool>,
+}
+
+impl Rooms {
+    /// For a run of this script.
+    pub(crate) fn of(alloc: Global, script: &Script) -> Result<Rooms, HostMemory>
+        ensures { IfOk result (AreRooms script.now) }
+    {
+        let pids = Vec::with_capacity(alloc, script.lines.len())?;
+        let whole = places(alloc, script.processes.len())?;
+        Ok(Rooms { pids, whole })
+    }
+}
+
 /// The least pid on which the history and the transcripts disagree. 0 if the world has another start, or if
 /// the list of transcripts does not fit the script. None exactly if they are an outcome.
-pub(crate) fn mismatch<P: Pager>(
+pub(crate) fn mismatch<R: Threads + Sync, P: Pager>(
+    rt: &R,
     origin: &Origin,
     world: &World<P>,
     script: &Script,
     pids: &[u32],
-    room: Vec<u32>,
+    rooms: Rooms,
     transcripts: &Vec<Transcript>,
 ) -> Option<u32>
     requires pids { pids.now ≡ map line_pid script.now.lines }
-    requires room { room.items ≡ [] }
+    requires rooms { AreRooms script.now rooms }
     ensures { let counts = origin.now.counts.items in
         IsMismatch script.now origin.now.opening counts world.now transcripts.now.items result }
 {
     if !origin.is_of(world) {
         return Some(0);
     }
+    let Rooms {
+        pids: room,
+        mut whole,
+    } = rooms;
     let history = world.history();
     let events = event_pids(room, history);
     let found = Pids {
         lines: pids,
         events: &events,
     };
-    disagreement_by(script, history, found, transcripts)
+    disagreement_by(rt, script, history, found, transcripts, &mut whole)
 }

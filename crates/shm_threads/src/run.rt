@@ -5,13 +5,13 @@ ghost use Rattle.shm_threads.specs.Ends.{IsFirst};
 ghost use Rattle.shm_threads.specs.Keepers.{cell_of, IsCaughtUp};
 ghost use Rattle.shm_threads.specs.Outcomes.{IsMismatch, IsOutcome};
 ghost use Rattle.shm_threads.specs.Pids.{line_pid};
-ghost use Rattle.shm_threads.specs.Plans.{HasRoom, IsPlan};
+ghost use Rattle.shm_threads.specs.Plans.{AreRooms, HasRoom, IsPlan};
 
 use crate::births::{ProcessState, states};
 use crate::callers::{FlusherEnded, run_process, run_rounds};
 use crate::compare::least;
 use crate::gate::Gate;
-use crate::mismatch::{Origin, mismatch};
+use crate::mismatch::{Origin, Rooms, mismatch};
 use crate::outcome::{Outcome, RunError};
 use crate::pids::line_pids;
 use crate::plan::jobs;
@@ -113,7 +113,7 @@ fn run_prepared<R: Threads + Wait + Sync, G: Gate, P: Pager + Send>(
     requires counts { start.origin.counts.items ≡ first_counts world.memory.swap }
     requires plan { IsPlan script.now.lines start.plan.jobs start.plan.handles start.plan.transcripts }
     requires pids { start.pids.items ≡ map line_pid script.now.lines }
-    requires room_of_pids { start.room.items ≡ [] }
+    requires rooms { AreRooms script.now start.rooms }
     requires room { length script.now.lines ≤ world.room }
     ensures outcome { let counts = first_counts world.memory.swap in
         IfOk result (λ r. IsOutcome script.now world.opening counts r.0.world r.0.transcripts.items) }
@@ -123,13 +123,13 @@ fn run_prepared<R: Threads + Wait + Sync, G: Gate, P: Pager + Send>(
         origin,
         processes,
         pids,
-        room,
+        rooms,
         plan,
     } = start;
     let shared = Shared::new(world, processes);
     let run = run_all(rt, &shared, keeper, script, &pids, gate, plan);
     let world = shared.into_world();
-    match run_error(&origin, &world, script, &pids, room, &run) {
+    match run_error(rt, &origin, &world, script, &pids, rooms, &run) {
         None => Ok(outcome_of(world, run)),
         Some(error) => Err(error),
     }
@@ -142,8 +142,8 @@ struct Start {
     processes: Vec<ProcessState>,
     // The pid of each line.
     pids: Vec<u32>,
-    // An empty list with room for the pid of each event.
-    room: Vec<u32>,
+    // What the comparison writes to.
+    rooms: Rooms,
     plan: Plan,
 }
 
@@ -167,21 +167,21 @@ fn prepared<P: Pager>(
     ensures counts { IfOk result (λ s. s.origin.counts.items ≡ first_counts world.old.memory.swap) }
     ensures plan { IfOk result (λ s. IsPlan script.now.lines s.plan.jobs s.plan.handles s.plan.transcripts) }
     ensures pids { IfOk result (λ s. s.pids.items ≡ map line_pid script.now.lines) }
-    ensures room_of_pids { IfOk result (λ s. s.room.items ≡ []) }
+    ensures rooms { IfOk result (λ s. AreRooms script.now s.rooms) }
     ensures room { OnOk result (length script.now.lines ≤ world.new.room) }
     ensures rest { world.new ≡ record world.old { room = world.new.room } }
 {
     let origin = Origin::of(alloc, world)?;
     let processes = states(alloc, &script.processes)?;
     let pids = line_pids(alloc, &script.lines)?;
-    let room = Vec::with_capacity(alloc, script.lines.len())?;
+    let rooms = Rooms::of(alloc, script)?;
     let plan = planned(alloc, script, &pids)?;
     world.reserve(script.lines.len())?;
     Ok(Start {
         origin,
         processes,
         pids,
-        room,
+        rooms,
         plan,
     })
 }
@@ -211,16 +211,17 @@ struct Joined {
 }
 
 // Why a run has no outcome, if so.
-fn run_error<P: Pager>(
+fn run_error<R: Threads + Sync, P: Pager>(
+    rt: &R,
     origin: &Origin,
     world: &World<P>,
     script: &Script,
     pids: &[u32],
-    room: Vec<u32>,
+    rooms: Rooms,
     run: &Joined,
 ) -> Option<RunError>
     requires pids { pids.now ≡ map line_pid script.now.lines }
-    requires room { room.items ≡ [] }
+    requires rooms { AreRooms script.now rooms }
     ensures outcome { let counts = origin.now.counts.items in
         IfNone result (IsOutcome script.now origin.now.opening counts world.now run.now.transcripts.items) }
     ensures started { IfNone result (run.now.is_refused ≡ false) }
@@ -234,7 +235,7 @@ fn run_error<P: Pager>(
     if let Some(pid) = run.expired {
         return Some(RunError::GateExpired { pid });
     }
-    match mismatch(origin, world, script, pids, room, &run.transcripts) {
+    match mismatch(rt, origin, world, script, pids, rooms, &run.transcripts) {
         None => None,
         Some(pid) => Some(RunError::HistoryMismatch { pid }),
     }

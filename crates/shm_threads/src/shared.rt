@@ -89,6 +89,16 @@ pub(crate) struct Shared<P: Pager> {
 // How often a thread tries to take the lock before it sleeps.
 const TRIES: u32 = 100;
 
+// The most times that it lets others run between two tries.
+const MOST_YIELDS: u32 = 32;
+
+// Lets other threads run this many times.
+fn let_others_run(times: u32) {
+    for _ in 0..times {
+        yield_now();
+    }
+}
+
 impl<P: Pager> Shared<P> {
     pub(crate) fn new(world: World<P>, processes: Vec<ProcessState>) -> Shared<P> {
         Shared {
@@ -97,13 +107,17 @@ impl<P: Pager> Shared<P> {
         }
     }
 
-    // The lock. A call is short, so a thread that finds it taken lets others run a few times before it sleeps.
+    // The lock. A call is short, so a thread that finds it taken lets others run before it tries again, longer
+    // each time, and sleeps at last. A lock that moves to another processor brings what it guards along, which
+    // takes longer than the call.
     fn locked<R: Wait>(&self, rt: &R) -> MutexGuard<'_, RunState<P>> {
+        let mut yields = 1u32;
         for _ in 0..TRIES {
             if let Some(guard) = self.state.try_lock() {
                 return guard;
             }
-            yield_now();
+            let_others_run(yields);
+            yields = yields.saturating_mul(2).min(MOST_YIELDS);
         }
         self.state.lock(rt)
     }

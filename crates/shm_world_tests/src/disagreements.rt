@@ -5,6 +5,7 @@ use shm_text::{Script, read_script};
 use shm_threads::{Answer, Entry, Transcript, disagreement};
 use std::alloc::Global;
 use std::test::Fail;
+use std::thread::Threads;
 
 fn script(alloc: Global, text: &[u8]) -> Result<Script, Fail> {
     Ok(read_script(alloc, text).ok().ok_or("a script")?)
@@ -190,6 +191,17 @@ const KEPT: [Kept; 14] = [
     },
 ];
 
+/// What the comparison finds.
+fn found<R: Threads + Sync>(
+    rt: &R,
+    alloc: Global,
+    script: &Script,
+    all: &[Event],
+    transcripts: &Vec<Transcript>,
+) -> Result<Option<u32>, Fail> {
+    Ok(disagreement(rt, alloc, script, all, transcripts)?)
+}
+
 #[test]
 fn made_up_runs(rt: HostRuntime) -> Result<(), Fail> {
     let alloc = rt.alloc();
@@ -199,7 +211,7 @@ fn made_up_runs(rt: HostRuntime) -> Result<(), Fail> {
         let process = transcript(alloc, 2, kept.process)?;
         let transcripts = vec![in alloc; child, process]?;
         let all = history(alloc, kept.all)?;
-        assert!(rt; disagreement(&script, &all, &transcripts) == kept.found);
+        assert!(rt; found(&rt, alloc, &script, &all, &transcripts)? == kept.found);
     }
     Ok(())
 }
@@ -212,11 +224,11 @@ fn transcripts_in_order(rt: HostRuntime) -> Result<(), Fail> {
     let child = transcript(alloc, 1, &[])?;
     let process = transcript(alloc, 2, &[Made::Store, Made::Exit])?;
     let mut transcripts = vec![in alloc; process, child]?;
-    assert!(rt; disagreement(&script, &all, &transcripts) == Some(0));
+    assert!(rt; found(&rt, alloc, &script, &all, &transcripts)? == Some(0));
     transcripts.swap(0, 1);
-    assert!(rt; disagreement(&script, &all, &transcripts).is_none());
+    assert!(rt; found(&rt, alloc, &script, &all, &transcripts)?.is_none());
     transcripts.remove(0);
-    assert!(rt; disagreement(&script, &all, &transcripts) == Some(0));
+    assert!(rt; found(&rt, alloc, &script, &all, &transcripts)? == Some(0));
     Ok(())
 }
 
@@ -250,7 +262,7 @@ fn a_marked_call_is_not_an_event(rt: HostRuntime) -> Result<(), Fail> {
     let alloc = rt.alloc();
     let script = script(alloc, MARKED)?;
     // its variable is -1
-    for (id, found) in [(-1, None), (0, Some(1))] {
+    for (id, wanted) in [(-1, None), (0, Some(1))] {
         let transcripts = marked(alloc, id)?;
         let removal = Event {
             pid: 1,
@@ -258,7 +270,61 @@ fn a_marked_call_is_not_an_event(rt: HostRuntime) -> Result<(), Fail> {
             reply: Reply::Refused(Errno::Einval),
         };
         let all = vec![in alloc; removal]?;
-        assert!(rt; disagreement(&script, &all, &transcripts) == found);
+        assert!(rt; found(&rt, alloc, &script, &all, &transcripts)? == wanted);
     }
+    Ok(())
+}
+
+/// As many lines of each process as make a history that several threads compare.
+const MANY: usize = 2100;
+
+/// Two processes that each make this many calls, in turn.
+fn long_script(alloc: Global) -> Result<Script, Fail> {
+    let mut text = Vec::new(alloc);
+    text.extend_from_slice(b"limits 65536 16 64 4 1\nprocess 1 100 100\nprocess 2 100 100\n")?;
+    for _ in 0..MANY {
+        text.extend_from_slice(b"1 exec\n2 exec\n")?;
+    }
+    script(alloc, &text)
+}
+
+fn execs(alloc: Global, pid: u32) -> Result<Transcript, Fail> {
+    let mut entries = Vec::with_capacity(alloc, MANY)?;
+    for _ in 0..MANY {
+        entries.push(Entry {
+            call: Call::Exec,
+            answer: Answer::Reply(Reply::Done),
+        })?;
+    }
+    Ok(Transcript { pid, entries })
+}
+
+fn exec_events(alloc: Global) -> Result<Vec<Event>, Fail> {
+    let mut events = Vec::with_capacity(alloc, 2 * MANY)?;
+    for at in 0..2 * MANY {
+        events.push(Event {
+            pid: 1 + (at % 2) as u32,
+            call: Call::Exec,
+            reply: Reply::Done,
+        })?;
+    }
+    Ok(events)
+}
+
+#[test]
+fn threads_compare_a_long_history(rt: HostRuntime) -> Result<(), Fail> {
+    let alloc = rt.alloc();
+    let script = long_script(alloc)?;
+    let first = execs(alloc, 1)?;
+    let second = execs(alloc, 2)?;
+    let transcripts = vec![in alloc; first, second]?;
+    let mut all = exec_events(alloc)?;
+    assert!(rt; found(&rt, alloc, &script, &all, &transcripts)?.is_none());
+    // the last event is another process's
+    all[2 * MANY - 1].pid = 1;
+    assert!(rt; found(&rt, alloc, &script, &all, &transcripts)? == Some(1));
+    // the second process's last event is missing
+    all.truncate(2 * MANY - 1);
+    assert!(rt; found(&rt, alloc, &script, &all, &transcripts)? == Some(2));
     Ok(())
 }
