@@ -84,7 +84,7 @@ fn run_in<W: Write, P: Pager>(
 }
 
 // Runs the lines of a script in file order, in a world without history. It stops at the first line that is
-// out of memory. The first half of the lines is freed before the second half runs, so the memory never holds
+// out of memory. The first two thirds of the lines are freed before the others run, so the memory never holds
 // all lines and all events.
 fn run_lines<P: Pager>(
     alloc: Global,
@@ -99,7 +99,7 @@ fn run_lines<P: Pager>(
 {
     let mut values = Values::new(alloc, &script.processes)?;
     world.reserve(script.lines.len())?;
-    let middle = script.lines.len() / 2;
+    let middle = script.lines.len() - script.lines.len() / 3;
     let rest = script.lines.split_off(middle)?;
     script.lines.shrink_to_fit();
     run_part(world, &mut values, &script.lines)?;

@@ -25,12 +25,13 @@ fn is_space(byte: u8) -> bool
     byte == b' ' || byte == b'\t'
 }
 
-/// Whether a word equals a text. Most words differ from a text in their length, which is tested without a call.
+/// Whether a word equals a text. Most words differ from a text in their length or in their first byte, which are
+/// tested without a call.
 #[inline(always)]
 pub(crate) fn is_word(word: &[u8], text: &[u8]) -> bool
     ensures { result ≡ bytes_eq word.now text.now }
 {
-    word.len() == text.len() && word == text
+    word.len() == text.len() && word.first() == text.first() && word == text
 }
 
 /// The first words of a line.
