@@ -113,8 +113,8 @@ impl<P: Pager> PageStore<P> {
         ensures has { HasPage self.now.segs result }
         ensures sound { IsStoreSound self.now }
     {
-        // Read for the proof alone: the clauses and the cast rest on the store's invariant.
-        let _ = &self.segs;
+        // This brings in the store's invariant, on which the clauses and the cast rest.
+        prove!(self.hand < self.frames.count());
         PageRef {
             seg: span.seg,
             page: (span.at / PAGE_SIZE) as u32,
@@ -221,8 +221,8 @@ impl<P: Pager> PageStore<P> {
             [first] => self.bring_one(first, touched),
             [first, second, ..] => self.bring_two(*first, *second, touched),
         };
-        // Read for the proof alone: the clause `sound` is the store's invariant.
-        let _ = &self.segs;
+        // This brings in the store's invariant, which is the clause `sound`.
+        prove!(self.hand < self.frames.count());
         brought
     }
 
