@@ -1,4 +1,4 @@
-use Rattle.shm_life.proofs.Names.{◌≡◌, [], ◌∷◌, sym, ap, arith, common_steps, true, IsAccess, SpanFits, pieces_by}
+use Rattle.shm_life.proofs.Names.{◌≡◌, [], ◌∷◌, sym, ap, true, IsAccess, SpanFits, pieces_by}
 use Rattle.shm_attach.specs.Spans.{AreSpans}
 use Rattle.shm_life.specs.MachineView.{MachineView}
 use Rattle.shm_life.proofs.Accessing.{adds, sole-is}
@@ -9,8 +9,7 @@ use Rattle.shm_life.proofs.kernel.Kernel.xadd.Goals.{After-resident}
 
 there : (g : Over) (c : After-resident g) → IsAccess (SpanFits c.self.inside.segments.table) c.in-Ok.spans 8
 there g c =
-    spans-there _ _ c.args.caller.now c.in-Ok.spans _ (rw (← c.self.view_is) at c.requires) c.self.invariant.0.kept.pieces (rw c.as_slice.ensures.value at c.as_slice.ensures.few.1) c.in-Ok.ensures.spans.within
-    (grind (arith, common_steps, c.in-Ok.ensures.spans.sum)) c.in-Ok.ensures.spans.pages
+    spans-there _ _ c.args.caller.now c.in-Ok.spans (rw (← c.self.view_is) at c.requires) c.self.invariant.0.kept.pieces (rw c.as_slice.ensures.value at c.as_slice.ensures.few.1) c.in-Ok.ensures.spans
 
 -- as the caller sees the machine
 seen : (g : Over) (c : After-resident g) → AreSpans true (pieces_by c.args.caller.now.pid c.args.self.now.flat.runners) c.args.addr 8 c.in-Ok.spans
