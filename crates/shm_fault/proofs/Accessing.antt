@@ -81,12 +81,14 @@ module _ {A E : Type 0} (ps : List Span) (s t : StoreView) (u : Touched) (r : Re
     access = accessed-failed ps s t u r failed sound brings;
     dirtied = never r _ failed;
     clean = on-err r _ (none-stopped ps s t stops);
+    stopped = on-err r _ stops;
+    places = never r _ failed;
   }
 
 -- an exchange that wrote, and one that only read
 module _ {A E : Type 0} (a : A) (ps : List Span) (bytes before after : List ℕ) (s t : StoreView) (answer : Result Touched PagerFailed) where
   pub swaps-written : after ≡ read_from (held s) ps → Writes {A = A} {E = E} ps s t (written (held s) ps bytes) (Ok a) answer → Swaps {A = A} {E = E} true ps bytes before after s t (Ok a) answer
-  swaps-written there w = record { there = there; kept = tt; written = w.written; same = tt; access = w.access; dirtied = w.dirtied; clean = tt }
+  swaps-written there w = record { there = there; kept = tt; written = w.written; same = tt; access = w.access; dirtied = w.dirtied; clean = tt; stopped = tt; places = w.places }
 
   pub swaps-read : Reads {A = A} {E = E} ps s t after (Ok a) answer → Swaps {A = A} {E = E} false ps bytes before after s t (Ok a) answer
-  swaps-read w = record { there = w.bytes; kept = tt; written = w.held; same = tt; access = w.access; dirtied = w.clean; clean = tt }
+  swaps-read w = record { there = w.bytes; kept = tt; written = w.held; same = tt; access = w.access; dirtied = w.clean; clean = tt; stopped = tt; places = w.places }

@@ -6,7 +6,7 @@ use Rattle.shm_fault.specs.declared.touched.Touched.{Touched}
 use Rattle.shm_fault.specs.declared.touched.PagerFailed.{PagerFailed}
 use Rattle.shm_fault.specs.Access.{Accessed}
 use Rattle.shm_fault.specs.Held.{read_from, written}
-use Rattle.shm_fault.specs.Placing.{NoneDirtied, AreDirtied}
+use Rattle.shm_fault.specs.Placing.{Places, places, with_dirty, after_access, Stops, NoneDirtied, AreDirtied}
 use Rattle.shm_fault.specs.Store.{StoreView, held}
 
 -- these bytes are to be replaced: if none are expected, or if they are the expected ones
@@ -19,6 +19,10 @@ abbrev pub DirtiedIf : Bool → List Span → StoreView → StoreView → Type 0
 DirtiedIf true ps s t = AreDirtied ps s t
 DirtiedIf false ps s t = NoneDirtied s.frames t.frames
 
+-- where each page is afterwards, and which bits are set
+abbrev pub left_by : Bool → List Span → Places → Places
+left_by writes ps s = if writes then with_dirty ps s else s
+
 -- the old bytes were read, and replaced if `writes`; if a pager failed, nothing was read or replaced
 pub record Swaps
     {A E : Type 0} (writes : Bool) (ps : List Span) (bytes before after : List ℕ) (s t : StoreView)
@@ -30,3 +34,5 @@ pub record Swaps
   pub access : Accessed ps s t answer
   pub dirtied : OnOk result (DirtiedIf writes ps s t)
   pub clean : OnErr result (NoneDirtied s.frames t.frames)
+  pub stopped : OnErr result (Stops ps (places s) (places t))
+  pub places : OnOk result (places t ≡ left_by writes ps (after_access ps (places s)))
