@@ -1,5 +1,5 @@
 //! Unmapping and protecting ranges of attached memory.
-ghost use Rattle.std.specs.Prelude.{◌≡◌, Bool, false, not, ◌==◌};
+ghost use Rattle.std.specs.Prelude.{not, ◌==◌};
 ghost use Rattle.nogcuvema.specs.Hosting.{HostedThrough};
 ghost use Rattle.nogcuvema.specs.Mapped.{UnmapsBy, ProtectsBy};
 

@@ -1,5 +1,4 @@
 //! Snapshots.
-ghost use Rattle.std.specs.Prelude.{◌≡◌};
 ghost use Rattle.nogcuvema.specs.Copied.{CopiesTo, IsCopied};
 
 use crate::code::{DONE, NO_MEMORY};

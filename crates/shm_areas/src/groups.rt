@@ -4,7 +4,6 @@
 //! if the stretches below it have changed.
 ghost use Rattle.std.specs.Prelude.{◌≡◌, ◌≤◌, ◌<◌, ℕ, true, List, length, slice_index_or};
 ghost use Rattle.shm_base.specs.Space as flat;
-ghost use Rattle.shm_areas.specs.Arranged.{bare_all};
 ghost use Rattle.shm_areas.specs.Gap.{AreRight, IsBarrier, IsKeptOutside, IsStretch};
 ghost use Rattle.shm_areas.specs.declared.piece.Piece.{Piece as Stored};
 ghost use Rattle.shm_areas.specs.declared.stretch.Stretch.{Stretch as Known};

@@ -2,7 +2,7 @@
 //!
 //! Every stretch is true of the present pieces. A space of few pieces has none. The pieces between a stretch
 //! and the next belong to the lower one. Few pieces lie above the last one, which no stretch is over yet.
-ghost use Rattle.std.specs.Prelude.{◌≡◌, ◌≤◌, ◌<◌, ◌+◌, [], ℕ, List, length, vec_capacity, slice_index_or};
+ghost use Rattle.std.specs.Prelude.{◌≡◌, ◌≤◌, ◌<◌, ◌+◌, ℕ, List, length, vec_capacity, slice_index_or};
 ghost use Rattle.shm_base.specs.Space as flat;
 ghost use Rattle.shm_areas.specs.Arranged.{bare_all, Arranged};
 ghost use Rattle.shm_areas.specs.Gap.{AreBetween, AreRight, AreRightOutside, HasPlace, IsBarrier, IsKeptOutside, IsStretch};

@@ -25,46 +25,6 @@ impl Spaces {
         Ok(())
     }
 
-    // As [`Spaces::attach`], if there is room for a summary of the gaps, or none is needed.
-    fn attach_pages<P: Pager>(
-        &mut self,
-        caller: &Caller,
-        seg: u32,
-        base: u64,
-        pages: u32,
-        writable: bool,
-        store: &PageStore<P>,
-    ) -> Result<(), HostMemory>
-        requires live { IsCaller caller.now self.old.runners }
-        requires pages { (1 ≤ pages) × (pages ≤ MOST_SHMALL) }
-        requires range { IsRange pages base }
-        requires room { length (left_beside self.old caller.now base pages) + 1 ≤ self.old.most }
-        ensures lost { OnOk result (self.new.lost
-            ≡ cut_segments base (base + PAGE_SIZE * pages) (own_pieces self.old caller.now)) }
-        ensures runners { OnOk result (self.new.runners
-            ≡ attached self.old caller.now seg base pages writable) }
-        ensures most { self.new.most ≡ self.old.most }
-        ensures translated { AreTrue self.old.translations store.now
-            → AreTrue self.new.translations store.now }
-        ensures err { OnErr result (self.new ≡ self.old) }
-    {
-        let end = base + PAGE_SIZE * pages as u64;
-        let key = self.tables.reserve(store, seg, pages)?;
-        self.lost
-            .note(space_at(&self.processes, caller.index).met(base, end));
-        let piece = Piece {
-            base,
-            seg,
-            first_page: 0,
-            pages,
-            writable,
-            may_write: writable,
-            key,
-        };
-        exchange(&mut self.processes, &mut self.tables, caller.index, piece);
-        Ok(())
-    }
-
     /// Attaches all pages of a segment at a base, in place of whatever its range has: pieces in the range are
     /// removed, and those that reach beyond it are cut. The segments that lost pages to it are noted. If the
     /// piece is the first of its segment, the translations are read from the store. All memory is taken
@@ -93,7 +53,20 @@ impl Spaces {
         ensures err { OnErr result (self.new ≡ self.old) }
     {
         self.make_room(caller)?;
-        self.attach_pages(caller, seg, base, pages, writable, store)?;
+        let end = base + PAGE_SIZE * pages as u64;
+        let key = self.tables.reserve(store, seg, pages)?;
+        self.lost
+            .note(space_at(&self.processes, caller.index).met(base, end));
+        let piece = Piece {
+            base,
+            seg,
+            first_page: 0,
+            pages,
+            writable,
+            may_write: writable,
+            key,
+        };
+        exchange(&mut self.processes, &mut self.tables, caller.index, piece);
         Ok(())
     }
 }

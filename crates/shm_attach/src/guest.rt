@@ -1,5 +1,5 @@
 //! Processes that join and leave between calls, and changes of credentials.
-ghost use Rattle.std.specs.Prelude.{◌≡◌, ℕ, ◌≤◌, true, [], None, Some, IfSome, IfNone, IfOk, OnErr, IsOk, is_ok, is_some};
+ghost use Rattle.std.specs.Prelude.{◌≡◌, ℕ, ◌≤◌, true, None, Some, IfSome, IfNone, IfOk, OnErr, IsOk, is_ok, is_some};
 ghost use Rattle.shm_base.specs.Guest.{standing, joins, joins_beside, leaves, becomes, left_by};
 ghost use Rattle.shm_base.specs.Segments.{attach_count};
 ghost use Rattle.shm_base.specs.declared.bounds.TheConstants.{MOST_PROCESSES};

@@ -1,16 +1,15 @@
 //! What a process does to its attached memory without a call of this interface: it unmaps a range
 //! (munmap(2)), or protects one (mprotect(2)). Neither takes memory.
-ghost use Rattle.std.specs.Prelude.{◌≡◌, ◌+◌, ◌%◌, ◌^◌, ◌<◌, ◌≤◌, [], Some, true, length, option_to_list, SomeIff, IfOk, OnOk, OnErr};
+ghost use Rattle.std.specs.Prelude.{◌≡◌, ◌+◌, ◌%◌, ◌^◌, ◌<◌, ◌≤◌, [], Some, length, option_to_list, SomeIff, IfOk, OnOk, OnErr};
 ghost use Rattle.shm_base.specs.Access as access;
 ghost use Rattle.shm_base.specs.Mapping as flat;
-ghost use Rattle.shm_base.specs.Space.{lowest_address, covering, cut, cut_segments};
-ghost use Rattle.shm_base.specs.declared.bounds.TheConstants.{MOST_PIECES};
+ghost use Rattle.shm_base.specs.Space.{lowest_address, covering, cut_segments};
 ghost use Rattle.shm_areas.specs.Arranged.{bare, bare_all, Arranged, IsFit, IsCovering};
 ghost use Rattle.shm_attach.specs.Exact.{AreTablesSound, no_reservations};
 ghost use Rattle.shm_attach.specs.Mapping.{refusal_in, IsPageRange, held, own_pieces, unmapped, unmap_refusal, protected, protected_by};
 ghost use Rattle.shm_attach.specs.Mapping.{pieces_between, split_between, refusal_between, split_in, IsProtectedAt, Grows, IsStretch, KeepsOwn, Exchanged, CanReplace, MayProtect, AreNow};
 ghost use Rattle.shm_attach.specs.Spaces.{IsCaller, KeepTrue};
-ghost use Rattle.shm_attach.specs.Views.{runners_view, most_at};
+ghost use Rattle.shm_attach.specs.Views.{most_at};
 
 use crate::changes::{Part, exchange, space_at, take};
 use crate::lost::Lost;

@@ -1,7 +1,7 @@
 //! The attach counts, and the frames of the pages of attached segments. The pieces of a segment share one
 //! table, and each has its key, so a move of a page is noted in one place. A segment without pieces has no
 //! table.
-ghost use Rattle.std.specs.Prelude.{◌≡◌, ℕ, ◌+◌, ◌^◌, ◌<◌, ◌≤◌, true, [], ◌∷◌, Option, Some, IfOk, OnOk, OnErr};
+ghost use Rattle.std.specs.Prelude.{◌≡◌, ℕ, ◌+◌, ◌^◌, ◌<◌, ◌≤◌, true, [], Option, Some, IfOk, OnOk, OnErr};
 ghost use Rattle.slab.specs.Slab.{get};
 ghost use Rattle.shm_fault.specs.Steps.{moved};
 ghost use Rattle.shm_fault.specs.Store.{frame_of};
@@ -226,25 +226,20 @@ impl Tables {
         }
     }
 
-    // Notes the frame of a page. Returns the key of its segment's table, or `near` if there is none.
-    #[inline(never)]
-    fn set_sought(&mut self, near: usize, page: PageRef, frame: Option<FrameNo>) -> usize
-        requires { OneTableEach self.old }
-        ensures counts { KeepCounts self.old self.new }
-        ensures tables { KeepTables self.old.slab self.new.slab }
-        ensures translated { (at : ℕ → ℕ → Option ℕ) → AllTrue at self.old.slab
-            → AllTrue (with_frame page frame at) self.new.slab }
-        ensures tied { OneTableEach self.new }
+    // The key of a segment's table, which may be `near`: that needs no search.
+    #[inline(always)]
+    fn key_near(&self, near: usize, seg: u32) -> Option<usize>
+        requires { OneTableEach self.now }
+        ensures { result ≡ key_of self.now seg }
     {
-        let Some(key) = self.key(page.seg) else {
-            return near;
-        };
-        self.set_at(key, page, frame);
-        key
+        if self.is_at(near, seg) {
+            return Some(near);
+        }
+        self.key(seg)
     }
 
-    // As `set_sought`, but the key may be `near`, which needs no search. Kept out of line, so that accesses to
-    // resident pages do not pay for it.
+    // Notes the frame of a page. Returns the key of its segment's table, or `near` if there is none. The key
+    // may be `near`. Kept out of line, so that accesses to resident pages do not pay for it.
     #[inline(never)]
     fn set(&mut self, near: usize, page: PageRef, frame: Option<FrameNo>) -> usize
         requires { OneTableEach self.old }
@@ -254,11 +249,11 @@ impl Tables {
             → AllTrue (with_frame page frame at) self.new.slab }
         ensures tied { OneTableEach self.new }
     {
-        if self.is_at(near, page.seg) {
-            self.set_at(near, page, frame);
+        let Some(key) = self.key_near(near, page.seg) else {
             return near;
-        }
-        self.set_sought(near, page, frame)
+        };
+        self.set_at(key, page, frame);
+        key
     }
 
     /// Notes the frames of pages that moved, in order, each in its segment's table. Takes no memory.

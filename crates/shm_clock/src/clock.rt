@@ -6,7 +6,7 @@
 //!
 //! The hand skips blocks of frames whose pages have to stay ([`Skips`]). It marks a block once it has looked
 //! through all of it and found no page that may go.
-ghost use Rattle.std.specs.Prelude.{ℕ, ◌≡◌, true, false, ◌≢◌, ◌+◌, ◌-◌, ◌*◌, ◌<◌, ◌≤◌, ◌^◌, [], Bool, length};
+ghost use Rattle.std.specs.Prelude.{ℕ, ◌≡◌, true, false, ◌+◌, ◌-◌, ◌*◌, ◌<◌, ◌≤◌, ◌^◌, Bool, length};
 ghost use Rattle.shm_base.specs.declared.paging.PageRef.{PageRef};
 ghost use Rattle.shm_frames.specs.Frame.{frame_at};
 ghost use Rattle.shm_clock.specs.Clock.{ring_at, owner_passes, may_go, candidates, Decides};

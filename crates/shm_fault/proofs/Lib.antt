@@ -30,6 +30,7 @@ pub mod Places
 pub mod Moves
 pub mod Forgets
 pub mod Dirtied
+pub mod Accessing
 mod Copies
 mod Order
 mod Untouched

@@ -18,7 +18,7 @@ ghost use Rattle.shm_fault.specs.Adding.{number_in, added};
 
 use crate::store::PageStore;
 use crate::touched::{PagerFailed, Touched};
-use shm_base::{FrameNo, PAGE_SIZE, PageRef, Span};
+use shm_base::{FrameNo, MOST_FRAMES, PAGE_SIZE, PageRef, Span};
 use shm_frames::Frames;
 use shm_pager::{Pager, PagerFault};
 
@@ -113,8 +113,8 @@ impl<P: Pager> PageStore<P> {
         ensures has { HasPage self.now.segs result }
         ensures sound { IsStoreSound self.now }
     {
-        // Read for the proof alone: the clauses and the cast rest on the store's invariant.
-        let _ = &self.segs;
+        // This brings in the store's invariant, on which the clauses and the cast rest.
+        prove!((self.hand as u64) < MOST_FRAMES);
         PageRef {
             seg: span.seg,
             page: (span.at / PAGE_SIZE) as u32,
@@ -221,8 +221,8 @@ impl<P: Pager> PageStore<P> {
             [first] => self.bring_one(first, touched),
             [first, second, ..] => self.bring_two(*first, *second, touched),
         };
-        // Read for the proof alone: the clause `sound` is the store's invariant.
-        let _ = &self.segs;
+        // This brings in the store's invariant, which is the clause `sound`.
+        prove!((self.hand as u64) < MOST_FRAMES);
         brought
     }
 
@@ -332,7 +332,8 @@ impl<P: Pager> PageStore<P> {
     pub fn read(&mut self, spans: &[Span], out: &mut [u8]) -> Result<Touched, PagerFailed>
         requires spans { IsAccess (FitsPage (held self.old)) spans.now (length out.old) }
         requires frames { NameFrames self.old spans.now }
-        ensures { Reads spans.now self.old self.new out.new result result }
+        ensures reads { Reads spans.now self.old self.new out.new result result }
+        ensures kept { OnErr result (out.new ≡ out.old) }
     {
         let mut touched = Touched::none();
         match self.read_with(spans, out, &mut touched) {

@@ -1,5 +1,5 @@
 //! Dirty frames written out before their pages have to go.
-ghost use Rattle.std.specs.Prelude.{◌≡◌, ◌+◌, ◌-◌, ◌<◌, ◌^◌, true, false, not, length, IsSome};
+ghost use Rattle.std.specs.Prelude.{◌≡◌, ◌+◌, ◌-◌, ◌<◌, ◌^◌, true, false, length, IsSome};
 ghost use Rattle.shm_slots.specs.View.{sizes};
 ghost use Rattle.shm_slots.specs.Cause.{GoesOn};
 ghost use Rattle.shm_frames.specs.Frame.{frame_at};

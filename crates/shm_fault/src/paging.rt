@@ -1,5 +1,5 @@
 //! Pages that come into a frame and leave it. Each step here keeps all bytes of all segments.
-ghost use Rattle.std.specs.Prelude.{◌≡◌, ◌≢◌, ℕ, ◌+◌, ◌<◌, ◌≤◌, ◌^◌, true, false, not, [], length, set, Option, Some, None, is_ok, IfOk, OnOk, OnErr, IsSome, MatchOption};
+ghost use Rattle.std.specs.Prelude.{◌≡◌, ℕ, ◌+◌, ◌<◌, ◌≤◌, ◌^◌, true, false, length, Option, Some, None, is_ok, IfOk, OnOk, OnErr, IsSome, MatchOption};
 ghost use Rattle.shm_base.specs.declared.bounds.TheConstants.{MOST_FRAMES};
 ghost use Rattle.shm_slots.specs.View.{HasSlot};
 ghost use Rattle.shm_frames.specs.Frame.{frame_at, OwnedBelow};

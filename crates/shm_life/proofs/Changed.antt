@@ -1,6 +1,6 @@
 -- What is kept where a segment is locked, marked or written, and where a process forks.
-use Rattle.shm_life.proofs.Names.{OrphansAmong, ◌≡◌, ℕ, ◌+◌, ◌/◌, ◌%◌, ◌≤◌, ◌&&◌, not, Bool, true, false, if◌then◌else◌, List, [], ◌∷◌, length, Some, refl, sym, ◌∙◌, arith, All, IsAccess, OnOk, OnErr, Place, Bounds, lockable, Live, Entry, Runner, pages_of, attach_count, change, marked, locked, Span, Translation, IsCaller, caller_seen, pieces_at, InPage, page_of, PassPages, pieces_by, wanted, wanted_in, Child, born_child, pieces_by-caller, IsFound, SpanFits, page_there, relocked, get-set_same, get-set_other, sum-set, SamePages, SameTable, same-refl, change-pages, change-locked, change-left, PieceFits, PiecesFit, IsTableSound, IsWell, IsWellBut, StoreView, frame_of, cases_eq, nat_tests}
-use Rattle.std.proofs.Common.{slice_set, sum_by, true≢false}
+use Rattle.shm_life.proofs.Names.{OrphansAmong, ◌≡◌, ℕ, ◌+◌, ◌/◌, ◌%◌, ◌≤◌, ◌&&◌, not, Bool, true, false, if◌then◌else◌, List, [], ◌∷◌, length, Some, refl, sym, ◌∙◌, arith, All, IsAccess, OnOk, OnErr, Place, Bounds, lockable, Live, Entry, Runner, pages_of, attach_count, change, marked, locked, Span, Translation, IsCaller, caller_seen, pieces_at, PassPages, pieces_by, wanted, wanted_in, Child, born_child, pieces_by-caller, IsFound, SpanFits, page_there, relocked, get-set_same, get-set_other, sum-set, SamePages, SameTable, same-refl, change-pages, change-locked, change-left, PieceFits, PiecesFit, IsTableSound, IsWell, IsWellBut, StoreView, frame_of, cases_eq, nat_tests}
+use Rattle.std.proofs.Common.{slice_set, true≢false}
 use Rattle.std.specs.Prelude.{Option, None, Result, Ok, Err, is_some}
 use Rattle.shm_base.specs.declared.owner.Cred.{Cred}
 use Rattle.shm_base.specs.Locking.{locks_as, may_not_lock, passes_limit}
@@ -12,6 +12,7 @@ use Rattle.shm_base.specs.State.{Machine as FlatMachine}
 use Rattle.shm_base.specs.State.{Segment}
 use Rattle.shm_base.specs.State.{pages_in}
 use Rattle.shm_base.specs.Step.{Caller as FlatCaller}
+use Rattle.shm_attach.specs.Spans.{AreSpans}
 use Rattle.shm_attach.specs.declared.process.Caller.{Caller}
 use Rattle.shm_segments.specs.declared.head.Found.{Found}
 use Rattle.shm_segments.specs.Table as table
@@ -110,13 +111,14 @@ marked-well limits t rs ts m f found w =
 
 -- SPANS
 
-pub spans-there : (t : List Entry) (rs : List Runner) (c : Caller) (ps : List Span) (n : ℕ) → IsCaller c rs → PiecesFit t rs → length ps ≤ 2 → All InPage ps → sum_by (λ (p : Span). p.len) ps ≡ n
-    → ((test : ℕ → ℕ → Bool) → PassPages test (pieces_by c.pid rs) → All (λ (p : Span). test p.seg (page_of p) ≡ true) ps) → IsAccess (SpanFits t) ps n
-spans-there t rs c ps n is fit few within sum pages =
+-- the spans that the pieces of a process gave lie in pages of its segments
+pub spans-there : {write : Bool} {addr n : ℕ} (t : List Entry) (rs : List Runner) (c : Caller) (ps : List Span) → IsCaller c rs → PiecesFit t rs → length ps ≤ 2 → AreSpans write (pieces_by c.pid rs) addr n ps
+    → IsAccess (SpanFits t) ps n
+spans-there t rs c ps is fit few spans =
     let own : pieces_by c.pid rs ≡ pieces_at rs c.index = pieces_by-caller c.pid rs (caller_seen c rs) is in
     let fits = caller-fits t c rs is fit in
     let pass : PassPages (page_there t) (pieces_by c.pid rs) = rw own (λ k d lt. (fits k d lt).1) in
-    record { few = few; fit = λ k d lt. (within k d lt, pages (page_there t) pass k d lt); sum = sum }
+    record { few = few; fit = λ k d lt. (spans.within k d lt, spans.pages (page_there t) pass k d lt); sum = spans.sum }
 
 -- the places that a process asks for are those that its own pieces give
 pub asked : (write : Bool) (rs : List Runner) (c : Caller) (addr len : ℕ) (r : Option (List Place)) → IsCaller c rs → wanted write c.pid addr len rs ≡ r → wanted_in write (pieces_at rs c.index) addr len ≡ r

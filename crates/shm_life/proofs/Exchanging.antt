@@ -5,7 +5,8 @@ use Rattle.shm_base.specs.Access.{stored, writable_places}
 use Rattle.shm_base.specs.Exchange.{compare, exchange, same_bytes}
 use Rattle.shm_base.specs.Step.{Caller as FlatCaller}
 use Rattle.shm_attach.proofs.FlatSteps.{are_asked, loaded-unmarked, stored-unmarked}
-use Rattle.shm_segments.specs.Exchanged.{left_by, replaces}
+use Rattle.shm_fault.specs.Exchanging.{replaces}
+use Rattle.shm_segments.specs.Exchanged.{left_by}
 use Rattle.shm_life.specs.Exchanged.{swaps_of}
 
 exchange-wanted : (s : Machine) (ps : List Piece) (addr : ℕ) (bytes : List ℕ) (places : List Place) → wanted_in true ps addr (length bytes) ≡ Some places
@@ -17,7 +18,7 @@ compare-wanted : (s : Machine) (ps : List Piece) (addr : ℕ) (expected bytes : 
 compare-wanted s ps addr expected bytes places is = grind (arith, common_steps, are_asked, loaded-unmarked, stored-unmarked)
 
 pub swap-wanted : (s : Machine) (c : FlatCaller) (addr : ℕ) (expected : Option (List ℕ)) (bytes : List ℕ) (places : List Place) → wanted_in true c.pieces addr (length bytes) ≡ Some places
-    → swaps_of s addr expected bytes (Some c) ≡ gives (record s { table = left_by (replaces s.table places expected) s.table places bytes }) (Bytes (loaded s.table places))
+    → swaps_of s addr expected bytes (Some c) ≡ gives (record s { table = left_by (replaces (loaded s.table places) expected) s.table places bytes }) (Bytes (loaded s.table places))
 swap-wanted s c addr None bytes places is = exchange-wanted s c.pieces addr bytes places is
 swap-wanted s c addr (Some expected) bytes places is = compare-wanted s c.pieces addr expected bytes places is
 

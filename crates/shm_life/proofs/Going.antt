@@ -1,6 +1,6 @@
 -- A process whose pieces go, or come: what the calls on segments need, and what is kept but for segments that
 -- lost their last piece.
-use Rattle.shm_life.proofs.Names.{◌≡◌, ◌≤◌, ℕ, ◌+◌, ◌*◌, ◌%◌, false, List, [], ◌∷◌, zero, suc, Some, None, refl, sym, ap, ◌∙◌, arith, All-nil, All, set_in, Bounds, Piece, Life, Live, Entry, Runner, cut, pieces_of, origin_of, without_named, change, with_entry, attached, attach_all, attach_all-same, detached, detach_all, same-refl, same-trans, segments_of, AtFlags, StoreView, Translation, AreTrue, IsCaller, caller_seen, pieces_at, IsLive, SameTable, change-same, Placed, piece_for, pieces_after, lost_to, PieceFits, is_among, IsTableSound, IsTableSoundBut, IsWell, IsWellBut}
+use Rattle.shm_life.proofs.Names.{◌≡◌, ◌≤◌, ℕ, ◌+◌, ◌*◌, ◌%◌, false, List, [], ◌∷◌, zero, suc, Some, None, refl, sym, ap, ◌∙◌, arith, All-nil, All, set_in, Bounds, Piece, Life, Live, Entry, Runner, cut, pieces_of, origin_of, without_named, change, with_entry, attached, attach_all, attach_all-same, detached, detach_all, same-refl, same-trans, segments_of, AtFlags, StoreView, Translation, AreTrue, IsCaller, caller_seen, pieces_at, rest_segments, IsLive, SameTable, change-same, Placed, piece_for, pieces_after, lost_to, PieceFits, is_among, IsTableSound, IsTableSoundBut, IsWell, IsWellBut}
 use Rattle.std.proofs.Common.{slice_get, slice_set, Option, option_map, Bool, true, if◌then◌else◌}
 use Rattle.shm_base.specs.Rules.{rest_is_attached}
 use Rattle.shm_attach.specs.declared.process.Caller.{Caller}
@@ -14,7 +14,7 @@ use Rattle.std.specs.Prelude.{is_some}
 use Rattle.shm_life.proofs.Peopled.{set-apart}
 use Rattle.shm_areas.proofs.Passing.{all-inserted}
 use Rattle.shm_life.proofs.Pieces.{pass-cut, pass-without, piece-same, fit-set}
-use Rattle.shm_life.proofs.Settled.{settled-table, caller-runner, caller-fits, lives-map, lives-cut, lives-origin}
+use Rattle.shm_life.proofs.Settled.{settled-table, caller-runner, caller-fits, lives-map, lives-cut, lives-origin, lives-rest}
 
 -- the processes with the caller's place taken
 abbrev pub replaced : List Runner → Caller → Life → List Piece → List Runner
@@ -33,6 +33,10 @@ well-gone limits t u rs after ts us m w goes all = record { kept = goes.kept; fr
 module _ (limits : Bounds) (t : List Entry) (rs : List Runner) (c : Caller) (k : IsTableSound limits t rs) (is : IsCaller c rs) where
   own : All (PieceFits t) (pieces_at rs c.index)
   own = caller-fits t c rs is k.pieces
+
+  -- those that keep a part are live
+  pub rests-live : (from to : ℕ) → All (IsLive t) (rest_segments from to (pieces_at rs c.index))
+  rests-live from to = lives-rest t from to (pieces_at rs c.index) own
 
   same-processes : (life : Life) (ps : List Piece) → AreProcesses limits.most_processes (replaced rs c life ps)
   same-processes life ps =

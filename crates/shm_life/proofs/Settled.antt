@@ -1,5 +1,5 @@
 -- What is kept through calls that take pieces out, and through those that put pieces in.
-use Rattle.shm_life.proofs.Names.{nat_tests, ◌≡◌, ℕ, zero, suc, ◌+◌, ◌<◌, take, Bool, List, [], ◌∷◌, length, get_or, filter, Some, None, refl, sym, ap, ◌∙◌, arith, All-nil, All-map, All-filter, none-some, All, find, Bounds, Piece, Live, Entry, Runner, Span, meets, cut_segments, leaves_rest, rest_segments, has_origin, origin_of, StoreView, PageMove, Touched, MovesLead, Accessed, answer_of, Translation, AreTrue, IsCaller, pieces_at, caller_there, IsLive, orphan, identifier_at, change, detach_all, SameTable, detach_all-same, PieceFits, PiecesFit, is_among, OrphansAmong, IsTableSoundBut, IsWellBut, IsWell, change_all, attach_all, attach_all-same, Segment}
+use Rattle.shm_life.proofs.Names.{nat_tests, ◌≡◌, ℕ, zero, suc, ◌+◌, ◌<◌, take, Bool, List, [], ◌∷◌, length, get_or, filter, Some, None, refl, sym, ap, ◌∙◌, arith, All-nil, All-map, All-filter, none-some, All, find, Bounds, Piece, Live, Entry, Runner, Span, meets, cut_segments, leaves_rest, rest_segments, has_origin, origin_of, StoreView, PageMove, Touched, MovesLead, Accessed, answer_of, Translation, AreTrue, IsCaller, pieces_at, caller_there, IsLive, orphan, identifier_at, change, detach_all, SameTable, detach_all-same, PieceFits, PiecesFit, is_among, OrphansAmong, IsTableSoundBut, IsWellBut, IsWell, change_all, attach_all, attach_all-same, Segment, SegmentsView, view_of}
 use Rattle.std.proofs.Common.{map, slice_get, Option, option_map}
 use Rattle.std.specs.Prelude.{Result, Ok, Err}
 use Rattle.shm_attach.specs.declared.process.Caller.{Caller}
@@ -68,6 +68,13 @@ change_all-more f t (x ∷ xs) zero d lt = refl
 change_all-more f t (x ∷ xs) (suc i) d lt =
     let next : suc i + 1 ≡ suc (i + 1) = omega arith in
     rw next (change_all-more f (change t x f) xs i d (omega (arith, lt)))
+
+-- a loop that changes the segments of a list, after one more
+pub change-next : (f : Segment → Segment) (v w x : SegmentsView) (ids : List ℕ) (i : ℕ) → i < length ids → x ≡ view_of (change w.table (get_or ids i 0) f) w.memory
+    → w ≡ view_of (change_all f v.table (take i ids)) v.memory → x ≡ view_of (change_all f v.table (take (i + 1) ids)) v.memory
+change-next f v w x ids i lt next so_far =
+    next ∙ ap (λ (y : SegmentsView). view_of (change y.table (get_or ids i 0) f) y.memory) so_far
+    ∙ ap (λ (t : List Entry). view_of t v.memory) (sym (change_all-more f v.table ids i 0 lt))
 
 -- what is live stays so
 pub live-detached : (n pid : ℕ) (t : List Entry) (ids : List ℕ) (id : ℕ) → IsLive t id → IsLive (detach_all n pid t ids) id

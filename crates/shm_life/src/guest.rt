@@ -1,6 +1,6 @@
 //! Changes that a machine's host makes between calls: it admits and dismisses processes, sets the credentials
 //! of a live one, and gives the time. These are not calls, and move no page.
-ghost use Rattle.std.specs.Prelude.{◌≡◌, Option, true, false, IfOk, OnErr, IsOk, is_ok, is_some};
+ghost use Rattle.std.specs.Prelude.{◌≡◌, Option, true, false, IfOk, OnErr, is_ok, is_some};
 ghost use Rattle.shm_base.specs.Guest.{admits, dismisses, recredits, standing, left_by};
 ghost use Rattle.shm_life.specs.Guest.{Admitted, Dismissed, Recredited, IsNotAdmitted};
 

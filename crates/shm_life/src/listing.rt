@@ -1,7 +1,7 @@
 //! What ipcs(1) asks of a system: the highest index with a segment, sums over all segments, and the segment
 //! at an index as a process may see it. Also the address at which a page-in failed. Nothing here changes the
 //! system.
-ghost use Rattle.std.specs.Prelude.{◌≡◌, ℕ};
+ghost use Rattle.std.specs.Prelude.{◌≡◌};
 ghost use Rattle.shm_attach.specs.Failing.{first_absent};
 ghost use Rattle.shm_attach.specs.Spans.{pieces_by};
 ghost use Rattle.shm_fault.specs.Store.{frame_of};

@@ -1,8 +1,6 @@
 //! Accesses without a call's record: bytes go straight between the frames and the caller's buffer. Each is
 //! the step of the call, and is counted as one.
-ghost use Rattle.std.specs.Prelude.{◌≡◌, ◌<◌, ◌≤◌, ℕ, false, length, OnErr};
-ghost use Rattle.shm_base.specs.History.{is_failure};
-ghost use Rattle.shm_base.specs.Step.{step};
+ghost use Rattle.std.specs.Prelude.{◌≡◌, ◌<◌, ◌≤◌, ℕ, length, OnErr};
 ghost use Rattle.shm_base.specs.declared.call.Call.TheVariants as call;
 ghost use Rattle.shm_base.specs.declared.call.Reply.TheVariants.{Bytes, Number};
 ghost use Rattle.shm_base.specs.declared.paging.TheConstants.{PAGE_SIZE};

@@ -1,23 +1,17 @@
 -- What holds after an exchange of bytes, or after the expected bytes were not there.
-use Rattle.shm_segments.proofs.Names.{◌≡◌, ℕ, Bool, true, false, List, length, refl, ap, All, Result, OnOk, OnErr, Ok, Err, Some, Span, Held, StoreView, Head, held, joined_table, read_from, SegmentsView, KeepsMemory, IsWhole, loaded, span_places, SpanFits, Entry, Agree}
-use Rattle.shm_base.specs.Exchange.{same_bytes}
+use Rattle.shm_segments.proofs.Names.{◌≡◌, ℕ, Bool, true, false, List, length, refl, All, Result, OnOk, OnErr, Ok, Err, Span, Held, StoreView, Head, held, joined_table, read_from, SegmentsView, KeepsMemory, IsWhole, loaded, span_places, SpanFits, Entry, Agree}
 use Rattle.shm_fault.specs.Allowed.{IsAccess}
-use Rattle.shm_fault.specs.Exchanging.{Swaps, holds}
+use Rattle.shm_fault.specs.Exchanging.{Swaps}
 use Rattle.shm_fault.specs.declared.touched.PagerFailed.{PagerFailed}
 use Rattle.shm_fault.specs.declared.touched.Touched.{Touched}
-use Rattle.shm_segments.specs.Exchanged.{Swapped, left_by, replaces}
+use Rattle.shm_segments.specs.Exchanged.{Swapped, left_by}
 use Rattle.shm_segments.proofs.Remembered.{Wrote, wrote, memory-same}
 use Rattle.shm_segments.proofs.Shown.{load_shown}
 use Rattle.shm_segments.proofs.Spanning.{spans-fit}
 
 -- the bytes of the spans, as the table shows them
-loads : (hs : List Held) (rows : List (Entry Head)) (ps : List Span) → Agree hs rows → All (SpanFits (joined_table hs rows)) ps → loaded (joined_table hs rows) (span_places false ps) ≡ read_from hs ps
+pub loads : (hs : List Held) (rows : List (Entry Head)) (ps : List Span) → Agree hs rows → All (SpanFits (joined_table hs rows)) ps → loaded (joined_table hs rows) (span_places false ps) ≡ read_from hs ps
 loads hs rows ps agree fit = load_shown hs rows false ps agree (spans-fit hs rows ps agree fit)
-
--- they are the expected ones if the store finds those
-pub expects : (hs : List Held) (rows : List (Entry Head)) (ps : List Span) (expected : List ℕ) → Agree hs rows → All (SpanFits (joined_table hs rows)) ps
-    → replaces (joined_table hs rows) (span_places false ps) (Some expected) ≡ holds hs ps expected
-expects hs rows ps expected agree fit = ap (λ (bs : List ℕ). same_bytes bs expected) (loads hs rows ps agree fit)
 
 -- the table and the memory afterwards
 record Kept {A E : Type 0} (r : Result A E) (writes : Bool) (s n : StoreView) (rows : List (Entry Head)) (pages locks : ℕ) (ps : List Span) (new : List ℕ) : Type 0 where

@@ -1,7 +1,6 @@
 -- The segments after an exchange of the bytes of spans.
-use Rattle.std.specs.Prelude.{ℕ, ◌≡◌, Bool, true, false, if◌then◌else◌, List, Option, Some, None, Result, OnOk, OnErr}
+use Rattle.std.specs.Prelude.{ℕ, ◌≡◌, Bool, false, if◌then◌else◌, List, Result, OnOk, OnErr}
 use Rattle.shm_base.specs.Access.{Place, loaded, stored}
-use Rattle.shm_base.specs.Exchange.{same_bytes}
 use Rattle.shm_base.specs.Spans.{span_places}
 use Rattle.shm_base.specs.State.{Entry}
 use Rattle.shm_base.specs.declared.paging.Span.{Span}
@@ -9,11 +8,6 @@ use Rattle.shm_fault.specs.declared.touched.Touched.{Touched}
 use Rattle.shm_fault.specs.declared.touched.PagerFailed.{PagerFailed}
 use Rattle.shm_fault.specs.Access.{Accessed}
 use Rattle.shm_segments.specs.View.{SegmentsView, KeepsMemory}
-
--- the bytes at the places are replaced: if none are expected, or if they are the expected ones
-abbrev pub replaces : List Entry → List Place → Option (List ℕ) → Bool
-replaces table places None = true
-replaces table places (Some expected) = same_bytes (loaded table places) expected
 
 -- the table afterwards
 abbrev pub left_by : Bool → List Entry → List Place → List ℕ → List Entry

@@ -1,5 +1,5 @@
 //! The bytes of the segments, and the pages that have them.
-ghost use Rattle.std.specs.Prelude.{◌≡◌, ◌≤◌, ◌+◌, ℕ, OnOk, OnErr, length, option_copied, set, None, true, false};
+ghost use Rattle.std.specs.Prelude.{◌≡◌, ◌≤◌, ◌+◌, OnOk, OnErr, length, option_copied, set, None, true, false};
 ghost use Rattle.shm_base.specs.Access.{loaded, stored};
 ghost use Rattle.shm_base.specs.Segments.{reserved};
 ghost use Rattle.shm_base.specs.Spans.{span_places};
@@ -8,7 +8,8 @@ ghost use Rattle.shm_slots.specs.View.{swap_slots, sizes, area_at};
 ghost use Rattle.shm_slots.specs.Cause.{had_cause};
 ghost use Rattle.shm_fault.specs.Store.{Still};
 ghost use Rattle.shm_fault.specs.Access.{Accessed, NameFrames, IsUntouched, answer_of};
-ghost use Rattle.shm_segments.specs.Exchanged.{Swapped, replaces};
+ghost use Rattle.shm_fault.specs.Exchanging.{replaces};
+ghost use Rattle.shm_segments.specs.Exchanged.{Swapped};
 ghost use Rattle.shm_fault.specs.Flushing.{IsFlushed};
 ghost use Rattle.shm_segments.specs.Table.{SpanFits, loaded_number, added_at};
 ghost use Rattle.shm_segments.specs.View.{IsTableExact, KeepsMemory};
@@ -109,15 +110,11 @@ impl<P: Pager> Segments<P> {
         requires none { IsUntouched touched.old }
         ensures { let answer = answer_of touched.new result in
             let places = span_places false spans.now in
-            let writes = replaces self.old.table places (option_copied expected.entry) in
+            let writes = replaces (loaded self.old.table places) (option_copied expected.entry) in
             Swapped writes spans.now bytes.now before.old before.new self.old self.new result answer }
     {
-        match expected {
-            Some(expected) => self
-                .store
-                .compare_with(spans, expected, bytes, before, touched),
-            None => self.store.exchange_with(spans, bytes, before, touched),
-        }
+        self.store
+            .exchange_with(spans, expected, bytes, before, touched)
     }
 
     /// Writes the first `n` dirty frames of segments that are not locked to their slots.

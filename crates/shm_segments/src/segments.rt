@@ -1,11 +1,11 @@
 //! The table of segments with their bytes.
-ghost use Rattle.std.specs.Prelude.{is_none, is_some, option_map, OnOk, if◌then◌else◌, IsOk, Ok, true, false, ◌≡◌, ◌≢◌, ◌<◌, ◌^◌, ◌==◌, ◌&&◌, ℕ, ◌+◌, ◌*◌, ◌%◌, ◌≤◌, [], length, pos, IfOk, OnErr, IfErr, IfSome, IfNone, Some, None, map, slice_get};
-ghost use Rattle.shm_base.specs.declared.bounds.TheConstants.{MOST_FRAMES, MOST_SHMALL, MOST_SHMMAX};
+ghost use Rattle.std.specs.Prelude.{is_some, OnOk, if◌then◌else◌, Ok, true, false, ◌≡◌, ◌≢◌, ◌<◌, ◌^◌, ◌==◌, ◌&&◌, ℕ, ◌+◌, ◌*◌, ◌%◌, ◌≤◌, [], length, pos, IfOk, OnErr, IfErr, IfSome, IfNone, Some, None, map, slice_get};
+ghost use Rattle.shm_base.specs.declared.bounds.TheConstants.{MOST_FRAMES, MOST_SHMALL};
 ghost use Rattle.shm_base.specs.State as flat;
 ghost use Rattle.shm_base.specs.Identifier as flat_ids;
 ghost use Rattle.shm_base.specs.Segments.{reserved, segment_count, change, attached, detached, marked};
 ghost use Rattle.shm_base.specs.Segments.{locked as locked_pages, locked_by_user};
-ghost use Rattle.shm_slots.specs.View.{swap_slots, sizes, owner_of};
+ghost use Rattle.shm_slots.specs.View.{sizes, owner_of};
 ghost use Rattle.shm_fault.specs.Segs.{with_seg_lock};
 ghost use Rattle.shm_fault.specs.Store.{Still, fresh_store, frame_of};
 ghost use Rattle.shm_segments.specs.View.{KeepsMemory, MayCreate};

@@ -4,7 +4,7 @@ use Rattle.shm_attach.proofs.Processes.{some_if-le}
 use Rattle.shm_attach.proofs.Keeping.{pieces_at-changed, with_pieces_at-const, with_pieces_at-twice}
 use Rattle.shm_attach.proofs.Bases.{place-range}
 use Rattle.shm_attach.proofs.Sound.{sound-reserved, counts-small, one_more_reserved, counts_reserved}
-use Rattle.shm_attach.proofs.changes.exchange.Goals.{Start, After-take, After-put}
+use Rattle.shm_attach.proofs.changes.exchange.Goals.{After-take, After-put}
 use Rattle.shm_attach.proofs.changes.exchange.Goals as goal
 
 -- THE RANGE IS FREE

@@ -7,7 +7,7 @@ use Rattle.shm_attach.specs.Mapping.{AreNow, KeepsOwn, protected_between, contin
 use Rattle.shm_attach.proofs.Renewed.{own-same, own-then}
 use Rattle.shm_attach.proofs.Growing.{noted-twice, room-left}
 use Rattle.shm_attach.proofs.Protecting.{now-same, now-then, lives-now, protects-next, protects-done}
-use Rattle.shm_attach.proofs.mapping.protect_range.Goals.{Start, After-protect_piece, In_ok-passed, After-loop-at}
+use Rattle.shm_attach.proofs.mapping.protect_range.Goals.{After-protect_piece, In_ok-passed, After-loop-at}
 use Rattle.shm_attach.proofs.mapping.protect_range.Goals as goal
 
 pub loop-at-init : goal.loop-at-init

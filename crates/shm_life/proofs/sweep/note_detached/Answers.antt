@@ -1,5 +1,5 @@
-use Rattle.shm_life.proofs.Names.{List, take, sym, ap, ◌∙◌, slice_index_or, Entry, change, detached, SegmentsView, view_of}
-use Rattle.shm_life.proofs.Settled.{change_all-more, live-detached}
+use Rattle.shm_life.proofs.Names.{take, slice_index_or, detached}
+use Rattle.shm_life.proofs.Settled.{change-next, live-detached}
 use Rattle.shm_life.proofs.sweep.note_detached.Goals as goal
 
 pub detached-requires : goal.detached-requires
@@ -10,6 +10,4 @@ detached-requires g c =
 
 pub loop-seg-preserved : goal.loop-seg-preserved
 loop-seg-preserved g c =
-    let seg = slice_index_or c.args.lost.now c.loop-seg.seg-index 0 in
-    c.detached.ensures ∙ ap (λ (v : SegmentsView). view_of (change v.table seg (detached c.args.time c.args.pid)) v.memory) c.loop-seg.invariant
-    ∙ ap (λ (t : List Entry). view_of t c.args.segments.now.memory) (sym (change_all-more (detached c.args.time c.args.pid) c.args.segments.now.table c.args.lost.now c.loop-seg.seg-index 0 c.loop-seg-test.true))
+    change-next (detached c.args.time c.args.pid) c.args.segments.now _ _ c.args.lost.now c.loop-seg.seg-index c.loop-seg-test.true c.detached.ensures c.loop-seg.invariant

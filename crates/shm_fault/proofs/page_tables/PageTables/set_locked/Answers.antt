@@ -6,7 +6,7 @@ use Rattle.shm_fault.proofs.Entries.{edit-none, entry-from, find-entry, seg_of}
 use Rattle.shm_fault.proofs.Order.{IsEdited, edited, apart-stored, find-order, length-order}
 use Rattle.shm_fault.proofs.Locks.{locked-few, locked-set}
 use Rattle.shm_fault.proofs.page_tables.PageTables.set_locked.Goals as goal
-use Rattle.shm_fault.proofs.page_tables.PageTables.set_locked.Goals.{After-is_locked, After-set_locked}
+use Rattle.shm_fault.proofs.page_tables.PageTables.set_locked.Goals.{After-set_locked}
 
 pub returns-in_default : goal.returns-in_default
 returns-in_default c =

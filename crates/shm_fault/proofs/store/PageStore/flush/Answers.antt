@@ -3,7 +3,7 @@ use Rattle.shm_fault.proofs.Flushes.{Flushed, flushed-none, flushed-not, flushed
 use Rattle.shm_fault.proofs.Seen.{seen}
 use Rattle.shm_fault.proofs.store.PageStore.flush.Given as given
 use Rattle.shm_fault.proofs.store.PageStore.flush.Goals as goal
-use Rattle.shm_fault.proofs.store.PageStore.flush.Goals.{In-loop-from, After-next_dirty, then-is_flushable, else-is_flushable}
+use Rattle.shm_fault.proofs.store.PageStore.flush.Goals.{After-next_dirty, then-is_flushable, else-is_flushable}
 
 -- the store once a dirty frame was looked for, and that it is as before
 abbrev after : (g : given.Over) (c : After-next_dirty g) → StoreView

@@ -1,6 +1,6 @@
-use Rattle.shm_life.proofs.Names.{arith, common_steps, true, false, length, refl, sym, ◌∙◌, span_places, Machine, IsCaller, caller_seen, sizes, IsWell}
+use Rattle.shm_life.proofs.Names.{true, false, length, refl, sym, ◌∙◌, span_places, loaded, Machine, IsCaller, caller_seen, sizes, IsWell}
 use Rattle.std.specs.Prelude.{option_copied}
-use Rattle.shm_segments.specs.Exchanged.{replaces}
+use Rattle.shm_fault.specs.Exchanging.{replaces}
 use Rattle.shm_life.proofs.Changed.{spans-there, asked, written-well, written-granted}
 use Rattle.shm_life.proofs.Exchanging.{swap-wanted, left-same}
 use Rattle.shm_life.proofs.Running.{ok_fact}
@@ -10,7 +10,7 @@ use Rattle.shm_life.proofs.kernel.Kernel.exchange.Goals.{After-note}
 
 pub exchange-exchanged-requires-clause-spans : goal.exchange-exchanged-requires-clause-spans
 exchange-exchanged-requires-clause-spans g c =
-    rw c.as_slice.ensures.value (spans-there _ _ c.args.caller.now c.in-Ok.spans _ (rw (← c.self.view_is) at c.requires.caller) c.self.invariant.0.kept.pieces (rw c.as_slice.ensures.value at c.as_slice.ensures.few.1) c.in-Ok.ensures.spans.within (grind (arith, common_steps, c.in-Ok.ensures.spans.sum)) c.in-Ok.ensures.spans.pages)
+    rw c.as_slice.ensures.value (spans-there _ _ c.args.caller.now c.in-Ok.spans (rw (← c.self.view_is) at c.requires.caller) c.self.invariant.0.kept.pieces (rw c.as_slice.ensures.value at c.as_slice.ensures.few.1) c.in-Ok.ensures.spans)
 
 -- done or not
 well : (g : Over) (c : After-note g) → IsWell c.self.inside.limits c.exchange-exchanged.new.self.table c.note.new.self.runners c.note.new.self.translations c.exchange-exchanged.new.self.memory
@@ -18,7 +18,7 @@ well g c =
     let e = c.exchange-exchanged.ensures in
     let t = c.self.inside.segments.table in
     let places = span_places false c.as_slice.result.now in
-    written-well c.exchange-exchanged.result _ _ _ _ _ _ _ _ _ _ _ c.exchange-exchanged.new.touched c.self.invariant.0 (left-same (replaces t places (option_copied c.args.expected)) places c.args.bytes.now t)
+    written-well c.exchange-exchanged.result _ _ _ _ _ _ _ _ _ _ _ c.exchange-exchanged.new.touched c.self.invariant.0 (left-same (replaces (loaded t places) (option_copied c.args.expected)) places c.args.bytes.now t)
     e.written e.same e.keeps.frames e.access c.note.ensures.runners (rw c.as_slice-2.ensures.value at c.note.ensures.translated)
 
 pub invariant_of-self : goal.invariant_of-self

@@ -1,6 +1,5 @@
 use Rattle.shm_life.proofs.Names.{◌≡◌, ◌+◌, ◌*◌, pieces_at, rest_segments, refl, ap, sym, ◌∙◌, rules, to_z, of_z, w32, Outcome, shmat, is_refusal, AreTrue, IsCaller, caller_seen, SegmentsView, piece_for, placed_outcome, PieceFits}
-use Rattle.shm_life.proofs.Going.{Goes, attached-goes, attached-first, renewed-first, renewed-same, well-gone}
-use Rattle.shm_life.proofs.Settled.{caller-fits, lives-rest}
+use Rattle.shm_life.proofs.Going.{Goes, attached-goes, attached-first, renewed-first, renewed-same, rests-live, well-gone}
 use Rattle.shm_base.specs.Rules.{rest_is_attached}
 use Rattle.shm_life.proofs.Attaching.{shmat-placed, on-err}
 use Rattle.shm_life.proofs.Running.{granted, kept_refl, answered_as}
@@ -14,11 +13,9 @@ kept g c = c.segments.ensures.value ∙ c.rests-rests.ensures ∙ ap (rest_segme
 
 pub attach_rests-requires : goal.attach_rests-requires
 attach_rests-requires g c =
-    let t = c.self.inside.segments.table in
-    let rs = c.self.inside.spaces.runners in
     let caller = c.args.caller.now in
-    let is : IsCaller caller rs = rw (← c.self.view_is) at c.requires in
-    rw (kept g c) (lives-rest t c.in-Ok.placed.base (c.in-Ok.placed.base + 4096 * c.in-Ok.placed.pages) (pieces_at rs caller.index) (caller-fits t caller rs is c.self.invariant.0.kept.pieces))
+    let is : IsCaller caller c.self.inside.spaces.runners = rw (← c.self.view_is) at c.requires in
+    rw (kept g c) (rests-live c.self.inside.limits _ _ caller c.self.invariant.0.kept is c.in-Ok.placed.base (c.in-Ok.placed.base + 4096 * c.in-Ok.placed.pages))
 
 goes : (g : Over) (c : After-lost g) → Goes c.self.inside.limits c.attached.new.self.table c.attach.new.self.runners c.lost.result.now
 goes g c =

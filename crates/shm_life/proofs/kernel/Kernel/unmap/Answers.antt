@@ -1,8 +1,8 @@
 use Rattle.std.proofs.Common.{rules}
 use Rattle.shm_life.proofs.Names.{◌∙◌, ◌≡◌, ap, IsCaller, SameTable, pieces_at, rest_segments, detach_all, swept, SegmentsView}
 use Rattle.shm_base.specs.Rules.{rest_is_attached}
-use Rattle.shm_life.proofs.Going.{Goes, range-goes, renewed, renewed-first, renewed-same, well-gone}
-use Rattle.shm_life.proofs.Settled.{caller-fits, lives-rest, settled-table}
+use Rattle.shm_life.proofs.Going.{Goes, range-goes, renewed, renewed-first, renewed-same, rests-live, well-gone}
+use Rattle.shm_life.proofs.Settled.{settled-table}
 use Rattle.shm_life.proofs.kernel.Kernel.unmap.Given.{Over}
 use Rattle.shm_life.proofs.kernel.Kernel.unmap.Goals as goal
 use Rattle.shm_life.proofs.kernel.Kernel.unmap.Goals.{After-lost, After-segments}
@@ -13,11 +13,9 @@ kept g c = c.segments.ensures.value ∙ c.rests-rests.ensures ∙ ap (rest_segme
 
 pub attach_rests-requires : goal.attach_rests-requires
 attach_rests-requires g c =
-    let t = c.self.inside.segments.table in
-    let rs = c.self.inside.spaces.runners in
     let caller = c.in_ok-caller.caller in
-    let is : IsCaller caller rs = search rules in
-    rw (kept g c) (lives-rest t c.args.addr c.in_ok-to.to (pieces_at rs caller.index) (caller-fits t caller rs is c.self.invariant.0.kept.pieces))
+    let is : IsCaller caller c.self.inside.spaces.runners = search rules in
+    rw (kept g c) (rests-live c.self.inside.limits _ _ caller c.self.invariant.0.kept is c.args.addr c.in_ok-to.to)
 
 goes : (g : Over) (c : After-lost g) → Goes c.self.inside.limits c.attach_rests.new.segments.table c.unmap.new.self.runners c.lost.result.now
 goes g c =
