@@ -5,7 +5,7 @@ use Rattle.shm_base.specs.declared.call.Reply.{Reply}
 use Rattle.shm_text.specs.Script.{ScriptView}
 use Rattle.shm_outcomes.specs.Groups.{are_over}
 use Rattle.shm_schedules.specs.Outcomes.{told_after}
-use Rattle.shm_schedules.specs.Schedules.{Run, goes, walked}
+use Rattle.shm_schedules.specs.Schedules.{Run, walked}
 use Rattle.shm_schedules.specs.Finding.{Finding}
 use Rattle.shm_outcomes.specs.Search.{IsNoted}
 use Rattle.shm_outcomes.specs.declared.moves.Move.{Move}
