@@ -1,18 +1,17 @@
 -- Adding members one after another.
-use Rattle.std.specs.Prelude.{◌≡◌, ◌<◌, ℕ, suc, zero, ◌+◌, List, [], ◌∷◌, ◌++◌, take, drop, length, slice_index_or, Option, Some, None}
-use Rattle.std.proofs.Common.{refl, sym, ap, subst, ◌∙◌, arith}
+use Rattle.std.specs.Prelude.{◌≡◌, ◌<◌, ℕ, suc, zero, ◌+◌, List, [], ◌∷◌, ◌++◌, take, drop, length, slice_index_or, Contains, Option, Some, None}
+use Rattle.std.proofs.Common.{refl, sym, ap, inl, subst, ◌∙◌, arith}
 use Rattle.std.proofs.lemmas.List.{append_assoc}
 use Rattle.shm_base.specs.declared.call.Process.{Process}
 use Rattle.shm_text.specs.Script.{ScriptView}
-use Rattle.shm_outcomes.specs.Members.{AreAdded, AreFull, AreTakenUp, AreTooMany, IsFull, IsStoppedBy, IsTakenUp, Member, Members, Way, member_in, members_in, one_way, way, ways_on, ways_with}
-use Rattle.shm_outcomes.specs.Schedules.{Run}
-use Rattle.shm_outcomes.specs.Search.{Finding}
+use Rattle.shm_outcomes.specs.Members.{AreAdded, AreFull, AreTakenUp, AreTooMany, IsAdded, IsFull, IsStoppedBy, IsTakenUp, Member, Members, Way, member_in, members_in, no_members, one_way, way, way_after, ways_on, ways_with}
+use Rattle.shm_schedules.specs.Schedules.{Run}
+use Rattle.shm_schedules.specs.Finding.{Finding}
 use Rattle.shm_outcomes.specs.declared.moves.Move.{Move}
-use Rattle.shm_outcomes.specs.declared.search.SearchError.{SearchError}
-use Rattle.shm_outcomes.specs.declared.search.SearchError.TheVariants.{Engine, Bound}
+use Rattle.shm_schedules.specs.declared.search_error.SearchError.{SearchError}
+use Rattle.shm_schedules.specs.declared.search_error.SearchError.TheVariants.{Engine, Bound}
 use Rattle.shm_outcomes.specs.Groups.{AreAllMoves, ArePut, Groups, no_groups}
 use Rattle.shm_outcomes.specs.Levels.{IsLevelCause, Level}
-use Rattle.shm_outcomes.specs.Members.{no_members}
 use Rattle.std.proofs.lemmas.List.{get_or_default}
 use Rattle.shm_outcomes.proofs.Grouping.{take-next}
 
@@ -95,30 +94,54 @@ ways-split ps w moves i m lt is =
     ∙ ways-append ps w (take i moves) (m ∷ drop (i + 1) moves)
     ∙ sym (append_assoc (ways_on ps w (take i moves)) (one_way ps w m) (ways_on ps w (drop (i + 1) moves)))
 
-pub full-more : (ps : List Process) (w : Way) (moves : List (Option Move)) (i : ℕ) (m : Option Move) (olds mid : Members) (most : ℕ) (error : SearchError) → i < length moves → m ≡ slice_index_or moves i m
+-- a move of a list, in a list that is the same
+in-moves : (listed moves : List (Option Move)) (i : ℕ) (m : Option Move) → listed ≡ moves → i < length listed → m ≡ slice_index_or listed i m → (i < length moves) × (m ≡ slice_index_or moves i m)
+in-moves listed moves i m same lt is = (subst (λ (l : List (Option Move)). i < length l) same lt, is ∙ ap (λ (l : List (Option Move)). slice_index_or l i m) same)
+
+pub full-more : (ps : List Process) (w : Way) (listed moves : List (Option Move)) (i : ℕ) (m : Option Move) (olds mid : Members) (most : ℕ) (error : SearchError)
+    → listed ≡ moves → i < length listed → m ≡ slice_index_or listed i m
     → AreAdded most (ways_on ps w (take i moves)) olds mid → AreFull (one_way ps w m) mid most error → AreFull (ways_on ps w moves) olds most error
-full-more ps w moves i m olds mid most (Engine e) lt is added full = tt
-full-more ps w moves i m olds mid most Bound lt is added full =
-    subst (λ (l : List Way). AreTooMany l olds most) (sym (ways-split ps w moves i m lt is))
+full-more ps w listed moves i m olds mid most (Engine e) same lt is added full = tt
+full-more ps w listed moves i m olds mid most Bound same lt is added full =
+    let at = in-moves listed moves i m same lt is in
+    subst (λ (l : List Way). AreTooMany l olds most) (sym (ways-split ps w moves i m at.0 at.1))
     (too-many-more most (ways_on ps w (take i moves)) (one_way ps w m) (ways_on ps w (drop (i + 1) moves)) olds mid added full)
 
 one-append : (ps : List Process) (w : Way) (m : Option Move) → ways_on ps w (m ∷ []) ≡ one_way ps w m
 one-append ps w None = refl
 one-append ps w (Some m) = refl
 
-pub added-next : (ps : List Process) (w : Way) (moves : List (Option Move)) (i : ℕ) (m : Option Move) (a b c : Members) (most : ℕ) → i < length moves → m ≡ slice_index_or moves i m
+pub added-next : (ps : List Process) (w : Way) (listed moves : List (Option Move)) (i : ℕ) (m : Option Move) (a b c : Members) (most : ℕ)
+    → listed ≡ moves → i < length listed → m ≡ slice_index_or listed i m
     → AreAdded most (ways_on ps w (take i moves)) a b → AreAdded most (one_way ps w m) b c → AreAdded most (ways_on ps w (take (i + 1) moves)) a c
-added-next ps w moves i m a b c most lt is before one =
-    let same = ap (ways_on ps w) (take-next moves i m lt is) ∙ ways-append ps w (take i moves) (m ∷ []) ∙ ap (λ (l : List Way). ways_on ps w (take i moves) ++ l) (one-append ps w m) in
+added-next ps w listed moves i m a b c most listed-is lt is before one =
+    let at = in-moves listed moves i m listed-is lt is in
+    let same = ap (ways_on ps w) (take-next moves i m at.0 at.1) ∙ ways-append ps w (take i moves) (m ∷ []) ∙ ap (λ (l : List Way). ways_on ps w (take i moves) ++ l) (one-append ps w m) in
     subst (λ (l : List Way). AreAdded most l a c) (sym same) (added-append most (ways_on ps w (take i moves)) (one_way ps w m) a b c before one)
 
-pub full-one : (ps : List Process) (w v : Way) (m : Move) (olds : Members) (most : ℕ) (error : SearchError) → one_way ps w (Some m) ≡ v ∷ [] → IsFull v olds most error → AreFull (one_way ps w (Some m)) olds most error
-full-one ps w v m olds most (Engine e) is full = tt
-full-one ps w v m olds most Bound is full = record { before = []; way = v; after = []; all = is; mid = olds; added = refl; many = full }
+-- the member after a move
+pub added-one : (ps : List Process) (w v : Way) (m : Move) (o : Option Move) (olds news : Members) (most : ℕ)
+    → o ≡ Some m → v ≡ way_after ps w m → IsAdded most v olds news → AreAdded most (one_way ps w o) olds news
+added-one ps w v m o olds news most some is added =
+    let one : AreAdded most (one_way ps w (Some m)) olds news = (news, subst (λ (x : Way). IsAdded most x olds news) is added, refl) in
+    subst (λ (x : Option Move). AreAdded most (one_way ps w x) olds news) (sym some) one
+
+-- it is there already
+pub known-one : (ps : List Process) (w v : Way) (m : Move) (o : Option Move) (olds : Members) (most : ℕ)
+    → o ≡ Some m → v ≡ way_after ps w m → Contains (members_in olds.ways) v.member → AreAdded most (one_way ps w o) olds olds
+known-one ps w v m o olds most some is there = added-one ps w v m o olds olds most some is (inl (there, refl))
+
+-- it is one too many
+pub full-one : (ps : List Process) (w v : Way) (m : Move) (o : Option Move) (olds : Members) (most : ℕ) (error : SearchError)
+    → o ≡ Some m → v ≡ way_after ps w m → IsFull v olds most error → AreFull (one_way ps w o) olds most error
+full-one ps w v m o olds most (Engine e) some is full = tt
+full-one ps w v m o olds most Bound some is full =
+    let all = ap (one_way ps w) some ∙ ap (λ (x : Way). x ∷ []) (sym is) in
+    record { before = []; way = v; after = []; all = all; mid = olds; added = refl; many = full }
 
 -- TAKING UP
 
-pub taken-next :
+taken-next :
     (script : ScriptView) (first : Run) (most : ℕ) (moves : List (List (Option Move))) (ways : List Way) (w : Way) (a b c : Members) (f g h : List Finding)
     → AreTakenUp script first most moves ways a b f g → IsTakenUp script first most (slice_index_or moves w.member.group []) w b c g h → AreTakenUp script first most moves (ways ++ w ∷ []) a c f h
 taken-next script first most moves [] w a b c f g h (same, kept) one =
@@ -136,14 +159,14 @@ ways-at (x ∷ xs) (suc i) w lt at =
       ap (λ (l : List Way). x ∷ l) rest.1 ∙ ap (λ (n : ℕ). (x ∷ take i xs) ++ w ∷ drop n (x ∷ xs)) (sym next),
     )
 
-pub taken-more :
+taken-more :
     (script : ScriptView) (first : Run) (most : ℕ) (moves : List (List (Option Move))) (ways : List Way) (i : ℕ) (w : Way) (a b c : Members) (f g h : List Finding)
     → i < length ways → slice_index_or ways i w ≡ w
     → AreTakenUp script first most moves (take i ways) a b f g → IsTakenUp script first most (slice_index_or moves w.member.group []) w b c g h → AreTakenUp script first most moves (take (i + 1) ways) a c f h
 taken-more script first most moves ways i w a b c f g h lt at before one =
     subst (λ (l : List Way). AreTakenUp script first most moves l a c f h) (sym (ways-at ways i w lt at).0) (taken-next script first most moves (take i ways) w a b c f g h before one)
 
-pub stopped :
+stopped :
     (script : ScriptView) (first : Run) (most : ℕ) (moves : List (List (Option Move))) (ways : List Way) (i : ℕ) (w : Way) (a b : Members) (f g : List Finding) (error : SearchError)
     → i < length ways → slice_index_or ways i w ≡ w
     → AreTakenUp script first most moves (take i ways) a b f g → AreFull (ways_on script.processes w (slice_index_or moves w.member.group [])) b most error → IsStoppedBy script first moves ways a f most error
@@ -152,8 +175,58 @@ stopped script first most moves ways i w a b f g Bound lt at before full =
     record { done = take i ways; way = w; rest = drop (i + 1) ways; all = (ways-at ways i w lt at).1; mid = b; noted = g; taken = before; many = full }
 
 -- the moves of a member's group
-pub own-moves : (moves : List (List (Option Move))) (k g : ℕ) (own : List (Option Move)) → k < length moves → own ≡ slice_index_or moves k own → k ≡ g → own ≡ slice_index_or moves g []
+own-moves : (moves : List (List (Option Move))) (k g : ℕ) (own : List (Option Move)) → k < length moves → own ≡ slice_index_or moves k own → k ≡ g → own ≡ slice_index_or moves g []
 own-moves moves k g own lt is same = is ∙ get_or_default moves k own [] lt ∙ ap (λ (n : ℕ). slice_index_or moves n []) same
+
+-- the member at an index, and the place of its group's moves
+pub record IsMemberAt (ways : List Way) (moves : List (List (Option Move))) (i g : ℕ) (m : Member) (s : List ℕ) : Type 0 where
+  pub own : Way
+  pub lt : i < length ways
+  pub at : slice_index_or ways i own ≡ own
+  pub is : way m s ≡ own
+  pub group : g ≡ own.member.group
+  pub within : g < length moves
+
+pub member-by :
+    (inside now : Members) (moves : List (List (Option Move))) (i end g : ℕ) (m : Member) (s : List ℕ)
+    → inside ≡ now → end ≡ length inside.ways → i < end
+    → ((w : Way) → slice_index_or inside.ways i w ≡ w → m ≡ w.member) → ((w : Way) → slice_index_or inside.ways i w ≡ w → s ≡ w.schedule)
+    → g ≡ m.group → ((w : Way) → Contains now.ways w → w.member.group < length moves) → IsMemberAt now.ways moves i g m s
+member-by inside now moves i end g m s same end-is before members schedules group-is all =
+    let inside-lt : i < length inside.ways = omega (arith, end-is, before) in
+    let lt : i < length now.ways = subst (λ (x : Members). i < length x.ways) same inside-lt in
+    let w = way-at now.ways i lt in
+    let at : slice_index_or inside.ways i w.0 ≡ w.0 = subst (λ (x : Members). slice_index_or x.ways i w.0 ≡ w.0) (sym same) w.1 in
+    let member-is = members w.0 at in
+    let schedule-is = schedules w.0 at in
+    let group : g ≡ w.0.member.group = group-is ∙ ap (λ (x : Member). x.group) member-is in
+    let bound = all w.0 (i, lt, w.1) in
+    record {
+      own = w.0;
+      lt = lt;
+      at = w.1;
+      is = λ j. record { member = member-is j; schedule = schedule-is j };
+      group = group;
+      within = omega (arith, group, bound);
+    }
+
+pub taken-at :
+    (script : ScriptView) (first : Run) (most : ℕ) (moves : List (List (Option Move))) (ways : List Way) (i g : ℕ) (m : Member) (s : List ℕ) (steps : List (Option Move)) (a b c : Members) (f h k : List Finding)
+    → IsMemberAt ways moves i g m s → steps ≡ slice_index_or moves g steps
+    → AreTakenUp script first most moves (take i ways) a b f h → IsTakenUp script first most steps (way m s) b c h k → AreTakenUp script first most moves (take (i + 1) ways) a c f k
+taken-at script first most moves ways i g m s steps a b c f h k here is before one =
+    let same = own-moves moves g here.own.member.group steps here.within is here.group in
+    taken-more script first most moves ways i here.own a b c f h k here.lt here.at before
+    (subst (λ (l : List (Option Move)). IsTakenUp script first most l here.own b c h k) same (subst (λ (v : Way). IsTakenUp script first most steps v b c h k) here.is one))
+
+pub stopped-at :
+    (script : ScriptView) (first : Run) (most : ℕ) (moves : List (List (Option Move))) (ways : List Way) (i g : ℕ) (m : Member) (s : List ℕ) (steps : List (Option Move)) (a b : Members) (f h : List Finding) (error : SearchError)
+    → IsMemberAt ways moves i g m s → steps ≡ slice_index_or moves g steps
+    → AreTakenUp script first most moves (take i ways) a b f h → AreFull (ways_on script.processes (way m s) steps) b most error → IsStoppedBy script first moves ways a f most error
+stopped-at script first most moves ways i g m s steps a b f h error here is before full =
+    let same = own-moves moves g here.own.member.group steps here.within is here.group in
+    stopped script first most moves ways i here.own a b f h error here.lt here.at before
+    (subst (λ (l : List (Option Move)). AreFull (ways_on script.processes here.own l) b most error) same (subst (λ (v : Way). AreFull (ways_on script.processes v steps) b most error) here.is full))
 
 pub level-cause :
     (script : ScriptView) (first : Run) (level : Level) (before : List Finding) (most : ℕ) (groups : Groups) (moves : List (List (Option Move))) (error : SearchError)

@@ -7,10 +7,9 @@ use Rattle.shm_text.specs.Script.{ScriptView}
 use Rattle.shm_outcomes.specs.Branches.{Branch, event_after, grown, key_at}
 use Rattle.shm_outcomes.specs.Changes.{Trail, trail_after, trail_of}
 use Rattle.shm_outcomes.specs.Keys.{key_of}
-use Rattle.shm_outcomes.specs.Outcomes.{outcome_of, told_after}
-use Rattle.shm_outcomes.specs.Schedules.{fresh}
-use Rattle.shm_outcomes.specs.Search.{IsReached}
-use Rattle.shm_outcomes.proofs.Telling.{told-after}
+use Rattle.shm_schedules.specs.Outcomes.{outcome_of, told_after}
+use Rattle.shm_schedules.specs.Schedules.{fresh, IsReached}
+use Rattle.shm_schedules.proofs.Telling.{told-after}
 use Rattle.shm_outcomes.proofs.Trails.{reached-next}
 
 -- it carries what each process was told in its run, and what changed the machine

@@ -10,19 +10,20 @@ use Rattle.shm_text.specs.Script.{ScriptView}
 use Rattle.shm_outcomes.specs.Branches.{sprout}
 use Rattle.shm_outcomes.specs.Groups.{Groups, mark_by, mark_of}
 use Rattle.shm_outcomes.specs.Keys.{AreMoreRuns, AreOther, IsKeyOf, Key, key_of}
-use Rattle.shm_outcomes.specs.Known.{IsAt}
+use Rattle.shm_schedules.specs.Known.{IsAt}
 use Rattle.shm_outcomes.specs.Levels.{IsFirstCause, IsLevelCause, IsLevelFull, IsNextLevel, Level, first_level}
 use Rattle.shm_outcomes.specs.Merging.{IsCause}
-use Rattle.shm_outcomes.specs.declared.search.SearchError.{SearchError}
-use Rattle.shm_outcomes.specs.declared.search.SearchError.TheVariants.{Bound, Engine}
+use Rattle.shm_schedules.specs.declared.search_error.SearchError.{SearchError}
+use Rattle.shm_schedules.specs.declared.search_error.SearchError.TheVariants.{Bound, Engine}
 use Rattle.shm_outcomes.specs.Members.{Member, Way, member, member_in, members_in, no_members, way}
-use Rattle.shm_outcomes.specs.Outcomes.{outcome_of}
-use Rattle.shm_outcomes.specs.Schedules.{Run, fresh, goes, IsOver, Leads, schedule_of}
-use Rattle.shm_outcomes.specs.Search.{AreOutcomes, Finding, IsFinding, IsReached, outcomes_in}
+use Rattle.shm_schedules.specs.Outcomes.{outcome_of}
+use Rattle.shm_schedules.specs.Schedules.{Run, fresh, goes, IsOver, Leads, schedule_of, IsReached}
+use Rattle.shm_outcomes.specs.Search.{AreOutcomes, IsFinding, outcomes_in}
+use Rattle.shm_schedules.specs.Finding.{Finding}
 use Rattle.shm_outcomes.proofs.Branching.{AreCarried}
 use Rattle.shm_outcomes.proofs.Grouping.{AreGroups, IsGroup, IsOne, at-once, group-of, next-groups, one-long, own-mark}
 use Rattle.shm_outcomes.proofs.Searching.{AreKnown, AreMembers, HasOne, IsWay, Steps, adds-all, members-push, no-ways, step-all, ways-after}
-use Rattle.shm_outcomes.proofs.Walking.{follower-reached, goes-length, goes-schedule}
+use Rattle.shm_schedules.proofs.Walking.{follower-reached, goes-length, goes-schedule}
 
 -- SCHEDULES
 

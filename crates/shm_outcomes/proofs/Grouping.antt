@@ -17,17 +17,16 @@ use Rattle.shm_text.specs.Script.{ScriptView}
 use Rattle.shm_outcomes.specs.Branches.{Branch, event_after, grown}
 use Rattle.shm_outcomes.specs.Groups.{AreAllMoves, AreMoves, AreMovesBy, ArePut, Groups, IsFrom, IsMove, IsMoveBy, IsPut, StayThere, are_over, mark_at, mark_by, mark_of, no_groups}
 use Rattle.shm_outcomes.specs.Keys.{AreOther, Key}
-use Rattle.shm_outcomes.specs.Known.{IsAt}
+use Rattle.shm_schedules.specs.Known.{IsAt}
 use Rattle.shm_outcomes.specs.Members.{Member, member}
-use Rattle.shm_outcomes.specs.Outcomes.{masked, outcome_of, told_after}
-use Rattle.shm_outcomes.specs.Schedules.{Run, after, fresh, goes, next, IsOver}
-use Rattle.shm_outcomes.specs.Search.{IsReached}
+use Rattle.shm_schedules.specs.Outcomes.{masked, outcome_of, told_after}
+use Rattle.shm_schedules.specs.Schedules.{Run, after, fresh, goes, next, IsOver, IsReached}
 use Rattle.shm_outcomes.specs.declared.moves.Move.{Move}
 use Rattle.shm_outcomes.proofs.Branching.{AreCarried, grown-carried, key-same}
-use Rattle.shm_outcomes.proofs.Going.{told-one}
+use Rattle.shm_schedules.proofs.Going.{told-one}
 use Rattle.shm_outcomes.proofs.Keeping.{GoSame, after-same, go-same, next-same, reply-same, same-mark}
-use Rattle.shm_outcomes.proofs.Telling.{told-after}
-use Rattle.shm_outcomes.proofs.Walking.{follower-reached, has-cases, made-by, goes-length, test-first}
+use Rattle.shm_schedules.proofs.Telling.{told-after}
+use Rattle.shm_schedules.proofs.Walking.{follower-reached, has-cases, made-by, goes-length, test-first}
 
 -- PLACES
 

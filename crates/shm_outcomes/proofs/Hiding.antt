@@ -5,9 +5,10 @@ use Rattle.std.proofs.lemmas.List.Elements.{All-contains, All-more, All-push, Al
 use Rattle.shm_base.specs.declared.call.Reply.{Reply}
 use Rattle.shm_text.specs.Script.{ScriptView}
 use Rattle.shm_outcomes.specs.Masking.{AreMaskedOutcomes, IsMaskedFinding, hidden_finding, hidden_outcome}
-use Rattle.shm_outcomes.specs.Outcomes.{outcome_of}
-use Rattle.shm_outcomes.specs.Schedules.{Run, IsSchedule}
-use Rattle.shm_outcomes.specs.Search.{AreDistinct, AreOutcomes, Finding, IsFinding, IsNoted, outcomes_in}
+use Rattle.shm_schedules.specs.Outcomes.{outcome_of}
+use Rattle.shm_schedules.specs.Schedules.{Run, IsSchedule}
+use Rattle.shm_outcomes.specs.Search.{AreDistinct, AreOutcomes, IsFinding, IsNoted, outcomes_in}
+use Rattle.shm_schedules.specs.Finding.{Finding}
 use Rattle.shm_outcomes.proofs.Searching.{noted-distinct, noted-kept, noted-there}
 
 abbrev IsHiddenOf : List Finding → Finding → Type 0

@@ -18,19 +18,17 @@ use Rattle.shm_text.specs.Form.{CommandView}
 use Rattle.shm_text.specs.Variables.{no_values, values_after}
 use Rattle.shm_text.specs.declared.script.Line.{Line}
 use Rattle.shm_text.specs.declared.script.Line.TheVariants.{Command, Flush}
-use Rattle.shm_outcomes.specs.Alike.{is_change, looks}
+use Rattle.shm_schedules.specs.Alike.{is_change, looks}
 use Rattle.shm_outcomes.specs.Branches.{event_after}
-use Rattle.shm_outcomes.specs.Changes.{Trail, noted, patch_by, trail_after, trail_of}
+use Rattle.shm_outcomes.specs.Changes.{Trail, noted, patch_by, trail_after, trail_of, all_changes}
 use Rattle.shm_outcomes.specs.Groups.{kept, kept_all, kept_reply, mark_of}
 use Rattle.shm_outcomes.specs.Keys.{Key}
-use Rattle.shm_outcomes.specs.Outcomes.{masked, told}
-use Rattle.shm_outcomes.specs.Schedules.{Run, after, fresh, is_live, next, next_call, replies_to}
-use Rattle.shm_outcomes.specs.Search.{IsReached}
-use Rattle.shm_outcomes.specs.Times.{timeless}
+use Rattle.shm_schedules.specs.Outcomes.{masked, told}
+use Rattle.shm_schedules.specs.Schedules.{Run, after, fresh, is_live, next, next_call, replies_to, IsReached}
+use Rattle.shm_schedules.specs.Times.{timeless}
 use Rattle.shm_outcomes.specs.declared.trail.Patch.{Patch}
-use Rattle.shm_outcomes.proofs.Going.{first-true, map-head, map-tail, masked-next, same-if, same-step, told-more, told-one}
+use Rattle.shm_schedules.proofs.Going.{first-true, map-head, map-tail, masked-next, same-if, same-step, told-more, told-one}
 use Rattle.shm_outcomes.proofs.Trails.{changed, puts-same, reached-changed, reached-next}
-use Rattle.shm_outcomes.specs.Changes.{all_changes}
 
 -- WHAT A PROCESS KEEPS
 

@@ -11,13 +11,14 @@ use Rattle.shm_base.specs.State.{Machine}
 use Rattle.shm_base.specs.declared.call.Reply.{Reply}
 use Rattle.shm_text.specs.Script.{ScriptView}
 use Rattle.shm_outcomes.specs.Groups.{AreAllMoves, Groups, are_over}
-use Rattle.shm_outcomes.specs.Members.{AreAdded, AreTakenUp, IsAdded, IsEndNoted, IsTakenUp, Member, Members, Way, member_in, members_in, one_way, walked, way_after, ways_on}
-use Rattle.shm_outcomes.specs.Schedules.{Run, fresh, goes, Leads, IsOver, schedule_of}
-use Rattle.shm_outcomes.specs.Outcomes.{outcome_of}
-use Rattle.shm_outcomes.specs.Search.{AreDistinct, Finding, IsFinding, IsNoted, outcome_in, outcomes_in}
+use Rattle.shm_outcomes.specs.Members.{AreAdded, AreTakenUp, IsAdded, IsEndNoted, IsTakenUp, Member, Members, Way, member_in, members_in, one_way, way_after, ways_on}
+use Rattle.shm_schedules.specs.Schedules.{walked, Run, fresh, goes, Leads, IsOver, schedule_of}
+use Rattle.shm_schedules.specs.Outcomes.{outcome_of}
+use Rattle.shm_outcomes.specs.Search.{AreDistinct, IsFinding, IsNoted, outcome_in, outcomes_in}
+use Rattle.shm_schedules.specs.Finding.{Finding}
 use Rattle.shm_outcomes.specs.declared.moves.Move.{Move}
 use Rattle.shm_outcomes.proofs.Grouping.{AreGroups, IsOne, goes-by-move, moved, moves-by-goes, not-over, over-all}
-use Rattle.shm_outcomes.proofs.Walking.{goes-schedule}
+use Rattle.shm_schedules.proofs.Walking.{goes-schedule}
 
 pub noted-kept :
     (olds news : List Finding) (f : Finding) → IsNoted olds f news

@@ -15,21 +15,21 @@ use Rattle.shm_base.specs.declared.call.Call.{Call}
 use Rattle.shm_base.specs.declared.call.Call.TheVariants.{Shmget, Shmat, Shmdt, Stat, Set, Rmid, Lock, Unlock, Load, Store, Xadd, Fork, Exec, Exit, Swapoff}
 use Rattle.shm_base.specs.declared.call.Event.{Event}
 use Rattle.shm_text.specs.Script.{ScriptView}
-use Rattle.shm_outcomes.specs.Alike.{is_change, looks}
-use Rattle.shm_outcomes.specs.Changes.{Trail, all_changes, call_of, fits, is_fork, made, no_trail, noted, patch_by, place_by, place_of, put, put_at, puts, trail_after, trail_from, trail_of, write_at, wrote}
-use Rattle.shm_outcomes.specs.Schedules.{Run, after, fresh, next, Leads, schedule_of}
-use Rattle.shm_outcomes.specs.Search.{IsReached}
-use Rattle.shm_outcomes.specs.Times.{timeless}
+use Rattle.shm_schedules.specs.Alike.{is_change, looks}
+use Rattle.shm_outcomes.specs.Changes.{Trail, all_changes, call_of, fits, is_fork, made, no_trail, noted, patch_by, put, put_at, puts, trail_after, trail_from, trail_of, write_at, wrote}
+use Rattle.shm_schedules.specs.Places.{place_by, place_of}
+use Rattle.shm_schedules.specs.Schedules.{Run, after, fresh, next, Leads, schedule_of, IsReached}
+use Rattle.shm_schedules.specs.Times.{timeless}
 use Rattle.shm_outcomes.specs.declared.trail.CallBy.{CallBy}
 use Rattle.shm_outcomes.specs.declared.trail.Change.{Change}
 use Rattle.shm_outcomes.specs.declared.trail.Change.TheVariants.{Made, Wrote}
 use Rattle.shm_outcomes.specs.declared.trail.Patch.{Patch}
 use Rattle.shm_outcomes.specs.declared.trail.Write.{Write}
 use Rattle.shm_outcomes.proofs.Bytes.{attach-swap, overwritten, put-last, with_write, written}
-use Rattle.shm_outcomes.proofs.Going.{event_at, not-first, one-more, still}
-use Rattle.shm_outcomes.proofs.Timeless.{times_reach_times}
-use Rattle.shm_outcomes.proofs.Timing.{stored-timeless}
-use Rattle.shm_outcomes.proofs.Walking.{made-by}
+use Rattle.shm_schedules.proofs.Going.{event_at, not-first, one-more, still}
+use Rattle.shm_schedules.proofs.Timeless.{times_reach_times}
+use Rattle.shm_schedules.proofs.Timing.{stored-timeless}
+use Rattle.shm_schedules.proofs.Walking.{made-by}
 
 -- THE MACHINE THAT CHANGES LEAD TO
 

@@ -7,8 +7,8 @@ use Rattle.shm_base.specs.declared.call.Reply.{Reply}
 use Rattle.shm_text.specs.Script.{ScriptView}
 use Rattle.shm_outcomes.specs.Changes.{Trail, no_trail, trail_after}
 use Rattle.shm_outcomes.specs.Keys.{Key}
-use Rattle.shm_outcomes.specs.Outcomes.{outcome_of, told_after}
-use Rattle.shm_outcomes.specs.Schedules.{Run, after}
+use Rattle.shm_schedules.specs.Outcomes.{outcome_of, told_after}
+use Rattle.shm_schedules.specs.Schedules.{Run, after}
 
 pub record Branch : Type 0 where
   pub run : Run

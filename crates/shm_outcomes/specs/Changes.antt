@@ -2,16 +2,17 @@
 -- place keeps the last, so the order of stores to different places does not matter. A fork counts as made before them.
 use Rattle.std.specs.Prelude.{ℕ, ◌+◌, ◌%◌, ◌^◌, ◌==◌, ◌&&◌, ◌||◌, Bool, true, false, nat_lt, if◌then◌else◌, List, [], ◌∷◌, ◌++◌, filter, map, length, Option, Some, None}
 use Rattle.std.specs.Int.{w64, to_le_bytes}
-use Rattle.shm_base.specs.Access.{Place, place}
+use Rattle.shm_base.specs.Access.{Place}
 use Rattle.shm_base.specs.State.{Machine}
-use Rattle.shm_base.specs.Step.{Caller, caller_of, step}
+use Rattle.shm_base.specs.Step.{step}
 use Rattle.shm_base.specs.declared.bounds.TheConstants.{INDEXES}
 use Rattle.shm_base.specs.declared.call.Call.{Call}
 use Rattle.shm_base.specs.declared.call.Call.TheVariants.{Fork, Store, Xadd}
 use Rattle.shm_base.specs.declared.call.Event.{Event}
 use Rattle.shm_base.specs.declared.call.Reply.{Reply}
 use Rattle.shm_base.specs.declared.call.Reply.TheVariants.{Number}
-use Rattle.shm_outcomes.specs.Alike.{is_change}
+use Rattle.shm_schedules.specs.Alike.{is_change}
+use Rattle.shm_schedules.specs.Places.{place_of}
 use Rattle.shm_outcomes.specs.declared.trail.CallBy.{CallBy}
 use Rattle.shm_outcomes.specs.declared.trail.Change.{Change}
 use Rattle.shm_outcomes.specs.declared.trail.Change.TheVariants.{Made, Wrote}
@@ -45,14 +46,6 @@ write_at p byte = record { index = p.seg % INDEXES; at = p.at; byte = byte }
 abbrev pub put_at : Option Place → ℕ → List Write → List Write
 put_at None byte ws = ws
 put_at (Some p) byte ws = put (write_at p byte) ws
-
-abbrev pub place_by : Option Caller → ℕ → Option Place
-place_by None addr = None
-place_by (Some c) addr = place c.pieces addr
-
--- the byte that an address of a process denotes
-abbrev pub place_of : Machine → ℕ → ℕ → Option Place
-place_of s pid addr = place_by (caller_of s pid) addr
 
 -- a process writes bytes, one for each address from this one on
 abbrev pub puts : Machine → ℕ → ℕ → List ℕ → List Write → List Write

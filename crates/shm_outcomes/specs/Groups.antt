@@ -11,8 +11,8 @@ use Rattle.shm_text.specs.declared.script.Line.{Line}
 use Rattle.shm_text.specs.declared.script.Line.TheVariants.{Command, Flush}
 use Rattle.shm_outcomes.specs.Branches.{Branch, event_after, grown, key_at}
 use Rattle.shm_outcomes.specs.Keys.{AreOther, Key, key_of}
-use Rattle.shm_outcomes.specs.Known.{IsAt}
-use Rattle.shm_outcomes.specs.Schedules.{Run, next}
+use Rattle.shm_schedules.specs.Known.{IsAt}
+use Rattle.shm_schedules.specs.Schedules.{Run, next}
 use Rattle.shm_outcomes.specs.declared.moves.Move.{Move}
 
 -- WHAT A PROCESS KEEPS

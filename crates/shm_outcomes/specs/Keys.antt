@@ -4,9 +4,8 @@ use Rattle.std.specs.List.{AllPairs}
 use Rattle.shm_base.specs.declared.call.Reply.{Reply}
 use Rattle.shm_text.specs.Script.{ScriptView}
 use Rattle.shm_outcomes.specs.Changes.{Trail, trail_of}
-use Rattle.shm_outcomes.specs.Outcomes.{outcome_of}
-use Rattle.shm_outcomes.specs.Schedules.{Run}
-use Rattle.shm_outcomes.specs.Search.{IsReached}
+use Rattle.shm_schedules.specs.Outcomes.{outcome_of}
+use Rattle.shm_schedules.specs.Schedules.{Run, IsReached}
 
 -- how many calls were made, what each process was told but for times, and what changed the machine
 pub record Key : Type 0 where

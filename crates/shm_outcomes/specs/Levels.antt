@@ -4,11 +4,11 @@ use Rattle.shm_text.specs.Script.{ScriptView}
 use Rattle.shm_outcomes.specs.Branches.{sprout}
 use Rattle.shm_outcomes.specs.Groups.{AreAllMoves, ArePut, Groups, mark_at, no_groups}
 use Rattle.shm_outcomes.specs.Members.{AreTakenUp, IsStopped, Members, Way, member, no_members, way}
-use Rattle.shm_outcomes.specs.Schedules.{Run}
-use Rattle.shm_outcomes.specs.Search.{Finding}
+use Rattle.shm_schedules.specs.Schedules.{Run}
+use Rattle.shm_schedules.specs.Finding.{Finding}
 use Rattle.shm_outcomes.specs.declared.moves.Move.{Move}
-use Rattle.shm_outcomes.specs.declared.search.SearchError.{SearchError}
-use Rattle.shm_outcomes.specs.declared.search.SearchError.TheVariants.{Engine, Bound}
+use Rattle.shm_schedules.specs.declared.search_error.SearchError.{SearchError}
+use Rattle.shm_schedules.specs.declared.search_error.SearchError.TheVariants.{Engine, Bound}
 
 pub record Level : Type 0 where
   pub groups : Groups

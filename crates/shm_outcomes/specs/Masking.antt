@@ -3,9 +3,10 @@ use Rattle.std.specs.Prelude.{◌≡◌, ℕ, pos, List, map, All, Contains}
 use Rattle.shm_base.specs.declared.call.Reply.{Reply}
 use Rattle.shm_base.specs.declared.call.Reply.TheVariants.{Id, Addr}
 use Rattle.shm_text.specs.Script.{ScriptView}
-use Rattle.shm_outcomes.specs.Outcomes.{outcome_of}
-use Rattle.shm_outcomes.specs.Schedules.{Run, IsSchedule, schedule_of}
-use Rattle.shm_outcomes.specs.Search.{AreDistinct, Finding, outcomes_in}
+use Rattle.shm_schedules.specs.Outcomes.{outcome_of}
+use Rattle.shm_schedules.specs.Schedules.{Run, IsSchedule, schedule_of}
+use Rattle.shm_outcomes.specs.Search.{AreDistinct, outcomes_in}
+use Rattle.shm_schedules.specs.Finding.{Finding}
 
 -- an identifier or an address is 0
 abbrev pub hidden : Reply → Reply

@@ -1,15 +1,16 @@
 -- The members of groups: what each process was told in a run of the group, with a schedule of such a run.
-use Rattle.std.specs.Prelude.{◌≡◌, ◌≤◌, ◌<◌, ◌⊎◌, ℕ, ◌+◌, true, false, List, [], ◌∷◌, ◌++◌, map, Option, Some, None, Contains, slice_index_or, option_and_then}
+use Rattle.std.specs.Prelude.{◌≡◌, ◌≤◌, ◌<◌, ◌⊎◌, ℕ, ◌+◌, true, false, List, [], ◌∷◌, ◌++◌, map, Option, Some, None, Contains, slice_index_or}
 use Rattle.shm_base.specs.declared.call.Process.{Process}
 use Rattle.shm_base.specs.declared.call.Reply.{Reply}
 use Rattle.shm_text.specs.Script.{ScriptView}
 use Rattle.shm_outcomes.specs.Groups.{are_over}
-use Rattle.shm_outcomes.specs.Outcomes.{told_after}
-use Rattle.shm_outcomes.specs.Schedules.{Run, goes}
-use Rattle.shm_outcomes.specs.Search.{Finding, IsNoted}
+use Rattle.shm_schedules.specs.Outcomes.{told_after}
+use Rattle.shm_schedules.specs.Schedules.{Run, walked}
+use Rattle.shm_schedules.specs.Finding.{Finding}
+use Rattle.shm_outcomes.specs.Search.{IsNoted}
 use Rattle.shm_outcomes.specs.declared.moves.Move.{Move}
-use Rattle.shm_outcomes.specs.declared.search.SearchError.{SearchError}
-use Rattle.shm_outcomes.specs.declared.search.SearchError.TheVariants.{Engine, Bound}
+use Rattle.shm_schedules.specs.declared.search_error.SearchError.{SearchError}
+use Rattle.shm_schedules.specs.declared.search_error.SearchError.TheVariants.{Engine, Bound}
 
 pub record Member : Type 0 where
   pub group : ℕ
@@ -93,11 +94,6 @@ ways_on processes w [] = []
 ways_on processes w (m ∷ moves) = one_way processes w m ++ ways_on processes w moves
 
 -- ENDS
-
--- the run to which a schedule leads
-abbrev pub walked : ScriptView → List ℕ → Run → Option Run
-walked script [] run = Some run
-walked script (pid ∷ schedule) run = option_and_then (walked script schedule) (goes script pid run)
 
 -- the outcome is noted with the run that has it
 abbrev pub IsEndNoted : Option Run → List (List Reply) → List Finding → List Finding → Type 0

@@ -2,9 +2,9 @@
 use Rattle.std.specs.Prelude.{ℕ}
 use Rattle.shm_text.specs.Script.{ScriptView}
 use Rattle.shm_outcomes.specs.Keys.{AreMoreRuns}
-use Rattle.shm_outcomes.specs.Schedules.{Run}
-use Rattle.shm_outcomes.specs.declared.search.SearchError.{SearchError}
-use Rattle.shm_outcomes.specs.declared.search.SearchError.TheVariants.{Engine, Bound}
+use Rattle.shm_schedules.specs.Schedules.{Run}
+use Rattle.shm_schedules.specs.declared.search_error.SearchError.{SearchError}
+use Rattle.shm_schedules.specs.declared.search_error.SearchError.TheVariants.{Engine, Bound}
 
 abbrev pub IsCause : ScriptView → Run → ℕ → SearchError → Type 0
 IsCause script first most (Engine e) = Unit {0}

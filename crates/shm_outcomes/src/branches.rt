@@ -2,17 +2,15 @@
 ghost use Rattle.std.specs.Prelude.{◌≡◌, IfOk};
 ghost use Rattle.shm_outcomes.specs.Branches.{grown, sprout};
 
-use crate::engine::{Engine, EngineError};
-use crate::outcome::{Lists, Outcome};
-use crate::search::Node;
 use crate::trail::Trail;
 use shm_base::Call;
+use shm_schedules::{Engine, EngineError, Lists, Outcome, Run};
 use shm_text::Script;
 use std::alloc::Global;
 use std::marker::Model;
 
 pub(crate) struct Branch<M: Engine> {
-    run: Node<M>,
+    run: Run<M>,
     told: Outcome,
     trail: Trail,
 }
@@ -40,7 +38,7 @@ impl<M: Engine> Branch<M> {
     pub(crate) fn first(
         alloc: Global,
         script: &Script,
-        start: &Node<M>,
+        start: &Run<M>,
     ) -> Result<Branch<M>, EngineError>
         ensures { IfOk result (λ b. b ≡ sprout script.now start.now) }
     {
@@ -50,7 +48,7 @@ impl<M: Engine> Branch<M> {
         Ok(Branch { run, told, trail })
     }
 
-    pub(crate) fn run(&self) -> &Node<M>
+    pub(crate) fn run(&self) -> &Run<M>
         ensures { result.now ≡ self.now.run }
     {
         &self.run

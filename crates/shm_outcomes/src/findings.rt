@@ -2,11 +2,8 @@
 ghost use Rattle.std.specs.Prelude.{◌≡◌, ◌≢◌, ◌<◌, ◌↔◌, ℕ, [], Contains, IfOk, IsFalse, IsTrue, OnOk, length, slice_index_or};
 ghost use Rattle.shm_outcomes.specs.Search.{IsNoted, outcomes_in};
 
-use crate::buckets::Buckets;
-use crate::digests::digest;
-use crate::outcome::Outcome;
-use crate::search::Finding;
 use shm_base::Event;
+use shm_schedules::{Buckets, Finding, Outcome, digest};
 use std::alloc::{AllocError, Global};
 use std::marker::Model;
 
@@ -21,9 +18,10 @@ pub(crate) struct Findings {
 
 impl Model for Findings {
     ghost use Rattle.std.specs.Prelude.{List, map};
-    ghost use Rattle.shm_outcomes.specs.Buckets.{AreIndexed};
-    ghost use Rattle.shm_outcomes.specs.Digests.{digest};
-    ghost use Rattle.shm_outcomes.specs.Search.{Finding, outcomes_in};
+    ghost use Rattle.shm_schedules.specs.Buckets.{AreIndexed};
+    ghost use Rattle.shm_schedules.specs.Digests.{digest};
+    ghost use Rattle.shm_schedules.specs.Finding.{Finding};
+    ghost use Rattle.shm_outcomes.specs.Search.{outcomes_in};
 
     ghost Value = { List Finding };
 

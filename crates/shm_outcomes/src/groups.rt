@@ -3,9 +3,8 @@ ghost use Rattle.std.specs.Prelude.{◌≡◌, IfOk};
 ghost use Rattle.shm_outcomes.specs.Groups.{IsPut, no_groups};
 
 use crate::branches::Branch;
-use crate::engine::Engine;
 use crate::keys::Key;
-use crate::known::Known;
+use shm_schedules::{Engine, Known};
 use shm_text::Script;
 use std::alloc::{AllocError, Global};
 use std::marker::Model;

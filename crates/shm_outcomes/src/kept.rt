@@ -2,9 +2,9 @@
 ghost use Rattle.std.specs.Prelude.{◌≡◌, IfOk, [], slice_index_or};
 ghost use Rattle.shm_outcomes.specs.Groups.{kept, kept_all, kept_reply};
 
-use crate::outcome::{Outcome, Told};
 use shm_base::{Process, Reply};
-use shm_text::{Command, Line};
+use shm_schedules::{Outcome, Told};
+use shm_text::{Command, Line, Script};
 use std::alloc::{AllocError, Global};
 
 fn kept_reply(command: &Command, reply: &Reply) -> Reply
@@ -62,7 +62,7 @@ fn kept_at(
 }
 
 // What each process keeps of what it was told.
-pub(crate) fn kept_all(
+fn kept_all(
     alloc: Global,
     lines: &[Line],
     processes: &[Process],
@@ -76,4 +76,16 @@ pub(crate) fn kept_all(
         all.push(one)?;
     }
     Ok(all)
+}
+
+// What each process keeps of its replies.
+pub(crate) fn kept_outcome(
+    alloc: Global,
+    script: &Script,
+    outcome: &Outcome,
+) -> Result<Outcome, AllocError>
+    ensures { IfOk result (λ o. o ≡ kept_all script.now.lines script.now.processes outcome.now) }
+{
+    let told = kept_all(alloc, &script.lines, &script.processes, outcome.told())?;
+    Ok(Outcome::new(told))
 }

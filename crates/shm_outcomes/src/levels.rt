@@ -1,16 +1,15 @@
 //! All runs of a script with the same number of calls, as members of groups.
 ghost use Rattle.std.specs.Prelude.{◌≡◌, ◌<◌, ◌↔◌, [], Contains, IfErr, IfOk, IsTrue, OnOk, length};
 ghost use Rattle.shm_outcomes.specs.Levels.{AreWithin, IsFirstCause, IsLevelCause, IsNextLevel, first_level};
-ghost use Rattle.shm_outcomes.specs.Members.{Way, AreAdded, AreFull, AreTakenUp, IsEndNoted, IsStoppedBy, IsTakenUp, no_members, one_way, walked, way, ways_on};
+ghost use Rattle.shm_outcomes.specs.Members.{Way, AreAdded, AreFull, AreTakenUp, IsEndNoted, IsStoppedBy, IsTakenUp, no_members, one_way, way, ways_on};
+ghost use Rattle.shm_schedules.specs.Schedules.{walked};
 
 use crate::branches::Branch;
-use crate::engine::{Engine, EngineError};
 use crate::findings::Findings;
 use crate::groups::Groups;
 use crate::members::{Member, Members, Schedule};
 use crate::moves::{Move, Moves, all_moves};
-use crate::outcome::{Lists, Outcome};
-use crate::search::{Node, SearchError};
+use shm_schedules::{Engine, EngineError, Lists, Outcome, Run, SearchError};
 use shm_text::Script;
 use std::alloc::Global;
 use std::marker::Model;
@@ -42,7 +41,7 @@ impl<M: Engine> Level<M> {
     pub(crate) fn first(
         alloc: Global,
         script: &Script,
-        start: &Node<M>,
+        start: &Run<M>,
         most: u64,
     ) -> Result<Level<M>, SearchError>
         ensures ok { IfOk result (λ level. level ≡ first_level script.now start.now) }
@@ -70,7 +69,7 @@ impl<M: Engine> Level<M> {
         &self,
         alloc: Global,
         script: &Script,
-        start: &Node<M>,
+        start: &Run<M>,
         most: u64,
         lists: &mut Lists,
         found: &mut Findings,
@@ -92,7 +91,7 @@ impl<M: Engine> Level<M> {
         &self,
         alloc: Global,
         script: &Script,
-        start: &Node<M>,
+        start: &Run<M>,
         most: u64,
         moves: &[Moves],
         lists: &mut Lists,
@@ -122,7 +121,7 @@ impl<M: Engine> Level<M> {
 fn take_up<M: Engine>(
     alloc: Global,
     script: &Script,
-    start: &Node<M>,
+    start: &Run<M>,
     most: u64,
     moves: &Moves,
     member: &Member,
@@ -199,7 +198,7 @@ fn add_way(
 fn note_end<M: Engine>(
     alloc: Global,
     script: &Script,
-    start: &Node<M>,
+    start: &Run<M>,
     told: &Outcome,
     schedule: &Schedule,
     found: &mut Findings,

@@ -3,10 +3,7 @@ ghost use Rattle.std.specs.Prelude.{◌≡◌, ◌<◌, ◌↔◌, ◌++◌, ◌
 ghost use Rattle.shm_outcomes.specs.Digests.{member_digest};
 ghost use Rattle.shm_outcomes.specs.Members.{IsAdded, IsFull, Way, member, members_in, no_members, way};
 
-use crate::digests::{digest, mixed};
-use crate::known::{Digested, Known};
-use crate::outcome::Outcome;
-use crate::search::SearchError;
+use shm_schedules::{Digested, Known, Outcome, SearchError, digest, mixed};
 use std::alloc::{AllocError, Global};
 use std::marker::Model;
 

@@ -3,10 +3,9 @@ ghost use Rattle.std.specs.Prelude.{◌≡◌, ◌∷◌, [], IfOk, OnOk};
 ghost use Rattle.shm_outcomes.specs.Groups.{AreAllMoves, AreMovesBy, ArePut, IsMove, are_over};
 
 use crate::branches::Branch;
-use crate::engine::{Engine, EngineError};
 use crate::groups::Groups;
-use crate::outcome::Lists;
 use shm_base::{Event, Process};
+use shm_schedules::{Engine, EngineError, Lists};
 use shm_text::Script;
 use std::alloc::Global;
 use std::marker::Model;

@@ -5,10 +5,9 @@ ghost use Rattle.std.specs.Int.{to_le_bytes, w64};
 ghost use Rattle.shm_outcomes.specs.declared.trail.Change.TheVariants.{Made};
 ghost use Rattle.shm_outcomes.specs.Changes.{call_of, fits, is_above, is_below, is_fork, made, no_trail, noted, patch_by, put, put_at, puts, trail_after, write_at, wrote};
 
-use crate::engine::Engine;
-use crate::keys::is_change;
 use shm_areas::Place;
 use shm_base::{Call, Chunk, Event, INDEXES, Reply};
+use shm_schedules::{Engine, is_change};
 use std::alloc::{AllocError, Global};
 use std::marker::Model;
 use std::rc::Rc;

@@ -9,7 +9,7 @@ use Rattle.shm_text.specs.Form.{CommandView}
 use Rattle.shm_text.specs.Variables.{call_of, values_after}
 use Rattle.shm_text.specs.declared.script.Line.{Line}
 use Rattle.shm_text.specs.declared.script.Line.TheVariants.{Command, Flush}
-use Rattle.shm_outcomes.specs.Schedules.{next_call, reply_of}
+use Rattle.shm_schedules.specs.Schedules.{next_call, reply_of}
 use Rattle.shm_threads.specs.Transcripts.{Follows, commands_of, events_of, is_end, reply_in, transcript_events}
 use Rattle.shm_threads.specs.declared.transcript.Answer.{Answer}
 use Rattle.shm_threads.specs.declared.transcript.Answer.TheVariants.{Reply as Replied, HostMemory}

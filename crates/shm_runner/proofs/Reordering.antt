@@ -21,8 +21,8 @@ use Rattle.shm_text.specs.declared.script.Line.TheVariants.{Command, Flush}
 use Rattle.shm_threads.specs.Transcripts.{commands_of}
 use Rattle.shm_program.specs.Runs.{opening_of}
 use Rattle.shm_program.specs.Values.{HolderView, fresh_holder, values_of, with_values}
-use Rattle.shm_outcomes.specs.Schedules.{Leads, Run, after, is_live, next, next_call, replies_to, reply_of, start}
-use Rattle.shm_outcomes.proofs.Walking.{made-by}
+use Rattle.shm_schedules.specs.Schedules.{Leads, Run, after, is_live, next, next_call, replies_to, reply_of, start}
+use Rattle.shm_schedules.proofs.Walking.{made-by}
 use Rattle.shm_runner.specs.Flat.{flat_end, flat_events, holders_after, line_step}
 use Rattle.shm_runner.specs.Ordered.{AreOrdered, first_line, in_order, ordered, pids_of, serial_events, without_first}
 use Rattle.shm_runner.proofs.Asking.{skipped}

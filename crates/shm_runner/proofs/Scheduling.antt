@@ -21,9 +21,10 @@ use Rattle.shm_threads.specs.Transcripts.{Follows, IsAdmitted, IsTranscript, com
 use Rattle.shm_threads.specs.declared.transcript.Entry.{Entry}
 use Rattle.shm_threads.specs.declared.transcript.Transcript.{Transcript}
 use Rattle.shm_program.specs.Runs.{IsOpening, opening_of}
-use Rattle.shm_outcomes.specs.Schedules.{IsOver, IsSchedule, Leads, Run, after, goes, is_live, next, next_call, replies_to, reply_of, schedule_of, start}
+use Rattle.shm_schedules.specs.Schedules.{IsOver, IsSchedule, Leads, Run, after, goes, is_live, next, next_call, replies_to, reply_of, schedule_of, start}
 use Rattle.shm_outcomes.specs.Masking.{AreMaskedOutcomes}
-use Rattle.shm_outcomes.specs.Search.{AreOutcomes, Finding}
+use Rattle.shm_outcomes.specs.Search.{AreOutcomes}
+use Rattle.shm_schedules.specs.Finding.{Finding}
 use Rattle.shm_print.specs.Text.{events_text}
 use Rattle.shm_program.specs.Values.{fresh_holder}
 use Rattle.shm_program.specs.Listing.{listing_of}

@@ -8,9 +8,10 @@ use Rattle.shm_threads.specs.Transcripts.{AreTranscripts}
 use Rattle.shm_threads.specs.declared.transcript.Transcript.{Transcript}
 use Rattle.shm_program.specs.Runs.{IsOpening}
 use Rattle.shm_outcomes.specs.Masking.{AreMaskedOutcomes, hidden_outcome}
-use Rattle.shm_outcomes.specs.Outcomes.{outcome_of}
-use Rattle.shm_outcomes.specs.Schedules.{Run, IsSchedule, start, schedule_of}
-use Rattle.shm_outcomes.specs.Search.{AreOutcomes, Finding, outcomes_in}
+use Rattle.shm_schedules.specs.Outcomes.{outcome_of}
+use Rattle.shm_schedules.specs.Schedules.{Run, IsSchedule, start, schedule_of}
+use Rattle.shm_outcomes.specs.Search.{AreOutcomes, outcomes_in}
+use Rattle.shm_schedules.specs.Finding.{Finding}
 use Rattle.shm_print.specs.Text.{events_text}
 use Rattle.shm_program.specs.Listing.{listing_of}
 use Rattle.shm_runner.specs.Flat.{flat_text}

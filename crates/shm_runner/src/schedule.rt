@@ -1,13 +1,13 @@
 //! Laws of schedules: a run with threads is that of a schedule, and a schedule is a serial run of the lines in its order.
 ghost use Rattle.std.specs.Prelude.{◌≡◌, ℕ, List};
 ghost use Rattle.shm_outcomes.specs.Masking.{AreMaskedOutcomes};
-ghost use Rattle.shm_outcomes.specs.Schedules.{start};
+ghost use Rattle.shm_schedules.specs.Schedules.{start};
 ghost use Rattle.shm_outcomes.specs.Search.{AreOutcomes};
 ghost use Rattle.shm_runner.specs.Scheduled.{AreSerial, IsClear, IsScheduled};
 
 use shm_base::Event;
-use shm_outcomes::Finding;
 use shm_pager::Pager;
+use shm_schedules::Finding;
 use shm_text::Script;
 use shm_threads::Outcome;
 

@@ -4,14 +4,15 @@ use Rattle.std.proofs.Common.{subst, sym}
 use Rattle.shm_base.specs.State.{Machine}
 use Rattle.shm_text.specs.Script.{ScriptView}
 use Rattle.rand_core.specs.Stream.{Stream}
-use Rattle.shm_outcomes.specs.Sampling.{AreSamples}
-use Rattle.shm_outcomes.specs.declared.engine.EngineError.{EngineError}
-use Rattle.shm_outcomes.specs.declared.engine.EngineError.TheVariants as engines
-use Rattle.shm_outcomes.specs.declared.search.SearchError.{SearchError}
-use Rattle.shm_outcomes.specs.declared.search.SearchError.TheVariants.{Engine, Bound}
+use Rattle.shm_judge.specs.Sampling.{AreSamples}
+use Rattle.shm_schedules.specs.declared.engine.EngineError.{EngineError}
+use Rattle.shm_schedules.specs.declared.engine.EngineError.TheVariants as engines
+use Rattle.shm_schedules.specs.declared.search_error.SearchError.{SearchError}
+use Rattle.shm_schedules.specs.declared.search_error.SearchError.TheVariants.{Engine, Bound}
 use Rattle.shm_outcomes.specs.Masking.{AreMaskedOutcomes}
-use Rattle.shm_outcomes.specs.Schedules.{Run, fresh, start}
-use Rattle.shm_outcomes.specs.Search.{AreOutcomes, Finding}
+use Rattle.shm_schedules.specs.Schedules.{Run, fresh, start}
+use Rattle.shm_outcomes.specs.Search.{AreOutcomes}
+use Rattle.shm_schedules.specs.Finding.{Finding}
 use Rattle.shm_outcomes.specs.Text.{outcomes_text}
 use Rattle.shmcheck.specs.Printed.{IsTextOf}
 use Rattle.shmcheck.specs.Sampled.{IsSamplesText, answers_from}

@@ -5,15 +5,15 @@ use Rattle.shm_base.specs.State.{Machine}
 use Rattle.shm_program.specs.Runs.{IsWritten, Prints}
 use Rattle.shm_text.specs.Reading.{script_of}
 use Rattle.shm_text.specs.Script.{ScriptView}
-use Rattle.shm_outcomes.specs.Judge.{IsDoubt, IsRight}
-use Rattle.shm_outcomes.specs.Logs.{Answer, Entry}
-use Rattle.shm_outcomes.specs.Reading.{entries_of, log_of}
-use Rattle.shm_outcomes.specs.Report.{verdict_text}
-use Rattle.shm_outcomes.specs.Schedules.{fresh, start}
-use Rattle.shm_outcomes.specs.declared.engine.EngineError.TheVariants as engines
-use Rattle.shm_outcomes.specs.declared.search.SearchError.{SearchError}
-use Rattle.shm_outcomes.specs.declared.search.SearchError.TheVariants as searches
-use Rattle.shm_outcomes.specs.declared.verdict.Verdict.{Verdict}
+use Rattle.shm_judge.specs.Judge.{IsDoubt, IsRight}
+use Rattle.shm_judge.specs.Logs.{Answer, Entry}
+use Rattle.shm_judge.specs.Reading.{entries_of, log_of}
+use Rattle.shm_judge.specs.Report.{verdict_text}
+use Rattle.shm_schedules.specs.Schedules.{fresh, start}
+use Rattle.shm_schedules.specs.declared.engine.EngineError.TheVariants as engines
+use Rattle.shm_schedules.specs.declared.search_error.SearchError.{SearchError}
+use Rattle.shm_schedules.specs.declared.search_error.SearchError.TheVariants as searches
+use Rattle.shm_judge.specs.declared.verdict.Verdict.{Verdict}
 use Rattle.shmcheck.specs.Judged.{IsJudgedText, IsStopIn, doubt_of, is_legal}
 use Rattle.shmcheck.specs.Ruled.{WithRules, under}
 use Rattle.shmcheck.specs.declared.ruling.RuleSet.{RuleSet}

@@ -2,17 +2,17 @@
 use Rattle.std.specs.Prelude.{◌≡◌, ℕ, Bool, true, false, List, Ok, Err}
 use Rattle.shm_text.specs.Script.{ScriptView}
 use Rattle.shm_program.specs.declared.fault.RunFault.TheVariants.{HostMemory}
-use Rattle.shm_outcomes.specs.Judge.{AreMore, IsRight}
-use Rattle.shm_outcomes.specs.Logs.{Entry}
-use Rattle.shm_outcomes.specs.Reading.{entries_of, log_of}
-use Rattle.shm_outcomes.specs.Report.{verdict_text}
-use Rattle.shm_outcomes.specs.Schedules.{start}
-use Rattle.shm_outcomes.specs.declared.fault.LogRefused.{LogRefused}
-use Rattle.shm_outcomes.specs.declared.fault.LogRefused.TheVariants as refusals
-use Rattle.shm_outcomes.specs.declared.search.SearchError.{SearchError}
-use Rattle.shm_outcomes.specs.declared.search.SearchError.TheVariants as searches
-use Rattle.shm_outcomes.specs.declared.verdict.Verdict.{Verdict}
-use Rattle.shm_outcomes.specs.declared.verdict.Verdict.TheVariants.{Legal, Illegal}
+use Rattle.shm_judge.specs.Judge.{AreMore, IsRight}
+use Rattle.shm_judge.specs.Logs.{Entry}
+use Rattle.shm_judge.specs.Reading.{entries_of, log_of}
+use Rattle.shm_judge.specs.Report.{verdict_text}
+use Rattle.shm_schedules.specs.Schedules.{start}
+use Rattle.shm_judge.specs.declared.fault.LogRefused.{LogRefused}
+use Rattle.shm_judge.specs.declared.fault.LogRefused.TheVariants as refusals
+use Rattle.shm_schedules.specs.declared.search_error.SearchError.{SearchError}
+use Rattle.shm_schedules.specs.declared.search_error.SearchError.TheVariants as searches
+use Rattle.shm_judge.specs.declared.verdict.Verdict.{Verdict}
+use Rattle.shm_judge.specs.declared.verdict.Verdict.TheVariants.{Legal, Illegal}
 use Rattle.shmcheck.specs.Stop.{engine_stop}
 use Rattle.shmcheck.specs.declared.stop.Stop.{Stop}
 use Rattle.shmcheck.specs.declared.stop.Stop.TheVariants.{Fault, BadLog, Doubt}

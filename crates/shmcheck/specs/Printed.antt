@@ -2,8 +2,9 @@
 use Rattle.std.specs.Prelude.{◌≡◌, ℕ, Bool, true, false, List}
 use Rattle.shm_text.specs.Script.{ScriptView}
 use Rattle.shm_outcomes.specs.Masking.{AreMaskedOutcomes}
-use Rattle.shm_outcomes.specs.Schedules.{Run, start}
-use Rattle.shm_outcomes.specs.Search.{Finding, AreOutcomes}
+use Rattle.shm_schedules.specs.Schedules.{Run, start}
+use Rattle.shm_schedules.specs.Finding.{Finding}
+use Rattle.shm_outcomes.specs.Search.{AreOutcomes}
 use Rattle.shm_outcomes.specs.Text.{outcomes_text}
 
 -- every outcome once; or every masked outcome once

@@ -5,8 +5,8 @@ use Rattle.rand_core.specs.Stream.{Stream}
 use Rattle.rand_xoshiro.specs.SplitMix64.{splitmix_seed}
 use Rattle.rand_xoshiro.specs.Xoshiro256.{of_seed, plus_plus}
 use Rattle.shm_text.specs.Script.{ScriptView}
-use Rattle.shm_outcomes.specs.Sampling.{AreSamples}
-use Rattle.shm_outcomes.specs.Schedules.{start}
+use Rattle.shm_judge.specs.Sampling.{AreSamples}
+use Rattle.shm_schedules.specs.Schedules.{start}
 
 -- the numbers that xoshiro256++ gives from this seed
 abbrev pub answers_from : ℕ → Stream

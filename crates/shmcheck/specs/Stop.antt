@@ -10,15 +10,15 @@ use Rattle.shm_text.specs.Script.{ScriptView}
 use Rattle.shm_program.specs.Faults.{fault_text, exit_status}
 use Rattle.shm_program.specs.Runs.{IsCause, IsSilent}
 use Rattle.shm_program.specs.declared.fault.RunFault.TheVariants.{HostMemory}
-use Rattle.shm_outcomes.specs.declared.engine.EngineError.{EngineError}
-use Rattle.shm_outcomes.specs.declared.engine.EngineError.TheVariants as engines
-use Rattle.shm_outcomes.specs.declared.search.SearchError.{SearchError}
-use Rattle.shm_outcomes.specs.declared.search.SearchError.TheVariants.{Engine}
-use Rattle.shm_outcomes.specs.declared.search.SearchError.TheVariants as searches
-use Rattle.shm_outcomes.specs.Schedules.{start}
+use Rattle.shm_schedules.specs.declared.engine.EngineError.{EngineError}
+use Rattle.shm_schedules.specs.declared.engine.EngineError.TheVariants as engines
+use Rattle.shm_schedules.specs.declared.search_error.SearchError.{SearchError}
+use Rattle.shm_schedules.specs.declared.search_error.SearchError.TheVariants.{Engine}
+use Rattle.shm_schedules.specs.declared.search_error.SearchError.TheVariants as searches
+use Rattle.shm_schedules.specs.Schedules.{start}
 use Rattle.shm_outcomes.specs.Keys.{AreMoreRuns}
-use Rattle.shm_outcomes.specs.declared.fault.LogFaultKind.{LogFaultKind}
-use Rattle.shm_outcomes.specs.declared.fault.LogFaultKind.TheVariants.{BadLine, UnknownProcess}
+use Rattle.shm_judge.specs.declared.fault.LogFaultKind.{LogFaultKind}
+use Rattle.shm_judge.specs.declared.fault.LogFaultKind.TheVariants.{BadLine, UnknownProcess}
 use Rattle.shmcheck.specs.declared.stop.Stop.{Stop}
 use Rattle.shmcheck.specs.declared.stop.Stop.TheVariants.{Usage, Fault, PagerFailed, Bound, LogUnread, BadLog, Doubt}
 

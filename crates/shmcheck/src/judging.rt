@@ -9,11 +9,10 @@ use crate::command::Options;
 use crate::listing::refused;
 use crate::ruling::put_rules;
 use crate::stop::Stop;
-use shm_outcomes::{
-    LogRefused, SearchError, Simulated, Verdict, judge_log, log_of, read_log, verdict_text,
-};
+use shm_judge::{LogRefused, Verdict, judge_log, log_of, read_log, verdict_text};
 use shm_pager::ClonePager;
 use shm_program::{RunFault, whole_script, write_output};
+use shm_schedules::{SearchError, Simulated};
 use shm_text::Script;
 use std::alloc::Global;
 use std::io::{Read, Write};

@@ -1,11 +1,10 @@
 //! Listing: reads a script, and writes every outcome that it can have.
 ghost use Rattle.std.specs.Prelude.{◌≡◌, length, map, OnOk, IfErr, IfOk, IfSome};
-ghost use Rattle.std.specs.Io.KnownBytes.{Appends, IsAtEnd};
+ghost use Rattle.std.specs.Io.KnownBytes.{IsAtEnd};
 ghost use Rattle.shm_program.specs.Faults.{stopped_as};
 ghost use Rattle.shm_program.specs.Runs.{Prints, IsWritten};
-ghost use Rattle.shm_outcomes.specs.Schedules.{Run};
+ghost use Rattle.shm_schedules.specs.Schedules.{Run};
 ghost use Rattle.shm_outcomes.specs.Search.{AreOutcomes};
-ghost use Rattle.shm_text.specs.Script.{ScriptView};
 ghost use Rattle.shmcheck.specs.Printed.{IsOutcomesText, IsTextOf};
 ghost use Rattle.shmcheck.specs.Ruled.{WithRules};
 ghost use Rattle.shmcheck.specs.Stop.{IsCauseIn, stop_of};
@@ -14,9 +13,10 @@ use crate::command::Options;
 use crate::ruling::put_rules;
 use crate::stop::Stop;
 use shm_life::StartError;
-use shm_outcomes::{Finding, SearchError, Simulated, masked_outcomes, outcomes, outcomes_text};
+use shm_outcomes::{masked_outcomes, outcomes, outcomes_text};
 use shm_pager::ClonePager;
 use shm_program::{RunFault, whole_script, write_output};
+use shm_schedules::{Finding, SearchError, Simulated};
 use shm_text::Script;
 use std::alloc::{AllocError, Global};
 use std::io::{Read, Write};

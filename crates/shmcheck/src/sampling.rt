@@ -1,5 +1,5 @@
 //! Sampling: reads a script, and writes runs with randomly drawn schedules.
-ghost use Rattle.std.specs.Prelude.{◌≡◌, length, map, OnOk, IfErr, IfSome};
+ghost use Rattle.std.specs.Prelude.{length, map, OnOk, IfErr, IfSome};
 ghost use Rattle.std.specs.Io.KnownBytes.{IsAtEnd};
 ghost use Rattle.shm_program.specs.Runs.{Prints, IsWritten};
 ghost use Rattle.shmcheck.specs.Ruled.{WithRules};
@@ -12,9 +12,10 @@ use crate::ruling::put_rules;
 use crate::stop::Stop;
 use rand_core::SeedableRng;
 use rand_xoshiro::Xoshiro256PlusPlus;
-use shm_outcomes::{Simulated, samples};
+use shm_judge::samples;
 use shm_pager::ClonePager;
 use shm_program::{RunFault, whole_script, write_output};
+use shm_schedules::Simulated;
 use shm_text::Script;
 use std::alloc::Global;
 use std::io::{Read, Write};

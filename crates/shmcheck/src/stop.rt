@@ -6,8 +6,9 @@ ghost use Rattle.shmcheck.specs.declared.stop.Stop.TheVariants as stops;
 ghost use Rattle.shmcheck.specs.Stop.{engine_stop, kind_name, stop_text, stop_status, io_stop};
 
 use shm_base::HostMemory;
-use shm_outcomes::{EngineError, LogFault, LogFaultKind};
+use shm_judge::{LogFault, LogFaultKind};
 use shm_program::RunFault;
+use shm_schedules::EngineError;
 use std::alloc::{AllocError, AllocFailed};
 use std::{fmt, io};
 

@@ -1,6 +1,6 @@
 use Rattle.std.proofs.Common.{rules, ◌≡◌, ◌∷◌, [], Some}
 use Rattle.shm_outcomes.specs.Branches.{grown}
-use Rattle.shm_outcomes.specs.Schedules.{next}
+use Rattle.shm_schedules.specs.Schedules.{next}
 use Rattle.shm_outcomes.proofs.Grouping.{one-from, put-none, put-one}
 use Rattle.shm_outcomes.proofs.moves.move_by.Goals as goal
 

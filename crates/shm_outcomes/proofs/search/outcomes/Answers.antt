@@ -1,7 +1,7 @@
 use Rattle.std.proofs.Common.{rules, ◌≡◌, ◌∙◌, [], ap, subst, sym}
 use Rattle.shm_base.specs.State.{Machine}
 use Rattle.shm_outcomes.specs.Levels.{IsLevelCause, IsNextLevel, Level, first_level}
-use Rattle.shm_outcomes.specs.Schedules.{Run, fresh}
+use Rattle.shm_schedules.specs.Schedules.{Run, fresh}
 use Rattle.shm_outcomes.specs.Search.{AreOutcomes}
 use Rattle.shm_outcomes.proofs.Complete.{AreSearched, first-cause, first-searched, less-left, next-cause, next-counted, next-searched, searched-all, within-level}
 use Rattle.shm_outcomes.proofs.search.outcomes.Goals as goal

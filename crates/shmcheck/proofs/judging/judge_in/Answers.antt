@@ -1,5 +1,5 @@
 use Rattle.std.proofs.Common.{◌≡◌, ◌∙◌, ap}
-use Rattle.shm_outcomes.specs.Reading.{log_of}
+use Rattle.shm_judge.specs.Reading.{log_of}
 use Rattle.shmcheck.proofs.Doubts.{doubt-stop, judged-text}
 use Rattle.shmcheck.proofs.judging.judge_in.Goals as goal
 

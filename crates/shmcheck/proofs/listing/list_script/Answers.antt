@@ -1,5 +1,5 @@
 use Rattle.std.proofs.Common.{map, length, sym, subst}
-use Rattle.shm_outcomes.specs.Schedules.{start}
+use Rattle.shm_schedules.specs.Schedules.{start}
 use Rattle.shmcheck.specs.Printed.{IsTextOf}
 use Rattle.shmcheck.proofs.Causes.{cause_stop, listed}
 use Rattle.shmcheck.proofs.listing.list_script.Goals as goal

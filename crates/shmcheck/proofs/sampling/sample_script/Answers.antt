@@ -2,8 +2,8 @@ use Rattle.std.proofs.Common.{ℕ, List, map, length, sym, subst}
 use Rattle.rand_core.specs.Steps.{steps_u64_high, stream_of}
 use Rattle.rand_core.specs.Stream.{Stream}
 use Rattle.rand_xoshiro.specs.Xoshiro256.{plus_plus}
-use Rattle.shm_outcomes.specs.Sampling.{AreSamples}
-use Rattle.shm_outcomes.specs.Schedules.{fresh}
+use Rattle.shm_judge.specs.Sampling.{AreSamples}
+use Rattle.shm_schedules.specs.Schedules.{fresh}
 use Rattle.shmcheck.specs.Sampled.{IsSamplesText}
 use Rattle.shmcheck.proofs.Causes.{sampled}
 use Rattle.shmcheck.proofs.sampling.sample_script.Goals as goal

@@ -4,8 +4,8 @@ use Rattle.shm_base.specs.State.{Machine}
 use Rattle.shm_base.specs.declared.call.Event.{Event}
 use Rattle.shm_outcomes.specs.Branches.{Branch, event_after}
 use Rattle.shm_outcomes.specs.Changes.{trail_after}
-use Rattle.shm_outcomes.specs.Outcomes.{told_after}
-use Rattle.shm_outcomes.specs.Schedules.{Run, after}
+use Rattle.shm_schedules.specs.Outcomes.{told_after}
+use Rattle.shm_schedules.specs.Schedules.{Run, after}
 use Rattle.shm_outcomes.proofs.Trails.{late-trail}
 use Rattle.shm_outcomes.proofs.branches.Branch.after.Goals as goal
 

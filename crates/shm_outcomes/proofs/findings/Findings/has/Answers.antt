@@ -1,10 +1,11 @@
 use Rattle.std.proofs.Common.{rules, ◌≡◌, ◌<◌, Contains, IsTrue, List, ap, map, subst, ℕ}
 use Rattle.std.specs.Prelude.{slice_index_or}
 use Rattle.std.proofs.lemmas.List.{length-map}
-use Rattle.shm_outcomes.specs.Buckets.{AreIndexed, bucket_of}
-use Rattle.shm_outcomes.specs.Digests.{digest}
-use Rattle.shm_outcomes.specs.Search.{Finding, outcome_in, outcomes_in}
-use Rattle.shm_outcomes.proofs.Sorted.{is-found}
+use Rattle.shm_schedules.specs.Buckets.{AreIndexed, bucket_of}
+use Rattle.shm_schedules.specs.Digests.{digest}
+use Rattle.shm_schedules.specs.Finding.{Finding}
+use Rattle.shm_outcomes.specs.Search.{outcome_in, outcomes_in}
+use Rattle.shm_schedules.proofs.Sorted.{is-found}
 use Rattle.shm_outcomes.proofs.findings.Findings.has.Goals as goal
 
 pub returns : goal.returns

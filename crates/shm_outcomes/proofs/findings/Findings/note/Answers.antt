@@ -1,10 +1,11 @@
 use Rattle.std.proofs.Common.{rules, ◌≡◌, ◌∙◌, ◌++◌, ◌∷◌, [], ◌<◌, ap, inr, List, length, map, slice_index_or, subst, sym, true, ℕ}
 use Rattle.std.proofs.lemmas.List.{length-map, map-append}
 use Rattle.shm_base.specs.declared.call.Reply.{Reply}
-use Rattle.shm_outcomes.specs.Buckets.{AreIndexed, IsIn, bucket_of}
-use Rattle.shm_outcomes.specs.Digests.{digest}
-use Rattle.shm_outcomes.specs.Search.{Finding, outcome_in, outcomes_in}
-use Rattle.shm_outcomes.proofs.Sorted.{is-found, things-kept, things-more}
+use Rattle.shm_schedules.specs.Buckets.{AreIndexed, IsIn, bucket_of}
+use Rattle.shm_schedules.specs.Digests.{digest}
+use Rattle.shm_schedules.specs.Finding.{Finding}
+use Rattle.shm_outcomes.specs.Search.{outcome_in, outcomes_in}
+use Rattle.shm_schedules.proofs.Sorted.{is-found, things-kept, things-more}
 use Rattle.shm_outcomes.proofs.findings.Findings.note.Goals as goal
 
 pub invariant_of-self-in_err-push-2 : goal.invariant_of-self-in_err-push-2

@@ -1,0 +1,4 @@
+pub mod Verdicts
+pub mod Entries
+pub mod Ordering
+pub mod Drawing

@@ -1,0 +1,6 @@
+use Rattle.std.proofs.Common.{◌≡◌, ◌++◌, flat_map, take}
+use Rattle.shm_schedules.specs.Text.{line_text}
+use Rattle.shm_judge.proofs.report.put_lines.Given as goal
+
+abbrev pub invariant-loop-event : goal.invariant-loop-event
+invariant-loop-event l = l.text.items ≡ l.initial.text.items ++ flat_map line_text (take l.event-index l.events)

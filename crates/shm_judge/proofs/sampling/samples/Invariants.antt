@@ -1,0 +1,7 @@
+use Rattle.shm_judge.specs.Sampling.{AreSamples}
+use Rattle.shm_schedules.specs.Schedules.{fresh}
+use Rattle.shm_judge.proofs.sampling.samples.Given as goal
+
+abbrev pub invariant-loop-done : goal.invariant-loop-done
+invariant-loop-done g l =
+    AreSamples l.script (fresh (g.M.Engine.flat l.machine)) l.done (g.R.Rng.stream l.initial.rng) (g.R.Rng.stream l.rng) l.text.items

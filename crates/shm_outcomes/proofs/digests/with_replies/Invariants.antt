@@ -1,6 +1,0 @@
-use Rattle.std.proofs.Common.{◌≡◌, drop}
-use Rattle.shm_outcomes.specs.Digests.{with_replies}
-use Rattle.shm_outcomes.proofs.digests.with_replies.Given as goal
-
-abbrev pub invariant-loop-reply : goal.invariant-loop-reply
-invariant-loop-reply l = with_replies l.digest l.replies ≡ with_replies l.all (drop l.reply-index l.replies)

@@ -1,9 +1,0 @@
-use Rattle.std.proofs.lemmas.List.Sorted.{IsPermutation-refl, IsPermutation-trans}
-use Rattle.shm_outcomes.proofs.judging.put_in_order.Goals as goal
-
-pub loop-place-init : goal.loop-place-init
-loop-place-init g c = IsPermutation-refl c.args.offered.now.items
-
-pub loop-place-preserved : goal.loop-place-preserved
-loop-place-preserved g c =
-    IsPermutation-trans c.args.offered.now.items c.loop-place.offered.items c.put_nearest.new.offered.items c.loop-place.invariant c.put_nearest.ensures

@@ -1,5 +1,0 @@
-use Rattle.std.proofs.Common.{IsPermutation}
-use Rattle.shm_outcomes.proofs.judging.put_in_order.Given as goal
-
-abbrev pub invariant-loop-place : goal.invariant-loop-place
-invariant-loop-place g l = IsPermutation l.initial.offered.items l.offered.items

@@ -1,7 +1,0 @@
-use Rattle.std.proofs.Common.{rules}
-use Rattle.std.proofs.lemmas.List.Sorted.{IsPermutation-swap}
-use Rattle.shm_outcomes.proofs.judging.put_nearest.Goals as goal
-
-pub returns-then-found-len : goal.returns-then-found-len
-returns-then-found-len g c =
-    IsPermutation-swap c.args.offered.now.items c.swap.new.self.items c.args.place c.nearest-found.result (search rules) (search rules) c.swap.ensures.items

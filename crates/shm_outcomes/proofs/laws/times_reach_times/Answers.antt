@@ -1,5 +1,0 @@
-use Rattle.shm_outcomes.proofs.Timeless as timeless
-use Rattle.shm_outcomes.proofs.laws.times_reach_times.Goals as goal
-
-pub returns : goal.returns
-returns c = record { law = timeless.times_reach_times }

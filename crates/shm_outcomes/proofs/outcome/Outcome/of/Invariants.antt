@@ -1,6 +1,0 @@
-use Rattle.std.proofs.Common.{◌≡◌, take, map}
-use Rattle.shm_outcomes.specs.Outcomes.{told}
-use Rattle.shm_outcomes.proofs.outcome.Outcome.of.Given as goal
-
-abbrev pub invariant-loop-process : goal.invariant-loop-process
-invariant-loop-process l = l.all.items ≡ map (told l.events) (take l.process-index l.script.processes)

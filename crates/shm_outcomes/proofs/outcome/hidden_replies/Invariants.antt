@@ -1,6 +1,0 @@
-use Rattle.std.proofs.Common.{◌≡◌, take, map}
-use Rattle.shm_outcomes.specs.Masking.{hidden}
-use Rattle.shm_outcomes.proofs.outcome.hidden_replies.Given as goal
-
-abbrev pub invariant-loop-reply : goal.invariant-loop-reply
-invariant-loop-reply l = l.all.items ≡ map hidden (take l.reply-index l.replies)

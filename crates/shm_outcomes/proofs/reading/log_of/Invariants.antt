@@ -1,7 +1,0 @@
-use Rattle.std.proofs.Common.{◌≡◌, map, take}
-use Rattle.shm_base.specs.declared.call.Process.{Process}
-use Rattle.shm_outcomes.specs.Reading.{own_answers}
-use Rattle.shm_outcomes.proofs.reading.log_of.Given as goal
-
-abbrev pub invariant-loop-process : goal.invariant-loop-process
-invariant-loop-process l = l.processes.items ≡ map (λ (p : Process). own_answers l.entries p.pid) (take l.process-index l.script.processes)

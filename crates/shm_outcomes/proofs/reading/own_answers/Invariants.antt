@@ -1,6 +1,0 @@
-use Rattle.std.proofs.Common.{◌≡◌, take}
-use Rattle.shm_outcomes.specs.Reading.{own_answers}
-use Rattle.shm_outcomes.proofs.reading.own_answers.Given as goal
-
-abbrev pub invariant-loop-entry : goal.invariant-loop-entry
-invariant-loop-entry l = l.answers.items ≡ own_answers (take l.entry-index l.entries) l.pid

@@ -1,7 +1,0 @@
-use Rattle.std.proofs.Common.{◌≡◌, ◌++◌, drop}
-use Rattle.shm_outcomes.specs.Report.{answers_text}
-use Rattle.shm_outcomes.proofs.report.put_answers.Given as goal
-
-abbrev pub invariant-loop-place : goal.invariant-loop-place
-invariant-loop-place l =
-    l.text.items ++ answers_text l.log l.events l.place (drop l.place l.script.processes) ≡ l.initial.text.items ++ answers_text l.log l.events 0 l.script.processes

@@ -1,6 +1,0 @@
-use Rattle.std.proofs.Common.{◌≡◌, ◌++◌, flat_map, take}
-use Rattle.shm_outcomes.specs.Text.{line_text}
-use Rattle.shm_outcomes.proofs.report.put_lines.Given as goal
-
-abbrev pub invariant-loop-event : goal.invariant-loop-event
-invariant-loop-event l = l.text.items ≡ l.initial.text.items ++ flat_map line_text (take l.event-index l.events)

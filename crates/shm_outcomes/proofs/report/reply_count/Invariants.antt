@@ -1,6 +1,0 @@
-use Rattle.std.proofs.Common.{◌≡◌, ◌≤◌, length, take}
-use Rattle.shm_outcomes.specs.Schedules.{replies_to}
-use Rattle.shm_outcomes.proofs.report.reply_count.Given as goal
-
-abbrev pub invariant-loop-event : goal.invariant-loop-event
-invariant-loop-event l = (l.count ≤ l.event-index) × (l.count ≡ length (replies_to l.pid (take l.event-index l.events)))

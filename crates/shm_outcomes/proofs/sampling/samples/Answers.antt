@@ -1,7 +1,0 @@
-use Rattle.shm_outcomes.specs.Schedules.{fresh}
-use Rattle.shm_outcomes.proofs.Drawing.{samples-more}
-use Rattle.shm_outcomes.proofs.sampling.samples.Goals as goal
-
-pub loop-done-preserved : goal.loop-done-preserved
-loop-done-preserved g c =
-    samples-more c.args.script.now (fresh (g.M.Engine.flat c.args.machine.now)) c.loop-done.done (g.R.Rng.stream c.args.rng.now) (g.R.Rng.stream c.loop-done.rng) (g.R.Rng.stream c.put_sample.new.rng) c.loop-done.text.items c.put_sample.new.text.items c.loop-done.invariant c.in_ok-put_sample.ensures

@@ -1,6 +1,0 @@
-use Rattle.std.proofs.Common.{◌≡◌, take}
-use Rattle.shm_outcomes.specs.Sampling.{turns_of}
-use Rattle.shm_outcomes.proofs.sampling.turns.Given as goal
-
-abbrev pub invariant-loop-process : goal.invariant-loop-process
-invariant-loop-process g l = l.all.items ≡ turns_of l.script l.run (take l.process-index l.script.processes)

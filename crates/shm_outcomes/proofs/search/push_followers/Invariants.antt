@@ -1,6 +1,0 @@
-use Rattle.std.proofs.Common.{◌≡◌, ◌++◌, take}
-use Rattle.shm_outcomes.specs.Search.{followers}
-use Rattle.shm_outcomes.proofs.search.push_followers.Given as goal
-
-abbrev pub invariant-loop-process : goal.invariant-loop-process
-invariant-loop-process g l = l.runs.items ≡ l.initial.runs.items ++ followers l.script (take l.process-index l.script.processes) l.run

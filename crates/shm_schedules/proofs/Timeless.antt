@@ -1,0 +1,205 @@
+-- A call's time reaches nothing but the times of its segment.
+use Rattle.std.specs.Prelude.{◌≡◌, ◌≢◌, ℕ, ◌+◌, ◌*◌, ◌%◌, ◌^◌, ◌==◌, ◌&&◌, ℤ, pos, Bool, not, nat_lt, if◌then◌else◌, List, [], ◌∷◌, length, map, Option, Some, None, slice_get, slice_set}
+use Rattle.std.proofs.Common.{refl, ap, sym, ◌∙◌, arith}
+use Rattle.std.proofs.lemmas.Grind.{common_steps}
+use Rattle.std.specs.Int.{w64, to_le_bytes, from_le_bytes}
+use Rattle.shm_base.specs.declared.call.Call.{Call}
+use Rattle.shm_base.specs.declared.call.Call.TheVariants.{Shmget, Shmat, Shmdt, Stat, Set, Rmid, Lock, Unlock, Load, Store, Xadd, Fork, Exec, Exit, Swapoff}
+use Rattle.shm_base.specs.declared.call.Reply.TheVariants.{Addr, Number, Done, Id}
+use Rattle.shm_base.specs.declared.errno.Errno.{Errno}
+use Rattle.shm_base.specs.declared.errno.Errno.TheVariants.{Eperm, Einval, Enospc, Enomem, Eexist, Eacces}
+use Rattle.shm_base.specs.declared.flags.GetFlags.{GetFlags}
+use Rattle.shm_base.specs.declared.flags.AtFlags.{AtFlags}
+use Rattle.shm_base.specs.Access.{Place, places, writable_places, stored}
+use Rattle.shm_base.specs.Bounds.{within}
+use Rattle.shm_base.specs.Identifier.{Look, Found, Removed, Invalid, identifier, find_key, look}
+use Rattle.shm_base.specs.Locking.{may_not_lock, passes_limit, locks_as, unlocked}
+use Rattle.shm_base.specs.Permission.{grants, wish_of}
+use Rattle.shm_base.specs.Rules.{fork_marks, pieces_errno}
+use Rattle.shm_base.specs.Segments.{reserved, change, attached, attach_all, detach_all, swept, after_detach}
+use Rattle.shm_base.specs.Space.{cut_segments, origin_of}
+use Rattle.shm_base.specs.State.{Segment, Entry, Piece, Runner, Machine, Live, pages_in, pages_of}
+use Rattle.shm_base.specs.Step.{Outcome, Caller, gives, refuses, caller_of, with_pieces, with_end, segments_of, new_segment, creates_small, huge_errno, creates, gets, shmget, wants_no_other, wants_creation, is_rnd, pieces_with, rests, attaches, attaches_chosen, attaches_fixed, attaches_found, remaps_null, shmat, detaches, inherited, forks, unborn_from, stat, controls, is_no_owner, sets, removes, locks, unlocks, load, store, xadd, number_at, takes_away, acts, step_by}
+use Rattle.shm_schedules.specs.Outcomes.{masked_time}
+use Rattle.shm_schedules.specs.Times.{TimesReachTimes, timeless_segment, timeless_entry, timeless, timeless_outcome}
+use Rattle.shm_schedules.proofs.Timing.{Match, timeless_look, timeless-destroyed, reserved-timeless, locked-sum, locked_by-sum, count-timeless, free-timeless, find-timeless, look-timeless, change-timeless, attached-timeless, detach-timeless, attach-timeless, swept-timeless, made-timeless, loaded-timeless, stored-timeless}
+
+module _ (s : Machine) (n : ℕ) (c : Caller) (one : masked_time n ≡ 1) where
+  abbrev T : List Entry
+  T = s.table
+
+  abbrev V : List Entry → List Entry
+  V t = map timeless_entry t
+
+  abbrev B : Machine
+  B = timeless s
+
+  -- both refuse, or both go on
+  both : (b d : Bool) (o p x y : Outcome) → b ≡ d → o ≡ timeless_outcome x → p ≡ timeless_outcome y → (if b then o else p) ≡ timeless_outcome (if d then x else y)
+  both b d o p x y same h k = grind (arith, common_steps)
+
+  -- a test that refuses, or continues
+  tests : (e : Errno) (b d : Bool) (p y : Outcome) → b ≡ d → p ≡ timeless_outcome y → (if b then refuses B e else p) ≡ timeless_outcome (if d then refuses s e else y)
+  tests e b d p y same k = both b d (refuses B e) p (refuses s e) y same refl k
+
+  -- a table or another
+  either-timeless : (b : Bool) (t u v w : List Entry) → t ≡ V v → u ≡ V w → (if b then t else u) ≡ V (if b then v else w)
+  either-timeless b t u v w h k = grind (arith, common_steps)
+
+  -- SHMGET
+
+  new-timeless : (key size mode : ℕ) → new_segment 1 c key size mode ≡ timeless_segment (new_segment n c key size mode)
+  new-timeless key size mode = ap (λ (m : ℕ). record (new_segment 1 c key size mode) { ctime = m }) (sym one)
+
+  out-small : (key size mode : ℕ) (o : Option Errno) → creates_small B 1 c key size mode o ≡ timeless_outcome (creates_small s n c key size mode o)
+  out-small key size mode o = grind (arith, common_steps, reserved-timeless, count-timeless, free-timeless, arith, new-timeless, timeless-destroyed, made-timeless)
+
+  out-creates : (key size mode : ℕ) (flags : GetFlags) → creates B 1 c key size mode flags ≡ timeless_outcome (creates s n c key size mode flags)
+  out-creates key size mode flags =
+      tests Einval (not (within 1 s.limits.shmmax size)) _ _ _ refl
+      (tests Enospc (nat_lt s.limits.shmall (reserved (V T) + pages_of size)) _ _ _ (ap (λ r. nat_lt s.limits.shmall (r + pages_of size)) (reserved-timeless T)) (out-small key size mode (huge_errno s c flags)))
+
+  out-gets : (key size mode : ℕ) (flags : GetFlags) (l : Look) → gets B 1 c key size mode flags (timeless_look l) ≡ timeless_outcome (gets s n c key size mode flags l)
+  out-gets key size mode flags (Found i x) =
+      tests Eexist (wants_no_other flags) _ _ _ refl
+      (tests Einval (nat_lt x.size size) _ _ _ refl
+      (tests Eacces (not (grants c.cred x.perm (wish_of s.limits.rules mode))) _ _ _ refl (λ j. record { reply = Id (pos (identifier i (timeless-destroyed T i j))); state = B })))
+  out-gets key size mode flags Removed = both (wants_creation flags) _ _ _ _ _ refl (out-creates key size mode flags) refl
+  out-gets key size mode flags Invalid = both (wants_creation flags) _ _ _ _ _ refl (out-creates key size mode flags) refl
+
+  out-shmget : (key size mode : ℕ) (flags : GetFlags) → shmget B 1 c key size mode flags ≡ timeless_outcome (shmget s n c key size mode flags)
+  out-shmget key size mode flags =
+      both (key == 0) (key == 0) _ _ _ _ refl (out-creates 0 size mode flags) (ap (gets B 1 c key size mode flags) (find-timeless key T) ∙ out-gets key size mode flags (find_key T key))
+
+  -- SHMAT
+
+  out-attaches : (id : ℕ) (x : Segment) (flags : AtFlags) (base : ℕ) → attaches B 1 c id (timeless_segment x) flags base ≡ timeless_outcome (attaches s n c id x flags base)
+  out-attaches id x flags base =
+      tests (pieces_errno s.limits.rules) (nat_lt s.limits.most_pieces (length (pieces_with c id x flags base))) _ _ _ refl (λ j. record { reply = Addr base; state = record s { table = table j; runners = rs } })
+    where
+      rs : List Runner
+      rs = with_pieces s.runners c (pieces_with c id x flags base)
+
+      lost : List ℕ
+      lost = cut_segments base (base + 4096 * pages_in x) c.pieces
+
+      kept : List ℕ
+      kept = rests s base (base + 4096 * pages_in x) c.pieces
+
+      gone : List Entry
+      gone = attach_all n c.pid (detach_all n c.pid T lost) kept
+
+      table : swept rs (change (attach_all 1 c.pid (detach_all 1 c.pid (V T) lost) kept) id (attached 1 c.pid)) ≡ V (swept rs (change gone id (attached n c.pid)))
+      table =
+          ap (λ t. swept rs (change (attach_all 1 c.pid t kept) id (attached 1 c.pid))) (detach-timeless n c.pid one lost T)
+          ∙ ap (λ t. swept rs (change t id (attached 1 c.pid))) (attach-timeless n c.pid one kept (detach_all n c.pid T lost))
+          ∙ ap (swept rs) (change-timeless (attached 1 c.pid) (attached n c.pid) (attached-timeless n c.pid one) gone id)
+          ∙ swept-timeless 0 rs (change gone id (attached n c.pid))
+
+  out-chosen : (id : ℕ) (x : Segment) (flags : AtFlags) (o : Option ℕ) → attaches_chosen B 1 c id (timeless_segment x) flags o ≡ timeless_outcome (attaches_chosen s n c id x flags o)
+  out-chosen id x flags None = refl
+  out-chosen id x flags (Some base) = out-attaches id x flags base
+
+  out-fixed : (id : ℕ) (x : Segment) (flags : AtFlags) (base : ℕ) → attaches_fixed B 1 c id (timeless_segment x) flags base ≡ timeless_outcome (attaches_fixed s n c id x flags base)
+  out-fixed id x flags base = let all = out-attaches id x flags base in grind arith
+
+  out-found : (flags : AtFlags) (addr : ℕ) (l : Look) → attaches_found B 1 c flags addr (timeless_look l) ≡ timeless_outcome (attaches_found s n c flags addr l)
+  out-found flags addr l = grind (arith, common_steps, timeless-destroyed, both, out-chosen, out-fixed)
+
+  out-shmat : (id : ℤ) (addr : ℕ) (flags : AtFlags) → shmat B 1 c id addr flags ≡ timeless_outcome (shmat s n c id addr flags)
+  out-shmat id addr flags =
+      tests Einval (remaps_null s addr flags) _ _ _ refl
+      (tests Einval (not (addr % 4096 == 0) && not (is_rnd flags)) _ _ _ refl (ap (attaches_found B 1 c flags addr) (look-timeless T id) ∙ out-found flags addr (look T id)))
+
+  -- DETACHING, FORK AND CONTROL
+
+  out-after : (rs : List Runner) (lost : List ℕ) → gives (after_detach B 1 c.pid rs lost) Done ≡ timeless_outcome (gives (after_detach s n c.pid rs lost) Done)
+  out-after rs lost =
+      ap (λ (t : List Entry). gives (record s { table = t; runners = rs }) Done) (ap (swept rs) (detach-timeless n c.pid one lost T) ∙ swept-timeless 0 rs (detach_all n c.pid T lost))
+
+  out-detaches : (addr : ℕ) (o : Option Piece) → detaches B 1 c addr o ≡ timeless_outcome (detaches s n c addr o)
+  out-detaches addr None = refl
+  out-detaches addr (Some p) = out-after _ (p.seg ∷ [])
+
+  out-inherited : inherited B 1 c ≡ V (inherited s n c)
+  out-inherited = either-timeless (fork_marks s.limits.rules) _ _ _ _ (attach-timeless n c.pid one (segments_of c) T) refl
+
+  out-forks : (child : ℕ) (o : Option ℕ) → forks B 1 c child o ≡ timeless_outcome (forks s n c child o)
+  out-forks child None = refl
+  out-forks child (Some i) = λ j. record { reply = Done; state = record s { table = out-inherited j; runners = slice_set s.runners i (record { pid = child; life = Live c.cred; pieces = c.pieces }) } }
+
+  out-stat : (l : Look) → stat B c (timeless_look l) ≡ timeless_outcome (stat s c l)
+  out-stat l = grind (arith, common_steps, timeless-destroyed T)
+
+  out-changed : (i : ℕ) (f g : Segment → Segment) → Match f g → gives (record B { table = change (V T) i f }) Done ≡ timeless_outcome (gives (record s { table = change T i g }) Done)
+  out-changed i f g same = λ j. record { reply = Done; state = record s { table = change-timeless f g same T i j } }
+
+  out-controls : (f g : ℕ → Segment → Outcome) → ((i : ℕ) (x : Segment) → f i (timeless_segment x) ≡ timeless_outcome (g i x)) → (l : Look) → controls B c f (timeless_look l) ≡ timeless_outcome (controls s c g l)
+  out-controls f g acts l = grind (arith, acts)
+
+  out-removes : (i : ℕ) (x : Segment) → removes B i (timeless_segment x) ≡ timeless_outcome (removes s i x)
+  out-removes i x = grind (arith, common_steps, change-timeless, refl, swept-timeless, arith)
+
+  locks-timeless : (uid : ℕ) → Match (locks_as uid) (locks_as uid)
+  locks-timeless uid x = grind (arith, common_steps)
+
+  limit-timeless : (x : Segment) → passes_limit s.limits c.cred (V T) (timeless_segment x) ≡ passes_limit s.limits c.cred T x
+  limit-timeless x = grind (arith, common_steps, locked-sum, locked_by-sum)
+
+  out-locks : (i : ℕ) (x : Segment) → locks B c i (timeless_segment x) ≡ timeless_outcome (locks s c i x)
+  out-locks i x =
+      tests Eperm (may_not_lock s.limits c.cred) _ _ _ refl
+      (tests Enomem (not x.locked && passes_limit s.limits c.cred (V T) (timeless_segment x)) _ _ _ (ap (λ d. not x.locked && d) (limit-timeless x)) (out-changed i (locks_as c.cred.uid) (locks_as c.cred.uid) (locks-timeless c.cred.uid)))
+
+  out-sets : (uid gid mode : ℕ) (i : ℕ) (x : Segment) → sets B 1 uid gid mode i (timeless_segment x) ≡ timeless_outcome (sets s n uid gid mode i x)
+  out-sets uid gid mode i x =
+      tests Einval (is_no_owner s uid gid) _ _ _ refl
+      (out-changed i _ _ (λ y. ap (λ (m : ℕ). record (timeless_segment y) { perm = record y.perm { uid = uid; gid = gid; mode = mode % 512 }; ctime = m }) (sym one)))
+
+  out-look : (f g : ℕ → Segment → Outcome) → ((i : ℕ) (x : Segment) → f i (timeless_segment x) ≡ timeless_outcome (g i x)) → (id : ℤ) → controls B c f (look (V T) id) ≡ timeless_outcome (controls s c g (look T id))
+  out-look f g acts id = ap (controls B c f) (look-timeless T id) ∙ out-controls f g acts (look T id)
+
+  -- ACCESSES
+
+  out-load : (o : Option (List Place)) → load B o ≡ timeless_outcome (load s o)
+  out-load o = grind (arith, common_steps, loaded-timeless)
+
+  out-store : (bytes : List ℕ) (o : Option (List Place)) → store B bytes o ≡ timeless_outcome (store s bytes o)
+  out-store bytes o = grind (arith, common_steps, stored-timeless)
+
+  out-xadd : (add : ℕ) (o : Option (List Place)) → xadd B add o ≡ timeless_outcome (xadd s add o)
+  out-xadd add None = refl
+  out-xadd add (Some qs) =
+      let old : number_at B qs ≡ number_at s qs = ap (from_le_bytes w64) (loaded-timeless T qs) in
+      ap (λ m. gives (record B { table = stored (V T) qs (to_le_bytes w64 ((m + add) % 2 ^ 64)) }) (Number m)) old
+      ∙ (λ j. record { reply = Number (number_at s qs); state = record s { table = stored-timeless T qs (to_le_bytes w64 ((number_at s qs + add) % 2 ^ 64)) j } })
+
+  out-takes : (area : ℕ) (o : Option (Option ℕ)) → takes_away B area o ≡ timeless_outcome (takes_away s area o)
+  out-takes area o = let same = reserved-timeless T in grind arith
+
+  out-acts : (call : Call) → acts B 1 c call ≡ timeless_outcome (acts s n c call)
+  out-acts (Shmget key size mode flags) = out-shmget key size mode flags
+  out-acts (Shmat id addr flags) = out-shmat id addr flags
+  out-acts (Shmdt addr) = out-detaches addr (origin_of addr c.pieces)
+  out-acts (Stat id) = ap (stat B c) (look-timeless T id) ∙ out-stat (look T id)
+  out-acts (Set id uid gid mode) = out-look (sets B 1 uid gid mode) (sets s n uid gid mode) (out-sets uid gid mode) id
+  out-acts (Rmid id) = out-look (removes B) (removes s) out-removes id
+  out-acts (Lock id) = out-look (locks B c) (locks s c) out-locks id
+  out-acts (Unlock id) = out-look (unlocks B) (unlocks s) (λ i x. out-changed i unlocked unlocked (λ y. refl)) id
+  out-acts (Load a len) = out-load (places c.pieces a len)
+  out-acts (Store a bytes) = out-store bytes (writable_places c.pieces a (length bytes))
+  out-acts (Xadd a add) = out-xadd add (writable_places c.pieces a 8)
+  out-acts (Fork child) = out-forks child (unborn_from 0 child s.runners)
+  out-acts Exec = out-after (with_pieces s.runners c []) (segments_of c)
+  out-acts Exit = out-after (with_end s.runners c) (segments_of c)
+  out-acts (Swapoff area) = tests Eperm (not (c.cred.uid == 0)) _ _ _ refl (out-takes area (slice_get s.areas area))
+
+out-by : (s : Machine) (n : ℕ) (one : masked_time n ≡ 1) (call : Call) (o : Option Caller) → step_by (timeless s) 1 call o ≡ timeless_outcome (step_by s n call o)
+out-by s n one call None = refl
+out-by s n one call (Some c) = out-acts s n c one call
+
+set-time : (n : ℕ) → n ≢ 0 → masked_time n ≡ 1
+set-time n not = grind arith
+
+pub times_reach_times : TimesReachTimes
+times_reach_times s n pid call not = out-by s n (set-time n not) call (caller_of s pid)

@@ -1,0 +1,27 @@
+-- Runs that no later call can tell apart.
+use Rattle.std.specs.Prelude.{◌≡◌, ◌&&◌, Bool, true, false, not, List, filter, length}
+use Rattle.shm_base.specs.History.{is_refusal}
+use Rattle.shm_base.specs.declared.call.Call.{Call}
+use Rattle.shm_base.specs.declared.call.Call.TheVariants.{Load, Stat}
+use Rattle.shm_base.specs.declared.call.Event.{Event}
+use Rattle.shm_schedules.specs.Finding.{Finding}
+
+-- calls that change nothing
+abbrev pub looks : Call → Bool
+looks (Load addr len) = true
+looks (Stat id) = true
+looks _ = false
+
+-- a call that may have changed the machine
+abbrev pub is_change : Event → Bool
+is_change e = not (is_refusal e.reply) && not (looks e.call)
+
+abbrev pub changes : List Event → List Event
+changes events = filter is_change events
+
+-- the runs have as many calls; the same calls changed the machine, in the same order; and each process got the same replies
+-- except for times
+pub record AreAlike (f g : Finding) : Type 0 where
+  pub count : length f.events ≡ length g.events
+  pub told : f.outcome ≡ g.outcome
+  pub changes : changes f.events ≡ changes g.events

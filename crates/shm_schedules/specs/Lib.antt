@@ -1,0 +1,10 @@
+pub mod Schedules
+pub mod Places
+pub mod Outcomes
+pub mod Times
+pub mod Finding
+pub mod Text
+pub mod Alike
+pub mod Digests
+pub mod Buckets
+pub mod Known

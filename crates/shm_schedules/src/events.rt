@@ -1,0 +1,76 @@
+//! Which calls may have changed a machine, and whether two calls are the same.
+ghost use Rattle.std.specs.Prelude.{◌≡◌, ◌↔◌, IfOk, IsTrue};
+ghost use Rattle.shm_base.specs.History.{is_refusal};
+ghost use Rattle.shm_schedules.specs.Alike.{changes, is_change, looks};
+
+use crate::outcome::is_same_reply;
+use shm_base::{Call, Event, Reply};
+use std::alloc::{AllocError, Global};
+
+/// Whether a reply is an error.
+pub fn is_refusal(reply: &Reply) -> bool
+    ensures { result ≡ is_refusal reply.now }
+{
+    match reply {
+        Reply::Refused(_) => true,
+        _ => false,
+    }
+}
+
+fn looks(call: &Call) -> bool
+    ensures { result ≡ looks call.now }
+{
+    match call {
+        Call::Load { .. } | Call::Stat { .. } => true,
+        _ => false,
+    }
+}
+
+/// Whether a call may have changed the machine: it succeeded, and is no `load` and no `stat`.
+pub fn is_change(event: &Event) -> bool
+    ensures { result ≡ is_change event.now }
+{
+    !is_refusal(&event.reply) && !looks(&event.call)
+}
+
+/// The calls that may have changed the machine, in order. AllocError: the host refused memory.
+pub fn changes(alloc: Global, events: &[Event]) -> Result<Vec<Event>, AllocError>
+    ensures { IfOk result (λ v. v.items ≡ changes events.now) }
+{
+    let mut found = Vec::new(alloc);
+    for event in events {
+        if is_change(event) {
+            found.push(*event)?;
+        }
+    }
+    Ok(found)
+}
+
+fn is_same_call(call: &Call, other: &Call) -> bool
+    ensures { IsTrue result ↔ call.now ≡ other.now }
+{
+    call == other
+}
+
+fn is_same_event(event: &Event, other: &Event) -> bool
+    ensures { IsTrue result ↔ event.now ≡ other.now }
+{
+    event.pid == other.pid
+        && is_same_call(&event.call, &other.call)
+        && is_same_reply(&event.reply, &other.reply)
+}
+
+/// Whether the two lists have the same calls with the same replies.
+pub fn are_same_events(events: &[Event], others: &[Event]) -> bool
+    ensures { IsTrue result ↔ events.now ≡ others.now }
+{
+    if events.len() != others.len() {
+        return false;
+    }
+    for (index, event) in events.iter().enumerate() {
+        if !is_same_event(event, &others[index]) {
+            return false;
+        }
+    }
+    true
+}

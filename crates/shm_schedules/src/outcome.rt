@@ -1,0 +1,313 @@
+//! The replies that each process gets in a run, with the times of `stat` masked.
+ghost use Rattle.std.specs.Prelude.{◌≡◌, ◌↔◌, ◌++◌, ◌∷◌, [], IfOk, IsTrue, List, slice_index_or};
+ghost use Rattle.shm_schedules.specs.Outcomes.{masked, masked_ds, masked_time, told, told_after, outcome_of};
+
+use crate::digests::with_replies;
+use crate::known::{Digested, Known};
+use crate::lines::reply_count;
+use shm_base::{Event, Process, Reply, ShmidDs};
+use shm_text::Script;
+use std::alloc::{AllocError, Global};
+use std::marker::Model;
+use std::rc::Rc;
+
+fn masked_time(time: u64) -> u64
+    ensures { result ≡ masked_time time }
+{
+    if time == 0 { 0 } else { 1 }
+}
+
+fn masked_ds(ds: &ShmidDs) -> ShmidDs
+    ensures { result ≡ masked_ds ds.now }
+{
+    ShmidDs {
+        key: ds.key,
+        perm: ds.perm,
+        status: ds.status,
+        size: ds.size,
+        cpid: ds.cpid,
+        lpid: ds.lpid,
+        nattch: ds.nattch,
+        atime: masked_time(ds.atime),
+        dtime: masked_time(ds.dtime),
+        ctime: masked_time(ds.ctime),
+    }
+}
+
+fn masked(reply: &Reply) -> Reply
+    ensures { result ≡ masked reply.now }
+{
+    match reply {
+        Reply::Stat(ds) => Reply::Stat(masked_ds(ds)),
+        _ => *reply,
+    }
+}
+
+/// The replies to one process, in order. A time is 0, or 1 if it is set.
+#[derive(Drop)]
+pub struct Told {
+    replies: Rc<Vec<Reply>>,
+    digest: u64,
+}
+
+impl Model for Told {
+    ghost use Rattle.std.specs.Prelude.{◌≡◌, List};
+    ghost use Rattle.shm_base.specs.declared.call.Reply.{Reply};
+    ghost use Rattle.shm_schedules.specs.Digests.{list_digest};
+
+    ghost Value = { List Reply };
+
+    ghost view = { λ t. t.replies.value.items };
+
+    ghost invariant = { λ t. t.digest ≡ list_digest t.replies.value.items };
+}
+
+impl Told {
+    /// The replies.
+    pub fn replies(&self) -> &[Reply]
+        ensures { result.now ≡ self.now }
+    {
+        self.replies.as_ref().as_slice()
+    }
+
+    /// These replies, whose times are masked. AllocError: the host refused memory.
+    pub fn new(alloc: Global, replies: Vec<Reply>) -> Result<Told, AllocError>
+        ensures { IfOk result (λ t. t ≡ replies.items) }
+    {
+        let digest = with_replies(1, &replies);
+        let replies = Rc::new(alloc, replies)?;
+        Ok(Told { replies, digest })
+    }
+
+    // The same once more.
+    fn copied(&self) -> Result<Told, AllocError>
+        ensures { IfOk result (λ t. t ≡ self.now) }
+    {
+        let replies = self.replies.clone()?;
+        Ok(Told {
+            replies,
+            digest: self.digest,
+        })
+    }
+
+    // The replies to this process after one more call.
+    fn after(
+        &self,
+        alloc: Global,
+        process: &Process,
+        event: &Event,
+        lists: &mut Lists,
+    ) -> Result<Told, AllocError>
+        ensures { IfOk result (λ t. t ≡ self.now ++ told (event.now ∷ []) process.now) }
+    {
+        if event.pid != process.pid {
+            return self.copied();
+        }
+        let replies = with_one_more(alloc, self.replies(), masked(&event.reply))?;
+        let told = Told::new(alloc, replies)?;
+        shared(lists, told)
+    }
+}
+
+impl Digested for Told {
+    ghost use Rattle.shm_schedules.specs.Digests.{list_digest};
+
+    ghost number = { list_digest };
+
+    fn digest(&self) -> u64 {
+        self.digest
+    }
+
+    fn is_same(&self, other: &Told) -> bool {
+        self.digest == other.digest && are_same_replies(self.replies(), other.replies())
+    }
+}
+
+/// Lists of replies that runs share.
+pub type Lists = Known<Told>;
+
+// The list that is known already, if there is one, so that the same replies are kept once.
+fn shared(lists: &mut Lists, told: Told) -> Result<Told, AllocError>
+    ensures { IfOk result (λ t. t ≡ told) }
+{
+    if let Some(place) = lists.place(&told) {
+        return lists.all()[place].copied();
+    }
+    let copy = told.copied()?;
+    lists.push(told)?;
+    Ok(copy)
+}
+
+fn with_one_more(alloc: Global, replies: &[Reply], reply: Reply) -> Result<Vec<Reply>, AllocError>
+    ensures { IfOk result (λ v. v.items ≡ replies.now ++ reply ∷ []) }
+{
+    let mut all = Vec::with_capacity(alloc, replies.len() + 1)?;
+    all.extend_from_slice(replies)?;
+    all.push(reply)?;
+    Ok(all)
+}
+
+pub(crate) fn is_same_reply(reply: &Reply, other: &Reply) -> bool
+    ensures { IsTrue result ↔ reply.now ≡ other.now }
+{
+    reply == other
+}
+
+fn are_same_replies(replies: &[Reply], others: &[Reply]) -> bool
+    ensures { IsTrue result ↔ replies.now ≡ others.now }
+{
+    if replies.len() != others.len() {
+        return false;
+    }
+    for (index, reply) in replies.iter().enumerate() {
+        if !is_same_reply(reply, &others[index]) {
+            return false;
+        }
+    }
+    true
+}
+
+// The replies to one process in these events.
+fn told_in(alloc: Global, events: &[Event], process: &Process) -> Result<Told, AllocError>
+    ensures { IfOk result (λ t. t ≡ told events.now process.now) }
+{
+    let mut replies = Vec::with_capacity(alloc, reply_count(events, process.pid))?;
+    for event in events {
+        if event.pid == process.pid {
+            replies.push(masked(&event.reply))?;
+        }
+    }
+    Told::new(alloc, replies)
+}
+
+/// The replies to each declared process, in the script's order of processes.
+#[derive(Drop)]
+pub struct Outcome {
+    told: Vec<Told>,
+}
+
+impl Model for Outcome {
+    ghost use Rattle.std.specs.Prelude.{List};
+    ghost use Rattle.shm_base.specs.declared.call.Reply.{Reply};
+
+    ghost Value = { List (List Reply) };
+
+    ghost view = { λ o. o.told.items };
+}
+
+fn are_same_told(told: &[Told], others: &[Told]) -> bool
+    ensures { IsTrue result ↔ told.now ≡ others.now }
+{
+    if told.len() != others.len() {
+        return false;
+    }
+    for (index, one) in told.iter().enumerate() {
+        if !one.is_same(&others[index]) {
+            return false;
+        }
+    }
+    true
+}
+
+fn copied_told(alloc: Global, told: &[Told]) -> Result<Vec<Told>, AllocError>
+    ensures { IfOk result (λ v. v.items ≡ told.now) }
+{
+    let mut all = Vec::with_capacity(alloc, told.len())?;
+    for one in told {
+        let copy = one.copied()?;
+        all.push(copy)?;
+    }
+    Ok(all)
+}
+
+fn told_after(
+    alloc: Global,
+    processes: &[Process],
+    event: &Event,
+    told: &[Told],
+    lists: &mut Lists,
+) -> Result<Vec<Told>, AllocError>
+    ensures { IfOk result (λ v. v.items ≡ told_after processes.now event.now told.now) }
+{
+    let mut all = Vec::with_capacity(alloc, processes.len())?;
+    for (index, process) in processes.iter().enumerate() {
+        let one = one_after(alloc, told, index, process, event, lists)?;
+        all.push(one)?;
+    }
+    Ok(all)
+}
+
+// The replies to the process at this place after one more call.
+fn one_after(
+    alloc: Global,
+    all: &[Told],
+    index: usize,
+    process: &Process,
+    event: &Event,
+    lists: &mut Lists,
+) -> Result<Told, AllocError>
+    ensures { IfOk result (λ t. t ≡ slice_index_or all.now index [] ++ told (event.now ∷ []) process.now) }
+{
+    match all.get(index) {
+        Some(one) => one.after(alloc, process, event, lists),
+        None => told_in(alloc, &[*event], process),
+    }
+}
+
+impl Outcome {
+    /// The replies to each process.
+    pub fn told(&self) -> &[Told]
+        ensures { result.now ≡ self.now }
+    {
+        self.told.as_slice()
+    }
+
+    /// An outcome of these replies, a list for each process.
+    pub fn new(told: Vec<Told>) -> Outcome
+        ensures { result ≡ told.items }
+    {
+        Outcome { told }
+    }
+
+    /// The outcome of these events. AllocError: the host refused memory.
+    pub fn of(alloc: Global, script: &Script, events: &[Event]) -> Result<Outcome, AllocError>
+        ensures { IfOk result (λ o. o ≡ outcome_of script.now events.now) }
+    {
+        let mut all = Vec::with_capacity(alloc, script.processes.len())?;
+        for process in &script.processes {
+            let one = told_in(alloc, events, process)?;
+            all.push(one)?;
+        }
+        Ok(Outcome { told: all })
+    }
+
+    /// The same once more. Both share their lists. AllocError: the host refused memory.
+    pub fn copied(&self, alloc: Global) -> Result<Outcome, AllocError>
+        ensures { IfOk result (λ o. o ≡ self.now) }
+    {
+        let told = copied_told(alloc, &self.told)?;
+        Ok(Outcome { told })
+    }
+
+    /// The replies after one more call. Those to other processes are shared, and `lists` keeps each new list once.
+    /// AllocError: the host refused memory; `lists` may have the new list then.
+    pub fn after(
+        &self,
+        alloc: Global,
+        script: &Script,
+        event: &Event,
+        lists: &mut Lists,
+    ) -> Result<Outcome, AllocError>
+        ensures { IfOk result (λ o. o ≡ told_after script.now.processes event.now self.now) }
+    {
+        let told = told_after(alloc, &script.processes, event, &self.told, lists)?;
+        Ok(Outcome { told })
+    }
+
+    /// Whether the two are equal.
+    pub fn is_same(&self, other: &Outcome) -> bool
+        ensures { IsTrue result ↔ self.now ≡ other.now }
+    {
+        are_same_told(&self.told, &other.told)
+    }
+}
