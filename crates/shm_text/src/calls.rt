@@ -5,8 +5,8 @@ ghost use Rattle.shm_text.specs.Calls.{verb_of, access_verb_of, control_verb_of,
 
 use crate::fault::FaultKind;
 use crate::operand::{
-    addr_word, at_flags_word, chunk_word, get_flags_word, id_word, key_word, mode_word,
-    ranged, ranged_addr, ranged_id, required_number, within_64_bits,
+    addr_word, at_flags_word, chunk_word, get_flags_word, id_word, key_word, mode_word, ranged,
+    ranged_addr, ranged_id, required_number, within_64_bits,
 };
 use crate::script::{LineAddr, LineCall, LineId};
 use crate::words::{Words, is_word};
