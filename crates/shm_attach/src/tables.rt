@@ -226,20 +226,25 @@ impl Tables {
         }
     }
 
-    // The key of a segment's table, which may be `near`: that needs no search.
-    #[inline(always)]
-    fn key_near(&self, near: usize, seg: u32) -> Option<usize>
-        requires { OneTableEach self.now }
-        ensures { result ≡ key_of self.now seg }
+    // Notes the frame of a page. Returns the key of its segment's table, or `near` if there is none.
+    #[inline(never)]
+    fn set_sought(&mut self, near: usize, page: PageRef, frame: Option<FrameNo>) -> usize
+        requires { OneTableEach self.old }
+        ensures counts { KeepCounts self.old self.new }
+        ensures tables { KeepTables self.old.slab self.new.slab }
+        ensures translated { (at : ℕ → ℕ → Option ℕ) → AllTrue at self.old.slab
+            → AllTrue (with_frame page frame at) self.new.slab }
+        ensures tied { OneTableEach self.new }
     {
-        if self.is_at(near, seg) {
-            return Some(near);
-        }
-        self.key(seg)
+        let Some(key) = self.key(page.seg) else {
+            return near;
+        };
+        self.set_at(key, page, frame);
+        key
     }
 
-    // Notes the frame of a page. Returns the key of its segment's table, or `near` if there is none. The key
-    // may be `near`. Kept out of line, so that accesses to resident pages do not pay for it.
+    // As `set_sought`, but the key may be `near`, which needs no search. Kept out of line, so that accesses to
+    // resident pages do not pay for it.
     #[inline(never)]
     fn set(&mut self, near: usize, page: PageRef, frame: Option<FrameNo>) -> usize
         requires { OneTableEach self.old }
@@ -249,11 +254,11 @@ impl Tables {
             → AllTrue (with_frame page frame at) self.new.slab }
         ensures tied { OneTableEach self.new }
     {
-        let Some(key) = self.key_near(near, page.seg) else {
+        if self.is_at(near, page.seg) {
+            self.set_at(near, page, frame);
             return near;
-        };
-        self.set_at(key, page, frame);
-        key
+        }
+        self.set_sought(near, page, frame)
     }
 
     /// Notes the frames of pages that moved, in order, each in its segment's table. Takes no memory.

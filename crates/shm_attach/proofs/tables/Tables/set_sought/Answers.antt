@@ -1,6 +1,6 @@
 use Rattle.shm_attach.proofs.Names.{sym}
 use Rattle.shm_attach.proofs.Tied.{true-unknown}
-use Rattle.shm_attach.proofs.tables.Tables.set.Goals as goal
+use Rattle.shm_attach.proofs.tables.Tables.set_sought.Goals as goal
 
 pub returns-in_default-clause-translated : goal.returns-in_default-clause-translated
 returns-in_default-clause-translated c = λ at all. true-unknown at c.args.page c.args.frame c.args.self.now c.requires (sym c.in_default.ensures) all
