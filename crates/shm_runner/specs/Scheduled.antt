@@ -1,4 +1,4 @@
--- Whole runs as runs of schedules: the words that `shm_outcomes` has for what a script can do.
+-- Whole runs as runs of schedules: the words that `shm_schedules` and `shm_outcomes` have for what a script can do.
 use Rattle.std.specs.Prelude.{◌≡◌, ◌++◌, ℕ, false, List, All, Contains}
 use Rattle.shm_base.specs.State.{Machine}
 use Rattle.shm_base.specs.declared.call.Event.{Event}
