@@ -1,12 +1,19 @@
-//! The run and its monitor.
+//! A watched run: the script runs with threads, while a monitor reads the gauge. The monitor waits for no
+//! lock, even if a pager is slow and calls wait for the world. At the end the program prints the events of the
+//! last reading, and how many readings had fewer events than the one before, which is always 0.
+//!
+//! With the word `gauged` nothing reads, and with `plain` nothing is published either. Comparing the three
+//! shows the costs.
 ghost use Rattle.std.specs.Prelude.{◌≡◌};
 
+use crate::stop::Stop;
 use shm_base::{HostMemory, PROFILE_SLOTS};
 use shm_history::{Gauge, GaugeRefused, Keeper, ReaderSeat, System, World, gauge};
 use shm_pager::SparsePager;
 use shm_text::{Script, read_script};
 use shm_threads::{OpenGate, RunError, run_threads, run_threads_gauged};
 use std::alloc::{AllocError, AllocFailed, Global};
+use std::io::Read;
 use std::sync::Wait;
 use std::sync::atomic::{AtomicBool, Ordering};
 use std::thread::{Threads, join};
@@ -14,19 +21,19 @@ use thiserror::Error;
 
 /// What runs in addition to the script's workers and flusher: a keeper that publishes, and a monitor that
 /// reads.
-#[derive(Clone, Copy, Debug, PartialEq, Eq)]
-pub(crate) enum Company {
+#[derive(Clone, Copy)]
+enum Company {
     Plain,
     Gauged,
     Watched,
 }
 
 /// The events at the end, the number of readings, and the number of readings with fewer events than the one before.
-#[derive(Clone, Copy, Debug, PartialEq, Eq)]
-pub(crate) struct Watched {
-    pub(crate) events: u64,
-    pub(crate) readings: u64,
-    pub(crate) went_back: u64,
+#[derive(Clone, Copy)]
+struct Watched {
+    events: u64,
+    readings: u64,
+    went_back: u64,
 }
 
 /// Why nothing was run.
@@ -159,8 +166,8 @@ fn run_watched<R: Threads + Wait + Sync>(
     Ok(watched)
 }
 
-/// Runs a script with threads, over one area that takes memory for the pages in it.
-pub(crate) fn run<R: Threads + Wait + Sync>(
+// Runs a script with threads, over one area that takes memory for the pages in it.
+fn run<R: Threads + Wait + Sync>(
     rt: &R,
     alloc: Global,
     bytes: &[u8],
@@ -178,4 +185,34 @@ pub(crate) fn run<R: Threads + Wait + Sync>(
         }
         Company::Watched => run_watched(rt, alloc, world, &script),
     }
+}
+
+// What runs in addition to the script, by the words on the command line.
+fn company_of(words: &[String]) -> Option<Company> {
+    match words {
+        [] => Some(Company::Watched),
+        [word] if word.as_str() == "gauged" => Some(Company::Gauged),
+        [word] if word.as_str() == "plain" => Some(Company::Plain),
+        _ => None,
+    }
+}
+
+/// Runs the script on standard input. Prints the events and the readings that went back, and on standard
+/// error how many readings there were.
+pub(crate) fn monitor<R: Input + Print + Eprint + AllocGlobal + Threads + Wait + Sync>(
+    rt: &R,
+    words: &[String],
+) -> Result<(), Stop> {
+    let company = company_of(words).ok_or(Stop::Words)?;
+    let mut script = Vec::new(rt.alloc());
+    rt.reader().read_to_end(&mut script)?;
+    let Watched {
+        events,
+        went_back,
+        readings,
+    } = run(rt, rt.alloc(), &script, company)?;
+    println!(rt; "events {events}")?;
+    println!(rt; "readings that went back {went_back}")?;
+    eprintln!(rt; "readings {readings}")?;
+    Ok(())
 }
