@@ -1,5 +1,5 @@
 -- A call sees no byte that is hidden from its process.
-use Rattle.shm_laws.proofs.Names.{◌≡◌, ◌⊎◌, ℕ, ◌+◌, ◌*◌, ◌/◌, ◌%◌, ◌^◌, ◌==◌, ℤ, Bool, true, false, not, nat_lt, if◌then◌else◌, List, [], ◌∷◌, length, Option, Some, None, slice_get, refl, sym, ap, subst, ◌∙◌, inl, inr, arith, common_steps, w64, to_le_bytes, from_le_bytes, length-replicate, none-some, slice_get_within, Errno, Eperm, GetFlags, AtFlags, Call, Shmget, Shmat, Shmdt, Stat, Set, Rmid, Lock, Unlock, Load, Store, Xadd, Fork, Exec, Exit, Swapoff, Addr, Number, Done, Event, Place, place, places, writable_places, stored, Segment, Entry, Piece, Runner, Machine, Opening, pages_in, Look, identifier, destroyed_in, destroyed_at, find_key, look, cut_segments, origin_of, change, attached, detach_all, swept, after_detach, Outcome, gives, refuses, Caller, caller_of, with_pieces, with_end, segments_of, new_segment, creates, shmget, pieces_with, attaches, attaches_chosen, attaches_fixed, attaches_found, shmat, detaches, forks, unborn_from, stat, controls, sets, removes, locks, unlocks, load, store, xadd, number_at, takes_away, acts, step_by, step, is_failure, IsMove, IsHistory, HasPiece, Reach, reach, veiled, veiled_from, veil, DifferIn, HasNone, IsPrivate, IsAsked, IsBlindOn, IsIsolated, pieces_of_caller, clear_step, first_clear, rest_clear, Einval, Enospc, Enomem, creates_small, huge_errno, within, reserved, pages_of, rests, attach_all, pieces_errno, inherited, fork_marks, slice_set, Live, may_not_lock, passes_limit, locks_as, unlocked, is_no_owner, ◌&&◌, Eexist, Eacces, grants, wish_of, wants_no_other, wants_creation, Found, Removed, Invalid, Id, pos, remaps_null, is_rnd, nat_le}
+use Rattle.shm_laws.proofs.Names.{◌≡◌, ◌⊎◌, ℕ, ◌+◌, ◌*◌, ◌/◌, ◌%◌, ◌^◌, ◌==◌, ℤ, Bool, true, false, not, nat_lt, if◌then◌else◌, List, [], ◌∷◌, length, Option, Some, None, slice_get, refl, sym, ap, subst, ◌∙◌, inl, inr, arith, common_steps, w64, to_le_bytes, from_le_bytes, length-replicate, none-some, slice_get_within, Errno, Eperm, GetFlags, AtFlags, Call, Shmget, Shmat, Shmdt, Stat, Set, Rmid, Lock, Unlock, Load, Store, Xadd, Fork, Exec, Exit, Swapoff, Addr, Number, Done, Event, Place, place, places, writable_places, stored, Segment, Entry, Piece, Runner, Machine, Opening, pages_in, Look, identifier, destroyed_in, destroyed_at, find_key, look, cut_segments, origin_of, change, attached, detach_all, swept, after_detach, Outcome, gives, refuses, Caller, caller_of, with_pieces, with_end, segments_of, new_segment, creates, shmget, pieces_with, attaches, attaches_chosen, attaches_fixed, attaches_found, shmat, detaches, forks, unborn_from, stat, controls, sets, removes, locks, unlocks, load, store, xadd, number_at, takes_away, acts, step_by, step, is_failure, IsMove, IsHistory, HasPiece, Reach, reach, veiled, veiled_from, veil, DifferIn, HasNone, IsPrivate, IsAsked, IsBlindOn, IsIsolated, pieces_of_caller, clear_step, first_clear, rest_clear, Einval, Enospc, Enomem, creates_small, huge_errno, within, reserved, pages_of, rests, attach_all, pieces_errno, inherited, fork_marks, slice_set, Live, may_not_lock, passes_limit, locks_as, unlocked, is_no_owner, ◌&&◌, Eexist, Eacces, grants, wish_of, wants_no_other, wants_creation, Found, Removed, Invalid, Id, pos, remaps_null, is_rnd}
 use Rattle.shm_laws.proofs.Refusing.{by-move}
 use Rattle.shm_base.specs.Step.{gets}
 use Rattle.shm_laws.proofs.Accessing.{place-of, places-length, writable-parts}

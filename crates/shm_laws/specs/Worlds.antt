@@ -1,5 +1,4 @@
 -- The guarantees of every world.
-use Rattle.std.specs.Prelude.{ℕ}
 use Rattle.shm_base.specs.History.{IsHistory}
 use Rattle.shm_life.specs.MachineView.{IsExactly}
 use Rattle.shm_history.specs.WorldState.{WorldState, AreCounted}

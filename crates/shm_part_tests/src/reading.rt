@@ -2,9 +2,7 @@
 //! fault once.
 use bitflags::Flags;
 use shm_base::{AccessLen, AtFlags, Call, Chunk, GetFlags, Reply};
-use shm_text::{
-    FaultKind, FlushLine, Line, LineCall, ReadRefused, Script, Vars, read_decimal, read_script,
-};
+use shm_text::{FaultKind, FlushLine, Line, ReadRefused, Script, Vars, read_script};
 use std::alloc::Global;
 use std::process::Abort;
 use std::test::Fail;

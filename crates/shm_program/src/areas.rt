@@ -1,5 +1,5 @@
 //! The pagers of the swap areas that the command line names.
-ghost use Rattle.std.specs.Prelude.{◌≡◌, [], IfOk};
+ghost use Rattle.std.specs.Prelude.{◌≡◌, IfOk};
 ghost use Rattle.std.specs.List.{AllZip};
 ghost use Rattle.shm_program.specs.Areas.{kind_of, size_of, reads_of, writes_of, IsAreaOf};
 

@@ -1,8 +1,10 @@
 //! Tests of whole runs: readers, writers and pagers that fail, in file order and with threads. The program is
-//! for tests that need a process of their own. It runs the script on standard input over the swap areas that
-//! its words name. With `asks` it prints how often each area's pager was called. With `twins` it prints the
-//! result of two worlds that make the same calls. `-with-room` reserves room in their histories, and
-//! `-without-it` leaves out the call to which memory was refused.
+//! for tests that need a process of their own, and runs the script on standard input.
+//!
+//! - `asks SWAP...` prints how often each area's pager was called.
+//! - `twins SWAP...` prints the result of two worlds that make the same calls. `-with-room` reserves room in
+//!   their histories, and `-without-it` leaves out the call to which memory was refused.
+//! - `monitor [gauged|plain]` runs with threads, while a monitor reads the gauge.
 #![tactic(auto)]
 
 mod counting;
@@ -10,6 +12,7 @@ mod counting;
 mod ends;
 #[cfg(test)]
 mod flat;
+mod monitor;
 mod pager_calls;
 #[cfg(test)]
 mod rows;
@@ -20,25 +23,20 @@ mod sweeps;
 mod threaded;
 mod twins;
 
+use monitor::monitor;
 use pager_calls::asks;
 use shm_program::{SwapWord, read_swaps, whole_script};
 use shm_text::Script;
 use std::alloc::Global;
 use std::process::ExitCode;
 use std::rt::Env;
+use std::sync::Wait;
+use std::thread::Threads;
 use std::{env, io};
 use stop::Stop;
 use twins::{Way, twins};
 
-// The swap areas that the words after the first name.
-fn swaps_of(alloc: Global, words: &[String]) -> Result<Vec<SwapWord>, Stop> {
-    match words.split_first() {
-        Some((_, swaps)) => read_swaps(alloc, swaps)?.ok_or(Stop::Words),
-        None => Err(Stop::Words),
-    }
-}
-
-// Does what the first word says.
+// Runs a script over the swap areas.
 fn run_mode<R: Print>(
     rt: &R,
     alloc: Global,
@@ -65,17 +63,32 @@ fn run_mode<R: Print>(
     }
 }
 
-fn run_words<R: Input + Print + AllocGlobal>(rt: &R, words: &[String]) -> Result<(), Stop> {
+fn run_over<R: Input + Print + AllocGlobal>(
+    rt: &R,
+    mode: &str,
+    words: &[String],
+) -> Result<(), Stop> {
     let alloc = rt.alloc();
-    let swaps = swaps_of(alloc, words)?;
+    let swaps = read_swaps(alloc, words)?.ok_or(Stop::Words)?;
     let script = whole_script(alloc, &mut rt.reader())?;
-    match words.first() {
-        Some(mode) => run_mode(rt, alloc, mode.as_str(), &script, &swaps),
-        None => Err(Stop::Words),
+    run_mode(rt, alloc, mode, &script, &swaps)
+}
+
+// Does what the first word says.
+fn run_words<R: Input + Print + Eprint + AllocGlobal + Threads + Wait + Sync>(
+    rt: &R,
+    words: &[String],
+) -> Result<(), Stop> {
+    match words {
+        [] => Err(Stop::Words),
+        [mode, its @ ..] if mode.as_str() == "monitor" => monitor(rt, its),
+        [mode, swaps @ ..] => run_over(rt, mode.as_str(), swaps),
     }
 }
 
-fn run<R: Env + Input + Print + AllocGlobal>(rt: &R) -> Result<(), Stop> {
+fn run<R: Env + Input + Print + Eprint + AllocGlobal + Threads + Wait + Sync>(
+    rt: &R,
+) -> Result<(), Stop> {
     let words: Vec<String> = env::args(rt)?.skip(1).collect(rt.alloc())?;
     run_words(rt, &words)
 }
@@ -84,7 +97,7 @@ fn main(rt: HostRuntime) -> io::Result<ExitCode> {
     match run(&rt) {
         Ok(()) => Ok(ExitCode::SUCCESS),
         Err(stop) => {
-            eprintln!(rt; "shm_runner_tests: {}", stop.text())?;
+            eprintln!(rt; "shm_runner_tests: {stop}")?;
             Ok(ExitCode::from(stop.status()))
         }
     }

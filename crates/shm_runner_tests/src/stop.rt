@@ -1,55 +1,48 @@
 //! Why the program of the tests stops early.
+use crate::monitor::NoRun;
 use shm_base::HostMemory;
 use shm_program::RunFault;
 use std::alloc::{AllocError, AllocFailed};
 use std::io;
+use thiserror::Error;
 
 /// The part in which two worlds differ.
-#[derive(Clone, Copy, Debug, PartialEq, Eq)]
+#[derive(Clone, Copy, Debug, PartialEq, Eq, Error)]
 pub(crate) enum Part {
+    #[error("replies")]
     Replies,
+    #[error("rounds")]
     Rounds,
+    #[error("histories")]
     Histories,
+    #[error("tallies")]
     Tallies,
+    #[error("segments")]
     Segments,
+    #[error("states")]
     States,
 }
 
-/// Unknown words; a script, a start or a stream that failed; refused memory; or two worlds that differ.
-#[derive(Clone, Copy, Debug, PartialEq, Eq)]
+/// Unknown words; a script, a start or a stream that failed; refused memory; two worlds that differ; or a run
+/// with threads that gave nothing to read.
+#[derive(Clone, Copy, Debug, PartialEq, Eq, Error)]
 pub(crate) enum Stop {
+    #[error("usage: shm_runner_tests asks|twins[-with-room|-without-it] SWAP... | monitor [gauged|plain]")]
     Words,
+    #[error("the script does not run")]
     Run,
+    #[error("out of memory")]
     HostMemory,
+    #[error("the {0} differ")]
     Differs(Part),
-}
-
-impl Part {
-    fn text(self) -> &'static str {
-        match self {
-            Part::Replies => "the replies differ",
-            Part::Rounds => "the rounds differ",
-            Part::Histories => "the histories differ",
-            Part::Tallies => "the tallies differ",
-            Part::Segments => "the segments differ",
-            Part::States => "the states differ",
-        }
-    }
+    #[error("{0}")]
+    Threads(NoRun),
 }
 
 impl Stop {
-    pub(crate) fn text(self) -> &'static str {
-        match self {
-            Stop::Words => "usage: shm_runner_tests asks|twins[-with-room|-without-it] SWAP...",
-            Stop::Run => "the script does not run",
-            Stop::HostMemory => "out of memory",
-            Stop::Differs(part) => part.text(),
-        }
-    }
-
     pub(crate) fn status(self) -> u8 {
         match self {
-            Stop::Differs(_) => 1,
+            Stop::Differs(_) | Stop::Threads(_) => 1,
             Stop::Words => 2,
             Stop::Run => 3,
             Stop::HostMemory => 4,
@@ -81,6 +74,12 @@ impl From<io::Error> for Stop {
             io::ErrorKind::OutOfMemory => Stop::HostMemory,
             _ => Stop::Run,
         }
+    }
+}
+
+impl From<NoRun> for Stop {
+    fn from(refused: NoRun) -> Stop {
+        Stop::Threads(refused)
     }
 }
 

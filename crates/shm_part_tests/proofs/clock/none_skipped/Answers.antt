@@ -1,0 +1,7 @@
+use Rattle.shm_part_tests.proofs.Names.{arith, is_unlocked}
+use Rattle.std.proofs.Common.{◌+◌, ◌/◌}
+use Rattle.shm_clock.proofs.Skipping.{skipped-none}
+use Rattle.shm_part_tests.proofs.clock.none_skipped.Goals as goal
+
+pub returns : goal.returns
+returns c = rw c.in_ok-skips.ensures (skipped-none (is_unlocked 9) c.args.frames.now (c.count.result / 64 + 1) (omega (arith, c.count.ensures.size)))

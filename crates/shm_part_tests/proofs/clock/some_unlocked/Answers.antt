@@ -1,0 +1,5 @@
+use Rattle.shm_part_tests.proofs.Names.{arith, sym, ◌∙◌, is_unlocked, some_eligible}
+use Rattle.shm_part_tests.proofs.clock.some_unlocked.Goals as goal
+
+pub returns-then-may_go : goal.returns-then-may_go
+returns-then-may_go c = λ found. some_eligible (is_unlocked c.args.locked) c.args.pinned c.args.frames.now c.args.hand c.loop-frame.frame c.requires (omega arith) (sym c.may_go.ensures ∙ c.if-may_go.true)

@@ -1,5 +1,0 @@
-use Rattle.shm_store_tests.proofs.Names.{is_unlocked}
-use Rattle.shm_store_tests.proofs.clock.unlocked_victim.Given as goal
-
-abbrev pub ghost-victim : goal.ghost-victim
-ghost-victim a = is_unlocked a.eligible.now.1
