@@ -1,5 +1,5 @@
 //! A run with threads: it starts them, joins them, and compares the result.
-ghost use Rattle.std.specs.Prelude.{◌≡◌, ◌+◌, ◌≤◌, [], map, true, false, All, IfOk, OnOk, IfNone, IfSome, length, vec_len, vec_capacity};
+ghost use Rattle.std.specs.Prelude.{◌≡◌, ◌+◌, ◌≤◌, map, true, false, All, IfOk, OnOk, IfNone, IfSome, length, vec_len, vec_capacity};
 ghost use Rattle.shm_slots.specs.View.{first_counts};
 ghost use Rattle.shm_threads.specs.Ends.{IsFirst};
 ghost use Rattle.shm_threads.specs.Keepers.{cell_of, IsCaughtUp};

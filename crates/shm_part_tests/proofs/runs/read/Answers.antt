@@ -9,7 +9,7 @@ pub read-requires-clause-frames : goal.read-requires-clause-frames
 read-requires-clause-frames g c = rw c.name_frames.ensures (frames-named c.args.pair.now.paged c.args.spans.now)
 
 pub returns-in-Ok-clause-spans : goal.returns-in-Ok-clause-spans
-returns-in-Ok-clause-spans g c = rw c.name_frames.ensures (access-named c.args.pair.now.paged c.read.new.self c.args.spans.now _ (rw c.read.auto.out c.requires.spans) c.read.ensures.held)
+returns-in-Ok-clause-spans g c = rw c.name_frames.ensures (access-named c.args.pair.now.paged c.read.new.self c.args.spans.now _ (rw c.read.auto.out c.requires.spans) c.read.ensures.reads.held)
 
 pub returns-clause-spans : goal.returns-clause-spans
-returns-clause-spans g c = rw c.name_frames.ensures (access-named c.args.pair.now.paged c.read.new.self c.args.spans.now _ (rw c.read.auto.out c.requires.spans) c.read.ensures.held)
+returns-clause-spans g c = rw c.name_frames.ensures (access-named c.args.pair.now.paged c.read.new.self c.args.spans.now _ (rw c.read.auto.out c.requires.spans) c.read.ensures.reads.held)
