@@ -299,19 +299,16 @@ fn execs(alloc: Global, pid: u32) -> Result<Transcript, Fail> {
     Ok(Transcript { pid, entries })
 }
 
-fn exec_event(pid: u32) -> Event {
-    Event {
-        pid,
-        call: Call::Exec,
-        reply: Reply::Done,
-    }
-}
-
 fn exec_events(alloc: Global) -> Result<Vec<Event>, Fail> {
     let mut events = Vec::with_capacity(alloc, 2 * MANY)?;
     for _ in 0..MANY {
-        events.push(exec_event(1))?;
-        events.push(exec_event(2))?;
+        for pid in 1..3 {
+            events.push(Event {
+                pid,
+                call: Call::Exec,
+                reply: Reply::Done,
+            })?;
+        }
     }
     Ok(events)
 }
@@ -329,7 +326,11 @@ fn threads_compare_a_long_history(rt: HostRuntime) -> Result<(), Fail> {
     all.pop();
     assert!(rt; found(&rt, alloc, &script, &all, &transcripts)? == Some(2));
     // it is the first process's
-    all.push(exec_event(1))?;
+    all.push(Event {
+        pid: 1,
+        call: Call::Exec,
+        reply: Reply::Done,
+    })?;
     assert!(rt; found(&rt, alloc, &script, &all, &transcripts)? == Some(1));
     Ok(())
 }
