@@ -1,6 +1,6 @@
 mod Causes
 mod Flatness
-mod Halves
+mod Parts
 mod Lives
 mod Asking
 mod Reordering

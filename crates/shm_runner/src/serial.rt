@@ -98,8 +98,9 @@ fn run_lines<P: Pager>(
     ensures counts { OnOk result (GoesOn world.old.memory.swap world.new.memory.swap) }
 {
     let mut values = Values::new(alloc, &script.processes)?;
-    world.reserve(script.lines.len())?;
-    let middle = script.lines.len() - script.lines.len() / 3;
+    let count = script.lines.len();
+    world.reserve(count)?;
+    let middle = count - count / 3;
     let rest = script.lines.split_off(middle)?;
     script.lines.shrink_to_fit();
     run_part(world, &mut values, &script.lines)?;
