@@ -43,7 +43,7 @@ pub fn disagreement<R: Threads + Sync>(
     Ok(disagreement_by(rt, script, history, none, transcripts, &mut whole))
 }
 
-/// A place for what is found of each of so many transcripts.
+/// Places for what is found of this many transcripts, one for each.
 pub(crate) fn places(alloc: Global, count: usize) -> Result<Vec<bool>, HostMemory>
     ensures { IfOk result (λ places. length places.items ≡ count) }
 {
