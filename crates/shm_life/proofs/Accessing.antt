@@ -4,7 +4,7 @@ use Rattle.std.specs.Prelude.{Result, Ok, Err, IfOk, IfErr}
 use Rattle.shm_base.specs.Access.{stored, writable_places}
 use Rattle.shm_base.specs.Step.{xadd}
 use Rattle.shm_base.specs.History.{is_failure, is_refusal}
-use Rattle.shm_base.specs.declared.call.Call.{Call}
+use Rattle.shm_base.specs.Calls.{ProcessCall}
 use Rattle.shm_base.specs.declared.call.Call.TheVariants as call
 use Rattle.shm_base.specs.declared.call.Reply.{Reply}
 use Rattle.shm_base.specs.declared.call.Reply.TheVariants.{Number, Refused}
@@ -25,14 +25,14 @@ sole-is (q ∷ []) p is = grind (arith, common_steps)
 sole-is (q ∷ r ∷ ps) p is = absurd (none-some p is)
 
 -- a reply that refuses nothing and names no failure
-abbrev IsGrant : Call → Reply → Type 0
+abbrev IsGrant : ProcessCall → Reply → Type 0
 IsGrant call reply = (is_failure call reply ≡ false) × (is_refusal reply ≡ false)
 
 all-ok : {A E : Type 0} (r : Result A E) {P : Type 0} → P → IfOk r (λ _. P)
 all-ok (Ok a) p = p
 all-ok (Err e) p = tt
 
-pub accessed : {T : Type 0} (o : Outcome) (next : Machine) (call : Call) (reply : T → Reply) (s t : MachineView) (r : Result T Errno)
+pub accessed : {T : Type 0} (o : Outcome) (next : Machine) (call : ProcessCall) (reply : T → Reply) (s t : MachineView) (r : Result T Errno)
     → is_failure call (Refused Sigbus) ≡ true → is_lock call ≡ false → is_refusal o.reply ≡ false → ((x : T) → IsGrant call (reply x))
     → IfOk r (λ x. o ≡ gives next (reply x)) → OnOk r (t.flat ≡ next) → OnErr r (t.flat ≡ s.flat) → KeepsMemory s.memory t.memory → IfErr r (λ e. IsBusError e s.memory t.memory)
     → AnsweredTo o call (replied reply r) s t
@@ -64,10 +64,10 @@ module _ (s t : MachineView) (n : ℕ) (c : Caller) (is : IsCaller c s.flat.runn
 
   pub stores : (bytes : List ℕ) (r : Result (Unit {0}) Errno) → AreSpans true (pieces_by c.pid s.flat.runners) addr (length bytes) ps
       → OnOk r (t.flat ≡ record s.flat { table = stored s.flat.table (span_places false ps) bytes }) → OnErr r (t.flat ≡ s.flat)
-      → IfErr r (λ e. IsBusError e s.memory t.memory) → Served s n c (call.Store addr bytes) (replied done r) t
+      → IfErr r (λ e. IsBusError e s.memory t.memory) → Served s n c (call.Store bytes addr) (replied done r) t
   stores bytes r spans written same err =
       let step = store-wanted s.flat (pieces_at s.flat.runners c.index) addr bytes (span_places false ps) (own true (length bytes) spans) in
-      accessed _ _ (call.Store addr bytes) done s t r refl refl (rw step refl) (λ _. (refl, refl)) (all-ok r step) written same keeps err
+      accessed _ _ (call.Store bytes addr) done s t r refl refl (rw step refl) (λ _. (refl, refl)) (all-ok r step) written same keeps err
 
   pub adds : (add : ℕ) (r : Result ℕ Errno) → AreSpans true (pieces_by c.pid s.flat.runners) addr 8 ps
       → IfOk r (λ x. x ≡ loaded_number s.flat.table (span_places false ps)) → OnOk r (t.flat ≡ record s.flat { table = added_at s.flat.table (span_places false ps) add }) → OnErr r (t.flat ≡ s.flat)
