@@ -234,9 +234,8 @@ fn take_command(seen: &mut Seen, kept: &mut Kept, words: &Words<'_>) -> Result<(
     if seen.commands() >= MOST_COMMANDS {
         return Err(FaultKind::TooMany);
     }
-    let item = Item::Line(Line::Command(Command { pid, var, call }));
-    seen.take(&item);
-    kept.take(item);
+    seen.count();
+    kept.line(Line::Command(Command { pid, var, call }));
     Ok(())
 }
 

@@ -38,22 +38,24 @@ impl Kept {
         }
     }
 
-    /// Keeps what a line said, while there is memory.
+    /// Keeps a line, while there is memory.
     #[inline(always)]
+    pub(crate) fn line(&mut self, line: Line)
+        ensures { KeepsUp self.old self.new (Some (Item.Line line)) }
+    {
+        if self.is_whole && self.lines.push(line).is_err() {
+            self.is_whole = false;
+        }
+    }
+
+    /// Keeps what a line said, while there is memory.
     pub(crate) fn take(&mut self, item: Item)
         ensures { KeepsUp self.old self.new (Some item) }
     {
-        if !self.is_whole {
-            return;
-        }
         match item {
-            Item::Line(line) => {
-                if self.lines.push(line).is_err() {
-                    self.is_whole = false;
-                }
-            }
+            Item::Line(line) => self.line(line),
             Item::Process(process) => {
-                if self.processes.push(process).is_err() {
+                if self.is_whole && self.processes.push(process).is_err() {
                     self.is_whole = false;
                 }
             }

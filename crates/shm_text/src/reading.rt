@@ -1,5 +1,5 @@
 //! Reads a script line by line.
-ghost use Rattle.std.specs.Prelude.{◌≡◌, ◌<◌, ◌≤◌, ◌/◌, IfOk, IfErr, Ok, length, not, nat_le, is_some, min};
+ghost use Rattle.std.specs.Prelude.{◌≡◌, ◌<◌, ◌≤◌, ◌+◌, ◌/◌, IfOk, IfErr, Ok, length, not, nat_le, is_some, min};
 ghost use Rattle.std.specs.List.{list_all};
 ghost use Rattle.shm_text.specs.Reading.{script_of_lines, script_of, without_words, is_wordless, nothing, seen_with, is_declared, IsFaultOf, HasPlace};
 ghost use Rattle.shm_text.specs.Words.{lines_of};
@@ -67,6 +67,14 @@ impl Seen {
         self.pids.len() >= PROFILE_PROCESSES
     }
 
+    /// Counts a command or flush line.
+    pub(crate) fn count(&mut self)
+        requires { self.old.commands < 4294967295 }
+        ensures { self.new ≡ record self.old { commands = self.old.commands + 1 } }
+    {
+        self.commands += 1;
+    }
+
     /// Takes what a line said.
     pub(crate) fn take(&mut self, item: &Item)
         requires commands { self.old.commands < 4294967295 }
@@ -76,7 +84,7 @@ impl Seen {
         match item {
             Item::Limits(limits) => self.limits = Some(*limits),
             Item::Process(process) => self.pids.push(process.pid),
-            Item::Line(_) => self.commands += 1,
+            Item::Line(_) => self.count(),
         }
     }
 }

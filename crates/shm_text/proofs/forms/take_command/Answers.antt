@@ -10,8 +10,8 @@ returns-clause-ok c =
     record {
       item = Some (command_of c.in_ok-pid-2.pid c.taker-var.result c.in_ok-call.call);
       is = rw (said, few, c.taker-var.ensures) refl;
-      counts = c.take.ensures;
-      keeps = c.take-2.ensures;
+      counts = c.count.ensures;
+      keeps = c.line.ensures;
     }
 
 pub returns-then-commands-ge-MOST_COMMANDS-clause-err : goal.returns-then-commands-ge-MOST_COMMANDS-clause-err
