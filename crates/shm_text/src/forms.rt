@@ -200,7 +200,8 @@ fn take_other(seen: &mut Seen, kept: &mut Kept, words: &Words<'_>) -> Result<(),
     requires words { 0 < length words.now }
     requires other { is_command seen.old words.now ≡ false }
     requires commands { seen.old.commands < 4294967295 }
-    ensures ok { OnOk result (Takes (some_item (words_item seen.old words.now)) seen.old seen.new kept.old kept.new) }
+    ensures ok { OnOk result
+        (Takes (some_item (words_item seen.old words.now)) seen.old seen.new kept.old kept.new) }
     ensures err { IfErr result (λ kind. words_item seen.old words.now ≡ Err kind) }
 {
     let item = other_item(seen, words)?;
@@ -217,14 +218,15 @@ fn is_command(seen: &Seen, words: &Words<'_>) -> bool
     seen.has_limits() && !words.is(0, b"0") && !words.is(0, b"process") && !words.is(0, b"child")
 }
 
-// Takes the command of a process. Its pid is tested after the call. A function that returned the command would
-// copy it once more.
+// Takes the command of a process. Its pid is tested after the call. The command goes into the lines here,
+// because a function that returned it would copy its 104 bytes once more.
 #[inline(always)]
 #[tactic(auto, using(crate::proofs::FirstWords::command_words))]
 fn take_command(seen: &mut Seen, kept: &mut Kept, words: &Words<'_>) -> Result<(), FaultKind>
     requires words { 0 < length words.now }
     requires command { is_command seen.old words.now ≡ true }
-    ensures ok { OnOk result (Takes (some_item (words_item seen.old words.now)) seen.old seen.new kept.old kept.new) }
+    ensures ok { OnOk result
+        (Takes (some_item (words_item seen.old words.now)) seen.old seen.new kept.old kept.new) }
     ensures err { IfErr result (λ kind. words_item seen.old words.now ≡ Err kind) }
 {
     let pid = required_number(words.at(0))?;

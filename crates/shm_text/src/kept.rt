@@ -7,7 +7,8 @@ use shm_base::{Limits, Process};
 use std::alloc::Global;
 use std::marker::Model;
 
-/// The processes and lines so far, if the host had memory for all of them. After a refusal nothing more is kept.
+/// The processes and lines so far, if the host had memory for all of them. After a refusal nothing more is
+/// kept.
 #[derive(Drop)]
 pub(crate) struct Kept {
     processes: Vec<Process>,
@@ -20,11 +21,15 @@ impl Model for Kept {
 
     ghost Value = { KeptView };
 
-    ghost view = { λ k. record { processes = k.processes.items; lines = k.lines.items; is_whole = k.is_whole } };
+    ghost view = { λ k. record {
+      processes = k.processes.items;
+      lines = k.lines.items;
+      is_whole = k.is_whole;
+    } };
 }
 
 impl Kept {
-    /// Nothing yet, with room for so many lines.
+    /// Nothing yet, with room for this many lines.
     pub(crate) fn new(alloc: Global, room: usize) -> Kept
         ensures processes { result.processes ≡ [] }
         ensures lines { result.lines ≡ [] }
