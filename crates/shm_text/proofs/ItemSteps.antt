@@ -2,7 +2,7 @@
 use Rattle.shm_text.proofs.Names.{common_steps, arith, ◌≡◌, ◌≤◌, ◌+◌, ◌++◌, ◌∙◌, ap, sym, refl, ℕ, List, [], ◌∷◌, true, false, Option, Some, None, Bool, cond, length, append_assoc, append-nil, length-append, nat_lt, is_some, IsOk, FaultKind, NoLimits, ScriptFault, Item, Bounds, ScriptView, SeenView, ◌>>=◌, line_item, with_item, seen_next, limits_after, processes_in, lines_in, script_by, script_from}
 use Rattle.std.proofs.Common.{Result, Ok, Err}
 use Rattle.shm_text.specs.declared.script.Item.TheVariants as items
-use Rattle.shm_text.specs.Reading.{script_of, items_of}
+use Rattle.shm_text.specs.Reading.{script_of, items_of, KeptView, KeepsUp}
 
 -- `all` is what the lines above say, and then what the lines from the n-th on say
 pub record Goes (all : Result (List Item) ScriptFault) (n : ℕ) (seen : SeenView) (lines : List (List ℕ)) (front : List Item) : Type 0 where
@@ -55,6 +55,18 @@ lines_in-append [] ys = refl
 lines_in-append (items.Limits b ∷ xs) ys = lines_in-append xs ys
 lines_in-append (items.Process p ∷ xs) ys = lines_in-append xs ys
 lines_in-append (items.Line l ∷ xs) ys = ap (λ k. l ∷ k) (lines_in-append xs ys)
+
+-- all that the items say was kept, if there was memory for it
+abbrev pub Keeps : KeptView → List Item → Type 0
+Keeps kept front = kept.is_whole ≡ true → (kept.processes ≡ processes_in front) × (kept.lines ≡ lines_in front)
+
+pub keeps_on : (front : List Item) (before after : KeptView) (item : Option Item) → Keeps before front → KeepsUp before after item → Keeps after (front ++ with_item item [])
+keeps_on front before after item kept next whole =
+    let step = next whole in
+    let so_far = kept step.0 in (
+      step.1 ∙ ap (λ l. l ++ processes_in (with_item item [])) so_far.0 ∙ sym (processes_in-append front (with_item item [])),
+      step.2 ∙ ap (λ l. l ++ lines_in (with_item item [])) so_far.1 ∙ sym (lines_in-append front (with_item item [])),
+    )
 
 -- a script is not too long
 short_by : (long : Bool) (n : ℕ) (r : Result ScriptView ScriptFault) (fault : ScriptFault) (script : ScriptView) → nat_lt 1048576 n ≡ long → cond long (Err fault) r ≡ Ok script → n ≤ 1048576

@@ -1,5 +1,5 @@
 -- What the lines of a script say, and its first fault.
-use Rattle.std.specs.Prelude.{ℕ, ◌+◌, Bool, ◌==◌, ◌&&◌, ◌||◌, not, List, [], ◌∷◌, ◌++◌, length, Option, Some, None, Result, Ok, Err, IsOk, ◌≡◌, nat_le, nat_lt, ◌<◌, is_some, slice_get, slice_index, codes, if◌then◌else◌}
+use Rattle.std.specs.Prelude.{ℕ, ◌+◌, Bool, true, ◌==◌, ◌&&◌, ◌||◌, not, List, [], ◌∷◌, ◌++◌, length, Option, Some, None, Result, Ok, Err, IsOk, ◌≡◌, nat_le, nat_lt, ◌<◌, is_some, slice_get, slice_index, codes, if◌then◌else◌}
 use Rattle.std.specs.List.{list_all, list_any}
 use Rattle.std.specs.Str.{bytes_eq}
 use Rattle.shm_base.specs.Bounds.{Bounds, limits_of}
@@ -251,24 +251,32 @@ said text_lines = if list_all is_wordless text_lines then Err (without_words tex
 unfoldable pub script_of : List ℕ → Result ScriptView ScriptFault
 script_of bytes = if nat_lt LONGEST_SCRIPT (length bytes) then Err (record { line = 0; kind = TooLong }) else said (lines_of bytes)
 
--- a reported fault is the first fault
-abbrev pub FaultStands : ReadRefused → Result ScriptView ScriptFault → Type 0
-FaultStands refused.HostMemory read = Unit {0}
-FaultStands (refused.Fault fault) read = read ≡ Err fault
-
 -- a reported fault is the first fault; out of memory is reported only if there is no fault
 abbrev pub IsFaultOf : ReadRefused → Result ScriptView ScriptFault → Type 0
 IsFaultOf refused.HostMemory read = IsOk read
 IsFaultOf (refused.Fault fault) read = read ≡ Err fault
 
+-- what was kept of the lines, if there was memory for all of it
+pub record KeptView : Type 0 where
+  pub processes : List Declared
+  pub lines : List Line
+  pub is_whole : Bool
+
+-- what a line says was kept too, if all is kept
+abbrev pub KeepsUp : KeptView → KeptView → Option Item → Type 0
+KeepsUp before after item = after.is_whole ≡ true → (before.is_whole ≡ true) × (after.processes ≡ before.processes ++ processes_in (with_item item [])) × (after.lines ≡ before.lines ++ lines_in (with_item item []))
+
+-- a line without a fault was taken
+pub record Takes (said : Result (Option Item) FaultKind) (seen next : SeenView) (before after : KeptView) : Type 0 where
+  pub item : Option Item
+  pub is : said ≡ Ok item
+  pub counts : next ≡ seen_next seen item
+  pub keeps : KeepsUp before after item
+
 -- if an item declares a process, there is room for its pid
 abbrev pub HasPlace : SeenView → Item → Type 0
 HasPlace seen (items.Process p) = length seen.pids < 64
 HasPlace seen _ = Unit {0}
-
-abbrev pub HasPlaceFor : SeenView → Option Item → Type 0
-HasPlaceFor seen None = Unit {0}
-HasPlaceFor seen (Some item) = HasPlace seen item
 
 abbrev pub IsLine : Item → Type 0
 IsLine (items.Line l) = Unit {0}

@@ -1,10 +1,11 @@
 //! The forms of lines.
-ghost use Rattle.std.specs.Prelude.{◌≡◌, ◌<◌, ◌≤◌, length, true, false, IfOk};
+ghost use Rattle.std.specs.Prelude.{◌≡◌, ◌<◌, ◌≤◌, length, true, false, Err, IfOk, OnOk, IfErr};
 ghost use Rattle.shm_text.specs.Form.{is_pid};
-ghost use Rattle.shm_text.specs.Reading.{limits_item, process_item, child_item, declared, declaration, taker, known, known_child, declared_pid, flush_item, words_item, line_item, is_command, with_room, some_item, is_skipped, HasPlace, HasPlaceFor, IsLimits, IsLine};
+ghost use Rattle.shm_text.specs.Reading.{limits_item, process_item, child_item, declared, declaration, taker, known, known_child, declared_pid, flush_item, words_item, line_item, is_command, with_room, some_item, is_skipped, HasPlace, Takes, IsLimits, IsLine};
 
 use crate::calls::call_words;
 use crate::fault::FaultKind;
+use crate::kept::Kept;
 use crate::lines::Lines;
 use crate::number::Number;
 use crate::operand::{first_letter, ranged, required_number, within_64_bits};
@@ -173,7 +174,6 @@ fn counted_flush(seen: &Seen, words: &Words<'_>) -> Result<Item, FaultKind>
 }
 
 // A line that is not a command of a process: the limits, a process, or a flush round.
-#[inline(never)]
 #[tactic(auto, unfolding(crate::specs::Reading::words_item, crate::specs::Reading::body_item, crate::specs::Reading::command_item))]
 fn other_item(seen: &Seen, words: &Words<'_>) -> Result<Item, FaultKind>
     requires words { 0 < length words.now }
@@ -194,6 +194,22 @@ fn other_item(seen: &Seen, words: &Words<'_>) -> Result<Item, FaultKind>
     }
 }
 
+// Takes a line that is not a command of a process.
+#[inline(never)]
+fn take_other(seen: &mut Seen, kept: &mut Kept, words: &Words<'_>) -> Result<(), FaultKind>
+    requires words { 0 < length words.now }
+    requires other { is_command seen.old words.now ≡ false }
+    requires commands { seen.old.commands < 4294967295 }
+    ensures ok { OnOk result
+        (Takes (some_item (words_item seen.old words.now)) seen.old seen.new kept.old kept.new) }
+    ensures err { IfErr result (λ kind. words_item seen.old words.now ≡ Err kind) }
+{
+    let item = other_item(seen, words)?;
+    seen.take(&item);
+    kept.take(item);
+    Ok(())
+}
+
 // Whether a line is a command of a process, which its first word decides.
 fn is_command(seen: &Seen, words: &Words<'_>) -> bool
     requires { 0 < length words.now }
@@ -202,24 +218,27 @@ fn is_command(seen: &Seen, words: &Words<'_>) -> bool
     seen.has_limits() && !words.is(0, b"0") && !words.is(0, b"process") && !words.is(0, b"child")
 }
 
-// The command of a process. Its pid is tested after the call. The command is put together once, here.
+// Takes the command of a process. Its pid is tested after the call. The command goes into the lines here,
+// because a function that returned it would copy its 104 bytes once more.
 #[inline(always)]
 #[tactic(auto, using(crate::proofs::FirstWords::command_words))]
-fn command(seen: &Seen, words: &Words<'_>) -> Result<Option<Item>, FaultKind>
+fn take_command(seen: &mut Seen, kept: &mut Kept, words: &Words<'_>) -> Result<(), FaultKind>
     requires words { 0 < length words.now }
-    requires command { is_command seen.now words.now ≡ true }
-    ensures value { result ≡ some_item (words_item seen.now words.now) }
-    ensures place { IfOk result (λ item. HasPlaceFor seen.now item) }
+    requires command { is_command seen.old words.now ≡ true }
+    ensures ok { OnOk result
+        (Takes (some_item (words_item seen.old words.now)) seen.old seen.new kept.old kept.new) }
+    ensures err { IfErr result (λ kind. words_item seen.old words.now ≡ Err kind) }
 {
     let pid = required_number(words.at(0))?;
     let var = taker(words);
     let call = call_words(words, var.is_some())?;
     let pid = declared_pid(seen, pid, &call)?;
-    if seen.commands() < MOST_COMMANDS {
-        Ok(Some(Item::Line(Line::Command(Command { pid, var, call }))))
-    } else {
-        Err(FaultKind::TooMany)
+    if seen.commands() >= MOST_COMMANDS {
+        return Err(FaultKind::TooMany);
     }
+    seen.count();
+    kept.line(Line::Command(Command { pid, var, call }));
+    Ok(())
 }
 
 /// Whether a line is blank or a comment, by its words.
@@ -230,23 +249,28 @@ pub(crate) fn is_skipped(words: &Words<'_>) -> bool
     words.len() == 0 || words.at(0).first() == Some(&b'#')
 }
 
-/// What the line that was read last says, after the lines above it.
+/// Takes what the line that was read last says, after the lines above it.
 #[inline(always)]
 #[tactic(auto, using(crate::proofs::FirstWords::same_words), unfolding(crate::specs::Reading::line_item))]
-pub(crate) fn line_item(seen: &Seen, lines: &Lines<'_>) -> Result<Option<Item>, FaultKind>
-    ensures value { result ≡ line_item seen.now lines.now.line }
-    ensures place { IfOk result (λ item. HasPlaceFor seen.now item) }
+pub(crate) fn take_line(
+    seen: &mut Seen,
+    kept: &mut Kept,
+    lines: &Lines<'_>,
+) -> Result<(), FaultKind>
+    requires { seen.old.commands < 4294967295 }
+    ensures ok { OnOk result (Takes (line_item seen.old lines.now.line) seen.old seen.new kept.old kept.new) }
+    ensures err { IfErr result (λ kind. line_item seen.old lines.now.line ≡ Err kind) }
 {
     if !lines.is_allowed() {
         return Err(FaultKind::BadByte);
     }
     let words = lines.words();
     if is_skipped(words) {
-        return Ok(None);
+        return Ok(());
     }
     if is_command(seen, words) {
-        return command(seen, words);
+        take_command(seen, kept, words)
+    } else {
+        take_other(seen, kept, words)
     }
-    let item = other_item(seen, words)?;
-    Ok(Some(item))
 }

@@ -4,6 +4,7 @@
 mod calls;
 mod fault;
 mod forms;
+mod kept;
 mod lines;
 mod number;
 mod operand;

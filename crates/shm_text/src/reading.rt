@@ -1,16 +1,17 @@
 //! Reads a script line by line.
-ghost use Rattle.std.specs.Prelude.{◌≡◌, ◌<◌, ◌≤◌, ◌++◌, ◌/◌, [], IfOk, OnOk, IsOk, IfErr, Ok, Err, length, not, MatchOption, nat_le, is_some, min};
+ghost use Rattle.std.specs.Prelude.{◌≡◌, ◌<◌, ◌≤◌, ◌+◌, ◌/◌, IfOk, IfErr, Ok, length, not, nat_le, is_some, min};
 ghost use Rattle.std.specs.List.{list_all};
-ghost use Rattle.shm_text.specs.Reading.{script_of_lines, script_of, without_words, is_wordless, nothing, seen_next, with_item, processes_in, lines_in, is_declared, IsFaultOf, FaultStands, HasPlaceFor};
+ghost use Rattle.shm_text.specs.Reading.{script_of_lines, script_of, without_words, is_wordless, nothing, seen_with, is_declared, IsFaultOf, HasPlace};
 ghost use Rattle.shm_text.specs.Words.{lines_of};
 
 use crate::fault::{FaultKind, ReadRefused, ScriptFault};
-use crate::forms::{is_skipped, line_item};
+use crate::forms::{is_skipped, take_line};
+use crate::kept::Kept;
 use crate::lines::Lines;
-use crate::script::{Item, Line, Script};
+use crate::script::{Item, Script};
 use arrayvec::ArrayVec;
-use shm_base::{LONGEST_SCRIPT, Limits, MOST_COMMANDS, PROFILE_PROCESSES, Process};
-use std::alloc::{AllocError, Global};
+use shm_base::{LONGEST_SCRIPT, Limits, MOST_COMMANDS, PROFILE_PROCESSES};
+use std::alloc::Global;
 use std::marker::Model;
 
 /// What the lines above a line said: whether there were limits, the declared pids, and the number of command
@@ -66,17 +67,24 @@ impl Seen {
         self.pids.len() >= PROFILE_PROCESSES
     }
 
+    /// Counts a command or flush line.
+    pub(crate) fn count(&mut self)
+        requires { self.old.commands < 4294967295 }
+        ensures { self.new ≡ record self.old { commands = self.old.commands + 1 } }
+    {
+        self.commands += 1;
+    }
+
     /// Takes what a line said.
-    fn take(&mut self, item: &Option<Item>)
+    pub(crate) fn take(&mut self, item: &Item)
         requires commands { self.old.commands < 4294967295 }
-        requires place { HasPlaceFor self.old item.now }
-        ensures { self.new ≡ seen_next self.old item.now }
+        requires place { HasPlace self.old item.now }
+        ensures { self.new ≡ seen_with self.old item.now }
     {
         match item {
-            Some(Item::Limits(limits)) => self.limits = Some(*limits),
-            Some(Item::Process(process)) => self.pids.push(process.pid),
-            Some(Item::Line(_)) => self.commands += 1,
-            None => {}
+            Item::Limits(limits) => self.limits = Some(*limits),
+            Item::Process(process) => self.pids.push(process.pid),
+            Item::Line(_) => self.count(),
         }
     }
 }
@@ -99,11 +107,7 @@ pub fn read_script(alloc: Global, bytes: &[u8]) -> Result<Script, ReadRefused>
     if !has_words(bytes) {
         return Err(ReadRefused::Fault(without_words(bytes)));
     }
-    match read_lines(alloc, bytes) {
-        Ok(script) => Ok(script),
-        Err(ReadRefused::Fault(fault)) => Err(ReadRefused::Fault(fault)),
-        Err(ReadRefused::HostMemory) => Err(fault_or_memory(bytes)),
-    }
+    read_lines(alloc, bytes)
 }
 
 /// Whether some line has words and is not a comment.
@@ -142,40 +146,6 @@ const NO_LIMITS: ScriptFault = ScriptFault {
     kind: FaultKind::NoLimits,
 };
 
-/// The first fault of a text's lines; out of memory if they have none.
-fn fault_or_memory(bytes: &[u8]) -> ReadRefused
-    requires { length bytes.now ≤ LONGEST_SCRIPT }
-    ensures { IsFaultOf result (script_of_lines (lines_of bytes.now)) }
-{
-    match first_fault(bytes) {
-        Some(fault) => ReadRefused::Fault(fault),
-        None => ReadRefused::HostMemory,
-    }
-}
-
-/// The first fault of a text's lines. Takes no memory.
-fn first_fault(bytes: &[u8]) -> Option<ScriptFault>
-    requires { length bytes.now ≤ LONGEST_SCRIPT }
-    ensures { MatchOption result (IsOk (script_of_lines (lines_of bytes.now)))
-        (λ f. script_of_lines (lines_of bytes.now) ≡ Err f) }
-{
-    let mut seen = Seen::new();
-    let mut lines = Lines::of(bytes);
-    let mut number = 1u32;
-    while lines.next() {
-        match line_item(&seen, &lines) {
-            Ok(item) => seen.take(&item),
-            Err(kind) => return Some(ScriptFault { line: number, kind }),
-        }
-        number += 1;
-    }
-    if seen.has_limits() {
-        None
-    } else {
-        Some(NO_LIMITS)
-    }
-}
-
 // How many lines to make room for at once: as many as a text of this length has if they are short, so that
 // the list rarely grows, and at most the 100,000 that a script may have.
 fn room_wanted(bytes: &[u8]) -> usize
@@ -184,56 +154,27 @@ fn room_wanted(bytes: &[u8]) -> usize
     (bytes.len() / SHORT_LINE).min(MOST_COMMANDS as usize)
 }
 
-// Appends what a line said to what the lines above it said.
-fn keep(
-    processes: &mut Vec<Process>,
-    kept: &mut Vec<Line>,
-    item: Option<Item>,
-) -> Result<(), AllocError>
-    ensures processes { OnOk result
-        (processes.new.items ≡ processes.old.items ++ processes_in (with_item item [])) }
-    ensures lines { OnOk result (kept.new.items ≡ kept.old.items ++ lines_in (with_item item [])) }
-{
-    match item {
-        Some(Item::Process(process)) => processes.push(process)?,
-        Some(Item::Line(line)) => kept.push(line)?,
-        Some(Item::Limits(_)) | None => {}
-    }
-    Ok(())
-}
-
-/// What the lines of a text say, or the first fault. After HostMemory nothing is known of the lines.
+/// What the lines of a text say, or their first fault. After a refusal of memory it only looks for the fault.
 fn read_lines(alloc: Global, bytes: &[u8]) -> Result<Script, ReadRefused>
     requires { length bytes.now ≤ LONGEST_SCRIPT }
     ensures read { IfOk result (λ script. script_of_lines (lines_of bytes.now) ≡ Ok script) }
-    ensures fault { IfErr result (λ e. FaultStands e (script_of_lines (lines_of bytes.now))) }
+    ensures fault { IfErr result (λ e. IsFaultOf e (script_of_lines (lines_of bytes.now))) }
 {
     let mut seen = Seen::new();
-    let mut processes = Vec::new(alloc);
-    let mut kept = Vec::new(alloc);
-    if kept.reserve(room_wanted(bytes)).is_err() {
-        return Err(ReadRefused::HostMemory);
-    }
+    let mut kept = Kept::new(alloc, room_wanted(bytes));
     let mut lines = Lines::of(bytes);
     let mut number = 1u32;
     while lines.next() {
-        match line_item(&seen, &lines) {
-            Ok(item) => {
-                seen.take(&item);
-                if keep(&mut processes, &mut kept, item).is_err() {
-                    return Err(ReadRefused::HostMemory);
-                }
-            }
+        match take_line(&mut seen, &mut kept, &lines) {
+            Ok(()) => number += 1,
             Err(kind) => return Err(ReadRefused::Fault(ScriptFault { line: number, kind })),
         }
-        number += 1;
     }
-    match seen.limits {
-        Some(limits) => Ok(Script {
-            limits,
-            processes,
-            lines: kept,
-        }),
-        None => Err(ReadRefused::Fault(NO_LIMITS)),
+    let Some(limits) = seen.limits else {
+        return Err(ReadRefused::Fault(NO_LIMITS));
+    };
+    match kept.script(limits) {
+        Some(script) => Ok(script),
+        None => Err(ReadRefused::HostMemory),
     }
 }

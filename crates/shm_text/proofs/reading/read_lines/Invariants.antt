@@ -1,11 +1,11 @@
-use Rattle.shm_text.proofs.Names.{◌≡◌, ◌≤◌, ◌<◌, ◌+◌, List, length, None, lines_of, items_of, nothing, limits_after, processes_in, lines_in, Item}
-use Rattle.shm_text.proofs.ItemSteps.{Goes}
+use Rattle.shm_text.proofs.Names.{◌≡◌, ◌≤◌, ◌<◌, ◌+◌, List, length, None, lines_of, items_of, nothing, limits_after, Item}
+use Rattle.shm_text.proofs.ItemSteps.{Goes, Keeps}
 use Rattle.shm_text.proofs.reading.read_lines.Given as goal
 
--- what the lines so far say was kept
+-- the lines so far have no fault, and what they say was kept
 abbrev pub invariant-loop-lines : goal.invariant-loop-lines
 invariant-loop-lines l = record {
-  so_far : (front : List Item) × (Goes (items_of 1 nothing (lines_of l.bytes)) l.number l.seen l.lines.left front × (limits_after None front ≡ l.seen.limits) × (l.processes.items ≡ processes_in front) × (l.kept.items ≡ lines_in front));
+  so_far : (front : List Item) × (Goes (items_of 1 nothing (lines_of l.bytes)) l.number l.seen l.lines.left front × (limits_after None front ≡ l.seen.limits) × Keeps l.kept front);
   count : l.number + length l.lines.left ≤ 1048578;
   commands : l.seen.commands < l.number;
 }
