@@ -1,5 +1,5 @@
 -- A refusal is answered by its code.
-use Rattle.nogcuvema.proofs.Names.{ℕ, List, Err, inr, subst, Call, Reply, Machine, Refusal, Answered, Progress, ReadTo, WrittenTo, stop_code, ReadBy, WrittenBy, refusal_code, AnswersFor}
+use Rattle.nogcuvema.proofs.Names.{ℕ, List, Err, inr, subst, ProcessCall, Reply, Machine, Refusal, Answered, Progress, ReadTo, WrittenTo, stop_code, ReadBy, WrittenBy, refusal_code, AnswersFor}
 use Rattle.std.proofs.Common.{◌≡◌, Ok, inl, refl}
 use Rattle.shm_base.specs.State.{Machine as Flat}
 use Rattle.shm_base.specs.Step.{Outcome}
@@ -7,19 +7,19 @@ use Rattle.shm_machine.specs.Stretched.{CopiedTo}
 use Rattle.nogcuvema.specs.Through.{CopiedBy}
 use Rattle.nogcuvema.specs.Exchanges.{ExchangesAs, ExchangesFor}
 
-pub refused : (before after : Machine) (pid code : ℕ) (call : Call) (reply : Reply) (refusal : Refusal) → code ≡ refusal_code refusal → Answered before.system pid call (Err refusal) after.system
+pub refused : (before after : Machine) (pid code : ℕ) (call : ProcessCall) (reply : Reply) (refusal : Refusal) → code ≡ refusal_code refusal → Answered before.system pid call (Err refusal) after.system
     → AnswersFor before pid call reply code after
 refused before after pid code call reply refusal is answered = inr (refusal, is, answered)
 
 -- the same, where the call is written in another way
-pub refused_alike : (before after : Machine) (pid code : ℕ) (asked call : Call) (reply : Reply) (refusal : Refusal) → asked ≡ call → code ≡ refusal_code refusal → Answered before.system pid asked (Err refusal) after.system
+pub refused_alike : (before after : Machine) (pid code : ℕ) (asked call : ProcessCall) (reply : Reply) (refusal : Refusal) → asked ≡ call → code ≡ refusal_code refusal → Answered before.system pid asked (Err refusal) after.system
     → AnswersFor before pid call reply code after
 refused_alike before after pid code asked call reply refusal same is answered =
-    inr (refusal, is, subst (λ (c : Call). Answered before.system pid c (Err refusal) after.system) same answered)
+    inr (refusal, is, subst (λ (c : ProcessCall). Answered before.system pid c (Err refusal) after.system) same answered)
 
 -- a reply to a call that is written in another way
-pub done_alike : (before after : Machine) (pid : ℕ) (asked call : Call) (reply : Reply) → asked ≡ call → Answered before.system pid asked (Ok reply) after.system → AnswersFor before pid call reply 0 after
-done_alike before after pid asked call reply same answered = inl (refl, subst (λ (c : Call). Answered before.system pid c (Ok reply) after.system) same answered)
+pub done_alike : (before after : Machine) (pid : ℕ) (asked call : ProcessCall) (reply : Reply) → asked ≡ call → Answered before.system pid asked (Ok reply) after.system → AnswersFor before pid call reply 0 after
+done_alike before after pid asked call reply same answered = inl (refl, subst (λ (c : ProcessCall). Answered before.system pid c (Ok reply) after.system) same answered)
 
 -- an exchange that is refused
 pub not_exchanged : (outcome : Flat → Outcome) (before after : Machine) (there : List ℕ) (code : ℕ) (refusal : Refusal) → code ≡ refusal_code refusal → ExchangesAs (outcome before.system.machine) before there (Err refusal) after

@@ -9,7 +9,7 @@ pub use Rattle.std.specs.Box.Ownership.{box_owns}
 pub use Rattle.std.specs.Prelude.{IsSome, Option, Some}
 pub use Rattle.std.specs.contracts.impls.GlobalAllocator.TheImpl.{ghosts}
 pub use Rattle.shm_base.specs.Bounds.{Bounds, bad, limits_of}
-pub use Rattle.shm_base.specs.declared.call.Call.{Call}
+pub use Rattle.shm_base.specs.Calls.{ProcessCall}
 pub use Rattle.shm_base.specs.declared.call.Process.{Process}
 pub use Rattle.shm_base.specs.declared.call.Reply.{Reply}
 pub use Rattle.shm_base.specs.declared.flags.AtFlags.{AtFlags}

@@ -57,7 +57,7 @@ pub extern "C" fn nog_load(
 #[inline(always)]
 fn store(machine: &mut Machine, pid: u32, addr: u64, bytes: &[u8]) -> u32
     requires { (1 ≤ length bytes.now) × (length bytes.now ≤ 64) }
-    ensures { AnswersFor machine.old pid (call.Store addr bytes.now) reply.Done result machine.new }
+    ensures { AnswersFor machine.old pid (call.Store bytes.now addr) reply.Done result machine.new }
 {
     match machine.store(pid, addr, bytes) {
         Ok(()) => DONE,
@@ -75,7 +75,7 @@ pub extern "C" fn nog_store(
     bytes: &[u8],
 ) -> u32
     ensures { AnswersWhere (within 1 64 (length bytes.now)) handle.old.kept.value pid
-        (call.Store addr bytes.now) reply.Done result handle.new.kept.value }
+        (call.Store bytes.now addr) reply.Done result handle.new.kept.value }
 {
     if !is_size(bytes.len()) {
         return OUT_OF_RANGE;

@@ -166,15 +166,15 @@ ProtectRow =
     Go (eight_pages 256)
     (Protects 1 1 0x50001000 (bytes_in 2) false None
     ∷ At 3 (does 1 (stat 0) (shows 0 32768 1 3 2 0))
-    ∷ At 4 (does 1 (Store 0x50001000 (7 ∷ [])) (Refused Sigsegv))
+    ∷ At 4 (does 1 (Store (7 ∷ []) 0x50001000) (Refused Sigsegv))
     ∷ At 5 (does 1 (Load 0x50001000 1) (Bytes (0 ∷ [])))
     ∷ Protects 1 1 0x50001000 (bytes_in 1) true None
     ∷ At 6 (does 1 (stat 0) (shows 0 32768 1 3 2 0))
-    ∷ At 7 (does 1 (Store 0x50001FFF (7 ∷ [])) Done)
-    ∷ At 8 (does 1 (Store 0x50002000 (7 ∷ [])) (Refused Sigsegv))
+    ∷ At 7 (does 1 (Store (7 ∷ []) 0x50001FFF) Done)
+    ∷ At 8 (does 1 (Store (7 ∷ []) 0x50002000) (Refused Sigsegv))
     ∷ Protects 1 1 0x50001000 (bytes_in 2) true None
     ∷ At 9 (does 1 (stat 0) (shows 0 32768 1 3 2 0))
-    ∷ At 10 (does 1 (Store 0x50002000 (7 ∷ [])) Done)
+    ∷ At 10 (does 1 (Store (7 ∷ []) 0x50002000) Done)
     ∷ Protects 1 1 0x50000000 (bytes_in 8) false None
     ∷ At 11 (does 1 (stat 0) (shows 0 32768 1 3 2 0))
     ∷ Protects 1 1 0x50006000 1 true None
@@ -197,16 +197,16 @@ StoppedRow =
     ∷ Protects 1 2 0x50000000 1 false (Some Esrch)
     ∷ At 3 (does 1 (stat 0) (shows 0 32768 1 1 2 0))
     ∷ Protects 1 1 0x50000000 (bytes_in 9) false (Some Enomem)
-    ∷ At 4 (does 1 (Store 0x50007000 (7 ∷ [])) (Refused Sigsegv))
+    ∷ At 4 (does 1 (Store (7 ∷ []) 0x50007000) (Refused Sigsegv))
     ∷ Protects 1 1 0x50000000 (bytes_in 8) true None
     ∷ Protects 1 1 0x50004000 (bytes_in 4) false None
     ∷ At 5 (does 1 (shmat 0 0x50008000 rdonly) (Addr 0x50008000))
     ∷ At 6 (does 1 (stat 0) (shows 0 32768 1 3 5 0))
     ∷ Protects 1 1 0x50006000 (bytes_in 4) true (Some Eacces)
     ∷ At 7 (does 1 (stat 0) (shows 0 32768 1 4 5 0))
-    ∷ At 8 (does 1 (Store 0x50005FFF (7 ∷ [])) (Refused Sigsegv))
-    ∷ At 9 (does 1 (Store 0x50006000 (7 ∷ [])) Done)
-    ∷ At 10 (does 1 (Store 0x50008000 (7 ∷ [])) (Refused Sigsegv))
+    ∷ At 8 (does 1 (Store (7 ∷ []) 0x50005FFF) (Refused Sigsegv))
+    ∷ At 9 (does 1 (Store (7 ∷ []) 0x50006000) Done)
+    ∷ At 10 (does 1 (Store (7 ∷ []) 0x50008000) (Refused Sigsegv))
     ∷ [])
 
 -- an unmap takes a range out, and a marked segment is destroyed with its last piece
@@ -237,7 +237,7 @@ FewPiecesRow =
     Go (eight_pages 2)
     (Protects 1 1 0x50001000 (bytes_in 1) false (Some Enomem)
     ∷ At 3 (does 1 (stat 0) (shows 0 32768 1 1 2 0))
-    ∷ At 4 (does 1 (Store 0x50001000 (7 ∷ [])) Done)
+    ∷ At 4 (does 1 (Store (7 ∷ []) 0x50001000) Done)
     ∷ Unmaps 5 1 0x50001000 (bytes_in 1) None
     ∷ Unmaps 6 1 0x50003000 (bytes_in 1) (Some Enomem)
     ∷ At 7 (does 1 (stat 0) (shows 0 32768 1 2 2 5))

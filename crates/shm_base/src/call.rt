@@ -36,9 +36,10 @@ pub fn has_pid(processes: &[Process], pid: u32) -> bool
 }
 
 /// A call of a process: the shared memory calls (shmget(2), shmop(2), shmctl(2)), accesses to attached
-/// memory, fork, exec and exit, and swapoff. Only the low nine bits of a mode count.
+/// memory, fork, exec and exit, and swapoff. Only the low nine bits of a mode count. A line of a script has
+/// other identifiers and addresses, which may be variables.
 #[derive(Clone, Copy, Debug, PartialEq, Eq)]
-pub enum Call {
+pub enum Call<I = ShmId, A = u64> {
     Shmget {
         key: u32,
         size: u64,
@@ -46,41 +47,42 @@ pub enum Call {
         flags: GetFlags,
     },
     Shmat {
-        id: ShmId,
-        addr: u64,
+        id: I,
+        addr: A,
         flags: AtFlags,
     },
     Shmdt {
-        addr: u64,
+        addr: A,
     },
     Stat {
-        id: ShmId,
+        id: I,
     },
     Set {
-        id: ShmId,
+        id: I,
         uid: u32,
         gid: u32,
         mode: u16,
     },
     Rmid {
-        id: ShmId,
+        id: I,
     },
     Lock {
-        id: ShmId,
+        id: I,
     },
     Unlock {
-        id: ShmId,
+        id: I,
     },
     Load {
-        addr: u64,
+        addr: A,
         len: AccessLen,
     },
+    // The bytes come first: after the tag, they need no padding.
     Store {
-        addr: u64,
         chunk: Chunk,
+        addr: A,
     },
     Xadd {
-        addr: u64,
+        addr: A,
         add: u64,
     },
     Fork {
@@ -100,10 +102,10 @@ pub struct ShmidDs {
     pub key: u32,
     pub perm: Perm,
     pub status: Status,
-    pub size: u64,
     pub cpid: u32,
     pub lpid: u32,
     pub nattch: u32,
+    pub size: u64,
     pub atime: u64,
     pub dtime: u64,
     pub ctime: u64,

@@ -4,7 +4,7 @@ use Rattle.std.specs.List.{flat_map}
 use Rattle.shm_base.specs.declared.call.Step.{Step}
 use Rattle.shm_base.specs.declared.call.Step.TheVariants as steps
 use Rattle.shm_base.specs.declared.call.Step.TheVariants.{Flush}
-use Rattle.shm_base.specs.declared.call.Call.{Call}
+use Rattle.shm_base.specs.Calls.{ProcessCall}
 use Rattle.shm_base.specs.declared.call.Reply.{Reply}
 use Rattle.shm_base.specs.declared.call.Event.{Event}
 use Rattle.shm_base.specs.declared.paging.FlushReport.{FlushReport}
@@ -27,7 +27,7 @@ pub record WorldState : Type 0 where
   pub memory : StoreView
   pub room : ℕ
 
-abbrev pub event : ℕ → Call → Reply → Event
+abbrev pub event : ℕ → ProcessCall → Reply → Event
 event pid call reply = record { pid = pid; call = call; reply = reply }
 
 -- how many replies report a pager's failure
@@ -39,19 +39,19 @@ unfoldable pub AreCounted : List Event → SwapView → Type 0
 AreCounted events swap = swap.never_spent ≡ true → failures_in events ≤ total swap
 
 -- the pids and calls of the events
-abbrev pub calls_of : List Event → List (ℕ × Call)
+abbrev pub calls_of : List Event → List (ℕ × ProcessCall)
 calls_of events = map (λ (e : Event). (e.pid, e.call)) events
 
 -- the calls of a step; a flush round has none
-abbrev pub calls_in : Step → List (ℕ × Call)
+abbrev pub calls_in : Step → List (ℕ × ProcessCall)
 calls_in (steps.Call pid call) = (pid, call) ∷ []
 calls_in (Flush n) = []
 
-abbrev pub step_calls : List Step → List (ℕ × Call)
+abbrev pub step_calls : List Step → List (ℕ × ProcessCall)
 step_calls steps = flat_map calls_in steps
 
 -- the call is recorded with its reply, and is a move of the machine
-pub record IsCalled (before : WorldState) (pid : ℕ) (call : Call) (reply : Reply) (after : WorldState) : Type 0 where
+pub record IsCalled (before : WorldState) (pid : ℕ) (call : ProcessCall) (reply : Reply) (after : WorldState) : Type 0 where
   pub recorded : after.events ≡ before.events ++ event pid call reply ∷ []
   pub move_of : IsMove before.machine (length before.events + 1) (event pid call reply) after.machine
   pub cause : is_failure call reply ≡ true → had_cause before.memory.swap after.memory.swap ≡ true

@@ -9,7 +9,7 @@ use Rattle.rand_core.specs.Stream.{Stream}
 use Rattle.shm_base.specs.History.{own_part}
 use Rattle.shm_base.specs.Processes.{has_pid}
 use Rattle.shm_base.specs.Step.{step}
-use Rattle.shm_base.specs.declared.call.Call.{Call}
+use Rattle.shm_base.specs.Calls.{ProcessCall}
 use Rattle.shm_base.specs.declared.call.Event.{Event}
 use Rattle.shm_base.specs.declared.call.Process.{Process}
 use Rattle.shm_base.specs.declared.call.Reply.{Reply}
@@ -24,7 +24,7 @@ use Rattle.shm_schedules.proofs.Walking.{goes-schedule, has-cases, none-over}
 
 -- WHO CAN GO ON
 
-one-all : (P : Turn → Type 0) (pid : ℕ) (o : Option Call) → ((call : Call) → o ≡ Some call → P (record { pid = pid; call = call })) → All P (one_turn pid o)
+one-all : (P : Turn → Type 0) (pid : ℕ) (o : Option ProcessCall) → ((call : ProcessCall) → o ≡ Some call → P (record { pid = pid; call = call })) → All P (one_turn pid o)
 one-all P pid None each = λ k d lt. absurd (omega (arith, lt))
 one-all P pid (Some call) each = λ k d lt. (let e : k ≡ 0 = omega (arith, lt) in rw e (each call refl))
 
@@ -53,7 +53,7 @@ no-followers script run (p ∷ ps) none =
     let split = no-turn p.pid (next script run p.pid) (turns_of script run ps) none in
     rw split.0 (no-followers script run ps split.1)
   where
-    no-turn : (pid : ℕ) (o : Option Call) (rest : List Turn) → one_turn pid o ++ rest ≡ [] → (o ≡ None) × (rest ≡ [])
+    no-turn : (pid : ℕ) (o : Option ProcessCall) (rest : List Turn) → one_turn pid o ++ rest ≡ [] → (o ≡ None) × (rest ≡ [])
     no-turn pid None rest none = (refl, none)
     no-turn pid (Some call) rest none = absurd (cc)
 
@@ -128,7 +128,7 @@ own_lines pid (Flush pages ∷ lines) = own_lines pid lines
 own_lines pid (Command c ∷ lines) = if c.pid == pid then own_lines pid lines + 1 else own_lines pid lines
 
 -- a process that can go on has fewer replies than lines
-next-fewer : (pid : ℕ) (values : List (Option ℕ)) (lines : List Line) (replies : List Reply) (call : Call) → next_call pid values lines replies ≡ Some call → length replies < own_lines pid lines
+next-fewer : (pid : ℕ) (values : List (Option ℕ)) (lines : List Line) (replies : List Reply) (call : ProcessCall) → next_call pid values lines replies ≡ Some call → length replies < own_lines pid lines
 next-fewer pid values [] replies call h = absurd (none-some call h)
 next-fewer pid values (Flush pages ∷ lines) replies call h = next-fewer pid values lines replies call h
 next-fewer pid values (Command c ∷ lines) [] call h =
@@ -155,7 +155,7 @@ replies-more pid events e =
     ap length (ap (map reply_of) (filter-append (λ (x : Event). x.pid == pid) events (e ∷ [])) ∙ map-append reply_of (own_part pid events) (own_part pid (e ∷ [])))
     ∙ length-append (replies_to pid events) (replies_to pid (e ∷ []))
 
-module _ (script : ScriptView) (run : Run) (pid : ℕ) (call : Call) where
+module _ (script : ScriptView) (run : Run) (pid : ℕ) (call : ProcessCall) where
   abbrev more : Run
   more = after run pid call
 
@@ -192,7 +192,7 @@ module _ (script : ScriptView) (run : Run) (pid : ℕ) (call : Call) where
       let test = test-both (has_pid pid script.processes) (is_live run.machine pid) (next_call pid no_values script.lines (replies_to pid run.events)) call h in
       fewer script.processes test.0 (next-fewer pid no_values script.lines (replies_to pid run.events) call test.1)
     where
-      test-both : (a b : Bool) (o : Option Call) (call : Call) → cond (a && b) o None ≡ Some call → (a ≡ true) × (o ≡ Some call)
+      test-both : (a b : Bool) (o : Option ProcessCall) (call : ProcessCall) → cond (a && b) o None ≡ Some call → (a ≡ true) × (o ≡ Some call)
       test-both true true o call h = (refl, h)
       test-both true false o call h = absurd (none-some call h)
       test-both false b o call h = absurd (none-some call h)

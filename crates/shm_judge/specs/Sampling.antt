@@ -3,7 +3,7 @@ use Rattle.std.specs.Prelude.{◌≡◌, ◌<◌, ℕ, zero, suc, List, [], ◌�
 use Rattle.std.specs.Fmt.{decimal}
 use Rattle.rand.specs.Uniform.{usize_single}
 use Rattle.rand_core.specs.Stream.{Stream}
-use Rattle.shm_base.specs.declared.call.Call.{Call}
+use Rattle.shm_base.specs.Calls.{ProcessCall}
 use Rattle.shm_base.specs.declared.call.Event.{Event}
 use Rattle.shm_base.specs.declared.call.Process.{Process}
 use Rattle.shm_print.specs.Text.{events_text}
@@ -11,7 +11,7 @@ use Rattle.shm_text.specs.Script.{ScriptView}
 use Rattle.shm_schedules.specs.Schedules.{Run, after, next, IsSchedule, schedule_of}
 use Rattle.shm_judge.specs.declared.sampling.Turn.{Turn}
 
-abbrev pub one_turn : ℕ → Option Call → List Turn
+abbrev pub one_turn : ℕ → Option ProcessCall → List Turn
 one_turn pid None = []
 one_turn pid (Some call) = record { pid = pid; call = call } ∷ []
 

@@ -1,5 +1,5 @@
 -- By how much each move changes how many pieces there are.
-use Rattle.shm_laws.proofs.Names.{◌≡◌, ◌≢◌, ◌⊎◌, ℕ, ◌+◌, ◌<◌, ◌==◌, ℤ, pos, Bool, true, false, not, if◌then◌else◌, List, [], ◌∷◌, Option, Some, slice_set, refl, sym, ap, ◌∙◌, inl, inr, arith, common_steps, filter, flat_map-cons, none-some, ShmidDs, Call, Shmat, Shmdt, Fork, Exec, Exit, Addr, Done, Event, AtFlags, Piece, Live, Runner, Machine, Look, look, occupied, cut, origin_of, is_named, without_named, pieces_of, attach_count, Caller, Outcome, caller_of, acts, step_by, is_remap, stat, gives, is_refusal, IsMove, one_more, pieces_of-inserted, pieces_of-filter, sum-set, piece_count, hands_pieces, CountsPieces, pieces_of_caller}
+use Rattle.shm_laws.proofs.Names.{◌≡◌, ◌≢◌, ◌⊎◌, ℕ, ◌+◌, ◌<◌, ◌==◌, ℤ, pos, Bool, true, false, not, if◌then◌else◌, List, [], ◌∷◌, Option, Some, slice_set, refl, sym, ap, ◌∙◌, inl, inr, arith, common_steps, filter, flat_map-cons, none-some, ShmidDs, ProcessCall, Shmat, Shmdt, Fork, Exec, Exit, Addr, Done, Event, AtFlags, Piece, Live, Runner, Machine, Look, look, occupied, cut, origin_of, is_named, without_named, pieces_of, attach_count, Caller, Outcome, caller_of, acts, step_by, is_remap, stat, gives, is_refusal, IsMove, one_more, pieces_of-inserted, pieces_of-filter, sum-set, piece_count, hands_pieces, CountsPieces, pieces_of_caller}
 use Rattle.shm_base.specs.declared.call.Call.TheVariants as calls
 use Rattle.shm_base.specs.declared.call.Reply.TheVariants as replies
 use Rattle.shm_laws.proofs.Handing.{Takes, caller-at, Rests, Attaches, Leaves, Forks, Hands, none-stay, hands-acts}
@@ -32,19 +32,19 @@ named-fewer addr (q ∷ qs) p found =
 -- ONE CALL
 
 -- a call that did one of the four things did none of the others
-no-rest : (s : Machine) (call : Call) (o : Outcome) → Rests s call o → hands_pieces call ≡ true → is_refusal o.reply ≡ false → ⊥
+no-rest : (s : Machine) (call : ProcessCall) (o : Outcome) → Rests s call o → hands_pieces call ≡ true → is_refusal o.reply ≡ false → ⊥
 no-rest s call o k gives clear = grind arith
 
-no-fork : (c : Caller) (call : Call) (stays : Piece → Bool) (child : ℕ) → Takes c call stays → call ≡ Fork child → ⊥
+no-fork : (c : Caller) (call : ProcessCall) (stays : Piece → Bool) (child : ℕ) → Takes c call stays → call ≡ Fork child → ⊥
 no-fork c call stays child taken asked = grind arith
 
-all-hands : (call : Call) → (call ≡ Exec) ⊎ (call ≡ Exit) → hands_pieces call ≡ true
+all-hands : (call : ProcessCall) → (call ≡ Exec) ⊎ (call ≡ Exit) → hands_pieces call ≡ true
 all-hands call which = grind arith
 
-no-quiet : (s : Machine) (c : Caller) (call : Call) (o : Outcome) → Attaches s c call o ⊎ (Leaves s c call o ⊎ Forks s c call o) → (hands_pieces call ≡ false) ⊎ (is_refusal o.reply ≡ true) → ⊥
+no-quiet : (s : Machine) (c : Caller) (call : ProcessCall) (o : Outcome) → Attaches s c call o ⊎ (Leaves s c call o ⊎ Forks s c call o) → (hands_pieces call ≡ false) ⊎ (is_refusal o.reply ≡ true) → ⊥
 no-quiet s c call o k why = grind arith
 
-module _ (s : Machine) (pid : ℕ) (c : Caller) (live : caller_of s pid ≡ Some c) (bare : Bare s.runners) (call : Call) (o : Outcome) where
+module _ (s : Machine) (pid : ℕ) (c : Caller) (live : caller_of s pid ≡ Some c) (bare : Bare s.runners) (call : ProcessCall) (o : Outcome) where
   -- the caller's pieces go and others come
   swap : (r : Runner) (j : ℕ) → attach_count (slice_set s.runners c.index r) j + pieces_of j c.pieces ≡ attach_count s.runners j + pieces_of j r.pieces
   swap r j =
@@ -112,7 +112,7 @@ counts-move s n e t bare =
     let o = acts s n c e.call in
     let k = hands-acts s n c e.call in
     record {
-      shown = λ id d asked told. stat-by s n id d (Some c) (ap (λ (a : Call). (acts s n c a).reply) (sym asked) ∙ told);
+      shown = λ id d asked told. stat-by s n id d (Some c) (ap (λ (a : ProcessCall). (acts s n c a).reply) (sym asked) ∙ told);
       attached = attach-counts s e.pid c is bare e.call o k;
       forked = fork-counts s e.pid c is bare e.call o k;
       left = left-counts s e.pid c is bare e.call o k;

@@ -1,5 +1,5 @@
 -- The reply of a shmget: the segment that has its key, with the permission that it asks for; or a new one if none has the key.
-use Rattle.shm_laws.proofs.Names.{◌≡◌, ◌≢◌, ◌⊎◌, ℕ, zero, suc, ◌+◌, ◌/◌, ◌%◌, ◌<◌, ◌==◌, ℤ, pos, true, false, not, nat_lt, nat_le, within, List, [], ◌∷◌, Option, Some, None, slice_get, refl, sym, ap, subst, ◌∙◌, inl, inr, arith, common_steps, true≢false, not-false, none-some, cases_Bool, cases_lt, Errno, GetFlags, Call, Shmget, Reply, Id, Event, Segment, Entry, Machine, Look, Found, Removed, Invalid, grants, wish_of, pages_of, identifier, destroyed_in, destroyed_at, free_index, with_segment, look_segment, has_key, key_from, find_key, reserved, segment_count, slots, Caller, Outcome, caller_of, acts, gives, refuses, new_segment, creates, creates_at, shmget, wants_creation, wants_no_other, is_refusal, IsMove, Stands, HasKey, IsCreated, creates_small, huge_errno}
+use Rattle.shm_laws.proofs.Names.{◌≡◌, ◌≢◌, ◌⊎◌, ℕ, zero, suc, ◌+◌, ◌/◌, ◌%◌, ◌<◌, ◌==◌, ℤ, pos, true, false, not, nat_lt, nat_le, within, List, [], ◌∷◌, Option, Some, None, slice_get, refl, sym, ap, subst, ◌∙◌, inl, inr, arith, common_steps, true≢false, not-false, none-some, cases_Bool, cases_lt, Errno, GetFlags, ProcessCall, Shmget, Reply, Id, Event, Segment, Entry, Machine, Look, Found, Removed, Invalid, grants, wish_of, pages_of, identifier, destroyed_in, destroyed_at, free_index, with_segment, look_segment, has_key, key_from, find_key, reserved, segment_count, slots, Caller, Outcome, caller_of, acts, gives, refuses, new_segment, creates, creates_at, shmget, wants_creation, wants_no_other, is_refusal, IsMove, Stands, HasKey, IsCreated, creates_small, huge_errno}
 use Rattle.shm_base.specs.Step.{gets}
 use Rattle.shm_laws.proofs.Fresh.{made-at, never}
 use Rattle.shm_laws.proofs.Looks.{holds, stands-at, at-stands}
@@ -166,7 +166,7 @@ module _ (s : Machine) (n : ℕ) (c : Caller) (short : IsShort s.table) (mode : 
       pick_by (G key) (key == 0) _ _ (λ h. subst (λ k. G k (creates s n c 0 size mode flags)) (sym (is-zero key h)) (creates-gets 0 size flags (inl refl)))
       (λ h. gets-gets key size flags (find_key s.table key) (not-zero key h) refl)
 
-  acts-gets : (call : Call) (key size : ℕ) (flags : GetFlags) → call ≡ Shmget key size mode flags → G key (acts s n c call)
+  acts-gets : (call : ProcessCall) (key size : ℕ) (flags : GetFlags) → call ≡ Shmget key size mode flags → G key (acts s n c call)
   acts-gets call key size flags asked = subst (λ a. G key (acts s n c a)) (sym asked) (shmget-gets key size flags)
 
 -- EACH MOVE

@@ -1,5 +1,5 @@
 -- Each piece descends from a shmat that had permission, and each move keeps out whoever has none.
-use Rattle.shm_laws.proofs.Names.{new_piece, ◌≡◌, ◌⊎◌, ℕ, ◌+◌, ◌*◌, ◌%◌, ◌<◌, ℤ, Bool, true, false, not, List, [], ◌∷◌, ◌++◌, length, get_or, Option, Some, None, slice_get, slice_set, refl, sym, ap, subst, ◌∙◌, inl, inr, arith, true≢false, All, Contains, none-some, slice_get_within, get_or_from_slice_get, All-nil, All-append, All-filter, All-map, All-weaker, All-contains, Contains-get_or, flat_map-cons, common_steps, Call, Load, Store, Xadd, Done, Event, Place, covers, places, writable_places, Segment, Piece, Live, Runner, Machine, Opening, start_of, runner_at_start, pages_in, look, meets, part_below, part_above, parts, cut, inserted, Caller, Outcome, caller_of, acts, pieces_with, is_rdonly, controls, load, store, xadd, is_refusal, IsMove, IsHistory, all-cons, all-head, all-tail, all-slice_set, HasPiece, EachPiece, IsPart, IsGranted, IsInherited, GoesBack, Granted, Kept, Inherited, Reach, StaysInside, controlled, OwnerAsks, KeepsOut, KeepsCredentials, MayAsk, NoWayIn, ShmidDs, pos, negsuc, stat, wish_of, grants, not-false, Look, Found, Removed, Invalid, Stands, IsCreated, Swapoff, swapoff, IsUserZero, ◌==◌, Set, Rmid, Lock, Unlock, sets, removes, locks, unlocks}
+use Rattle.shm_laws.proofs.Names.{new_piece, ◌≡◌, ◌⊎◌, ℕ, ◌+◌, ◌*◌, ◌%◌, ◌<◌, ℤ, Bool, true, false, not, List, [], ◌∷◌, ◌++◌, length, get_or, Option, Some, None, slice_get, slice_set, refl, sym, ap, subst, ◌∙◌, inl, inr, arith, true≢false, All, Contains, none-some, slice_get_within, get_or_from_slice_get, All-nil, All-append, All-filter, All-map, All-weaker, All-contains, Contains-get_or, flat_map-cons, common_steps, ProcessCall, Load, Store, Xadd, Done, Event, Place, covers, places, writable_places, Segment, Piece, Live, Runner, Machine, Opening, start_of, runner_at_start, pages_in, look, meets, part_below, part_above, parts, cut, inserted, Caller, Outcome, caller_of, acts, pieces_with, is_rdonly, controls, load, store, xadd, is_refusal, IsMove, IsHistory, all-cons, all-head, all-tail, all-slice_set, HasPiece, EachPiece, IsPart, IsGranted, IsInherited, GoesBack, Granted, Kept, Inherited, Reach, StaysInside, controlled, OwnerAsks, KeepsOut, KeepsCredentials, MayAsk, NoWayIn, ShmidDs, pos, negsuc, stat, wish_of, grants, not-false, Look, Found, Removed, Invalid, Stands, IsCreated, Swapoff, swapoff, IsUserZero, ◌==◌, Set, Rmid, Lock, Unlock, sets, removes, locks, unlocks}
 use Rattle.shm_laws.proofs.Accessing.{lies-in, place-of, writable-at, writable-parts}
 use Rattle.shm_laws.proofs.Handing.{CallerAt, caller-at, IsAligned, Attaches, Leaves, Forks, Hands, hands-acts}
 use Rattle.shm_laws.proofs.Inducting.{each_move, at_all_times}
@@ -76,7 +76,7 @@ module _ (s : Machine) (pid : ℕ) (c : Caller) (is : caller_of s pid ≡ Some c
   pub mine : All (HasPiece s pid) c.pieces
   mine = has-own s me me-is
 
-  module _ (call : Call) (o : Outcome) (aligned : Aligned s) where
+  module _ (call : ProcessCall) (o : Outcome) (aligned : Aligned s) where
     abbrev e : Event
     e = record { pid = pid; call = call; reply = o.reply }
 
@@ -209,14 +209,14 @@ module _ (s : Machine) (n pid : ℕ) (c : Caller) (live : caller_of s pid ≡ So
   lies-written a len qs is =
       let both = writable-parts (places c.pieces a len) qs is in lies a len true qs both.0 (λ j q at w. writable-at qs j q both.1 at)
 
-  abbrev Inside : Call → Outcome → Type 0
+  abbrev Inside : ProcessCall → Outcome → Type 0
   Inside call o = StaysInside s (record { pid = pid; call = call; reply = o.reply })
 
   inside-load : (a len : ℕ) (o : Option (List Place)) → places c.pieces a len ≡ o → Inside (Load a len) (load s o)
   inside-load a len None is clear = absurd (true≢false clear)
   inside-load a len (Some qs) is clear = lies a len false qs is (λ k q at w. absurd (true≢false (sym w)))
 
-  inside-store : (a : ℕ) (bytes : List ℕ) (o : Option (List Place)) → writable_places c.pieces a (length bytes) ≡ o → Inside (Store a bytes) (store s bytes o)
+  inside-store : (a : ℕ) (bytes : List ℕ) (o : Option (List Place)) → writable_places c.pieces a (length bytes) ≡ o → Inside (Store bytes a) (store s bytes o)
   inside-store a bytes None is clear = absurd (true≢false clear)
   inside-store a bytes (Some qs) is clear = lies-written a (length bytes) qs is
 
@@ -224,22 +224,22 @@ module _ (s : Machine) (n pid : ℕ) (c : Caller) (live : caller_of s pid ≡ So
   inside-xadd a add None is clear = absurd (true≢false clear)
   inside-xadd a add (Some qs) is clear = lies-written a 8 qs is
 
-  inside-acts : (call : Call) → Inside call (acts s n c call)
+  inside-acts : (call : ProcessCall) → Inside call (acts s n c call)
   inside-acts (Load a len) clear r reached = inside-load a len (places c.pieces a len) refl clear r reached
-  inside-acts (Store a bytes) clear r reached = inside-store a bytes (writable_places c.pieces a (length bytes)) refl clear r reached
+  inside-acts (Store bytes a) clear r reached = inside-store a bytes (writable_places c.pieces a (length bytes)) refl clear r reached
   inside-acts (Xadd a add) clear r reached = inside-xadd a add (writable_places c.pieces a 8) refl clear r reached
   inside-acts call clear r reached = absurd (none-some r reached)
 
   asks : (id : ℤ) (act : ℕ → Segment → Outcome) → (controls s c act (look s.table id)).reply ≡ Done → OwnerAsks s pid id
   asks id act done = grind (arith, common_steps, found-own)
 
-  abbrev Asks : Call → Outcome → Type 0
+  abbrev Asks : ProcessCall → Outcome → Type 0
   Asks call o = (id : ℤ) → controlled call ≡ Some id → o.reply ≡ Done → OwnerAsks s pid id
 
   asked : (own : ℤ) (act : ℕ → Segment → Outcome) → (id : ℤ) → Some own ≡ Some id → (controls s c act (look s.table own)).reply ≡ Done → OwnerAsks s pid id
   asked own act id is done = let same : own ≡ id = cc is in subst (OwnerAsks s pid) same (asks own act done)
 
-  asks-acts : (call : Call) → Asks call (acts s n c call)
+  asks-acts : (call : ProcessCall) → Asks call (acts s n c call)
   asks-acts (Set own uid gid mode) id is = asked own (sets s n uid gid mode) id is
   asks-acts (Rmid own) id is = asked own (removes s) id is
   asks-acts (Lock own) id is = asked own (locks s c) id is
@@ -268,7 +268,7 @@ module _ (s : Machine) (n pid : ℕ) (c : Caller) (live : caller_of s pid ≡ So
   reads (pos m) d told = reads-found m d (look s.table (pos m)) refl told
   reads (negsuc m) d told = absurd (cc told)
 
-  reads-acts : (call : Call) (id : ℤ) (d : ShmidDs) → call ≡ calls.Stat id → (acts s n c call).reply ≡ replies.Stat d → Reads s pid id
+  reads-acts : (call : ProcessCall) (id : ℤ) (d : ShmidDs) → call ≡ calls.Stat id → (acts s n c call).reply ≡ replies.Stat d → Reads s pid id
   reads-acts call id d asked told = reads id d (ap (λ a. (acts s n c a).reply) (sym asked) ∙ told)
 
   -- who takes an area away
@@ -277,7 +277,7 @@ module _ (s : Machine) (n pid : ℕ) (c : Caller) (live : caller_of s pid ≡ So
       pick_by (λ (o : Outcome). o.reply ≡ Done → IsUserZero s pid) (not (c.cred.uid == 0)) _ _ (λ h said. absurd (cc said))
       (λ h said. (c, live, is-zero c.cred.uid (not-false (c.cred.uid == 0) h))) done
 
-  takes-acts : (call : Call) (area : ℕ) → call ≡ Swapoff area → (acts s n c call).reply ≡ Done → IsUserZero s pid
+  takes-acts : (call : ProcessCall) (area : ℕ) → call ≡ Swapoff area → (acts s n c call).reply ≡ Done → IsUserZero s pid
   takes-acts call area asked done = takes area (ap (λ a. (acts s n c a).reply) (sym asked) ∙ done)
 
 -- all of it except the reply of a shmget

@@ -1,6 +1,6 @@
 -- What each call does to the pieces of processes: nothing, or the caller attaches a segment, or loses pieces, or has a child.
 use Rattle.shm_base.specs.Step.{gets}
-use Rattle.shm_laws.proofs.Names.{◌≡◌, ◌⊎◌, ℕ, suc, ◌+◌, ◌-◌, ◌*◌, ◌%◌, ◌≤◌, ◌==◌, ◌&&◌, ℤ, pos, negsuc, Bool, true, false, not, nat_lt, List, [], ◌∷◌, length, map, get_or, Option, Some, None, slice_get, slice_set, refl, sym, ap, ◌∙◌, inl, inr, arith, ne_eqb, common_steps, All, filter, find, cases_eq, not-false, none-some, All-map, Errno, Call, Shmget, Shmat, Shmdt, Load, Fork, Exec, Exit, Addr, Done, AtFlags, end_of, grants, Segment, Piece, Life, Live, Ended, Runner, Machine, pages_in, Look, Found, Removed, Invalid, identifier, destroyed_at, look, inside, occupied, choose, is_gap, first_chosen, lowest_address, end_address, origin_of, is_named, is_refusal, refuses, creates, Caller, Outcome, caller_from, acts, at_wish, is_rnd, is_remap, pieces_with, with_pieces, attaches, attaches_chosen, attaches_fixed, attaches_found, shmat, detaches, forks, unborn_from, all-cons, all-head, all-tail, Stands, hands_pieces, GetFlags, huge_errno, is_taken, is_full, remaps_null, creates_at, creates_small, slots, reserved, segment_count, free_index, pages_of, within, nat_le, wants_no_other, wants_creation, wish_of, find_key}
+use Rattle.shm_laws.proofs.Names.{◌≡◌, ◌⊎◌, ℕ, suc, ◌+◌, ◌-◌, ◌*◌, ◌%◌, ◌≤◌, ◌==◌, ◌&&◌, ℤ, pos, negsuc, Bool, true, false, not, nat_lt, List, [], ◌∷◌, length, map, get_or, Option, Some, None, slice_get, slice_set, refl, sym, ap, ◌∙◌, inl, inr, arith, ne_eqb, common_steps, All, filter, find, cases_eq, not-false, none-some, All-map, Errno, ProcessCall, Shmget, Shmat, Shmdt, Load, Fork, Exec, Exit, Addr, Done, AtFlags, end_of, grants, Segment, Piece, Life, Live, Ended, Runner, Machine, pages_in, Look, Found, Removed, Invalid, identifier, destroyed_at, look, inside, occupied, choose, is_gap, first_chosen, lowest_address, end_address, origin_of, is_named, is_refusal, refuses, creates, Caller, Outcome, caller_from, acts, at_wish, is_rnd, is_remap, pieces_with, with_pieces, attaches, attaches_chosen, attaches_fixed, attaches_found, shmat, detaches, forks, unborn_from, all-cons, all-head, all-tail, Stands, hands_pieces, GetFlags, huge_errno, is_taken, is_full, remaps_null, creates_at, creates_small, slots, reserved, segment_count, free_index, pages_of, within, nat_le, wants_no_other, wants_creation, wish_of, find_key}
 use Rattle.shm_laws.proofs.Looks.{found-own}
 use Rattle.shm_laws.proofs.Stepping.{pick, pick_by}
 
@@ -28,7 +28,7 @@ caller-at n pid (r ∷ rs) c found =
 abbrev pub IsAligned : Piece → Type 0
 IsAligned p = p.base % 4096 ≡ 0
 
-pub record Attaches (s : Machine) (c : Caller) (call : Call) (o : Outcome) : Type 0 where
+pub record Attaches (s : Machine) (c : Caller) (call : ProcessCall) (o : Outcome) : Type 0 where
   pub seg : ℕ
   pub addr : ℕ
   pub flags : AtFlags
@@ -46,12 +46,12 @@ pub record Attaches (s : Machine) (c : Caller) (call : Call) (o : Outcome) : Typ
   pub runners : o.state.runners ≡ with_pieces s.runners c (pieces_with c seg segment flags base)
 
 -- by a shmdt that named the piece, or all of them
-abbrev pub Takes : Caller → Call → (Piece → Bool) → Type 0
+abbrev pub Takes : Caller → ProcessCall → (Piece → Bool) → Type 0
 Takes c call stays =
     ((addr : ℕ) × (p : Piece) × (call ≡ Shmdt addr) × (origin_of addr c.pieces ≡ Some p) × (stays ≡ (λ q. not (is_named addr p.seg q))))
     ⊎ (((call ≡ Exec) ⊎ (call ≡ Exit)) × (stays ≡ (λ q. false)))
 
-pub record Leaves (s : Machine) (c : Caller) (call : Call) (o : Outcome) : Type 0 where
+pub record Leaves (s : Machine) (c : Caller) (call : ProcessCall) (o : Outcome) : Type 0 where
   pub life : Life
   pub stays : Piece → Bool
   pub taken : Takes c call stays
@@ -59,7 +59,7 @@ pub record Leaves (s : Machine) (c : Caller) (call : Call) (o : Outcome) : Type 
   pub answer : o.reply ≡ Done
   pub runners : o.state.runners ≡ slice_set s.runners c.index (record { pid = c.pid; life = life; pieces = filter stays c.pieces })
 
-pub record Forks (s : Machine) (c : Caller) (call : Call) (o : Outcome) : Type 0 where
+pub record Forks (s : Machine) (c : Caller) (call : ProcessCall) (o : Outcome) : Type 0 where
   pub child : ℕ
   pub index : ℕ
   pub asked : call ≡ Fork child
@@ -68,11 +68,11 @@ pub record Forks (s : Machine) (c : Caller) (call : Call) (o : Outcome) : Type 0
   pub runners : o.state.runners ≡ slice_set s.runners index (record { pid = child; life = Live c.cred; pieces = c.pieces })
 
 -- nothing, of a call that hands no pieces out, or of one that was refused
-pub record Rests (s : Machine) (call : Call) (o : Outcome) : Type 0 where
+pub record Rests (s : Machine) (call : ProcessCall) (o : Outcome) : Type 0 where
   pub why : (hands_pieces call ≡ false) ⊎ (is_refusal o.reply ≡ true)
   pub runners : o.state.runners ≡ s.runners
 
-abbrev pub Hands : Machine → Caller → Call → Outcome → Type 0
+abbrev pub Hands : Machine → Caller → ProcessCall → Outcome → Type 0
 Hands s c call o = Rests s call o ⊎ (Attaches s c call o ⊎ (Leaves s c call o ⊎ Forks s c call o))
 
 -- EACH CALL
@@ -123,15 +123,15 @@ none-stay (p ∷ ps) = none-stay ps
 
 module _ (s : Machine) (n : ℕ) (c : Caller) where
   -- a refusal
-  refused : (call : Call) (e : Errno) → Hands s c call (refuses s e)
+  refused : (call : ProcessCall) (e : Errno) → Hands s c call (refuses s e)
   refused call e = inl (record { why = inr refl; runners = refl })
 
   -- a call that hands no pieces out
-  rests : (call : Call) (o : Outcome) → hands_pieces call ≡ false → o.state.runners ≡ s.runners → Hands s c call o
+  rests : (call : ProcessCall) (o : Outcome) → hands_pieces call ≡ false → o.state.runners ≡ s.runners → Hands s c call o
   rests call o why same = inl (record { why = inl why; runners = same })
 
   -- of a call that asks for a segment that exists, and has the permission
-  module _ (call : Call) (seg at : ℕ) (flags : AtFlags) (x : Segment) (asked : call ≡ Shmat (pos seg) at flags) (there : Stands s seg x) (permitted : grants c.cred x.perm (at_wish s flags) ≡ true) where
+  module _ (call : ProcessCall) (seg at : ℕ) (flags : AtFlags) (x : Segment) (asked : call ≡ Shmat (pos seg) at flags) (there : Stands s seg x) (permitted : grants c.cred x.perm (at_wish s flags) ≡ true) where
     hands-attaches : (base : ℕ) → (All IsAligned c.pieces → base % 4096 ≡ 0) → IsInside base (base + 4096 * pages_in x) → (is_remap flags ≡ false → occupied c.pieces base (base + 4096 * pages_in x) ≡ false)
         → Hands s c call (attaches s n c seg x flags base)
     hands-attaches base page inside free =
@@ -200,7 +200,7 @@ module _ (s : Machine) (n : ℕ) (c : Caller) where
   hands-detaches addr (Some p) is =
       inr (inr (inl (record { life = Live c.cred; stays = λ q. not (is_named addr p.seg q); taken = inl (addr, p, refl, is, refl); who = inl refl; answer = refl; runners = refl })))
 
-  hands-all : (call : Call) (o : Outcome) (life : Life) → (life ≡ Live c.cred) ⊎ (life ≡ Ended) → (call ≡ Exec) ⊎ (call ≡ Exit) → o.reply ≡ Done → o.state.runners ≡ slice_set s.runners c.index (record { pid = c.pid; life = life; pieces = [] }) → Hands s c call o
+  hands-all : (call : ProcessCall) (o : Outcome) (life : Life) → (life ≡ Live c.cred) ⊎ (life ≡ Ended) → (call ≡ Exec) ⊎ (call ≡ Exit) → o.reply ≡ Done → o.state.runners ≡ slice_set s.runners c.index (record { pid = c.pid; life = life; pieces = [] }) → Hands s c call o
   hands-all call o life who which done is =
       inr (inr (inl (record {
         life = life;
@@ -239,7 +239,7 @@ module _ (s : Machine) (n : ℕ) (c : Caller) where
   same-gets key size mode flags Removed = pick Leave (wants_creation flags) _ _ (same-creates key size mode flags) refl
   same-gets key size mode flags Invalid = pick Leave (wants_creation flags) _ _ (same-creates key size mode flags) refl
 
-  pub hands-acts : (call : Call) → Hands s c call (acts s n c call)
+  pub hands-acts : (call : ProcessCall) → Hands s c call (acts s n c call)
   hands-acts (Shmget key size mode flags) = rests _ _ refl (pick Leave (key == 0) _ _ (same-creates 0 size mode flags) (same-gets key size mode flags (find_key s.table key)))
   hands-acts (Shmat id addr flags) = hands-shmat id addr flags
   hands-acts (Shmdt addr) = hands-detaches addr (origin_of addr c.pieces) refl

@@ -1,5 +1,5 @@
 -- A call sees no byte that is hidden from its process.
-use Rattle.shm_laws.proofs.Names.{◌≡◌, ◌⊎◌, ℕ, ◌+◌, ◌*◌, ◌/◌, ◌%◌, ◌^◌, ◌==◌, ℤ, Bool, true, false, not, nat_lt, if◌then◌else◌, List, [], ◌∷◌, length, Option, Some, None, slice_get, refl, sym, ap, subst, ◌∙◌, inl, inr, arith, common_steps, w64, to_le_bytes, from_le_bytes, length-replicate, none-some, slice_get_within, Errno, Eperm, GetFlags, AtFlags, Call, Shmget, Shmat, Shmdt, Stat, Set, Rmid, Lock, Unlock, Load, Store, Xadd, Fork, Exec, Exit, Swapoff, Addr, Number, Done, Event, Place, place, places, writable_places, stored, Segment, Entry, Piece, Runner, Machine, Opening, pages_in, Look, identifier, destroyed_in, destroyed_at, find_key, look, cut_segments, origin_of, change, attached, detach_all, swept, after_detach, Outcome, gives, refuses, Caller, caller_of, with_pieces, with_end, segments_of, new_segment, creates, shmget, pieces_with, attaches, attaches_chosen, attaches_fixed, attaches_found, shmat, detaches, forks, unborn_from, stat, controls, sets, removes, locks, unlocks, load, store, xadd, number_at, takes_away, acts, step_by, step, is_failure, IsMove, IsHistory, HasPiece, Reach, reach, veiled, veiled_from, veil, DifferIn, HasNone, IsPrivate, IsAsked, IsBlindOn, IsIsolated, pieces_of_caller, clear_step, first_clear, rest_clear, Einval, Enospc, Enomem, creates_small, huge_errno, within, reserved, pages_of, rests, attach_all, pieces_errno, inherited, fork_marks, slice_set, Live, may_not_lock, passes_limit, locks_as, unlocked, is_no_owner, ◌&&◌, Eexist, Eacces, grants, wish_of, wants_no_other, wants_creation, Found, Removed, Invalid, Id, pos, remaps_null, is_rnd}
+use Rattle.shm_laws.proofs.Names.{◌≡◌, ◌⊎◌, ℕ, ◌+◌, ◌*◌, ◌/◌, ◌%◌, ◌^◌, ◌==◌, ℤ, Bool, true, false, not, nat_lt, if◌then◌else◌, List, [], ◌∷◌, length, Option, Some, None, slice_get, refl, sym, ap, subst, ◌∙◌, inl, inr, arith, common_steps, w64, to_le_bytes, from_le_bytes, length-replicate, none-some, slice_get_within, Errno, Eperm, GetFlags, AtFlags, ProcessCall, Shmget, Shmat, Shmdt, Stat, Set, Rmid, Lock, Unlock, Load, Store, Xadd, Fork, Exec, Exit, Swapoff, Addr, Number, Done, Event, Place, place, places, writable_places, stored, Segment, Entry, Piece, Runner, Machine, Opening, pages_in, Look, identifier, destroyed_in, destroyed_at, find_key, look, cut_segments, origin_of, change, attached, detach_all, swept, after_detach, Outcome, gives, refuses, Caller, caller_of, with_pieces, with_end, segments_of, new_segment, creates, shmget, pieces_with, attaches, attaches_chosen, attaches_fixed, attaches_found, shmat, detaches, forks, unborn_from, stat, controls, sets, removes, locks, unlocks, load, store, xadd, number_at, takes_away, acts, step_by, step, is_failure, IsMove, IsHistory, HasPiece, Reach, reach, veiled, veiled_from, veil, DifferIn, HasNone, IsPrivate, IsAsked, IsBlindOn, IsIsolated, pieces_of_caller, clear_step, first_clear, rest_clear, Einval, Enospc, Enomem, creates_small, huge_errno, within, reserved, pages_of, rests, attach_all, pieces_errno, inherited, fork_marks, slice_set, Live, may_not_lock, passes_limit, locks_as, unlocked, is_no_owner, ◌&&◌, Eexist, Eacces, grants, wish_of, wants_no_other, wants_creation, Found, Removed, Invalid, Id, pos, remaps_null, is_rnd}
 use Rattle.shm_laws.proofs.Refusing.{by-move}
 use Rattle.shm_base.specs.Step.{gets}
 use Rattle.shm_laws.proofs.Accessing.{place-of, places-length, writable-parts}
@@ -180,7 +180,7 @@ module _ (hidden : ℕ → Bool) (s : Machine) (n : ℕ) (c : Caller) where
     out-takes : (area : ℕ) (o : Option (Option ℕ)) → takes_away B area o ≡ out hidden (takes_away s area o)
     out-takes area o = let same = reserved-veiled hidden T in grind arith
 
-    out-acts : (call : Call) → acts B n c call ≡ out hidden (acts s n c call)
+    out-acts : (call : ProcessCall) → acts B n c call ≡ out hidden (acts s n c call)
     out-acts (Shmget key size mode flags) = out-shmget key size mode flags
     out-acts (Shmat id addr flags) = out-shmat id addr flags
     out-acts (Shmdt addr) = out-detaches addr (origin_of addr c.pieces)
@@ -190,7 +190,7 @@ module _ (hidden : ℕ → Bool) (s : Machine) (n : ℕ) (c : Caller) where
     out-acts (Lock id) = out-look (locks B c) (locks s c) out-locks id
     out-acts (Unlock id) = out-look (unlocks B) (unlocks s) (λ b i x. out-changed i unlocked (λ b x. refl)) id
     out-acts (Load a len) = out-load a len (places c.pieces a len) refl
-    out-acts (Store a bytes) = out-store a bytes (writable_places c.pieces a (length bytes)) refl
+    out-acts (Store bytes a) = out-store a bytes (writable_places c.pieces a (length bytes)) refl
     out-acts (Xadd a add) = out-xadd a add (writable_places c.pieces a 8) refl
     out-acts (Fork child) = out-forks child (unborn_from 0 child s.runners)
     out-acts Exec = out-after (with_pieces s.runners c []) (segments_of c)
@@ -203,12 +203,12 @@ module _ (hidden : ℕ → Bool) (s : Machine) (n : ℕ) (c : Caller) where
 abbrev Sees : (ℕ → Bool) → Machine → ℕ → Type 0
 Sees hidden s pid = (a : ℕ) (q : Place) → place (pieces_of_caller (caller_of s pid)) a ≡ Some q → Seen hidden s.table q
 
-out-by : (hidden : ℕ → Bool) (s : Machine) (n : ℕ) (call : Call) (o : Option Caller) → ((a : ℕ) (q : Place) → place (pieces_of_caller o) a ≡ Some q → Seen hidden s.table q)
+out-by : (hidden : ℕ → Bool) (s : Machine) (n : ℕ) (call : ProcessCall) (o : Option Caller) → ((a : ℕ) (q : Place) → place (pieces_of_caller o) a ≡ Some q → Seen hidden s.table q)
     → step_by (veil hidden s) n call o ≡ out hidden (step_by s n call o)
 out-by hidden s n call None sees = refl
 out-by hidden s n call (Some c) sees = out-acts hidden s n c sees call
 
-out-step : (hidden : ℕ → Bool) (s : Machine) (n pid : ℕ) (call : Call) → Sees hidden s pid → step (veil hidden s) n pid call ≡ out hidden (step s n pid call)
+out-step : (hidden : ℕ → Bool) (s : Machine) (n pid : ℕ) (call : ProcessCall) → Sees hidden s pid → step (veil hidden s) n pid call ≡ out hidden (step s n pid call)
 out-step hidden s n pid call sees = out-by hidden s n call (caller_of s pid) sees
 
 -- whether a place of the process is hidden is whether its piece's segment is
@@ -234,7 +234,7 @@ other-hidden hidden s other pid b differ sees a q found =
     sym (veiled-destroyed hidden other.table i) ∙ ap (λ (m : Machine). destroyed_at m.table i) (sym differ) ∙ veiled-destroyed hidden s.table i in
     ap (λ d. hidden (identifier i d)) count ∙ sees a q there
 
-blind-step : (hidden : ℕ → Bool) (s other : Machine) (n pid : ℕ) (call : Call) → DifferIn hidden s other → Sees hidden s pid
+blind-step : (hidden : ℕ → Bool) (s other : Machine) (n pid : ℕ) (call : ProcessCall) → DifferIn hidden s other → Sees hidden s pid
     → out hidden (step s n pid call) ≡ out hidden (step other n pid call)
 blind-step hidden s other n pid call differ sees =
     sym (out-step hidden s n pid call sees) ∙ ap (λ m. step m n pid call) differ ∙ out-step hidden other n pid call (other-hidden hidden s other pid false differ sees)
@@ -265,9 +265,9 @@ module _ (hidden : ℕ → Bool) (s : Machine) (n : ℕ) (c : Caller) (hid : (a 
   private-store : (a len : ℕ) (vs : List ℕ) (qs : List Place) → writable_places c.pieces a len ≡ Some qs → veil hidden (record s { table = stored s.table qs vs }) ≡ veil hidden s
   private-store a len vs qs is = grind (arith, common_steps, writable-parts, stored-hidden, hid-places)
 
-  private-acts : (call : Call) (r : Reach) → reach call ≡ Some r → veil hidden (acts s n c call).state ≡ veil hidden s
+  private-acts : (call : ProcessCall) (r : Reach) → reach call ≡ Some r → veil hidden (acts s n c call).state ≡ veil hidden s
   private-acts (Load a len) r is = grind arith
-  private-acts (Store a bytes) r is = grind (arith, private-store a (length bytes) bytes)
+  private-acts (Store bytes a) r is = grind (arith, private-store a (length bytes) bytes)
   private-acts (Xadd a add) r is = by (writable_places c.pieces a 8) refl
     where
       by : (o : Option (List Place)) → writable_places c.pieces a 8 ≡ o → veil hidden (xadd s add o).state ≡ veil hidden s

@@ -1,5 +1,5 @@
 -- No call changes the limits of a machine.
-use Rattle.shm_laws.proofs.Names.{◌≡◌, ◌+◌, ◌%◌, ◌==◌, ◌&&◌, ℕ, ℤ, not, nat_lt, nat_le, within, List, length, Option, Some, None, refl, common_steps, arith, AtFlags, GetFlags, Call, Shmget, Shmat, Shmdt, Stat, Set, Rmid, Lock, Unlock, Load, Store, Xadd, Fork, Exec, Exit, Swapoff, Event, Place, Segment, Piece, Machine, pages_of, pages_in, Look, Found, Removed, Invalid, find_key, free_index, look, places, writable_places, inside, origin_of, reserved, locked, segment_count, Outcome, Caller, creates, pieces_with, attaches, attaches_chosen, attaches_fixed, attaches_found, shmat, detaches, forks, unborn_from, stat, controls, sets, removes, locks, unlocks, load, store, xadd, takes_away, acts, is_rnd, at_wish, wish_of, wants_creation, wants_no_other, grants, owns, IsMove, Errno, creates_small, huge_errno, is_taken, is_full, is_no_owner, remaps_null, may_not_lock, passes_limit}
+use Rattle.shm_laws.proofs.Names.{◌≡◌, ◌+◌, ◌%◌, ◌==◌, ◌&&◌, ℕ, ℤ, not, nat_lt, nat_le, within, List, length, Option, Some, None, refl, common_steps, arith, AtFlags, GetFlags, ProcessCall, Shmget, Shmat, Shmdt, Stat, Set, Rmid, Lock, Unlock, Load, Store, Xadd, Fork, Exec, Exit, Swapoff, Event, Place, Segment, Piece, Machine, pages_of, pages_in, Look, Found, Removed, Invalid, find_key, free_index, look, places, writable_places, inside, origin_of, reserved, locked, segment_count, Outcome, Caller, creates, pieces_with, attaches, attaches_chosen, attaches_fixed, attaches_found, shmat, detaches, forks, unborn_from, stat, controls, sets, removes, locks, unlocks, load, store, xadd, takes_away, acts, is_rnd, at_wish, wish_of, wants_creation, wants_no_other, grants, owns, IsMove, Errno, creates_small, huge_errno, is_taken, is_full, is_no_owner, remaps_null, may_not_lock, passes_limit}
 use Rattle.shm_base.specs.Step.{gets, creates_at}
 use Rattle.shm_laws.proofs.Refusing.{by-move}
 use Rattle.shm_laws.proofs.Stepping.{pick}
@@ -89,7 +89,7 @@ module _ (s : Machine) (n : ℕ) (c : Caller) where
   limited-takes : (area : ℕ) (o : Option (Option ℕ)) → Limited (takes_away s area o)
   limited-takes area o = grind (arith, common_steps)
 
-  pub limited-acts : (call : Call) → Limited (acts s n c call)
+  pub limited-acts : (call : ProcessCall) → Limited (acts s n c call)
   limited-acts (Shmget key size mode flags) =
       pick Limited (key == 0) _ _ (limited-creates 0 size mode flags) (limited-gets key size mode flags (find_key s.table key))
   limited-acts (Shmat id addr flags) = limited-shmat id addr flags
@@ -100,7 +100,7 @@ module _ (s : Machine) (n : ℕ) (c : Caller) where
   limited-acts (Lock id) = limited-controls (locks s c) limited-locks (look s.table id)
   limited-acts (Unlock id) = limited-controls (unlocks s) (λ i x. refl) (look s.table id)
   limited-acts (Load a len) = limited-load (places c.pieces a len)
-  limited-acts (Store a bytes) = limited-store bytes (writable_places c.pieces a (length bytes))
+  limited-acts (Store bytes a) = limited-store bytes (writable_places c.pieces a (length bytes))
   limited-acts (Xadd a add) = limited-xadd add (writable_places c.pieces a 8)
   limited-acts (Fork child) = limited-forks child (unborn_from 0 child s.runners)
   limited-acts Exec = refl

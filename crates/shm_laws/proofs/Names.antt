@@ -26,7 +26,7 @@ pub use Rattle.shm_base.specs.Space.{choose, cut, cut_segments, first_chosen, in
 pub use Rattle.shm_base.specs.State.{Ended, Entry, Life, Live, Machine, Opening, Piece, Runner, Segment, Unborn, pages_in, pages_of, runner_at_start, start_of}
 pub use Rattle.shm_base.specs.Step.{Caller, Outcome, acts, at_wish, creates_small, huge_errno, inherited, is_full, is_no_owner, is_taken, outside_errno, remaps_null, rests, attaches, attaches_chosen, attaches_fixed, attaches_found, caller_from, caller_of, controls, creates, creates_at, detaches, forks, gives, is_rdonly, is_remap, is_rnd, load, locks, new_segment, number_at, pieces_with, refuses, removes, segments_of, sets, shmat, shmget, stat, step, step_by, store, swapoff, takes_away, unborn_from, unlocks, wants_creation, wants_no_other, with_end, with_pieces, xadd}
 pub use Rattle.shm_base.specs.declared.owner.Cred.{Cred}
-pub use Rattle.shm_base.specs.declared.call.Call.{Call}
+pub use Rattle.shm_base.specs.Calls.{ProcessCall}
 pub use Rattle.shm_base.specs.declared.call.Call.TheVariants.{Exec, Exit, Fork, Load, Lock, Rmid, Set, Shmat, Shmdt, Shmget, Stat, Store, Swapoff, Unlock, Xadd}
 pub use Rattle.shm_base.specs.declared.call.Event.{Event}
 pub use Rattle.shm_base.specs.declared.call.Process.{Process}

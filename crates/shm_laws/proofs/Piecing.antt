@@ -1,5 +1,5 @@
 -- A segment with a piece exists.
-use Rattle.shm_laws.proofs.Names.{new_piece, ◌≡◌, ◌⊎◌, ℕ, suc, zero, ◌+◌, ◌*◌, ◌≤◌, not, List, [], ◌∷◌, map, Some, slice_get, slice_set, refl, ap, subst, inl, inr, arith, common_steps, cases_eq, filter, sum_by-cons, Call, Event, Process, Segment, Piece, Live, Runner, Machine, Opening, start_of, runner_at_start, pages_in, cut, pieces_of, attach_count, Caller, Outcome, caller_of, acts, is_rdonly, pieces_with, IsMove, IsHistory, one_more, pieces_of-inserted, pieces_of-cut_cons, pieces_of-filter, sum-set, Stands, IsDue, PiecesNameWhatStands, GivesPieces, CountsPieces, PiecesAreOfSegments}
+use Rattle.shm_laws.proofs.Names.{new_piece, ◌≡◌, ◌⊎◌, ℕ, suc, zero, ◌+◌, ◌*◌, ◌≤◌, not, List, [], ◌∷◌, map, Some, slice_get, slice_set, refl, ap, subst, inl, inr, arith, common_steps, cases_eq, filter, sum_by-cons, ProcessCall, Event, Process, Segment, Piece, Live, Runner, Machine, Opening, start_of, runner_at_start, pages_in, cut, pieces_of, attach_count, Caller, Outcome, caller_of, acts, is_rdonly, pieces_with, IsMove, IsHistory, one_more, pieces_of-inserted, pieces_of-cut_cons, pieces_of-filter, sum-set, Stands, IsDue, PiecesNameWhatStands, GivesPieces, CountsPieces, PiecesAreOfSegments}
 use Rattle.shm_laws.proofs.Refusing.{by-move}
 use Rattle.shm_laws.proofs.Counting.{counts-move}
 use Rattle.shm_laws.proofs.Handing.{Attaches, Hands, caller-at, hands-acts}
@@ -47,7 +47,7 @@ module _ (s : Machine) (c : Caller) (mine : (id : ℕ) → attach_count s.runner
   set-first : (i : ℕ) (r : Runner) → ((id : ℕ) → attach_count s.runners id ≡ 0 → (pieces_of id r.pieces ≡ 0) ⊎ ((x : Segment) × Stands s id x)) → First s (slice_set s.runners i r)
   set-first i r own id none = grind (arith, common_steps, count-set, arith)
 
-  first-attaches : (call : Call) (o : Outcome) → Attaches s c call o → Gives o
+  first-attaches : (call : ProcessCall) (o : Outcome) → Attaches s c call o → Gives o
   first-attaches call o k =
       rw k.runners (set-first c.index (record { pid = c.pid; life = Live c.cred; pieces = pieces_with c k.seg k.segment k.flags k.base }) own)
     where
@@ -61,7 +61,7 @@ module _ (s : Machine) (c : Caller) (mine : (id : ℕ) → attach_count s.runner
             | inr apart ↦ inl (grind (arith, common_steps, left, more))
           ]
 
-  first-hands : (call : Call) (o : Outcome) → Hands s c call o → Gives o
+  first-hands : (call : ProcessCall) (o : Outcome) → Hands s c call o → Gives o
   first-hands call o (inl k) = rw k.runners stays
   first-hands call o (inr (inl k)) = first-attaches call o k
   first-hands call o (inr (inr (inl k))) =

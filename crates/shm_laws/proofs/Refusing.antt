@@ -1,16 +1,16 @@
 -- A pager's failure is a refusal, and a refusal does nothing; what holds of acts and refusals holds of each move.
-use Rattle.shm_laws.proofs.Names.{◌≡◌, ℕ, true, Option, None, Some, refl, subst, inl, inr, arith, Esrch, Call, Reply, Refused, Event, Machine, Caller, Outcome, caller_of, acts, step_by, IsMove, is_refusal, is_failure, put}
+use Rattle.shm_laws.proofs.Names.{◌≡◌, ℕ, true, Option, None, Some, refl, subst, inl, inr, arith, Esrch, ProcessCall, Reply, Refused, Event, Machine, Caller, Outcome, caller_of, acts, step_by, IsMove, is_refusal, is_failure, put}
 use Rattle.shm_laws.proofs.Stepping.{removed}
 
 -- what names a failure is a refusal
-pub failure-refusal : (call : Call) (r : Reply) → is_failure call r ≡ true → is_refusal r ≡ true
+pub failure-refusal : (call : ProcessCall) (r : Reply) → is_failure call r ≡ true → is_refusal r ≡ true
 failure-refusal call r h = grind arith
 
 -- a refusal puts nothing, and removes nothing
-pub refused-put : (call : Call) (r : Reply) → is_refusal r ≡ true → put call r ≡ None
+pub refused-put : (call : ProcessCall) (r : Reply) → is_refusal r ≡ true → put call r ≡ None
 refused-put call r h = grind arith
 
-pub refused-removed : (call : Call) (r : Reply) → is_refusal r ≡ true → removed call r ≡ None
+pub refused-removed : (call : ProcessCall) (r : Reply) → is_refusal r ≡ true → removed call r ≡ None
 refused-removed call r h = grind arith
 
 -- what holds of each act of a caller, and of a refusal that leaves the machine, holds of each move

@@ -1,5 +1,5 @@
 -- Each byte is that of its last writer, and so is each byte that an event answers.
-use Rattle.shm_laws.proofs.Names.{◌≡◌, ◌⊎◌, ℕ, ◌+◌, ◌-◌, ◌*◌, ◌%◌, ◌<◌, true, false, List, [], ◌∷◌, ◌++◌, length, Option, Some, None, slice_get, refl, sym, ap, subst, ◌∙◌, inl, inr, arith, w64, from_le_bytes, option_map, length-map, common_steps, none-some, slice_get-map, slice_get-get_or, slice_get_within, Call, Load, Store, Xadd, Reply, Bytes, Number, Event, Segment, Piece, Machine, Opening, start_of, Place, covers, place_by, place, places, writable_places, byte_at, loaded, Caller, Outcome, caller_of, acts, step_by, step, load, store, xadd, number_at, is_refusal, IsMove, IsHistory, Stands, Began, Lasted, Put, put, pieces_of_caller, IsByte, Writes, Spares, IsLast, Remembers, AreLast, Recalls, HasLastWriters}
+use Rattle.shm_laws.proofs.Names.{◌≡◌, ◌⊎◌, ℕ, ◌+◌, ◌-◌, ◌*◌, ◌%◌, ◌<◌, true, false, List, [], ◌∷◌, ◌++◌, length, Option, Some, None, slice_get, refl, sym, ap, subst, ◌∙◌, inl, inr, arith, w64, from_le_bytes, option_map, length-map, common_steps, none-some, slice_get-map, slice_get-get_or, slice_get_within, ProcessCall, Load, Store, Xadd, Reply, Bytes, Number, Event, Segment, Piece, Machine, Opening, start_of, Place, covers, place_by, place, places, writable_places, byte_at, loaded, Caller, Outcome, caller_of, acts, step_by, step, load, store, xadd, number_at, is_refusal, IsMove, IsHistory, Stands, Began, Lasted, Put, put, pieces_of_caller, IsByte, Writes, Spares, IsLast, Remembers, AreLast, Recalls, HasLastWriters}
 use Rattle.shm_laws.proofs.Accessing.{place-of, places-length, writable-parts}
 use Rattle.shm_laws.proofs.Fates.{kind-move}
 use Rattle.shm_laws.proofs.Fitting.{one-index, Fits, AllFit, IsFit, fit-start, fit-move, spot-fits}
@@ -13,10 +13,10 @@ use Rattle.shm_laws.proofs.Stepping.{over_put, overlay}
 -- WHAT PUTS HAS PLACES
 
 module _ (s : Machine) (n : ℕ) (c : Caller) where
-  abbrev Placed : Call → Outcome → Type 0
+  abbrev Placed : ProcessCall → Outcome → Type 0
   Placed call o = (p : Put) → put call o.reply ≡ Some p → (qs : List Place) × (places c.pieces p.from (length p.bytes) ≡ Some qs)
 
-  placed-store : (a : ℕ) (bytes : List ℕ) (o : Option (List Place)) → writable_places c.pieces a (length bytes) ≡ o → Placed (Store a bytes) (store s bytes o)
+  placed-store : (a : ℕ) (bytes : List ℕ) (o : Option (List Place)) → writable_places c.pieces a (length bytes) ≡ o → Placed (Store bytes a) (store s bytes o)
   placed-store a bytes None is p puts = absurd (none-some p puts)
   placed-store a bytes (Some qs) is p puts = (qs, grind arith)
 
@@ -24,10 +24,10 @@ module _ (s : Machine) (n : ℕ) (c : Caller) where
   placed-xadd a add None is p puts = absurd (none-some p puts)
   placed-xadd a add (Some qs) is p puts = (qs, grind arith)
 
-  placed-acts : (call : Call) → Placed call (acts s n c call)
+  placed-acts : (call : ProcessCall) → Placed call (acts s n c call)
   placed-acts call p puts = grind (arith, placed-store, placed-xadd, none-some)
 
-abbrev PlacedBy : Option Caller → Call → Reply → Type 0
+abbrev PlacedBy : Option Caller → ProcessCall → Reply → Type 0
 PlacedBy o call reply = (p : Put) → put call reply ≡ Some p → (qs : List Place) × (places (pieces_of_caller o) p.from (length p.bytes) ≡ Some qs)
 
 placed-move : (s : Machine) (n : ℕ) (e : Event) (t : Machine) → IsMove s n e t → PlacedBy (caller_of s e.pid) e.call e.reply

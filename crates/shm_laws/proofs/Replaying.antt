@@ -1,12 +1,12 @@
 -- Of legal histories without failures there is one for each opening and calls.
-use Rattle.shm_laws.proofs.Names.{◌≡◌, ℕ, ◌+◌, true, false, List, [], ◌∷◌, Option, refl, sym, ap, ◌∙◌, arith, common_steps, Call, Load, Bytes, Event, Machine, Opening, Caller, step_by, step, caller_of, is_refusal, is_failure, IsExcused, IsMove, LeadsFrom, IsHistory, calls_of, failures_in, clear_step, failures-cons, first_clear, rest_clear, undone, without_failures, IsReplayed}
+use Rattle.shm_laws.proofs.Names.{◌≡◌, ℕ, ◌+◌, true, false, List, [], ◌∷◌, Option, refl, sym, ap, ◌∙◌, arith, common_steps, ProcessCall, Load, Bytes, Event, Machine, Opening, Caller, step_by, step, caller_of, is_refusal, is_failure, IsExcused, IsMove, LeadsFrom, IsHistory, calls_of, failures_in, clear_step, failures-cons, first_clear, rest_clear, undone, without_failures, IsReplayed}
 
 -- THE STEP NAMES NO FAILURE
 
-by-clear : (s : Machine) (n : ℕ) (call : Call) (o : Option Caller) → is_failure call (step_by s n call o).reply ≡ false
+by-clear : (s : Machine) (n : ℕ) (call : ProcessCall) (o : Option Caller) → is_failure call (step_by s n call o).reply ≡ false
 by-clear s n call o = grind (arith, common_steps)
 
-step-clear : (s : Machine) (n pid : ℕ) (call : Call) → is_failure call (step s n pid call).reply ≡ false
+step-clear : (s : Machine) (n pid : ℕ) (call : ProcessCall) → is_failure call (step s n pid call).reply ≡ false
 step-clear s n pid call = by-clear s n call (caller_of s pid)
 
 -- ONE MOVE
@@ -16,7 +16,7 @@ is-excused : (s : Machine) (n : ℕ) (e : Event) (t : Machine) → is_failure e.
 is-excused s n e t failed h2 = grind (arith, common_steps, step-clear)
 
 -- a process that is not refused is live, and may ask for no byte
-idle-by : (s : Machine) (n : ℕ) (call : Call) (o : Option Caller) → is_refusal (step_by s n call o).reply ≡ false → step_by s n (Load 0 0) o ≡ record { reply = Bytes []; state = s }
+idle-by : (s : Machine) (n : ℕ) (call : ProcessCall) (o : Option Caller) → is_refusal (step_by s n call o).reply ≡ false → step_by s n (Load 0 0) o ≡ record { reply = Bytes []; state = s }
 idle-by s n call o live = grind (arith, common_steps)
 
 undone-move : (s : Machine) (n : ℕ) (e : Event) (t : Machine) → IsMove s n e t → IsMove s n (undone e) t

@@ -1,5 +1,5 @@
 -- The pieces of a process lie apart, inside the addresses, and are few.
-use Rattle.shm_laws.proofs.Names.{new_piece, ◌≡◌, ◌⊎◌, ℕ, zero, suc, ◌+◌, ◌-◌, ◌*◌, ◌/◌, ◌%◌, ◌≤◌, ◌<◌, Bool, true, false, not, List, [], ◌∷◌, ◌++◌, length, Some, slice_get, slice_set, refl, ap, subst, inl, inr, arith, common_steps, All, All-contains, All-map, All-nil, All-weaker, filter, none-some, or_parts, both_ways, ⊤, Call, Event, Segment, Piece, Live, Runner, Machine, Opening, start_of, runner_at_start, pages_in, end_of, covers, meets, occupied, parts, cut, inserted, lowest_address, end_address, occupied-cut, shorter_filter, all-cons, all-slice_set, Caller, Outcome, caller_of, acts, is_rdonly, pieces_with, IsMove, IsHistory, FillsPages, LieApart, LiesInside, AreLaidOut, SpacesAreLaidOut, sym, ◌∙◌}
+use Rattle.shm_laws.proofs.Names.{new_piece, ◌≡◌, ◌⊎◌, ℕ, zero, suc, ◌+◌, ◌-◌, ◌*◌, ◌/◌, ◌%◌, ◌≤◌, ◌<◌, Bool, true, false, not, List, [], ◌∷◌, ◌++◌, length, Some, slice_get, slice_set, refl, ap, subst, inl, inr, arith, common_steps, All, All-contains, All-map, All-nil, All-weaker, filter, none-some, or_parts, both_ways, ⊤, ProcessCall, Event, Segment, Piece, Live, Runner, Machine, Opening, start_of, runner_at_start, pages_in, end_of, covers, meets, occupied, parts, cut, inserted, lowest_address, end_address, occupied-cut, shorter_filter, all-cons, all-slice_set, Caller, Outcome, caller_of, acts, is_rdonly, pieces_with, IsMove, IsHistory, FillsPages, LieApart, LiesInside, AreLaidOut, SpacesAreLaidOut, sym, ◌∙◌}
 use Rattle.shm_base.specs.Bounds.{Bounds}
 use Rattle.shm_laws.proofs.Limiting.{limits-stay}
 use Rattle.shm_laws.proofs.Inducting.{Keeps, held_always}
@@ -127,7 +127,7 @@ module _ (s : Machine) (pid : ℕ) (c : Caller) (is : caller_of s pid ≡ Some c
   set-one : (i : ℕ) (r : Runner) → IsSpace s.limits.most_pieces r.pieces → Spaces s.limits.most_pieces (slice_set s.runners i r)
   set-one i r h = all-slice_set (λ (q : Runner). IsSpace s.limits.most_pieces q.pieces) s.runners i r spaces h
 
-  module _ (call : Call) (o : Outcome) (k : Attaches s c call o) where
+  module _ (call : ProcessCall) (o : Outcome) (k : Attaches s c call o) where
     abbrev new : Piece
     new = new_piece k.seg k.base (pages_in k.segment) (not (is_rdonly k.flags))
 
@@ -152,7 +152,7 @@ module _ (s : Machine) (pid : ℕ) (c : Caller) (is : caller_of s pid ≡ Some c
           few = k.few;
         }
 
-  hands-spaces : (call : Call) (o : Outcome) → Hands s c call o → Spaces s.limits.most_pieces o.state.runners
+  hands-spaces : (call : ProcessCall) (o : Outcome) → Hands s c call o → Spaces s.limits.most_pieces o.state.runners
   hands-spaces call o (inl k) = rw k.runners spaces
   hands-spaces call o (inr (inl k)) =
       rw k.runners (set-one c.index (record { pid = c.pid; life = Live c.cred; pieces = pieces_with c k.seg k.segment k.flags k.base }) (attaches-space call o k))

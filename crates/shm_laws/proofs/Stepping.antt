@@ -1,5 +1,5 @@
 -- The four kinds of step on the segments: still, a sweep after a detach, a creation, a removal.
-use Rattle.shm_laws.proofs.Names.{◌≡◌, ◌⊎◌, ℕ, ◌+◌, ◌*◌, ◌%◌, ◌^◌, ◌≤◌, ◌==◌, ◌&&◌, ℤ, pos, negsuc, Bool, true, false, not, nat_lt, nat_le, within, if◌then◌else◌, List, [], ◌∷◌, length, replicate, get_or, Option, Some, None, slice_get, slice_set, refl, sym, ap, subst, ◌∙◌, inl, inr, arith, common_steps, get-set_other, w64, to_le_bytes, slice_get-get_or, GetFlags, AtFlags, Call, Shmget, Shmat, Shmdt, Stat, Set, Rmid, Lock, Unlock, Load, Store, Xadd, Fork, Exec, Exit, Swapoff, Reply, Id, Done, Addr, Event, grants, owns, wish_of, Place, places, writable_places, stored, Segment, Entry, Piece, Unborn, Live, Ended, Runner, Machine, pages_in, pages_of, Look, Found, Removed, Invalid, identifier, destroyed_at, free_index, with_segment, look, find_key, inside, cut_segments, origin_of, attach_count, locked, reserved, segment_count, change, attached, marked, detach_all, swept, Outcome, gives, refuses, segments_of, Caller, caller_of, acts, new_segment, creates, creates_at, shmget, wants_creation, wants_no_other, is_rnd, at_wish, attaches, attaches_chosen, attaches_fixed, attaches_found, shmat, pieces_with, with_pieces, detaches, forks, unborn_from, stat, controls, sets, removes, locks, unlocks, load, store, xadd, number_at, takes_away, swapoff, first_runner, child_at, life_in, keeps-set, IsSame, Put, put, pieces_of_caller, Errno, creates_small, huge_errno, rests, attach_all, is_taken, is_full, remaps_null, pieces_errno, inherited, fork_marks, may_not_lock, passes_limit, locks_as, unlocked, is_no_owner}
+use Rattle.shm_laws.proofs.Names.{◌≡◌, ◌⊎◌, ℕ, ◌+◌, ◌*◌, ◌%◌, ◌^◌, ◌≤◌, ◌==◌, ◌&&◌, ℤ, pos, negsuc, Bool, true, false, not, nat_lt, nat_le, within, if◌then◌else◌, List, [], ◌∷◌, length, replicate, get_or, Option, Some, None, slice_get, slice_set, refl, sym, ap, subst, ◌∙◌, inl, inr, arith, common_steps, get-set_other, w64, to_le_bytes, slice_get-get_or, GetFlags, AtFlags, ProcessCall, Shmget, Shmat, Shmdt, Stat, Set, Rmid, Lock, Unlock, Load, Store, Xadd, Fork, Exec, Exit, Swapoff, Reply, Id, Done, Addr, Event, grants, owns, wish_of, Place, places, writable_places, stored, Segment, Entry, Piece, Unborn, Live, Ended, Runner, Machine, pages_in, pages_of, Look, Found, Removed, Invalid, identifier, destroyed_at, free_index, with_segment, look, find_key, inside, cut_segments, origin_of, attach_count, locked, reserved, segment_count, change, attached, marked, detach_all, swept, Outcome, gives, refuses, segments_of, Caller, caller_of, acts, new_segment, creates, creates_at, shmget, wants_creation, wants_no_other, is_rnd, at_wish, attaches, attaches_chosen, attaches_fixed, attaches_found, shmat, pieces_with, with_pieces, detaches, forks, unborn_from, stat, controls, sets, removes, locks, unlocks, load, store, xadd, number_at, takes_away, swapoff, first_runner, child_at, life_in, keeps-set, IsSame, Put, put, pieces_of_caller, Errno, creates_small, huge_errno, rests, attach_all, is_taken, is_full, remaps_null, pieces_errno, inherited, fork_marks, may_not_lock, passes_limit, locks_as, unlocked, is_no_owner}
 use Rattle.shm_base.specs.Step.{gets}
 use Rattle.shm_laws.proofs.Accessing.{writable-parts}
 use Rattle.shm_laws.proofs.Turning.{IsAlike, Turned, unchanged, puts_in, turned-refl, turned-trans, turned-change, turned-attach, turned-detach, turned-stored, set-got}
@@ -60,7 +60,7 @@ abbrev pub removed_by : Reply → ℤ → Option ℕ
 removed_by Done id = name_of id
 removed_by _ id = None
 
-abbrev pub removed : Call → Reply → Option ℕ
+abbrev pub removed : ProcessCall → Reply → Option ℕ
 removed (Rmid id) reply = removed_by reply id
 removed _ reply = None
 
@@ -97,7 +97,7 @@ abbrev pub IsFree : List Entry → ℕ → Type 0
 IsFree t key = (i : ℕ) (x : Segment) → find_key t key ≡ Found i x → ⊥
 
 -- the segment that a call makes: with the key of the call, which no segment had, and the bytes of its pages
-pub record MadeBy (t : List Entry) (c : Caller) (call : Call) (y : Segment) : Type 0 where
+pub record MadeBy (t : List Entry) (c : Caller) (call : ProcessCall) (y : Segment) : Type 0 where
   pub mode : ℕ
   pub flags : GetFlags
   pub asked : call ≡ Shmget y.key y.size mode flags
@@ -108,7 +108,7 @@ pub record MadeBy (t : List Entry) (c : Caller) (call : Call) (y : Segment) : Ty
   pub user : y.perm.cuid ≡ c.cred.uid
   pub group : y.perm.cgid ≡ c.cred.gid
 
-abbrev pub made_by : List Entry → Option Caller → Call → Segment → Type 0
+abbrev pub made_by : List Entry → Option Caller → ProcessCall → Segment → Type 0
 made_by t None call y = ⊥
 made_by t (Some c) call y = MadeBy t c call y
 
@@ -274,14 +274,14 @@ module _ (like : Segment → Type 0) (s : Machine) (n : ℕ) (c : Caller) where
   kind-load : (o : Option (List Place)) → Plain s (load s o)
   kind-load o = grind (arith, common_steps, still)
 
-  abbrev Puts : Call → Outcome → Type 0
+  abbrev Puts : ProcessCall → Outcome → Type 0
   Puts call o = Kind (over_put c.pieces (put call o.reply)) like s None o.reply o.state
 
   turned-put : (a : ℕ) (vs : List ℕ) (qs : List Place) → places c.pieces a (length vs) ≡ Some qs
       → (i : ℕ) → Turned (over_put c.pieces (Some (record { from = a; bytes = vs })) i) s.table (stored s.table qs vs) i
   turned-put a vs qs is i = subst (λ o. Turned (over_places o vs i) s.table (stored s.table qs vs) i) (sym is) (turned-stored qs vs s.table i)
 
-  kind-store : (a : ℕ) (bytes : List ℕ) (o : Option (List Place)) → writable_places c.pieces a (length bytes) ≡ o → Puts (Store a bytes) (store s bytes o)
+  kind-store : (a : ℕ) (bytes : List ℕ) (o : Option (List Place)) → writable_places c.pieces a (length bytes) ≡ o → Puts (Store bytes a) (store s bytes o)
   kind-store a bytes None is = still like s _
   kind-store a bytes (Some qs) is = quiet _ like s _ _ (turned-put a bytes qs (writable-parts (places c.pieces a (length bytes)) qs is).0) refl
 
@@ -301,7 +301,7 @@ module _ (like : Segment → Type 0) (s : Machine) (n : ℕ) (c : Caller) where
   kind-rmid id l is = grind (arith, common_steps, still, entry-found, pick)
 
   -- each call
-  pub kind-acts : (call : Call) → Bare s.runners → ((key size mode : ℕ) (flags : GetFlags) → call ≡ Shmget key size mode flags → (key ≡ 0) ⊎ IsFree s.table key → Likes key size mode)
+  pub kind-acts : (call : ProcessCall) → Bare s.runners → ((key size mode : ℕ) (flags : GetFlags) → call ≡ Shmget key size mode flags → (key ≡ 0) ⊎ IsFree s.table key → Likes key size mode)
       → let o = acts s n c call in Kind (over_put c.pieces (put call o.reply)) like s (removed call o.reply) o.reply o.state
   kind-acts (Shmget key size mode flags) bare made = kind-shmget key size mode flags (made key size mode flags refl)
   kind-acts (Shmat id addr flags) bare made = kind-shmat id addr flags
@@ -313,7 +313,7 @@ module _ (like : Segment → Type 0) (s : Machine) (n : ℕ) (c : Caller) where
   kind-acts (Lock id) bare made = kind-controls (locks s c) kind-locks (look s.table id)
   kind-acts (Unlock id) bare made = kind-controls (unlocks s) kind-unlocks (look s.table id)
   kind-acts (Load a len) bare made = kind-load (places c.pieces a len)
-  kind-acts (Store a bytes) bare made = kind-store a bytes (writable_places c.pieces a (length bytes)) refl
+  kind-acts (Store bytes a) bare made = kind-store a bytes (writable_places c.pieces a (length bytes)) refl
   kind-acts (Xadd a add) bare made = kind-xadd a add (writable_places c.pieces a 8) refl
   kind-acts (Fork child) bare made = kind-forks child (unborn_from 0 child s.runners) bare refl
   kind-acts Exec bare made = sweeps like s _ _ _ (turned-detach n c.pid (segments_of c) s.table) refl (living c [] s.runners)

@@ -5,7 +5,7 @@ use Rattle.shm_base.specs.declared.owner.Perm.{Perm}
 use Rattle.shm_base.specs.declared.owner.Want.{Want}
 use Rattle.shm_base.specs.declared.flags.GetFlags.{GetFlags}
 use Rattle.shm_base.specs.declared.flags.AtFlags.{AtFlags}
-use Rattle.shm_base.specs.declared.call.Call.{Call}
+use Rattle.shm_base.specs.Calls.{ProcessCall}
 use Rattle.shm_base.specs.declared.call.Call.TheVariants.{Shmget, Shmat, Set, Rmid, Lock, Unlock, Load, Store, Xadd, Fork, Swapoff}
 use Rattle.shm_base.specs.declared.call.Call.TheVariants as calls
 use Rattle.shm_base.specs.declared.call.ShmidDs.{ShmidDs}
@@ -74,9 +74,9 @@ pub record Reach : Type 0 where
   pub len : ℕ
   pub writes : Bool
 
-abbrev pub reach : Call → Option Reach
+abbrev pub reach : ProcessCall → Option Reach
 reach (Load addr len) = Some (record { from = addr; len = len; writes = false })
-reach (Store addr bytes) = Some (record { from = addr; len = length bytes; writes = true })
+reach (Store bytes addr) = Some (record { from = addr; len = length bytes; writes = true })
 reach (Xadd addr add) = Some (record { from = addr; len = 8; writes = true })
 reach _ = None
 
@@ -88,7 +88,7 @@ StaysInside s e =
     × (r.writes ≡ true → p.writable ≡ true)
 
 -- the segment that a call would change or remove
-abbrev pub controlled : Call → Option ℤ
+abbrev pub controlled : ProcessCall → Option ℤ
 controlled (Set id uid gid mode) = Some id
 controlled (Rmid id) = Some id
 controlled (Lock id) = Some id

@@ -2,7 +2,7 @@
 use Rattle.std.specs.Prelude.{◌≡◌, ◌≢◌, ◌≤◌, ◌<◌, ◌⊎◌, ℕ, ◌+◌, ◌==◌, ℤ, pos, Bool, true, false, if◌then◌else◌, List}
 use Rattle.shm_base.specs.declared.flags.AtFlags.{AtFlags}
 use Rattle.shm_base.specs.declared.call.ShmidDs.{ShmidDs}
-use Rattle.shm_base.specs.declared.call.Call.{Call}
+use Rattle.shm_base.specs.Calls.{ProcessCall}
 use Rattle.shm_base.specs.declared.call.Call.TheVariants.{Shmat, Shmdt, Fork, Exec, Exit}
 use Rattle.shm_base.specs.declared.call.Call.TheVariants as calls
 use Rattle.shm_base.specs.declared.call.Reply.TheVariants.{Addr, Done}
@@ -32,7 +32,7 @@ abbrev pub piece_count : Machine → ℕ → ℕ → ℕ
 piece_count s pid id = pieces_of id (pieces_of_caller (caller_of s pid))
 
 -- whether the call may change the pieces of a process
-abbrev pub hands_pieces : Call → Bool
+abbrev pub hands_pieces : ProcessCall → Bool
 hands_pieces (Shmat id addr flags) = true
 hands_pieces (Shmdt addr) = true
 hands_pieces (Fork child) = true

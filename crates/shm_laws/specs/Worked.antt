@@ -43,8 +43,8 @@ abbrev pub a_store_fails : List Event
 a_store_fails =
     does 1 (shmget 0 4096 (mode 6 0 0) 0) (id 0)
     ∷ does 1 (shmat 0 0 0) (Addr 0x40000000)
-    ∷ does 1 (Store 0x40000000 (7 ∷ [])) Done
-    ∷ does 1 (Store 0x40000000 (9 ∷ [])) (Refused Sigbus)
+    ∷ does 1 (Store (7 ∷ []) 0x40000000) Done
+    ∷ does 1 (Store (9 ∷ []) 0x40000000) (Refused Sigbus)
     ∷ does 1 (Load 0x40000000 1) (Bytes (7 ∷ []))
     ∷ []
 
@@ -114,7 +114,7 @@ others_read =
     ∷ does 2 (shmat 0 0 0) (Refused Eacces)
     ∷ does 2 (shmat 0 0 rdonly) (Addr 0x40000000)
     ∷ does 2 (Fork 3) Done
-    ∷ does 3 (Store 0x40000000 (7 ∷ [])) (Refused Sigsegv)
+    ∷ does 3 (Store (7 ∷ []) 0x40000000) (Refused Sigsegv)
     ∷ does 3 (Rmid (pos 0)) (Refused Eperm)
     ∷ does 1 (Set (pos 0) 100 100 (mode 6 0 0)) Done
     ∷ does 3 (Load 0x40000000 1) (Bytes (0 ∷ []))
@@ -148,8 +148,8 @@ two_write =
     ∷ does 1 (shmat 0 0 0) (Addr 0x40000000)
     ∷ does 1 (shmat 1 0 0) (Addr 0x40001000)
     ∷ does 2 (shmat 0 0 0) (Addr 0x40000000)
-    ∷ does 1 (Store 0x40000ffe (1 ∷ 2 ∷ 3 ∷ [])) Done
-    ∷ does 2 (Store 0x40000fff (9 ∷ [])) Done
+    ∷ does 1 (Store (1 ∷ 2 ∷ 3 ∷ []) 0x40000ffe) Done
+    ∷ does 2 (Store (9 ∷ []) 0x40000fff) Done
     ∷ does 2 (Xadd 0x40000ff8 256) (Number (2 ^ 48 + 9 * 2 ^ 56))
     ∷ does 1 (Load 0x40000ff8 9) (Bytes (0 ∷ 1 ∷ 0 ∷ 0 ∷ 0 ∷ 0 ∷ 1 ∷ 9 ∷ 3 ∷ []))
     ∷ []
@@ -176,7 +176,7 @@ stores_own byte =
     ∷ does 2 (shmget 0 4096 (mode 6 0 0) 0) (id 1)
     ∷ does 1 (shmat 0 0 0) (Addr 0x40000000)
     ∷ does 2 (shmat 1 0 0) (Addr 0x40000000)
-    ∷ does 2 (Store 0x40000000 (byte ∷ [])) Done
+    ∷ does 2 (Store (byte ∷ []) 0x40000000) Done
     ∷ does 1 (Load 0x40000000 1) (Bytes (0 ∷ []))
     ∷ does 2 (Load 0x40000000 1) (Bytes (byte ∷ []))
     ∷ does 1 (Shmdt 0x40000000) Done

@@ -1,7 +1,7 @@
 -- The last writer: a byte has the value of the last event that wrote it, or 0 if none has since the segment was made.
 use Rattle.std.specs.Prelude.{◌≡◌, ◌<◌, ◌⊎◌, ℕ, ◌+◌, ◌%◌, ◌^◌, pos, Bool, List, length, Option, Some, None, slice_get}
 use Rattle.std.specs.Int.{w64, to_le_bytes, from_le_bytes}
-use Rattle.shm_base.specs.declared.call.Call.{Call}
+use Rattle.shm_base.specs.Calls.{ProcessCall}
 use Rattle.shm_base.specs.declared.call.Call.TheVariants.{Load, Store, Xadd}
 use Rattle.shm_base.specs.declared.call.Reply.{Reply}
 use Rattle.shm_base.specs.declared.call.Reply.TheVariants.{Id, Bytes, Number, Done}
@@ -21,8 +21,8 @@ pub record Put : Type 0 where
   pub bytes : List ℕ
 
 -- the bytes that a successful store or xadd writes, and where. No other event writes
-abbrev pub put : Call → Reply → Option Put
-put (Store addr bytes) Done = Some (record { from = addr; bytes = bytes })
+abbrev pub put : ProcessCall → Reply → Option Put
+put (Store bytes addr) Done = Some (record { from = addr; bytes = bytes })
 put (Xadd addr add) (Number old) =
     Some (record { from = addr; bytes = to_le_bytes w64 ((old + add) % 2 ^ 64) })
 put _ _ = None

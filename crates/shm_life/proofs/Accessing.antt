@@ -4,7 +4,7 @@ use Rattle.std.specs.Prelude.{Result, Ok, Err, IfOk}
 use Rattle.shm_base.specs.Access.{stored, writable_places}
 use Rattle.shm_base.specs.Step.{xadd}
 use Rattle.shm_base.specs.History.{is_failure, is_refusal}
-use Rattle.shm_base.specs.declared.call.Call.{Call}
+use Rattle.shm_base.specs.Calls.{ProcessCall}
 use Rattle.shm_base.specs.declared.call.Call.TheVariants as call
 use Rattle.shm_base.specs.declared.call.Reply.{Reply}
 use Rattle.shm_base.specs.declared.call.Reply.TheVariants.{Number, Refused}
@@ -23,14 +23,14 @@ sole-is (q ∷ []) p is = grind (arith, common_steps)
 sole-is (q ∷ r ∷ ps) p is = absurd (none-some p is)
 
 -- a reply that refuses nothing and names no failure
-abbrev IsGrant : Call → Reply → Type 0
+abbrev IsGrant : ProcessCall → Reply → Type 0
 IsGrant call reply = (is_failure call reply ≡ false) × (is_refusal reply ≡ false)
 
 ok-then : {A E : Type 0} {P Q : A → Type 0} (r : Result A E) → ((x : A) → P x → Q x) → IfOk r P → IfOk r Q
 ok-then (Ok a) f p = f a p
 ok-then (Err e) f p = tt
 
-accessed : {T : Type 0} (o : Outcome) (table : List Entry) (call : Call) (reply : T → Reply) (s t : MachineView) (r : Result T Errno)
+accessed : {T : Type 0} (o : Outcome) (table : List Entry) (call : ProcessCall) (reply : T → Reply) (s t : MachineView) (r : Result T Errno)
     → is_failure call (Refused Sigbus) ≡ true → is_lock call ≡ false → is_refusal o.reply ≡ false → ((x : T) → IsGrant call (reply x))
     → IfOk r (λ x. o ≡ gives (record s.flat { table = table }) (reply x)) → LeavesOrFails table s r t → AnsweredTo o call (replied reply r) s t
 accessed o table call reply s t (Ok x) fails locks none grant step leaves =
@@ -60,10 +60,10 @@ module _ (s t : MachineView) (n : ℕ) (c : Caller) (addr : ℕ) (ps : List Span
       accessed _ s.flat.table (call.Load addr len) (λ _. Bytes out) s t r refl refl (rw step refl) (λ _. (refl, refl)) (ok-then r (λ _ is. rw is step) bytes) leaves
 
   pub stores : (bytes : List ℕ) (r : Result (Unit {0}) Errno) → wanted_in true own addr (length bytes) ≡ Some asked → LeavesOrFails (stored s.flat.table asked bytes) s r t
-      → Served s n c (call.Store addr bytes) (replied done r) t
+      → Served s n c (call.Store bytes addr) (replied done r) t
   stores bytes r wanted leaves =
       let step = store-wanted s.flat own addr bytes asked wanted in
-      accessed _ _ (call.Store addr bytes) done s t r refl refl (rw step refl) (λ _. (refl, refl)) (ok-then r (λ _ _. step) leaves.written) leaves
+      accessed _ _ (call.Store bytes addr) done s t r refl refl (rw step refl) (λ _. (refl, refl)) (ok-then r (λ _ _. step) leaves.written) leaves
 
   pub adds : (add : ℕ) (r : Result ℕ Errno) → wanted_in true own addr 8 ≡ Some asked → IfOk r (λ x. x ≡ loaded_number s.flat.table asked) → LeavesOrFails (added_at s.flat.table asked add) s r t
       → Served s n c (call.Xadd addr add) (replied Number r) t

@@ -13,7 +13,7 @@ use Rattle.shm_base.specs.declared.errno.Errno.{Errno}
 use Rattle.shm_life.specs.Sound.{AreProcesses}
 use Rattle.shm_life.specs.MachineView.{MachineView, Answered, IsFailed, names_failure}
 use Rattle.std.specs.Prelude.{Option, Result, Ok, Err}
-use Rattle.shm_base.specs.declared.call.Call.{Call}
+use Rattle.shm_base.specs.Calls.{ProcessCall}
 use Rattle.shm_attach.specs.Spaces.{IsCaller, caller_seen}
 use Rattle.shm_attach.specs.declared.process.Caller.{Caller}
 use Rattle.shm_life.specs.MachineView.{AnsweredBy, Served}
@@ -65,11 +65,11 @@ pub failing : (o : Outcome) (errno : Errno) (locks : Bool) (s t : MachineView) �
 failing o errno locks s t names failed keeps = record { step = λ e. absurd (true≢false e); failed = λ _. failed; keeps = keeps_on s.memory t.memory keeps; locked = λ _. keeps.locks; still = λ _ n. absurd (true≢false (sym names ∙ n)) }
 
 -- a call of a live process is served
-pub called : (s : MachineView) (n pid : ℕ) (caller : Caller) (call : Call) (reply : Reply) (t : MachineView) → caller.pid ≡ pid → IsCaller caller s.flat.runners → Served s n caller call reply t → AnsweredBy s n pid call reply t
+pub called : (s : MachineView) (n pid : ℕ) (caller : Caller) (call : ProcessCall) (reply : Reply) (t : MachineView) → caller.pid ≡ pid → IsCaller caller s.flat.runners → Served s n caller call reply t → AnsweredBy s n pid call reply t
 called s n pid caller call reply t same is served = rw (← same, is) served
 
 -- an answer that is counted is a reply of the system
-pub replied_as : (s t : SystemState) (pid : ℕ) (call : Call) (reply : Reply) → s.calls < most_calls → AnsweredBy (seen s) (time_of s) pid call reply (seen t) → t ≡ record s { calls = s.calls + 1; machine = t.machine; memory = t.memory } → Replied s pid call reply t
+pub replied_as : (s t : SystemState) (pid : ℕ) (call : ProcessCall) (reply : Reply) → s.calls < most_calls → AnsweredBy (seen s) (time_of s) pid call reply (seen t) → t ≡ record s { calls = s.calls + 1; machine = t.machine; memory = t.memory } → Replied s pid call reply t
 replied_as s t pid call reply room a rest = record {
   room = room;
   move = by (is_failure call reply) refl;

@@ -1,6 +1,6 @@
 -- What contracts see of a machine: the flat machine, and the store that has its bytes.
 use Rattle.std.specs.Prelude.{ℕ, ◌≡◌, ◌≤◌, Bool, true, false, length, Result, Ok, Err}
-use Rattle.shm_base.specs.declared.call.Call.{Call}
+use Rattle.shm_base.specs.Calls.{ProcessCall}
 use Rattle.shm_base.specs.declared.call.Call.TheVariants.{Lock}
 use Rattle.shm_base.specs.declared.call.Reply.{Reply}
 use Rattle.shm_base.specs.declared.call.Reply.TheVariants.{Done, Refused}
@@ -37,7 +37,7 @@ abbrev pub LocksNothing : StoreView → StoreView → Type 0
 LocksNothing before after =
     (seg : ℕ) → holds_locked (held after) seg ≡ true → holds_locked (held before) seg ≡ true
 
-abbrev pub is_lock : Call → Bool
+abbrev pub is_lock : ProcessCall → Bool
 is_lock (Lock id) = true
 is_lock _ = false
 
@@ -79,16 +79,16 @@ pub record Answered (o : Outcome) (names locks : Bool) (reply : Reply) (s t : Ma
   pub still : StillIfRefused reply s.memory t.memory
 
 -- the machine after an answer to a call
-abbrev pub AnsweredTo : Outcome → Call → Reply → MachineView → MachineView → Type 0
+abbrev pub AnsweredTo : Outcome → ProcessCall → Reply → MachineView → MachineView → Type 0
 AnsweredTo o call reply s t = Answered o (is_failure call reply) (is_lock call) reply s t
 
 -- the machine after it served a caller's call at place n
-abbrev pub Served : MachineView → ℕ → Caller → Call → Reply → MachineView → Type 0
+abbrev pub Served : MachineView → ℕ → Caller → ProcessCall → Reply → MachineView → Type 0
 Served s n caller call reply t =
     AnsweredTo (acts s.flat n (caller_seen caller s.flat.runners) call) call reply s t
 
 -- the machine after a process's call at place n, whether the process is live or not
-abbrev pub AnsweredBy : MachineView → ℕ → ℕ → Call → Reply → MachineView → Type 0
+abbrev pub AnsweredBy : MachineView → ℕ → ℕ → ProcessCall → Reply → MachineView → Type 0
 AnsweredBy s n pid call reply t = AnsweredTo (step s.flat n pid call) call reply s t
 
 -- the host refused memory for a call that the flat machine does not refuse, and nothing changed

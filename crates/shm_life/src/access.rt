@@ -158,7 +158,7 @@ impl<P: Pager> Kernel<P> {
     pub(crate) fn store(&mut self, caller: &Caller, addr: u64, bytes: &[u8]) -> Result<(), Errno>
         requires caller { IsCaller caller.now self.old.flat.runners }
         requires size { (1 ≤ length bytes.now) × (length bytes.now ≤ PAGE_SIZE) }
-        ensures { let store = call.Store addr bytes.now in
+        ensures { let store = call.Store bytes.now addr in
             (n : ℕ) → Served self.old n caller.now store (replied done result) self.new }
     {
         let Ok(spans) = self.spans_of(caller, addr, bytes.len() as u64, true) else {

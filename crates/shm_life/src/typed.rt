@@ -31,7 +31,7 @@ impl<P: Pager> Kernel<P> {
     #[inline(always)]
     fn store_by(&mut self, pid: u32, addr: u64, bytes: &[u8]) -> Result<(), Errno>
         requires size { (1 ≤ length bytes.now) × (length bytes.now ≤ PAGE_SIZE) }
-        ensures { let store = call.Store addr bytes.now in
+        ensures { let store = call.Store bytes.now addr in
             (n : ℕ) → AnsweredBy self.old n pid store (replied done result) self.new }
     {
         let Some(caller) = self.spaces.caller_again(pid) else {
@@ -84,7 +84,7 @@ impl<P: Pager> System<P> {
     pub fn store_from(&mut self, pid: u32, addr: u64, bytes: &[u8]) -> Result<(), Errno>
         requires room { self.old.calls < most_calls }
         requires size { (1 ≤ length bytes.now) × (length bytes.now ≤ PAGE_SIZE) }
-        ensures { Replied self.old pid (call.Store addr bytes.now) (replied done result) self.new }
+        ensures { Replied self.old pid (call.Store bytes.now addr) (replied done result) self.new }
     {
         let stored = self.kernel.store_by(pid, addr, bytes);
         self.calls += 1;

@@ -3,7 +3,7 @@ use Rattle.std.proofs.Common.{◌≡◌, ℕ, zero, suc, ◌+◌, ◌-◌, ◌%�
 use Rattle.std.proofs.lemmas.Grind.{common_steps}
 use Rattle.shm_base.specs.declared.flags.GetFlags.{GetFlags}
 use Rattle.shm_base.specs.declared.flags.AtFlags.{AtFlags}
-use Rattle.shm_base.specs.declared.call.Call.{Call}
+use Rattle.shm_base.specs.Calls.{ProcessCall}
 use Rattle.shm_base.specs.declared.call.Call.TheVariants.{Shmget, Shmat, Load}
 use Rattle.shm_base.specs.declared.call.Reply.{Reply}
 use Rattle.shm_base.specs.declared.call.Event.{Event}
@@ -23,23 +23,23 @@ use Rattle.shm_base.specs.History.{is_refusal, is_failure, IsMove}
 use Rattle.shm_base.specs.Step.{Outcome, Caller, acts, step_by, caller_of, gives, refuses, pieces_with, at_wish, is_full, is_rnd, is_taken, outside_errno, remaps_null, wants_creation, wants_no_other, creates, creates_at, creates_small, huge_errno, gets, shmget, attaches, attaches_chosen, attaches_fixed, attaches_found, shmat}
 use Rattle.shm_machine.specs.Answered.{fits}
 
-record Fine (call : Call) (o : Outcome) : Type 0 where
+record Fine (call : ProcessCall) (o : Outcome) : Type 0 where
   fit : is_refusal o.reply ≡ false → fits call o.reply ≡ true
 
 -- if both outcomes fit, so does the chosen one
-pick : (call : Call) (b : Bool) (o p : Outcome) → Fine call o → Fine call p → Fine call (if b then o else p)
+pick : (call : ProcessCall) (b : Bool) (o p : Outcome) → Fine call o → Fine call p → Fine call (if b then o else p)
 pick call true o p h k = h
 pick call false o p h k = k
 
-refused : (call : Call) (s : Machine) (e : Errno) → Fine call (refuses s e)
+refused : (call : ProcessCall) (s : Machine) (e : Errno) → Fine call (refuses s e)
 refused call s e = record { fit = λ plain. absurd (true≢false plain) }
 
-given : (call : Call) (s : Machine) (r : Reply) → fits call r ≡ true → Fine call (gives s r)
+given : (call : ProcessCall) (s : Machine) (r : Reply) → fits call r ≡ true → Fine call (gives s r)
 given call s r h = record { fit = λ plain. h }
 
 module _ (s : Machine) (n : ℕ) (c : Caller) where
   module _ (key size mode : ℕ) (flags : GetFlags) where
-    abbrev get : Call
+    abbrev get : ProcessCall
     get = Shmget key size mode flags
 
     abbrev Got : Outcome → Type 0
@@ -71,7 +71,7 @@ module _ (s : Machine) (n : ℕ) (c : Caller) where
     fine-shmget = pick get (key == 0) _ _ (fine-creates 0) (fine-gets (find_key s.table key))
 
   module _ (id : ℤ) (addr : ℕ) (flags : AtFlags) where
-    abbrev at : Call
+    abbrev at : ProcessCall
     at = Shmat id addr flags
 
     fine-attaches : (seg : ℕ) (x : Segment) (base : ℕ) → Fine at (attaches s n c seg x flags base)
@@ -104,18 +104,18 @@ pub places-length : (pieces : List Piece) (a n : ℕ) (ps : List Place) → plac
 places-length pieces a zero ps is = grind (arith, common_steps)
 places-length pieces a (suc n) ps is = grind (arith, common_steps, places-length pieces (a + 1) n)
 
-fine-acts : (s : Machine) (n : ℕ) (c : Caller) (call : Call) → Fine call (acts s n c call)
+fine-acts : (s : Machine) (n : ℕ) (c : Caller) (call : ProcessCall) → Fine call (acts s n c call)
 fine-acts s n c (Shmget key size mode flags) = fine-shmget s n c key size mode flags
 fine-acts s n c (Shmat id addr flags) = fine-shmat s n c id addr flags
 fine-acts s n c (Load addr len) = record { fit = grind (arith, common_steps, places-length c.pieces addr len) }
 fine-acts s n c call = record { fit = grind (arith, common_steps) }
 
-fine-by : (s : Machine) (n : ℕ) (call : Call) (o : Option Caller) → Fine call (step_by s n call o)
+fine-by : (s : Machine) (n : ℕ) (call : ProcessCall) (o : Option Caller) → Fine call (step_by s n call o)
 fine-by s n call None = refused call s Esrch
 fine-by s n call (Some c) = fine-acts s n c call
 
 -- a failure is named by a refusal
-failure-refuses : (call : Call) (r : Reply) → is_failure call r ≡ true → is_refusal r ≡ true
+failure-refuses : (call : ProcessCall) (r : Reply) → is_failure call r ≡ true → is_refusal r ≡ true
 failure-refuses call r h = grind (arith, common_steps)
 
 pub move_fits : (s t : Machine) (n : ℕ) (e : Event) → IsMove s n e t → is_refusal e.reply ≡ false → fits e.call e.reply ≡ true

@@ -5,7 +5,7 @@ use Rattle.std.proofs.lemmas.Grind.{common_steps}
 use Rattle.std.proofs.Math.Seq.{take-add}
 use Rattle.std.proofs.lemmas.List.{length-append, length-take-le, map-append, drop-drop}
 use Rattle.std.proofs.lemmas.Slice.{take-put_mid, drop-put_mid}
-use Rattle.shm_base.specs.declared.call.Call.{Call}
+use Rattle.shm_base.specs.Calls.{ProcessCall}
 use Rattle.shm_base.specs.declared.call.Reply.{Reply}
 use Rattle.shm_fault.proofs.Written.{length-put_mid}
 use Rattle.shm_life.specs.SystemState.{SystemState, time_of}
@@ -90,7 +90,7 @@ record HasStored (s : Machine) (pid a : ℕ) (bs : List ℕ) (t : Machine) : Typ
   after : record s { table = stored s.table named bs } ≡ t
 
 abbrev Stores : Machine → ℕ → ℕ → ℕ → List ℕ → Machine → Type 0
-Stores s n pid a bs t = step s n pid (Store a bs) ≡ record { reply = Done; state = t }
+Stores s n pid a bs t = step s n pid (Store bs a) ≡ record { reply = Done; state = t }
 
 store-by : (s : Machine) (n pid a : ℕ) (bs : List ℕ) (t : Machine) → Stores s n pid a bs t → HasStored s pid a bs t
 store-by s n pid a bs t h = grind (arith, common_steps)
@@ -109,7 +109,7 @@ write_more s t u n k pid a bs cs first second =
     let long : length r.named ≡ length bs = grind (arith, writable-by r.caller.pieces a (length bs) r.named r.found, places-length) in
     rw (r.is, all, stored-more s.table r.named q.named bs cs long) (grind (arith, r.after, q.after))
 
-pub stores : (s t : Machine) (n pid a : ℕ) (bs : List ℕ) → IsMove s n (record { pid = pid; call = Store a bs; reply = Done }) t → Stores s n pid a bs t
+pub stores : (s t : Machine) (n pid a : ℕ) (bs : List ℕ) → IsMove s n (record { pid = pid; call = Store bs a; reply = Done }) t → Stores s n pid a bs t
 stores s t n pid a bs is = grind (arith, common_steps)
 
 -- LOCKED PAGES
@@ -147,7 +147,7 @@ calls-next addr (suc d) len next some few =
     let was = calls-some addr (suc d) (omega arith) in
     omega (arith, at, few, some, now, was)
 
-reached-next : (before now after : SystemState) (addr done len pid : ℕ) (call : Call) (reply : Reply) → Reached before addr done now → Replied now pid call reply after → IsNext addr done → 0 < len → len ≤ 4096 - (addr + done) % 4096 → Reached before addr (done + len) after
+reached-next : (before now after : SystemState) (addr done len pid : ℕ) (call : ProcessCall) (reply : Reply) → Reached before addr done now → Replied now pid call reply after → IsNext addr done → 0 < len → len ≤ 4096 - (addr + done) % 4096 → Reached before addr (done + len) after
 reached-next before now after addr done len pid call reply r moves next some few = record {
   calls = moves.counted ∙ ap (λ n. n + 1) r.calls ∙ omega (arith, calls-next addr done len next some few);
   opening = moves.opening ∙ r.opening;
@@ -210,14 +210,14 @@ pub record WrittenSo (before : SystemState) (pid addr : ℕ) (bytes : List ℕ) 
   pub locked : KeepsLocked before.memory now.memory
 
 pub write_next : (before now after : SystemState) (pid addr : ℕ) (bytes xs : List ℕ) (done len : ℕ) → WrittenSo before pid addr bytes done now → done < length bytes → len ≡ next_len (addr + done) (length bytes - done)
-    → xs ≡ take len (drop done bytes) → Replied now pid (Store (addr + done) xs) Done after → WrittenSo before pid addr bytes (done + len) after
+    → xs ≡ take len (drop done bytes) → Replied now pid (Store xs (addr + done)) Done after → WrittenSo before pid addr bytes (done + len) after
 write_next before now after pid addr bytes xs done len so lt len-is is moves =
     let some : 0 < len = omega (arith, lt, len-is) in
     record {
       whole = rw len-is (whole-next addr done (length bytes) so.whole lt);
       none = λ zero-is. absurd (omega (arith, zero-is, some));
       stored = λ more. rw (take-add done len bytes, ← is) (one done lt so.none so.stored (stores now.machine after.machine (time_of now) pid (addr + done) xs moves.move));
-      reached = reached-next before now after addr done len pid (Store (addr + done) xs) Done so.reached moves (so.whole.1 lt) some (omega (arith, len-is));
+      reached = reached-next before now after addr done len pid (Store xs (addr + done)) Done so.reached moves (so.whole.1 lt) some (omega (arith, len-is));
       locked = locked-trans before.memory now.memory after.memory so.locked (record { kept = moves.keeps.kept; locks = moves.locked refl });
     }
   where

@@ -1,6 +1,6 @@
 -- The answer to a call and the machine afterwards, for all calls at once.
 use Rattle.std.specs.Prelude.{ℕ, ◌≡◌, ◌==◌, Bool, true, false, length, Result, Ok, Err}
-use Rattle.shm_base.specs.declared.call.Call.{Call}
+use Rattle.shm_base.specs.Calls.{ProcessCall}
 use Rattle.shm_base.specs.declared.call.Call.TheVariants.{Shmget, Shmat, Shmdt, Stat, Set, Rmid, Lock, Unlock, Load, Store, Xadd, Fork, Exec, Exit, Swapoff}
 use Rattle.shm_base.specs.declared.call.Reply.{Reply}
 use Rattle.shm_base.specs.declared.call.Reply.TheVariants as replies
@@ -13,14 +13,14 @@ use Rattle.shm_machine.specs.declared.refusal.Refusal.{Refusal}
 use Rattle.shm_machine.specs.declared.refusal.Refusal.TheVariants.{Refused, HostMemory, Spent}
 
 -- the result of a call and the machine afterwards; the host's memory matters only if the flat machine refuses nothing
-abbrev pub Answered : SystemState → ℕ → Call → Result Reply Refusal → SystemState → Type 0
+abbrev pub Answered : SystemState → ℕ → ProcessCall → Result Reply Refusal → SystemState → Type 0
 Answered before pid call (Ok reply) after = Replied before pid call reply after
 Answered before pid call (Err (Refused errno)) after = Replied before pid call (replies.Refused errno) after
 Answered before pid call (Err HostMemory) after = IsOutOfMemory before pid call after
 Answered before pid call (Err Spent) after = (before.calls ≡ most_calls) × (after ≡ before)
 
 -- a reply that is not a refusal is of the call's kind
-abbrev pub fits : Call → Reply → Bool
+abbrev pub fits : ProcessCall → Reply → Bool
 fits (Shmget key size mode flags) (Id id) = true
 fits (Shmat id addr flags) (Addr at) = true
 fits (Stat id) (replies.Stat shown) = true
@@ -31,7 +31,7 @@ fits (Set id uid gid mode) Done = true
 fits (Rmid id) Done = true
 fits (Lock id) Done = true
 fits (Unlock id) Done = true
-fits (Store addr bytes) Done = true
+fits (Store bytes addr) Done = true
 fits (Fork child) Done = true
 fits Exec Done = true
 fits Exit Done = true

@@ -1,6 +1,6 @@
 -- Loads and stores of any length: sequences of calls, each of which ends with its page.
 use Rattle.std.specs.Prelude.{ℕ, zero, suc, ◌≡◌, ◌+◌, ◌-◌, ◌/◌, ◌%◌, ◌^◌, ◌<◌, ◌≤◌, ◌⊎◌, min, List, length, take, drop, replicate, Err, MatchOption, Option, Some, None}
-use Rattle.shm_base.specs.declared.call.Call.{Call}
+use Rattle.shm_base.specs.Calls.{ProcessCall}
 use Rattle.shm_base.specs.declared.call.Call.TheVariants.{Load, Store}
 use Rattle.shm_base.specs.declared.call.Reply.TheVariants.{Bytes, Done}
 use Rattle.shm_base.specs.declared.errno.Errno.TheVariants.{Sigsegv}
@@ -33,13 +33,13 @@ pub record Reached (before : SystemState) (addr bytes : ℕ) (stood : SystemStat
   pub goes_on : GoesOn before.memory.swap stood.memory.swap
 
 -- the call at an address was refused; at 2^64 or above no call is made, since no piece is there
-abbrev pub StoppedAt : SystemState → ℕ → ℕ → Call → Refusal → SystemState → Type 0
+abbrev pub StoppedAt : SystemState → ℕ → ℕ → ProcessCall → Refusal → SystemState → Type 0
 StoppedAt stood pid addr call refusal after =
     ((addr < 2 ^ 64) × Answered stood pid call (Err refusal) after)
     ⊎ ((2 ^ 64 ≤ addr) × (refusal ≡ Refused Sigsegv) × (after ≡ stood))
 
 -- everything was done, or the next call was refused
-abbrev pub EndedAt : SystemState → ℕ → ℕ → ℕ → (ℕ → Call) → Progress → SystemState → Type 0
+abbrev pub EndedAt : SystemState → ℕ → ℕ → ℕ → (ℕ → ProcessCall) → Progress → SystemState → Type 0
 EndedAt stood pid addr size next p after =
     MatchOption p.stopped ((p.done ≡ size) × (after ≡ stood))
     (λ refusal. (p.done < size) × StoppedAt stood pid (addr + p.done) (next (next_len (addr + p.done) (size - p.done))) refusal after)
@@ -64,8 +64,8 @@ pub record WrittenTo (before : SystemState) (pid addr : ℕ) (bytes : List ℕ) 
   pub stood : SystemState
   pub reached : Reached before addr p.done stood
   pub none : p.done ≡ 0 → stood.machine ≡ before.machine
-  pub stored : 0 < p.done → step before.machine (time_of before) pid (Store addr (take p.done bytes)) ≡ record { reply = Done; state = stood.machine }
-  pub ended : EndedAt stood pid addr (length bytes) (λ n. Store (addr + p.done) (take n (drop p.done bytes))) p after
+  pub stored : 0 < p.done → step before.machine (time_of before) pid (Store (take p.done bytes) addr) ≡ record { reply = Done; state = stood.machine }
+  pub ended : EndedAt stood pid addr (length bytes) (λ n. Store (take n (drop p.done bytes)) (addr + p.done)) p after
   pub kept : LockedPagesStay before.memory after.memory
   pub locks : LocksNothing before.memory after.memory
 

@@ -34,7 +34,7 @@ impl Machine {
     #[inline(always)]
     pub fn store(&mut self, pid: u32, addr: u64, bytes: &[u8]) -> Result<(), Refusal>
         requires size { (1 ≤ length bytes.now) × (length bytes.now ≤ PAGE_SIZE) }
-        ensures { let store = call.Store addr bytes.now in
+        ensures { let store = call.Store bytes.now addr in
             Answered self.old.system pid store (as_reply done result) self.new.system }
     {
         if self.system.calls() == u64::MAX {

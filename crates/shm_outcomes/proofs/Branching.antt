@@ -2,7 +2,7 @@
 use Rattle.std.specs.Prelude.{◌≡◌, ℕ, length}
 use Rattle.std.proofs.Common.{sym, ap, ◌∙◌}
 use Rattle.shm_base.specs.State.{Machine}
-use Rattle.shm_base.specs.declared.call.Call.{Call}
+use Rattle.shm_base.specs.Calls.{ProcessCall}
 use Rattle.shm_text.specs.Script.{ScriptView}
 use Rattle.shm_outcomes.specs.Branches.{Branch, event_after, grown, key_at}
 use Rattle.shm_outcomes.specs.Changes.{Trail, trail_after, trail_of}
@@ -17,7 +17,7 @@ pub record AreCarried (script : ScriptView) (machine : Machine) (b : Branch) : T
   pub told : b.told ≡ outcome_of script b.run.events
   pub trail : b.trail ≡ trail_of machine b.run.events
 
-pub grown-carried : (script : ScriptView) (machine : Machine) (b : Branch) → IsReached script (fresh machine) b.run → AreCarried script machine b → (pid : ℕ) (call : Call) → AreCarried script machine (grown script b pid call)
+pub grown-carried : (script : ScriptView) (machine : Machine) (b : Branch) → IsReached script (fresh machine) b.run → AreCarried script machine b → (pid : ℕ) (call : ProcessCall) → AreCarried script machine (grown script b pid call)
 grown-carried script machine b reached carried pid call =
     let e = event_after b.run pid call in
     record {

@@ -9,7 +9,7 @@ use Rattle.std.proofs.lemmas.Bool.{cases_lt}
 use Rattle.std.proofs.lemmas.Option.{none-some, same_Some}
 use Rattle.shm_base.specs.Processes.{has_pid}
 use Rattle.shm_base.specs.State.{Machine}
-use Rattle.shm_base.specs.declared.call.Call.{Call}
+use Rattle.shm_base.specs.Calls.{ProcessCall}
 use Rattle.shm_base.specs.declared.call.Event.{Event}
 use Rattle.shm_base.specs.declared.call.Process.{Process}
 use Rattle.shm_base.specs.declared.call.Reply.{Reply}
@@ -136,7 +136,7 @@ pub record AreGroups (script : ScriptView) (machine : Machine) (n : ℕ) (g : Gr
 pub own-mark : (script : ScriptView) (machine : Machine) (b : Branch) → AreCarried script machine b → mark_at script b ≡ mark_of script (fresh machine) b.run
 own-mark script machine b carried = ap (mark_by script) (key-same script machine b carried)
 
-grown-group : (script : ScriptView) (machine : Machine) (n : ℕ) (b : Branch) → IsGroup script machine n b → (pid : ℕ) (call : Call) → next script b.run pid ≡ Some call → IsGroup script machine (n + 1) (grown script b pid call)
+grown-group : (script : ScriptView) (machine : Machine) (n : ℕ) (b : Branch) → IsGroup script machine n b → (pid : ℕ) (call : ProcessCall) → next script b.run pid ≡ Some call → IsGroup script machine (n + 1) (grown script b pid call)
 grown-group script machine n b is pid call then =
     let follows : goes script pid b.run ≡ Some (after b.run pid call) = ap (option_map (after b.run pid)) then in
     record {
@@ -160,7 +160,7 @@ next-groups script machine n olds news all put =
 
 -- MOVES, ONE AFTER ANOTHER
 
-move-stays : (script : ScriptView) (olds news : Groups) (b : Branch) (pid : ℕ) (c : Option Call) (o : Option Move) → StayThere olds.marks news.marks → IsMoveBy script olds b pid c o → IsMoveBy script news b pid c o
+move-stays : (script : ScriptView) (olds news : Groups) (b : Branch) (pid : ℕ) (c : Option ProcessCall) (o : Option Move) → StayThere olds.marks news.marks → IsMoveBy script olds b pid c o → IsMoveBy script news b pid c o
 move-stays script olds news b pid None o stay is = is
 move-stays script olds news b pid (Some call) o stay is = (is.0, is.1, is.2, stay is.0.group (mark_at script (grown script b pid call)) is.3)
 
@@ -228,7 +228,7 @@ no-moves script g b moves none = (ap (λ (l : List (Option Move)). length l) non
 pub no-all-moves : (script : ScriptView) (g : Groups) (moves : List (List (Option Move))) → moves ≡ [] → AreAllMoves script g [] moves
 no-all-moves script g moves none = (ap (λ (l : List (List (Option Move))). length l) none, λ i b lt at. absurd (omega (arith, lt)))
 
-pub one-from : (script : ScriptView) (b : Branch) (pid : ℕ) (call : Call) (x : Branch) → next script b.run pid ≡ Some call → x ≡ grown script b pid call → IsFrom script (b ∷ []) x
+pub one-from : (script : ScriptView) (b : Branch) (pid : ℕ) (call : ProcessCall) (x : Branch) → next script b.run pid ≡ Some call → x ≡ grown script b pid call → IsFrom script (b ∷ []) x
 one-from script b pid call x then is = (b, pid, call, (0, omega arith, refl), then, is)
 
 -- A RUN OF A GROUP
@@ -302,7 +302,7 @@ module _ (script : ScriptView) (machine : Machine) (n : ℕ) (olds nexts : Group
   own = group-of script machine n olds x run all one
 
   -- the run after a call of the group is one of the group after it
-  core : (pid : ℕ) (call : Call) (m : Move) → next script run pid ≡ Some call → m.event ≡ event_after own.b.run pid call → IsAt nexts.marks m.group (mark_at script (grown script own.b pid call)) → IsOne script machine nexts (moved script x m) (after run pid call)
+  core : (pid : ℕ) (call : ProcessCall) (m : Move) → next script run pid ≡ Some call → m.event ≡ event_after own.b.run pid call → IsAt nexts.marks m.group (mark_at script (grown script own.b pid call)) → IsOne script machine nexts (moved script x m) (after run pid call)
   core pid call m there event at =
       let e = event_after run pid call in
       let f = event_after own.b.run pid call in
@@ -325,7 +325,7 @@ module _ (script : ScriptView) (machine : Machine) (n : ℕ) (olds nexts : Group
   by-move : (pid : ℕ) (o : Option Move) → IsMove script nexts own.b pid o → (m : Move) → o ≡ Some m → (r : Run) × (goes script m.event.pid run ≡ Some r) × IsOne script machine nexts (moved script x m) r
   by-move pid o is m some = by (next script own.b.run pid) refl is
     where
-      by : (c : Option Call) → next script own.b.run pid ≡ c → IsMoveBy script nexts own.b pid c o → (r : Run) × (goes script m.event.pid run ≡ Some r) × IsOne script machine nexts (moved script x m) r
+      by : (c : Option ProcessCall) → next script own.b.run pid ≡ c → IsMoveBy script nexts own.b pid c o → (r : Run) × (goes script m.event.pid run ≡ Some r) × IsOne script machine nexts (moved script x m) r
       by None none is = absurd (none-some m (sym is ∙ some))
       by (Some call) then is =
           let same : is.0 ≡ m = same_Some is.0 m (sym is.1 ∙ some) in
@@ -361,7 +361,7 @@ module _ (script : ScriptView) (machine : Machine) (n : ℕ) (olds nexts : Group
         let p = place.1 in
         let is : IsMove script nexts own.b pid (slice_index_or mine i None) = subst (λ (q : ℕ). IsMove script nexts own.b q (slice_index_or mine i None)) place.4 (own-moves.1 i p place.2 place.3) in
         let there : next script own.b.run pid ≡ Some made.0 = sym (next-same script machine run own.b.run pid own.same) ∙ made.1 in
-        let move : IsMoveBy script nexts own.b pid (Some made.0) (slice_index_or mine i None) = subst (λ (c : Option Call). IsMoveBy script nexts own.b pid c (slice_index_or mine i None)) there is in
+        let move : IsMoveBy script nexts own.b pid (Some made.0) (slice_index_or mine i None) = subst (λ (c : Option ProcessCall). IsMoveBy script nexts own.b pid c (slice_index_or mine i None)) there is in
         let within : i < length mine = (let e = own-moves.0 in let l = place.2 in omega (arith, e, l)) in (
           move.0,
           (i, within, get_or_default mine i (Some move.0) None within ∙ move.1),

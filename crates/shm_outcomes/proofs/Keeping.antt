@@ -9,7 +9,7 @@ use Rattle.shm_base.specs.History.{is_refusal}
 use Rattle.shm_base.specs.Processes.{has_pid}
 use Rattle.shm_base.specs.State.{Machine}
 use Rattle.shm_base.specs.Step.{Outcome, caller_of}
-use Rattle.shm_base.specs.declared.call.Call.{Call}
+use Rattle.shm_base.specs.Calls.{ProcessCall}
 use Rattle.shm_base.specs.declared.call.Event.{Event}
 use Rattle.shm_base.specs.declared.call.Process.{Process}
 use Rattle.shm_base.specs.declared.call.Reply.{Reply}
@@ -171,14 +171,14 @@ all-kept-more script es fs e f pid same (p ∷ ps) h =
 refusal-masked : (r : Reply) → is_refusal (masked r) ≡ is_refusal r
 refusal-masked r = grind (arith, common_steps)
 
-patch-masked : (call : Call) (r : Reply) → patch_by call (masked r) ≡ patch_by call r
+patch-masked : (call : ProcessCall) (r : Reply) → patch_by call (masked r) ≡ patch_by call r
 patch-masked call r = grind (arith, common_steps)
 
-abbrev event_with : ℕ → Call → Reply → Event
+abbrev event_with : ℕ → ProcessCall → Reply → Event
 event_with pid call reply = record { pid = pid; call = call; reply = reply }
 
 -- it is the same if the machines, and the replies, differ only in times
-trail-same : (s m : Machine) (pid : ℕ) (call : Call) (r q : Reply) (t : Trail) → timeless s ≡ timeless m → masked r ≡ masked q
+trail-same : (s m : Machine) (pid : ℕ) (call : ProcessCall) (r q : Reply) (t : Trail) → timeless s ≡ timeless m → masked r ≡ masked q
     → trail_after s (event_with pid call r) t ≡ trail_after m (event_with pid call q) t
 trail-same s m pid call r q t machines replies =
     let refusals : is_refusal r ≡ is_refusal q = sym (refusal-masked r) ∙ ap is_refusal replies ∙ refusal-masked q in
@@ -232,12 +232,12 @@ next-same script machine a b pid same =
     ∙ masked-next pid no_values lines (replies_to pid b.events))
 
 -- the replies of one call differ only in times
-pub reply-same : (script : ScriptView) (machine : Machine) (a b : Run) (pid : ℕ) (call : Call) → GoSame script machine a b → masked (event_after a pid call).reply ≡ masked (event_after b pid call).reply
+pub reply-same : (script : ScriptView) (machine : Machine) (a b : Run) (pid : ℕ) (call : ProcessCall) → GoSame script machine a b → masked (event_after a pid call).reply ≡ masked (event_after b pid call).reply
 reply-same script machine a b pid call same = ap (λ (o : Outcome). o.reply) (same-step a b pid call same.state)
 
 -- and they are of one group after it
 pub after-same :
-    (script : ScriptView) (machine : Machine) (a b : Run) (pid : ℕ) (call : Call) → IsReached script (fresh machine) a → IsReached script (fresh machine) b
+    (script : ScriptView) (machine : Machine) (a b : Run) (pid : ℕ) (call : ProcessCall) → IsReached script (fresh machine) a → IsReached script (fresh machine) b
     → GoSame script machine a b → GoSame script machine (after a pid call) (after b pid call)
 after-same script machine a b pid call left right same =
     let e = event_after a pid call in

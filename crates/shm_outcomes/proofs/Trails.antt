@@ -11,7 +11,7 @@ use Rattle.shm_base.specs.Rules.{fork_marks}
 use Rattle.shm_base.specs.Segments.{attach_all}
 use Rattle.shm_base.specs.State.{Entry, Machine}
 use Rattle.shm_base.specs.Step.{Caller, Outcome, acts, caller_of, forks, inherited, number_at, segments_of, step, step_by, store, unborn_from, xadd}
-use Rattle.shm_base.specs.declared.call.Call.{Call}
+use Rattle.shm_base.specs.Calls.{ProcessCall}
 use Rattle.shm_base.specs.declared.call.Call.TheVariants.{Shmget, Shmat, Shmdt, Stat, Set, Rmid, Lock, Unlock, Load, Store, Xadd, Fork, Exec, Exit, Swapoff}
 use Rattle.shm_base.specs.declared.call.Event.{Event}
 use Rattle.shm_text.specs.Script.{ScriptView}
@@ -119,9 +119,9 @@ module _ (s : Machine) (n : ℕ) (c : Caller) where
           (ps, is, refl)
       by false k = absurd (none-some p k)
 
-  acts-store : (call : Call) (p : Patch) → patch_by call (acts s n c call).reply ≡ Some p → is_refusal (acts s n c call).reply ≡ false → Stores s c p (acts s n c call)
-  acts-store (Store addr bytes) p is h =
-      subst (λ (q : Patch). Stores s c q (acts s n c (Store addr bytes))) (fits-is addr bytes p is) (store-stores addr bytes (places c.pieces addr (length bytes)) refl h)
+  acts-store : (call : ProcessCall) (p : Patch) → patch_by call (acts s n c call).reply ≡ Some p → is_refusal (acts s n c call).reply ≡ false → Stores s c p (acts s n c call)
+  acts-store (Store bytes addr) p is h =
+      subst (λ (q : Patch). Stores s c q (acts s n c (Store bytes addr))) (fits-is addr bytes p is) (store-stores addr bytes (places c.pieces addr (length bytes)) refl h)
   acts-store (Xadd addr add) p is h = xadd-stores addr add p (places c.pieces addr 8) refl is
   acts-store (Shmget key size mode flags) p is h = absurd (none-some p is)
   acts-store (Shmat id addr flags) p is h = absurd (none-some p is)
@@ -139,7 +139,7 @@ module _ (s : Machine) (n : ℕ) (c : Caller) where
 
 -- the machine that the trail leads to after a call that wrote bytes
 stored-after :
-    (m s : Machine) (n pid : ℕ) (call : Call) (p : Patch) (ws : List Write) → written m ws ≡ timeless s
+    (m s : Machine) (n pid : ℕ) (call : ProcessCall) (p : Patch) (ws : List Write) → written m ws ≡ timeless s
     → patch_by call (step s n pid call).reply ≡ Some p → is_refusal (step s n pid call).reply ≡ false
     → written m (puts s pid p.addr p.bytes ws) ≡ timeless (step s n pid call).state
 stored-after m s n pid call p ws at is change = by (caller_of s pid) refl is change
@@ -156,7 +156,7 @@ stored-after m s n pid call p ws at is change = by (caller_of s pid) refl is cha
 
 -- a call that writes bytes leaves its caller where it was
 stored-caller :
-    (s : Machine) (n pid : ℕ) (call : Call) (p : Patch) → patch_by call (step s n pid call).reply ≡ Some p → is_refusal (step s n pid call).reply ≡ false
+    (s : Machine) (n pid : ℕ) (call : ProcessCall) (p : Patch) → patch_by call (step s n pid call).reply ≡ Some p → is_refusal (step s n pid call).reply ≡ false
     → caller_of (step s n pid call).state pid ≡ caller_of s pid
 stored-caller s n pid call p is change = by (caller_of s pid) refl is change
   where
@@ -200,9 +200,9 @@ fork-written s pid child [] = refl
 fork-written s pid child (w ∷ ws) = fork-written (with_write s w) pid child ws ∙ ap (λ (m : Machine). written m ws) (fork-swap s pid child w)
 
 -- a fork is made before the bytes are written, or after it
-fork-first : (s : Machine) (pid : ℕ) (call : Call) (ws : List Write) → is_fork call ≡ true → written (step s 1 pid call).state ws ≡ (step (written s ws) 1 pid call).state
+fork-first : (s : Machine) (pid : ℕ) (call : ProcessCall) (ws : List Write) → is_fork call ≡ true → written (step s 1 pid call).state ws ≡ (step (written s ws) 1 pid call).state
 fork-first s pid (Fork child) ws h = sym (fork-written s pid child ws)
-fork-first s pid (Store addr bytes) ws h = absurd (cc)
+fork-first s pid (Store bytes addr) ws h = absurd (cc)
 fork-first s pid (Xadd addr add) ws h = absurd (cc)
 fork-first s pid (Shmget key size mode flags) ws h = absurd (cc)
 fork-first s pid (Shmat id addr flags) ws h = absurd (cc)
@@ -232,7 +232,7 @@ made-changed base c t =
     ]
 
 one-changed :
-    (base s : Machine) (n pid : ℕ) (call : Call) (t : Trail) → n ≢ 0 → changed base (all_changes t) ≡ timeless s
+    (base s : Machine) (n pid : ℕ) (call : ProcessCall) (t : Trail) → n ≢ 0 → changed base (all_changes t) ≡ timeless s
     → changed base (all_changes (trail_after s (event_at s n pid call) t)) ≡ timeless (step s n pid call).state
 one-changed base s n pid call t not-zero at =
     let e : Event = event_at s n pid call in
@@ -294,7 +294,7 @@ reached-next script machine run reached e =
     subst (λ (events : List Event). trail_of machine (events ++ e ∷ []) ≡ trail_after run.machine e (trail_of machine events)) (sym all.1) (all.2.next e)
 
 -- the machine after the call makes the same trail
-pub late-trail : (s : Machine) (n pid : ℕ) (call : Call) (t : Trail) → trail_after (step s n pid call).state (event_at s n pid call) t ≡ trail_after s (event_at s n pid call) t
+pub late-trail : (s : Machine) (n pid : ℕ) (call : ProcessCall) (t : Trail) → trail_after (step s n pid call).state (event_at s n pid call) t ≡ trail_after s (event_at s n pid call) t
 late-trail s n pid call t =
     let e : Event = event_at s n pid call in
     elim (cases_Bool (is_change e)) [

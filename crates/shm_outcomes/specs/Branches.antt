@@ -1,7 +1,7 @@
 -- Runs with what each process was told in them, and what changed the machine.
 use Rattle.std.specs.Prelude.{ℕ, ◌+◌, List, length}
 use Rattle.shm_base.specs.Step.{step}
-use Rattle.shm_base.specs.declared.call.Call.{Call}
+use Rattle.shm_base.specs.Calls.{ProcessCall}
 use Rattle.shm_base.specs.declared.call.Event.{Event}
 use Rattle.shm_base.specs.declared.call.Reply.{Reply}
 use Rattle.shm_text.specs.Script.{ScriptView}
@@ -22,10 +22,10 @@ abbrev pub sprout : ScriptView → Run → Branch
 sprout script run = record { run = run; told = outcome_of script run.events; trail = no_trail }
 
 -- a call that a run makes next, with its reply
-abbrev pub event_after : Run → ℕ → Call → Event
+abbrev pub event_after : Run → ℕ → ProcessCall → Event
 event_after run pid call = record { pid = pid; call = call; reply = (step run.machine (length run.events + 1) pid call).reply }
 
-abbrev pub grown : ScriptView → Branch → ℕ → Call → Branch
+abbrev pub grown : ScriptView → Branch → ℕ → ProcessCall → Branch
 grown script b pid call =
     let e = event_after b.run pid call in
     record { run = after b.run pid call; told = told_after script.processes e b.told; trail = trail_after b.run.machine e b.trail }

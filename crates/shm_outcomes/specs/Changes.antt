@@ -6,7 +6,7 @@ use Rattle.shm_base.specs.Access.{Place}
 use Rattle.shm_base.specs.State.{Machine}
 use Rattle.shm_base.specs.Step.{step}
 use Rattle.shm_base.specs.declared.bounds.TheConstants.{INDEXES}
-use Rattle.shm_base.specs.declared.call.Call.{Call}
+use Rattle.shm_base.specs.Calls.{ProcessCall}
 use Rattle.shm_base.specs.declared.call.Call.TheVariants.{Fork, Store, Xadd}
 use Rattle.shm_base.specs.declared.call.Event.{Event}
 use Rattle.shm_base.specs.declared.call.Reply.{Reply}
@@ -58,8 +58,8 @@ abbrev pub fits : ℕ → List ℕ → Option Patch
 fits addr bytes = if nat_lt (addr + length bytes) (2 ^ 64) then Some (record { addr = addr; bytes = bytes }) else None
 
 -- the bytes that a call wrote, if it wrote no more than bytes
-abbrev pub patch_by : Call → Reply → Option Patch
-patch_by (Store addr bytes) reply = fits addr bytes
+abbrev pub patch_by : ProcessCall → Reply → Option Patch
+patch_by (Store bytes addr) reply = fits addr bytes
 patch_by (Xadd addr add) (Number old) = fits addr (to_le_bytes w64 ((old + add) % 2 ^ 64))
 patch_by call reply = None
 
@@ -70,7 +70,7 @@ abbrev pub all_changes : Trail → List Change
 all_changes t = t.past ++ map wrote t.writes
 
 -- a call that does the same before bytes are written and after it
-abbrev pub is_fork : Call → Bool
+abbrev pub is_fork : ProcessCall → Bool
 is_fork (Fork child) = true
 is_fork call = false
 

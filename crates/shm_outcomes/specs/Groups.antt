@@ -2,7 +2,7 @@
 -- of its replies, and by what changed the machine.
 use Rattle.std.specs.Prelude.{◌≡◌, ◌<◌, ◌⊎◌, ℕ, ◌==◌, Bool, true, false, if◌then◌else◌, List, [], ◌∷◌, ◌++◌, map, length, Option, Some, None, All, Contains, slice_index_or}
 use Rattle.std.specs.List.{AllPairs}
-use Rattle.shm_base.specs.declared.call.Call.{Call}
+use Rattle.shm_base.specs.Calls.{ProcessCall}
 use Rattle.shm_base.specs.declared.call.Process.{Process}
 use Rattle.shm_base.specs.declared.call.Reply.{Reply}
 use Rattle.shm_base.specs.declared.call.Reply.TheVariants.{Done}
@@ -64,7 +64,7 @@ IsPut script olds b place news =
 -- MOVES
 
 -- where the runs of a group go by a process, if they can: the call with a reply, and the group of the runs after it
-abbrev pub IsMoveBy : ScriptView → Groups → Branch → ℕ → Option Call → Option Move → Type 0
+abbrev pub IsMoveBy : ScriptView → Groups → Branch → ℕ → Option ProcessCall → Option Move → Type 0
 IsMoveBy script nexts b pid None move = move ≡ None
 IsMoveBy script nexts b pid (Some call) move =
     (m : Move) × (move ≡ Some m) × (m.event ≡ event_after b.run pid call) × IsAt nexts.marks m.group (mark_at script (grown script b pid call))
@@ -89,7 +89,7 @@ AreAllMoves script nexts bs moves =
 
 -- the run of a group is that of one of these groups after one more call
 abbrev pub IsFrom : ScriptView → List Branch → Branch → Type 0
-IsFrom script olds b = (o : Branch) × (pid : ℕ) × (call : Call) × Contains olds o × (next script o.run pid ≡ Some call) × (b ≡ grown script o pid call)
+IsFrom script olds b = (o : Branch) × (pid : ℕ) × (call : ProcessCall) × Contains olds o × (next script o.run pid ≡ Some call) × (b ≡ grown script o pid call)
 
 -- places stay what they were
 abbrev pub StayThere : List Key → List Key → Type 0

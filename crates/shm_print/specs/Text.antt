@@ -6,7 +6,7 @@ use Rattle.shm_base.specs.declared.flags.GetFlags.{GetFlags}
 use Rattle.shm_base.specs.declared.flags.AtFlags.{AtFlags}
 use Rattle.shm_base.specs.declared.flags.Status.{Status}
 use Rattle.shm_base.specs.declared.owner.Perm.{Perm}
-use Rattle.shm_base.specs.declared.call.Call.{Call}
+use Rattle.shm_base.specs.Calls.{ProcessCall}
 use Rattle.shm_base.specs.declared.call.Call.TheVariants.{Shmget, Shmat, Shmdt, Stat, Set, Rmid, Lock, Unlock, Load, Store, Xadd, Fork, Exec, Exit, Swapoff}
 use Rattle.shm_base.specs.declared.call.ShmidDs.{ShmidDs}
 use Rattle.shm_base.specs.declared.call.Reply.{Reply}
@@ -56,7 +56,7 @@ status_text status =
     codes "-"
 
 -- a call's word and its arguments
-abbrev pub call_text : Call → List ℕ
+abbrev pub call_text : ProcessCall → List ℕ
 call_text (Shmget key size mode flags) = codes "shmget " ++ (key_text key ++ (codes " " ++ (decimal size ++ (codes " " ++ (mode_text mode ++ get_flags_text flags)))))
 call_text (Shmat id addr flags) = codes "shmat " ++ (signed_decimal id ++ (codes " " ++ (address_text addr ++ (codes " " ++ at_flags_text flags))))
 call_text (Shmdt addr) = codes "shmdt " ++ address_text addr
@@ -66,7 +66,7 @@ call_text (Rmid id) = codes "rmid " ++ signed_decimal id
 call_text (Lock id) = codes "lock " ++ signed_decimal id
 call_text (Unlock id) = codes "unlock " ++ signed_decimal id
 call_text (Load addr len) = codes "load " ++ (address_text addr ++ (codes " " ++ decimal len))
-call_text (Store addr bytes) = codes "store " ++ (address_text addr ++ (codes " " ++ encode_lower bytes))
+call_text (Store bytes addr) = codes "store " ++ (address_text addr ++ (codes " " ++ encode_lower bytes))
 call_text (Xadd addr add) = codes "xadd " ++ (address_text addr ++ (codes " " ++ decimal add))
 call_text (Fork child) = codes "fork " ++ decimal child
 call_text Exec = codes "exec"

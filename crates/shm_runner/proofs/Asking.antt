@@ -2,7 +2,7 @@
 use Rattle.std.proofs.Common.{◌≡◌, ◌⊎◌, ℕ, ◌==◌, ◌++◌, ◌||◌, Bool, true, false, List, [], ◌∷◌, map, get_or, Option, Some, None, drop, MatchBool, inl, inr, refl, sym, ap, subst, ◌∙◌, true≢false}
 use Rattle.std.proofs.lemmas.Bool.{cases_Bool, or_parts, or_left, or_right}
 use Rattle.shm_base.specs.History.{own_part}
-use Rattle.shm_base.specs.declared.call.Call.{Call}
+use Rattle.shm_base.specs.Calls.{ProcessCall}
 use Rattle.shm_base.specs.declared.call.Event.{Event}
 use Rattle.shm_base.specs.declared.call.Reply.{Reply}
 use Rattle.shm_text.specs.Form.{CommandView}
@@ -58,7 +58,7 @@ module _ (pid : ℕ) (values : List (Option ℕ)) (c : CommandView) (ls : List L
       → transcript_events pid (x ∷ xs) ≡ olds ++ e ∷ more → next_call pid values (Command c ∷ ls) (map reply_of olds) ≡ Some e.call
   own_asked [] e more next told =
       let first : x.call ≡ e.call = ap (λ (l : List Event). (get_or l 0 e).call) (sym own_events ∙ told) in
-      rw own (ap (λ (k : Call). Some k) (sym line ∙ first))
+      rw own (ap (λ (k : ProcessCall). Some k) (sym line ∙ first))
   own_asked (o ∷ os) e more next told =
       let all = sym own_events ∙ told in
       let first : r ≡ o.reply = ap (λ (l : List Event). (get_or l 0 e).reply) all in

@@ -7,7 +7,7 @@ use Rattle.shm_base.specs.History.{IsMove, LeadsFrom, is_refusal}
 use Rattle.shm_base.specs.Processes.{has_pid}
 use Rattle.shm_base.specs.State.{Ended, Life, Live, Machine, Piece, Runner, Unborn, life_at_start, runner_at_start}
 use Rattle.shm_base.specs.Step.{Caller, Outcome, acts, caller_by, caller_from, caller_of, exit, is_unborn, pieces_with, unborn_from}
-use Rattle.shm_base.specs.declared.call.Call.{Call}
+use Rattle.shm_base.specs.Calls.{ProcessCall}
 use Rattle.shm_base.specs.declared.call.Call.TheVariants.{Exit}
 use Rattle.shm_base.specs.declared.call.Event.{Event}
 use Rattle.shm_base.specs.declared.call.Process.{Process}
@@ -137,17 +137,17 @@ child-first n pid (r ∷ rs) index found =
 -- ONE EVENT
 
 -- who has ended stays ended, and who is not born stays so but for a fork of it that was done
-record Ages (call : Call) (reply : Reply) (olds news : List Runner) : Type 0 where
+record Ages (call : ProcessCall) (reply : Reply) (olds news : List Runner) : Type 0 where
   ended : (q : ℕ) → life_from q olds ≡ Some Ended → life_from q news ≡ Some Ended
   unborn : (q : ℕ) → life_from q olds ≡ Some Unborn → is_fork_of q call reply ≡ false → life_from q news ≡ Some Unborn
 
-ages-same : (call : Call) (reply : Reply) (olds news : List Runner) → news ≡ olds → Ages call reply olds news
+ages-same : (call : ProcessCall) (reply : Reply) (olds news : List Runner) → news ≡ olds → Ages call reply olds news
 ages-same call reply olds news same =
     record { ended = λ q life. ap (life_from q) same ∙ life; unborn = λ q life none. ap (life_from q) same ∙ life }
 
 -- one process is set that had not ended, and was born or is forked
 ages-set :
-    (call : Call) (reply : Reply) (pid : ℕ) (life : Life) (rs : List Runner) (k : ℕ) (new : Runner)
+    (call : ProcessCall) (reply : Reply) (pid : ℕ) (life : Life) (rs : List Runner) (k : ℕ) (new : Runner)
     → FirstAt pid life rs k → new.pid ≡ pid → life ≢ Ended → (life ≡ Unborn → is_fork_of pid call reply ≡ true)
     → Ages call reply rs (slice_set rs k new)
 ages-set call reply pid life rs k new first named going forked = record { ended = ended; unborn = unborn }
@@ -177,13 +177,13 @@ module _ (s : Machine) (pid : ℕ) (c : Caller) (live : caller_of s pid ≡ Some
   mine = caller-first 0 pid s.runners c live
 
   -- the caller is set
-  ages-own : (call : Call) (reply : Reply) (new : Runner) → new.pid ≡ c.pid → Ages call reply s.runners (slice_set s.runners c.index new)
+  ages-own : (call : ProcessCall) (reply : Reply) (new : Runner) → new.pid ≡ c.pid → Ages call reply s.runners (slice_set s.runners c.index new)
   ages-own call reply new named =
       let place : mine.place ≡ c.index = omega (arith, mine.at) in
       subst (λ (k : ℕ). Ages call reply s.runners (slice_set s.runners k new)) place
       (ages-set call reply pid (Live c.cred) s.runners mine.place new mine.first (named ∙ mine.own) (λ e. cc e) (λ e. absurd (cc e)))
 
-  ages-hands : (call : Call) (o : Outcome) → Hands s c call o → Ages call o.reply s.runners o.state.runners
+  ages-hands : (call : ProcessCall) (o : Outcome) → Hands s c call o → Ages call o.reply s.runners o.state.runners
   ages-hands call o (inl k) = ages-same call o.reply s.runners o.state.runners k.runners
   ages-hands call o (inr (inl k)) = rw k.runners (ages-own call o.reply (record { pid = c.pid; life = Live c.cred; pieces = pieces_with c k.seg k.segment k.flags k.base }) refl)
   ages-hands call o (inr (inr (inl k))) = rw k.runners (ages-own call o.reply (record { pid = c.pid; life = k.life; pieces = filter k.stays c.pieces }) refl)
@@ -216,7 +216,7 @@ done-accepts r refused done = absurd (true≢false (sym refused ∙ ap is_refusa
 exit-move : (s : Machine) (n : ℕ) (e : Event) (t : Machine) → IsMove s n e t → e.call ≡ Exit → e.reply ≡ Done → life_from e.pid t.runners ≡ Some Ended
 exit-move s n e t =
     by-move s n e t (λ r u. e.call ≡ Exit → r ≡ Done → life_from e.pid u.runners ≡ Some Ended)
-    (λ c is asked done. subst (λ (x : Call). life_from e.pid (acts s n c x).state.runners ≡ Some Ended) (sym asked) (exit-ends s e.pid c is n))
+    (λ c is asked done. subst (λ (x : ProcessCall). life_from e.pid (acts s n c x).state.runners ≡ Some Ended) (sym asked) (exit-ends s e.pid c is n))
     (λ r no asked done. absurd (done-accepts r no done))
 
 -- A HISTORY
@@ -243,7 +243,7 @@ has_exit es = list_any is_exit es
 abbrev pub has_exited : ℕ → List Event → Bool
 has_exited pid es = list_any (λ (e : Event). (e.pid == pid) && is_exit e) es
 
-exit-is : (call : Call) (reply : Reply) → is_end call (Replied reply) ≡ true → (call ≡ Exit) × (reply ≡ Done)
+exit-is : (call : ProcessCall) (reply : Reply) → is_end call (Replied reply) ≡ true → (call ≡ Exit) × (reply ≡ Done)
 exit-is call reply h = (grind arith, grind arith)
 
 -- who exited has ended

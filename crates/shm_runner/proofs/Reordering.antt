@@ -9,7 +9,7 @@ use Rattle.std.proofs.lemmas.Option.{none-some, same_Some}
 use Rattle.shm_base.specs.History.{own_part}
 use Rattle.shm_base.specs.Processes.{has_pid}
 use Rattle.shm_base.specs.State.{start_of}
-use Rattle.shm_base.specs.declared.call.Call.{Call}
+use Rattle.shm_base.specs.Calls.{ProcessCall}
 use Rattle.shm_base.specs.declared.call.Event.{Event}
 use Rattle.shm_base.specs.declared.call.Process.{Process}
 use Rattle.shm_base.specs.declared.call.Reply.{Reply}
@@ -30,7 +30,7 @@ use Rattle.shm_runner.proofs.Asking.{skipped}
 -- THE LINES THAT ARE LEFT
 
 -- the next call of a process is that of its first line, and the others come after it
-record Taken (pid : ℕ) (values : List (Option ℕ)) (ls : List Line) (call : Call) : Type 0 where
+record Taken (pid : ℕ) (values : List (Option ℕ)) (ls : List Line) (call : ProcessCall) : Type 0 where
   command : CommandView
   own : command.pid ≡ pid
   asked : call ≡ call_of values command.call
@@ -38,7 +38,7 @@ record Taken (pid : ℕ) (values : List (Option ℕ)) (ls : List Line) (call : C
   rest : (r : Reply) (replies : List Reply)
       → next_call command.pid values ls (r ∷ replies) ≡ next_call command.pid (values_after values command.var (Some r)) (without_first command.pid ls) replies
 
-taken : (pid : ℕ) (values : List (Option ℕ)) (ls : List Line) (call : Call) → next_call pid values ls [] ≡ Some call → Taken pid values ls call
+taken : (pid : ℕ) (values : List (Option ℕ)) (ls : List Line) (call : ProcessCall) → next_call pid values ls [] ≡ Some call → Taken pid values ls call
 taken pid values [] call next = absurd (none-some call next)
 taken pid values (Flush pages ∷ ls) call next =
     let t = taken pid values ls call next in
@@ -207,7 +207,7 @@ replies-other before e q apart =
     let none : own_part q (e ∷ []) ≡ [] = rw (ne_eqb e.pid q apart) refl in
     ap (λ (l : List Event). map reply_of l) (filter-append (λ (x : Event). x.pid == q) before (e ∷ []) ∙ ap (λ (l : List Event). own_part q before ++ l) none ∙ append-nil (own_part q before))
 
-both : (b : Bool) (o : Option Call) (call : Call) → cond b o None ≡ Some call → (b ≡ true) × (o ≡ Some call)
+both : (b : Bool) (o : Option ProcessCall) (call : ProcessCall) → cond b o None ≡ Some call → (b ≡ true) × (o ≡ Some call)
 both true o call is = (refl, is)
 both false o call is = absurd (none-some call is)
 

@@ -6,7 +6,7 @@ use Rattle.shm_base.specs.History.{IsHistory, IsStep, LeadsFrom, own_part}
 use Rattle.shm_base.specs.Processes.{has_pid}
 use Rattle.shm_base.specs.State.{Machine, Opening, start_of}
 use Rattle.shm_base.specs.Step.{Caller, Outcome, caller_of, step_by}
-use Rattle.shm_base.specs.declared.call.Call.{Call}
+use Rattle.shm_base.specs.Calls.{ProcessCall}
 use Rattle.shm_base.specs.declared.call.Event.{Event}
 use Rattle.shm_base.specs.declared.call.Process.{Process}
 use Rattle.shm_base.specs.declared.call.Reply.{Reply}
@@ -64,7 +64,7 @@ module _ (script : ScriptView) (history : List Event) where
 
 -- THE WALK
 
-live-by : (s t : Machine) (n : ℕ) (call : Call) (reply : Reply) (o : Option Caller) → step_by s n call o ≡ record { reply = reply; state = t } → reply ≢ Refused Esrch → is_some o ≡ true
+live-by : (s t : Machine) (n : ℕ) (call : ProcessCall) (reply : Reply) (o : Option Caller) → step_by s n call o ≡ record { reply = reply; state = t } → reply ≢ Refused Esrch → is_some o ≡ true
 live-by s t n call reply None is live = absurd (live (sym (ap (λ (x : Outcome). x.reply) is)))
 live-by s t n call reply (Some c) is live = refl
 
@@ -73,7 +73,7 @@ own-split pid before e more own =
     let first : own_part pid (e ∷ more) ≡ e ∷ own_part pid more = rw (eq-eqb e.pid pid own) refl in
     filter-append (λ (x : Event). x.pid == pid) before (e ∷ more) ∙ ap (λ (l : List Event). own_part pid before ++ l) first
 
-asked-if : (b : Bool) (o : Option Call) → b ≡ true → cond b o None ≡ o
+asked-if : (b : Bool) (o : Option ProcessCall) → b ≡ true → cond b o None ≡ o
 asked-if true o is = refl
 asked-if false o is = absurd (true≢false (sym is))
 

@@ -16,7 +16,7 @@ use Rattle.shm_base.specs.Segments.{reserved}
 use Rattle.shm_base.specs.Space.{choose, inside}
 use Rattle.shm_base.specs.State.{Machine, Segment, pages_in, pages_of}
 use Rattle.shm_base.specs.Step.{Caller, Outcome, acts, at_wish, attaches, attaches_chosen, attaches_fixed, attaches_found, caller_of, controls, creates, creates_small, gets, huge_errno, is_full, is_no_owner, is_rnd, is_taken, pieces_with, remaps_null, step, step_by, wants_creation, wants_no_other}
-use Rattle.shm_base.specs.declared.call.Call.{Call}
+use Rattle.shm_base.specs.Calls.{ProcessCall}
 use Rattle.shm_base.specs.declared.call.Call.TheVariants.{Shmget, Shmat, Shmdt, Stat, Set, Rmid, Lock, Unlock, Load, Store, Xadd, Fork, Exec, Exit, Swapoff}
 use Rattle.shm_base.specs.declared.errno.Errno.{Errno}
 use Rattle.shm_base.specs.declared.flags.GetFlags.{GetFlags}
@@ -84,7 +84,7 @@ module _ (s : Machine) (n : ℕ) (c : Caller) where
   still-controls act acts Removed = λ h. refl
   still-controls act acts (Found i x) = still-if (not (owns c.cred x.perm)) _ _ (λ h. refl) (acts i x)
 
-  still-acts : (call : Call) → Still s (acts s n c call)
+  still-acts : (call : ProcessCall) → Still s (acts s n c call)
   still-acts (Shmget key size mode flags) = still-if (key == 0) _ _ (still-creates 0 size mode flags) (still-gets key size mode flags (find_key s.table key))
   still-acts (Shmat id addr flags) =
       still-if (remaps_null s addr flags) _ _ (λ h. refl)
@@ -98,18 +98,18 @@ module _ (s : Machine) (n : ℕ) (c : Caller) where
       (λ i x. still-if (may_not_lock s.limits c.cred) _ _ (λ h. refl) (still-if (not x.locked && passes_limit s.limits c.cred s.table x) _ _ (λ h. refl) (λ h. absurd (cc)))) (look s.table id)
   still-acts (Unlock id) = still-controls _ (λ i x h. absurd (cc)) (look s.table id)
   still-acts (Load addr len) = λ h. grind (arith, common_steps)
-  still-acts (Store addr bytes) = λ h. grind (arith, common_steps)
+  still-acts (Store bytes addr) = λ h. grind (arith, common_steps)
   still-acts (Xadd addr add) = λ h. grind (arith, common_steps)
   still-acts (Fork child) = λ h. grind (arith, common_steps)
   still-acts Exec = λ h. absurd (cc)
   still-acts Exit = λ h. absurd (cc)
   still-acts (Swapoff area) = λ h. grind (arith, common_steps)
 
-still-by : (s : Machine) (n : ℕ) (call : Call) (o : Option Caller) → Still s (step_by s n call o)
+still-by : (s : Machine) (n : ℕ) (call : ProcessCall) (o : Option Caller) → Still s (step_by s n call o)
 still-by s n call None = λ h. refl
 still-by s n call (Some c) = still-acts s n c call
 
-looked-by : (s : Machine) (n : ℕ) (call : Call) (o : Option Caller) → looks call ≡ true → (step_by s n call o).state ≡ s
+looked-by : (s : Machine) (n : ℕ) (call : ProcessCall) (o : Option Caller) → looks call ≡ true → (step_by s n call o).state ≡ s
 looked-by s n call o h = grind (arith, common_steps)
 
 no-change : (a b : Bool) → not a && not b ≡ false → (a ≡ true) ⊎ (b ≡ true)
@@ -117,11 +117,11 @@ no-change true b h = inl refl
 no-change false true h = inr refl
 no-change false false h = absurd (cc)
 
-abbrev pub event_at : Machine → ℕ → ℕ → Call → Event
+abbrev pub event_at : Machine → ℕ → ℕ → ProcessCall → Event
 event_at s n pid call = record { pid = pid; call = call; reply = (step s n pid call).reply }
 
 -- a call that changes nothing leaves the machine as it is
-pub still : (s : Machine) (n pid : ℕ) (call : Call) → is_change (event_at s n pid call) ≡ false → (step s n pid call).state ≡ s
+pub still : (s : Machine) (n pid : ℕ) (call : ProcessCall) → is_change (event_at s n pid call) ≡ false → (step s n pid call).state ≡ s
 still s n pid call h =
     elim (no-change (is_refusal (step s n pid call).reply) (looks call) h) [
       | inl refused ↦ still-by s n call (caller_of s pid) refused
@@ -134,7 +134,7 @@ redone s [] = s
 redone s (e ∷ es) = redone (step s 1 e.pid e.call).state es
 
 -- a machine without times is that which the changes lead to
-one-redone : (s : Machine) (n pid : ℕ) (call : Call) (rest : List Event) → n ≢ 0
+one-redone : (s : Machine) (n pid : ℕ) (call : ProcessCall) (rest : List Event) → n ≢ 0
     → redone (timeless s) (changes (event_at s n pid call ∷ rest)) ≡ redone (timeless (step s n pid call).state) (changes rest)
 one-redone s n pid call rest not-first =
     elim (cases_Bool (is_change (event_at s n pid call))) [
@@ -234,7 +234,7 @@ told-pid es fs pid (p ∷ ps) same has =
       | inr other ↦ told-pid es fs pid ps (map-tail (told es) (told fs) p ps same) (grind (arith, has, other))
     ]
 
-pub same-if : (b : Bool) (x y : Option Call) → (b ≡ true → x ≡ y) → cond b x None ≡ cond b y None
+pub same-if : (b : Bool) (x y : Option ProcessCall) → (b ≡ true → x ≡ y) → cond b x None ≡ cond b y None
 same-if true x y h = h refl
 same-if false x y h = refl
 
@@ -280,14 +280,14 @@ all-told-more es fs e f pid same (p ∷ ps) h =
     λ j. here j ∷ rest j
 
 -- the outcomes of one call of two runs that are alike
-pub same-step : (a b : Run) (pid : ℕ) (call : Call) → timeless a.machine ≡ timeless b.machine
+pub same-step : (a b : Run) (pid : ℕ) (call : ProcessCall) → timeless a.machine ≡ timeless b.machine
     → timeless_outcome (step a.machine (length a.events + 1) pid call) ≡ timeless_outcome (step b.machine (length b.events + 1) pid call)
 same-step a b pid call same =
     sym (times_reach_times a.machine (length a.events + 1) pid call (not-first (length a.events)))
     ∙ ap (λ (m : Machine). step m 1 pid call) same
     ∙ times_reach_times b.machine (length b.events + 1) pid call (not-first (length b.events))
 
-after-alike : (script : ScriptView) (a b : Run) (pid : ℕ) (call : Call) → GoAlike script a b → GoAlike script (after a pid call) (after b pid call)
+after-alike : (script : ScriptView) (a b : Run) (pid : ℕ) (call : ProcessCall) → GoAlike script a b → GoAlike script (after a pid call) (after b pid call)
 after-alike script a b pid call alike =
     let outcome = same-step a b pid call alike.machine in
     record {
@@ -308,7 +308,7 @@ goes-alike script a b pid m alike h =
 pub over-alike : (script : ScriptView) (a b : Run) → GoAlike script a b → IsOver script a → IsOver script b
 over-alike script a b alike over pid = by (next script b pid) refl
   where
-    by : (o : Option Call) → next script b pid ≡ o → option_map (after b pid) o ≡ None
+    by : (o : Option ProcessCall) → next script b pid ≡ o → option_map (after b pid) o ≡ None
     by None is = refl
     by (Some call) is =
         let there : next script a pid ≡ Some call = same-next script a b pid alike ∙ is in

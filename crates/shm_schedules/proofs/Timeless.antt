@@ -3,7 +3,7 @@ use Rattle.std.specs.Prelude.{◌≡◌, ◌≢◌, ℕ, ◌+◌, ◌*◌, ◌%�
 use Rattle.std.proofs.Common.{refl, ap, sym, ◌∙◌, arith}
 use Rattle.std.proofs.lemmas.Grind.{common_steps}
 use Rattle.std.specs.Int.{w64, to_le_bytes, from_le_bytes}
-use Rattle.shm_base.specs.declared.call.Call.{Call}
+use Rattle.shm_base.specs.Calls.{ProcessCall}
 use Rattle.shm_base.specs.declared.call.Call.TheVariants.{Shmget, Shmat, Shmdt, Stat, Set, Rmid, Lock, Unlock, Load, Store, Xadd, Fork, Exec, Exit, Swapoff}
 use Rattle.shm_base.specs.declared.call.Reply.TheVariants.{Addr, Number, Done, Id}
 use Rattle.shm_base.specs.declared.errno.Errno.{Errno}
@@ -177,7 +177,7 @@ module _ (s : Machine) (n : ℕ) (c : Caller) (one : masked_time n ≡ 1) where
   out-takes : (area : ℕ) (o : Option (Option ℕ)) → takes_away B area o ≡ timeless_outcome (takes_away s area o)
   out-takes area o = let same = reserved-timeless T in grind arith
 
-  out-acts : (call : Call) → acts B 1 c call ≡ timeless_outcome (acts s n c call)
+  out-acts : (call : ProcessCall) → acts B 1 c call ≡ timeless_outcome (acts s n c call)
   out-acts (Shmget key size mode flags) = out-shmget key size mode flags
   out-acts (Shmat id addr flags) = out-shmat id addr flags
   out-acts (Shmdt addr) = out-detaches addr (origin_of addr c.pieces)
@@ -187,14 +187,14 @@ module _ (s : Machine) (n : ℕ) (c : Caller) (one : masked_time n ≡ 1) where
   out-acts (Lock id) = out-look (locks B c) (locks s c) out-locks id
   out-acts (Unlock id) = out-look (unlocks B) (unlocks s) (λ i x. out-changed i unlocked unlocked (λ y. refl)) id
   out-acts (Load a len) = out-load (places c.pieces a len)
-  out-acts (Store a bytes) = out-store bytes (writable_places c.pieces a (length bytes))
+  out-acts (Store bytes a) = out-store bytes (writable_places c.pieces a (length bytes))
   out-acts (Xadd a add) = out-xadd add (writable_places c.pieces a 8)
   out-acts (Fork child) = out-forks child (unborn_from 0 child s.runners)
   out-acts Exec = out-after (with_pieces s.runners c []) (segments_of c)
   out-acts Exit = out-after (with_end s.runners c) (segments_of c)
   out-acts (Swapoff area) = tests Eperm (not (c.cred.uid == 0)) _ _ _ refl (out-takes area (slice_get s.areas area))
 
-out-by : (s : Machine) (n : ℕ) (one : masked_time n ≡ 1) (call : Call) (o : Option Caller) → step_by (timeless s) 1 call o ≡ timeless_outcome (step_by s n call o)
+out-by : (s : Machine) (n : ℕ) (one : masked_time n ≡ 1) (call : ProcessCall) (o : Option Caller) → step_by (timeless s) 1 call o ≡ timeless_outcome (step_by s n call o)
 out-by s n one call None = refl
 out-by s n one call (Some c) = out-acts s n c one call
 

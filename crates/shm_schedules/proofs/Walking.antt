@@ -7,14 +7,14 @@ use Rattle.std.proofs.lemmas.List.Elements.{All-append, All-contains, Contains-a
 use Rattle.std.proofs.lemmas.Option.{none-some, same_Some}
 use Rattle.shm_base.specs.Step.{step}
 use Rattle.shm_base.specs.Processes.{has_pid}
-use Rattle.shm_base.specs.declared.call.Call.{Call}
+use Rattle.shm_base.specs.Calls.{ProcessCall}
 use Rattle.shm_base.specs.declared.call.Event.{Event}
 use Rattle.shm_base.specs.declared.call.Process.{Process}
 use Rattle.shm_text.specs.Script.{ScriptView}
 use Rattle.shm_schedules.specs.Schedules.{Run, after, goes, is_live, next, Leads, IsOver, pid_of, schedule_of, IsReached, followers, one_run}
 
 -- a run that follows another is the one after some call
-pub made-by : (o : Option Call) (run : Run) (pid : ℕ) (m : Run) → option_map (after run pid) o ≡ Some m → (call : Call) × (o ≡ Some call) × (after run pid call ≡ m)
+pub made-by : (o : Option ProcessCall) (run : Run) (pid : ℕ) (m : Run) → option_map (after run pid) o ≡ Some m → (call : ProcessCall) × (o ≡ Some call) × (after run pid call ≡ m)
 made-by None run pid m h = absurd (none-some m h)
 made-by (Some call) run pid m h = (call, refl, same_Some _ _ h)
 
@@ -89,7 +89,7 @@ followers-some script pid run m h (p ∷ ps) has =
       | inr more ↦ Contains-append_right (one_run (goes script p.pid run)) (followers script ps run) m (followers-some script pid run m h ps more)
     ]
 
-pub test-first : (a b : Bool) (o : Option Call) (call : Call) → cond (a && b) o None ≡ Some call → a ≡ true
+pub test-first : (a b : Bool) (o : Option ProcessCall) (call : ProcessCall) → cond (a && b) o None ≡ Some call → a ≡ true
 test-first true b o call h = refl
 test-first false b o call h = absurd (none-some call h)
 

@@ -1,13 +1,13 @@
 -- Runs that no later call can tell apart.
 use Rattle.std.specs.Prelude.{◌≡◌, ◌&&◌, Bool, true, false, not, List, filter, length}
 use Rattle.shm_base.specs.History.{is_refusal}
-use Rattle.shm_base.specs.declared.call.Call.{Call}
+use Rattle.shm_base.specs.Calls.{ProcessCall}
 use Rattle.shm_base.specs.declared.call.Call.TheVariants.{Load, Stat}
 use Rattle.shm_base.specs.declared.call.Event.{Event}
 use Rattle.shm_schedules.specs.Finding.{Finding}
 
 -- calls that change nothing
-abbrev pub looks : Call → Bool
+abbrev pub looks : ProcessCall → Bool
 looks (Load addr len) = true
 looks (Stat id) = true
 looks _ = false

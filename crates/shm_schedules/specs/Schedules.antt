@@ -4,7 +4,7 @@ use Rattle.shm_base.specs.State.{Machine, start_of}
 use Rattle.shm_base.specs.Step.{caller_of, step}
 use Rattle.shm_base.specs.History.{own_part}
 use Rattle.shm_base.specs.Processes.{has_pid}
-use Rattle.shm_base.specs.declared.call.Call.{Call}
+use Rattle.shm_base.specs.Calls.{ProcessCall}
 use Rattle.shm_base.specs.declared.call.Event.{Event}
 use Rattle.shm_base.specs.declared.call.Process.{Process}
 use Rattle.shm_base.specs.declared.call.Reply.{Reply}
@@ -34,7 +34,7 @@ abbrev pub replies_to : ℕ → List Event → List Reply
 replies_to pid events = map reply_of (own_part pid events)
 
 -- the call of the first line of a process that has no reply yet, with the variables that earlier replies set
-abbrev pub next_call : ℕ → List (Option ℕ) → List Line → List Reply → Option Call
+abbrev pub next_call : ℕ → List (Option ℕ) → List Line → List Reply → Option ProcessCall
 next_call pid values [] replies = None
 next_call pid values (Flush pages ∷ lines) replies = next_call pid values lines replies
 next_call pid values (Command c ∷ lines) [] =
@@ -49,14 +49,14 @@ abbrev pub is_live : Machine → ℕ → Bool
 is_live machine pid = is_some (caller_of machine pid)
 
 -- the call that a process makes next: none if it is not declared, not born yet or ended, or has no line left
-abbrev pub next : ScriptView → Run → ℕ → Option Call
+abbrev pub next : ScriptView → Run → ℕ → Option ProcessCall
 next script run pid =
     if has_pid pid script.processes && is_live run.machine pid
     then next_call pid no_values script.lines (replies_to pid run.events)
     else None
 
 -- a run after one more call of a process
-abbrev pub after : Run → ℕ → Call → Run
+abbrev pub after : Run → ℕ → ProcessCall → Run
 after run pid call =
     let outcome = step run.machine (length run.events + 1) pid call in
     record {

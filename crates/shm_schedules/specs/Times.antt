@@ -2,7 +2,7 @@
 use Rattle.std.specs.Prelude.{◌≡◌, ◌≢◌, ℕ, map, option_map}
 use Rattle.shm_base.specs.State.{Segment, Entry, Machine}
 use Rattle.shm_base.specs.Step.{Outcome, step}
-use Rattle.shm_base.specs.declared.call.Call.{Call}
+use Rattle.shm_base.specs.Calls.{ProcessCall}
 use Rattle.shm_schedules.specs.Outcomes.{masked, masked_time}
 
 -- a segment whose times are masked: 0 means never, and any other time becomes 1
@@ -23,4 +23,4 @@ timeless_outcome o = record { reply = masked o.reply; state = timeless o.state }
 -- THE LAW. Except for times, a call at any place of the history does to a machine what it does, at place 1, to the machine with
 -- masked times
 abbrev pub TimesReachTimes : Type 0
-TimesReachTimes = (s : Machine) (n pid : ℕ) (call : Call) → n ≢ 0 → step (timeless s) 1 pid call ≡ timeless_outcome (step s n pid call)
+TimesReachTimes = (s : Machine) (n pid : ℕ) (call : ProcessCall) → n ≢ 0 → step (timeless s) 1 pid call ≡ timeless_outcome (step s n pid call)

@@ -23,6 +23,7 @@ pub use Rattle.std.specs.Str.{bytes_eq}
 pub use Rattle.std.specs.Str.Parse.{digits_value}
 pub use Rattle.shm_base.specs.Bounds.{Bounds}
 pub use Rattle.shm_text.specs.Calls.{call_by, call_with}
+pub use Rattle.shm_text.specs.Form.{LineCall}
 pub use Rattle.shm_text.specs.Number.{number_from}
 pub use Rattle.shm_text.specs.Operand.{names_of, required_number, ◌>>=◌}
 pub use Rattle.shm_text.specs.Reading.{SeenView, command, command_of, with_room, declared_pid, word_at_is, is_command, is_skipped, is_wordless, items_of, limits_after, line_item, lines_in, nothing, processes_in, script_by, script_from, seen_next, taker, with_item}
@@ -35,4 +36,3 @@ pub use Rattle.shm_text.specs.declared.fault.ScriptFault.{ScriptFault}
 pub use Rattle.shm_text.specs.declared.number.Number.{Number}
 pub use Rattle.shm_text.specs.declared.number.Number.TheVariants.{Fits}
 pub use Rattle.shm_text.specs.declared.script.Item.{Item}
-pub use Rattle.shm_text.specs.declared.script.LineCall.{LineCall}

@@ -9,8 +9,8 @@ use Rattle.shm_text.specs.declared.calls.Verb.{Verb}
 use Rattle.shm_text.specs.declared.calls.Verb.TheVariants as verbs
 use Rattle.shm_text.specs.declared.script.LineId.{LineId}
 use Rattle.shm_text.specs.declared.script.LineAddr.{LineAddr}
-use Rattle.shm_text.specs.declared.script.LineCall.{LineCall}
-use Rattle.shm_text.specs.declared.script.LineCall.TheVariants.{Shmget, Shmat, Shmdt, Stat, Set, Rmid, Lock, Unlock, Load, Store, Xadd, Fork, Exec, Exit, Swapoff}
+use Rattle.shm_text.specs.Form.{LineCall}
+use Rattle.shm_base.specs.declared.call.Call.TheVariants.{Shmget, Shmat, Shmdt, Stat, Set, Rmid, Lock, Unlock, Load, Store, Xadd, Fork, Exec, Exit, Swapoff}
 use Rattle.shm_text.specs.Operand.{◌>>=◌, required_number, ranged, within_64_bits, key_word, id_word, ranged_id, addr_word, ranged_addr, mode_word, get_flags_word, at_flags_word, chunk_word}
 use Rattle.shm_text.specs.Words.{word_at}
 use Rattle.shm_base.specs.declared.bounds.TheConstants.{LAST_PID}

@@ -5,9 +5,14 @@ use Rattle.shm_base.specs.declared.flags.GetFlags.{GetFlags}
 use Rattle.shm_base.specs.declared.flags.AtFlags.{AtFlags}
 use Rattle.shm_text.specs.declared.script.LineId.{LineId}
 use Rattle.shm_text.specs.declared.script.LineId.TheVariants as ids
-use Rattle.shm_text.specs.declared.script.LineCall.{LineCall}
-use Rattle.shm_text.specs.declared.script.LineCall.TheVariants.{Shmget, Shmat, Shmdt, Stat, Set, Rmid, Lock, Unlock, Load, Store, Xadd, Fork, Exec, Exit, Swapoff}
+use Rattle.shm_text.specs.declared.script.LineAddr.{LineAddr}
+use Rattle.shm_base.specs.declared.call.Call.{Call}
+use Rattle.shm_base.specs.declared.call.Call.TheVariants.{Shmget, Shmat, Shmdt, Stat, Set, Rmid, Lock, Unlock, Load, Store, Xadd, Fork, Exec, Exit, Swapoff}
 use Rattle.shm_base.specs.declared.bounds.TheConstants.{LAST_ID, LAST_PID, MODES}
+
+-- a line's call: an identifier or an address may be a variable
+abbrev pub LineCall : Type 0
+LineCall = Call LineId LineAddr
 
 -- a command line
 pub record CommandView : Type 0 where

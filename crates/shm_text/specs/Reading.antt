@@ -10,8 +10,8 @@ use Rattle.shm_text.specs.declared.fault.FaultKind.TheVariants.{TooLong, BadByte
 use Rattle.shm_text.specs.declared.fault.ScriptFault.{ScriptFault}
 use Rattle.shm_text.specs.declared.fault.ReadRefused.{ReadRefused}
 use Rattle.shm_text.specs.declared.fault.ReadRefused.TheVariants as refused
-use Rattle.shm_text.specs.declared.script.LineCall.{LineCall}
-use Rattle.shm_text.specs.declared.script.LineCall.TheVariants.{Fork}
+use Rattle.shm_text.specs.Form.{LineCall}
+use Rattle.shm_base.specs.declared.call.Call.TheVariants.{Fork}
 use Rattle.shm_text.specs.declared.script.Line.{Line}
 use Rattle.shm_text.specs.declared.script.Line.TheVariants as lines
 use Rattle.shm_text.specs.declared.script.Item.{Item}

@@ -1,15 +1,14 @@
 -- The variables of a process, and the call that a line makes with them.
 use Rattle.std.specs.Prelude.{ℕ, ◌+◌, ◌-◌, ◌%◌, ◌^◌, ℤ, pos, negsuc, nat_le, if◌then◌else◌, List, Option, Some, None, get_or, set, replicate}
-use Rattle.shm_base.specs.declared.call.Call.{Call}
-use Rattle.shm_base.specs.declared.call.Call.TheVariants as calls
+use Rattle.shm_base.specs.declared.call.Call.TheVariants.{Shmget, Shmat, Shmdt, Stat, Set, Rmid, Lock, Unlock, Load, Store, Xadd, Fork, Exec, Exit, Swapoff}
+use Rattle.shm_base.specs.Calls.{ProcessCall}
 use Rattle.shm_base.specs.declared.call.Reply.{Reply}
 use Rattle.shm_base.specs.declared.call.Reply.TheVariants.{Id, Addr, Number}
 use Rattle.shm_text.specs.declared.script.LineId.{LineId}
 use Rattle.shm_text.specs.declared.script.LineId.TheVariants as ids
 use Rattle.shm_text.specs.declared.script.LineAddr.{LineAddr}
 use Rattle.shm_text.specs.declared.script.LineAddr.TheVariants as addrs
-use Rattle.shm_text.specs.declared.script.LineCall.{LineCall}
-use Rattle.shm_text.specs.declared.script.LineCall.TheVariants.{Shmget, Shmat, Shmdt, Stat, Set, Rmid, Lock, Unlock, Load, Store, Xadd, Fork, Exec, Exit, Swapoff}
+use Rattle.shm_text.specs.Form.{LineCall}
 use Rattle.shm_base.specs.declared.bounds.TheConstants.{LAST_ID}
 
 -- a variable is a number, or None, which scripts see as -1
@@ -40,22 +39,22 @@ addr_of values (addrs.Var v) = addr_from (value_at values v)
 addr_of values (addrs.Sum v n) = (addr_from (value_at values v) + n) % 2 ^ 64
 
 -- the call that a line makes with these variables
-abbrev pub call_of : List (Option ℕ) → LineCall → Call
-call_of values (Shmget key size mode flags) = calls.Shmget key size mode flags
-call_of values (Shmat id addr flags) = calls.Shmat (id_of values id) (addr_of values addr) flags
-call_of values (Shmdt addr) = calls.Shmdt (addr_of values addr)
-call_of values (Stat id) = calls.Stat (id_of values id)
-call_of values (Set id uid gid mode) = calls.Set (id_of values id) uid gid mode
-call_of values (Rmid id) = calls.Rmid (id_of values id)
-call_of values (Lock id) = calls.Lock (id_of values id)
-call_of values (Unlock id) = calls.Unlock (id_of values id)
-call_of values (Load addr len) = calls.Load (addr_of values addr) len
-call_of values (Store bytes addr) = calls.Store (addr_of values addr) bytes
-call_of values (Xadd addr add) = calls.Xadd (addr_of values addr) add
-call_of values (Fork child) = calls.Fork child
-call_of values Exec = calls.Exec
-call_of values Exit = calls.Exit
-call_of values (Swapoff area) = calls.Swapoff area
+abbrev pub call_of : List (Option ℕ) → LineCall → ProcessCall
+call_of values (Shmget key size mode flags) = Shmget key size mode flags
+call_of values (Shmat id addr flags) = Shmat (id_of values id) (addr_of values addr) flags
+call_of values (Shmdt addr) = Shmdt (addr_of values addr)
+call_of values (Stat id) = Stat (id_of values id)
+call_of values (Set id uid gid mode) = Set (id_of values id) uid gid mode
+call_of values (Rmid id) = Rmid (id_of values id)
+call_of values (Lock id) = Lock (id_of values id)
+call_of values (Unlock id) = Unlock (id_of values id)
+call_of values (Load addr len) = Load (addr_of values addr) len
+call_of values (Store bytes addr) = Store bytes (addr_of values addr)
+call_of values (Xadd addr add) = Xadd (addr_of values addr) add
+call_of values (Fork child) = Fork child
+call_of values Exec = Exec
+call_of values Exit = Exit
+call_of values (Swapoff area) = Swapoff area
 
 abbrev pub id_number : ℤ → Option ℕ
 id_number (pos n) = Some n

@@ -10,7 +10,7 @@ use crate::operand::{
 };
 use crate::script::{LineAddr, LineCall, LineId};
 use crate::words::{Words, is_word};
-use shm_base::{AccessLen, LAST_PID, LONGEST_ACCESS, MOST_AREAS};
+use shm_base::{AccessLen, Call, LAST_PID, LONGEST_ACCESS, MOST_AREAS};
 
 /// The number of the last swap area that a machine can have.
 const LAST_AREA: u32 = MOST_AREAS as u32 - 1;
@@ -177,7 +177,7 @@ fn shmget_call(words: &Words<'_>, index: usize) -> Result<LineCall, FaultKind>
     let flags = get_flags_word(flags_part(words.at(index + 2)))?;
     let key = ranged(key, 0, u32::MAX)?;
     let size = within_64_bits(size)?;
-    Ok(LineCall::Shmget {
+    Ok(Call::Shmget {
         key,
         size,
         mode,
@@ -198,7 +198,7 @@ fn shmat_call(words: &Words<'_>, index: usize) -> Result<LineCall, FaultKind>
     let flags = at_flags_word(words.at(index + 2))?;
     let id = ranged_id(id)?;
     let addr = ranged_addr(addr)?;
-    Ok(LineCall::Shmat { id, addr, flags })
+    Ok(Call::Shmat { id, addr, flags })
 }
 
 #[tactic(auto, unfolding(crate::specs::Calls::xadd_call))]
@@ -213,7 +213,7 @@ fn xadd_call(words: &Words<'_>, index: usize) -> Result<LineCall, FaultKind>
     let add = required_number(words.at(index + 1))?;
     let addr = ranged_addr(addr)?;
     let add = within_64_bits(add)?;
-    Ok(LineCall::Xadd { addr, add })
+    Ok(Call::Xadd { addr, add })
 }
 
 // The number of bytes of an access.
@@ -235,7 +235,7 @@ fn load_call(words: &Words<'_>, index: usize) -> Result<LineCall, FaultKind>
     let len = required_number(words.at(index + 1))?;
     let addr = ranged_addr(addr)?;
     let len = ranged(len, 1, LONGEST_ACCESS as u32)?;
-    Ok(LineCall::Load {
+    Ok(Call::Load {
         addr,
         len: access_len(len),
     })
@@ -251,7 +251,7 @@ fn store_call(words: &Words<'_>, index: usize) -> Result<LineCall, FaultKind>
     let addr = addr_word(words.at(index))?;
     let chunk = chunk_word(words.at(index + 1))?;
     let addr = ranged_addr(addr)?;
-    Ok(LineCall::Store { chunk, addr })
+    Ok(Call::Store { chunk, addr })
 }
 
 #[tactic(auto, unfolding(crate::specs::Calls::set_call))]
@@ -268,7 +268,7 @@ fn set_call(words: &Words<'_>, index: usize) -> Result<LineCall, FaultKind>
     let id = ranged_id(id)?;
     let uid = ranged(uid, 0, u32::MAX)?;
     let gid = ranged(gid, 0, u32::MAX)?;
-    Ok(LineCall::Set { id, uid, gid, mode })
+    Ok(Call::Set { id, uid, gid, mode })
 }
 
 #[tactic(auto, unfolding(crate::specs::Calls::fork_call))]
@@ -279,7 +279,7 @@ fn fork_call(words: &Words<'_>, index: usize) -> Result<LineCall, FaultKind>
 {
     let child = required_number(words.at(index))?;
     let child = ranged(child, 1, LAST_PID)?;
-    Ok(LineCall::Fork { child })
+    Ok(Call::Fork { child })
 }
 
 #[tactic(auto, unfolding(crate::specs::Calls::swapoff_call))]
@@ -290,7 +290,7 @@ fn swapoff_call(words: &Words<'_>, index: usize) -> Result<LineCall, FaultKind>
 {
     let area = required_number(words.at(index))?;
     let area = ranged(area, 0, LAST_AREA)?;
-    Ok(LineCall::Swapoff { area })
+    Ok(Call::Swapoff { area })
 }
 
 // The call of a word. Its operands begin at an index and end the line.
@@ -312,26 +312,26 @@ fn call_by(verb: Verb, words: &Words<'_>, index: usize) -> Result<LineCall, Faul
         Verb::Swapoff => swapoff_call(words, index),
         Verb::Shmdt => {
             let addr = addr_operand(words, index)?;
-            Ok(LineCall::Shmdt { addr })
+            Ok(Call::Shmdt { addr })
         }
         Verb::Stat => {
             let id = id_operand(words, index)?;
-            Ok(LineCall::Stat { id })
+            Ok(Call::Stat { id })
         }
         Verb::Rmid => {
             let id = id_operand(words, index)?;
-            Ok(LineCall::Rmid { id })
+            Ok(Call::Rmid { id })
         }
         Verb::Lock => {
             let id = id_operand(words, index)?;
-            Ok(LineCall::Lock { id })
+            Ok(Call::Lock { id })
         }
         Verb::Unlock => {
             let id = id_operand(words, index)?;
-            Ok(LineCall::Unlock { id })
+            Ok(Call::Unlock { id })
         }
-        Verb::Exec => Ok(LineCall::Exec),
-        Verb::Exit => Ok(LineCall::Exit),
+        Verb::Exec => Ok(Call::Exec),
+        Verb::Exit => Ok(Call::Exit),
     }
 }
 

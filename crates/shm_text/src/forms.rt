@@ -11,7 +11,7 @@ use crate::operand::{first_letter, ranged, required_number, within_64_bits};
 use crate::reading::Seen;
 use crate::script::{Command, FlushLine, Item, Line, LineCall, Variable};
 use crate::words::Words;
-use shm_base::{Cred, LAST_PID, Limits, MOST_COMMANDS, MOST_FLUSHED, Process};
+use shm_base::{Call, Cred, LAST_PID, Limits, MOST_COMMANDS, MOST_FLUSHED, Process};
 
 #[tactic(auto, unfolding(crate::specs::Reading::limits_item))]
 fn limits_item(words: &Words<'_>) -> Result<Item, FaultKind>
@@ -123,7 +123,7 @@ fn known_child(seen: &Seen, call: &LineCall) -> Result<(), FaultKind>
     ensures { result ≡ known_child seen.now call.now }
 {
     match call {
-        LineCall::Fork { child } => known(seen, *child),
+        Call::Fork { child } => known(seen, *child),
         _ => Ok(()),
     }
 }

@@ -1,7 +1,7 @@
 //! A script's values, by their types.
 ghost use Rattle.std.specs.Prelude.{◌≡◌, ◌≤◌, ◌↔◌, IsSome, IfSome};
 
-use shm_base::{AccessLen, AtFlags, Chunk, GetFlags, Limits, MOST_FLUSHED, Process};
+use shm_base::{Call, Limits, MOST_FLUSHED, Process};
 use std::marker::Model;
 
 /// A variable of a process: one letter, a to z. Contracts see its byte.
@@ -59,62 +59,7 @@ pub enum LineAddr {
 }
 
 /// A call in a script; identifiers and addresses may be variables.
-#[derive(Debug, Drop, PartialEq)]
-pub enum LineCall {
-    Shmget {
-        key: u32,
-        size: u64,
-        mode: u16,
-        flags: GetFlags,
-    },
-    Shmat {
-        id: LineId,
-        addr: LineAddr,
-        flags: AtFlags,
-    },
-    Shmdt {
-        addr: LineAddr,
-    },
-    Stat {
-        id: LineId,
-    },
-    Set {
-        id: LineId,
-        uid: u32,
-        gid: u32,
-        mode: u16,
-    },
-    Rmid {
-        id: LineId,
-    },
-    Lock {
-        id: LineId,
-    },
-    Unlock {
-        id: LineId,
-    },
-    Load {
-        addr: LineAddr,
-        len: AccessLen,
-    },
-    // The bytes come first: after the tag, they need no padding.
-    Store {
-        chunk: Chunk,
-        addr: LineAddr,
-    },
-    Xadd {
-        addr: LineAddr,
-        add: u64,
-    },
-    Fork {
-        child: u32,
-    },
-    Exec,
-    Exit,
-    Swapoff {
-        area: u32,
-    },
-}
+pub type LineCall = Call<LineId, LineAddr>;
 
 /// A command line: the process, the variable that takes the answer, and the call. Its numbers are within the
 /// ranges of docs/SCRIPT.md.

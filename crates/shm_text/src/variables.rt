@@ -5,7 +5,7 @@ ghost use Rattle.std.specs.Prelude.{true};
 ghost use Rattle.shm_text.specs.Form.{is_id};
 ghost use Rattle.shm_text.specs.Variables.{no_values, value_at, id_of, id_from, addr_of, addr_from, call_of, reply_number, values_after};
 
-use crate::script::{Command, LineAddr, LineCall, LineId, Variable};
+use crate::script::{Command, LineAddr, LineId, Variable};
 use shm_base::{Call, LAST_ID, Reply, ShmId};
 use std::marker::Model;
 
@@ -95,52 +95,52 @@ impl Vars {
     pub fn call(&self, command: &Command) -> Call
         ensures { result ≡ call_of self.now command.now.call }
     {
-        match command.call() {
-            LineCall::Shmget {
+        match *command.call() {
+            Call::Shmget {
                 key,
                 size,
                 mode,
                 flags,
             } => Call::Shmget {
-                key: *key,
-                size: *size,
-                mode: *mode,
-                flags: *flags,
+                key,
+                size,
+                mode,
+                flags,
             },
-            LineCall::Shmat { id, addr, flags } => Call::Shmat {
-                id: self.id(*id),
-                addr: self.addr(*addr),
-                flags: *flags,
+            Call::Shmat { id, addr, flags } => Call::Shmat {
+                id: self.id(id),
+                addr: self.addr(addr),
+                flags,
             },
-            LineCall::Shmdt { addr } => Call::Shmdt {
-                addr: self.addr(*addr),
+            Call::Shmdt { addr } => Call::Shmdt {
+                addr: self.addr(addr),
             },
-            LineCall::Stat { id } => Call::Stat { id: self.id(*id) },
-            LineCall::Set { id, uid, gid, mode } => Call::Set {
-                id: self.id(*id),
-                uid: *uid,
-                gid: *gid,
-                mode: *mode,
+            Call::Stat { id } => Call::Stat { id: self.id(id) },
+            Call::Set { id, uid, gid, mode } => Call::Set {
+                id: self.id(id),
+                uid,
+                gid,
+                mode,
             },
-            LineCall::Rmid { id } => Call::Rmid { id: self.id(*id) },
-            LineCall::Lock { id } => Call::Lock { id: self.id(*id) },
-            LineCall::Unlock { id } => Call::Unlock { id: self.id(*id) },
-            LineCall::Load { addr, len } => Call::Load {
-                addr: self.addr(*addr),
-                len: *len,
+            Call::Rmid { id } => Call::Rmid { id: self.id(id) },
+            Call::Lock { id } => Call::Lock { id: self.id(id) },
+            Call::Unlock { id } => Call::Unlock { id: self.id(id) },
+            Call::Load { addr, len } => Call::Load {
+                addr: self.addr(addr),
+                len,
             },
-            LineCall::Store { chunk, addr } => Call::Store {
-                addr: self.addr(*addr),
-                chunk: *chunk,
+            Call::Store { chunk, addr } => Call::Store {
+                chunk,
+                addr: self.addr(addr),
             },
-            LineCall::Xadd { addr, add } => Call::Xadd {
-                addr: self.addr(*addr),
-                add: *add,
+            Call::Xadd { addr, add } => Call::Xadd {
+                addr: self.addr(addr),
+                add,
             },
-            LineCall::Fork { child } => Call::Fork { child: *child },
-            LineCall::Exec => Call::Exec,
-            LineCall::Exit => Call::Exit,
-            LineCall::Swapoff { area } => Call::Swapoff { area: *area },
+            Call::Fork { child } => Call::Fork { child },
+            Call::Exec => Call::Exec,
+            Call::Exit => Call::Exit,
+            Call::Swapoff { area } => Call::Swapoff { area },
         }
     }
 

@@ -5,14 +5,14 @@ use Rattle.std.proofs.Math.ListN.{get_or}
 use Rattle.std.proofs.lemmas.List.{drop_more, drop_all}
 use Rattle.std.proofs.lemmas.Bool.{cases_lt}
 use Rattle.shm_base.specs.History.{own_part}
-use Rattle.shm_base.specs.declared.call.Call.{Call}
+use Rattle.shm_base.specs.Calls.{ProcessCall}
 use Rattle.shm_base.specs.declared.call.Event.{Event}
 use Rattle.shm_threads.specs.Transcripts.{transcript_events, events_of, reply_in, is_answered}
 use Rattle.shm_threads.specs.declared.transcript.Answer.{Answer}
 use Rattle.shm_threads.specs.declared.transcript.Answer.TheVariants.{Reply as Replied, HostMemory}
 use Rattle.shm_threads.specs.declared.transcript.Entry.{Entry}
 
-some-event : (pid : ℕ) (call : Call) (a : Answer) (rest : List Event) → is_some (reply_in a) ≡ true → events_of pid call a rest ≡ [] → ⊥
+some-event : (pid : ℕ) (call : ProcessCall) (a : Answer) (rest : List Event) → is_some (reply_in a) ≡ true → events_of pid call a rest ≡ [] → ⊥
 some-event pid call (Replied r) rest is none = absurd (let more : length (events_of pid call (Replied r) rest) ≡ 0 = ap length none in omega (arith, more))
 some-event pid call HostMemory rest is none = absurd (cc)
 
@@ -23,7 +23,7 @@ told-some pid zero (e ∷ es) lt is none = some-event pid e.call e.answer (trans
 told-some pid (suc k) (e ∷ es) lt is none = told-some pid k es (omega (arith, lt)) is none
 
 first-event :
-    (pid : ℕ) (call : Call) (a : Answer) (rest : List Event) (v : Event) (more : List Event)
+    (pid : ℕ) (call : ProcessCall) (a : Answer) (rest : List Event) (v : Event) (more : List Event)
     → is_some (reply_in a) ≡ true → events_of pid call a rest ≡ v ∷ more → (call ≡ v.call) × (a ≡ Replied v.reply)
 first-event pid call (Replied r) rest v more is eq = (ap (λ (l : List Event). (get_or l 0 v).call) eq, ap (λ (l : List Event). Replied (get_or l 0 v).reply) eq)
 first-event pid call HostMemory rest v more is eq = absurd (cc)

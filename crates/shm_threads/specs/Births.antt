@@ -1,7 +1,7 @@
 -- The processes that are born and those that have left.
 use Rattle.std.specs.Prelude.{◌==◌, ◌&&◌, ℕ, Bool, true, false, not, List, map, if◌then◌else◌}
 use Rattle.std.specs.List.{list_any}
-use Rattle.shm_base.specs.declared.call.Call.{Call}
+use Rattle.shm_base.specs.Calls.{ProcessCall}
 use Rattle.shm_base.specs.declared.call.Call.TheVariants.{Fork}
 use Rattle.shm_base.specs.declared.call.Reply.TheVariants.{Done}
 use Rattle.shm_threads.specs.declared.births.ProcessState.{ProcessState}
@@ -22,11 +22,11 @@ abbrev pub may_fork_in : List ProcessState → Bool
 may_fork_in ps = list_any (λ (p : ProcessState). p.is_born && not p.has_ended) ps
 
 -- the states of the processes after a call: the child of a successful fork is born
-abbrev pub births_after : Call → Answer → List ProcessState → List ProcessState
+abbrev pub births_after : ProcessCall → Answer → List ProcessState → List ProcessState
 births_after (Fork child) (Replied Done) ps = map (with_birth child) ps
 births_after _ _ ps = ps
 
 -- that is news for waiting threads
-abbrev pub is_birth : Call → Answer → Bool
+abbrev pub is_birth : ProcessCall → Answer → Bool
 is_birth (Fork child) (Replied Done) = true
 is_birth _ _ = false

@@ -2,7 +2,7 @@
 use Rattle.std.specs.Prelude.{◌≡◌, ◌≢◌, ◌<◌, ◌↔◌, ◌⊎◌, ◌==◌, ℕ, List, [], ◌∷◌, map, Bool, true, false, not, ◌&&◌, is_some, if◌then◌else◌, Option, Some, None, IsNone, MatchBool, All, min}
 use Rattle.std.specs.List.{list_any}
 use Rattle.shm_base.specs.History.{own_part}
-use Rattle.shm_base.specs.declared.call.Call.{Call}
+use Rattle.shm_base.specs.Calls.{ProcessCall}
 use Rattle.shm_base.specs.declared.call.Call.TheVariants.{Fork, Exit}
 use Rattle.shm_base.specs.declared.call.Reply.{Reply}
 use Rattle.shm_base.specs.declared.call.Reply.TheVariants.{Done, Refused}
@@ -33,7 +33,7 @@ reply_in (Replied r) = Some r
 reply_in HostMemory = None
 
 -- the process ends with this call and answer
-abbrev pub is_end : Call → Answer → Bool
+abbrev pub is_end : ProcessCall → Answer → Bool
 is_end Exit (Replied Done) = true
 is_end _ _ = false
 
@@ -48,7 +48,7 @@ Follows values (c ∷ cs) (e ∷ es) =
     × MatchBool (is_end e.call e.answer) (es ≡ []) (Follows (values_after values c.var (reply_in e.answer)) cs es)
 
 -- a call with a reply is an event of its process; one that ran out of memory is not
-abbrev pub events_of : ℕ → Call → Answer → List Event → List Event
+abbrev pub events_of : ℕ → ProcessCall → Answer → List Event → List Event
 events_of pid call (Replied r) rest = record { pid = pid; call = call; reply = r } ∷ rest
 events_of pid call HostMemory rest = rest
 
@@ -63,7 +63,7 @@ is_answered None = false
 is_answered (Some e) = is_some (reply_in e.answer)
 
 -- the call is a successful fork of this child
-abbrev pub is_fork_of : ℕ → Call → Reply → Bool
+abbrev pub is_fork_of : ℕ → ProcessCall → Reply → Bool
 is_fork_of child (Fork c) Done = c == child
 is_fork_of child _ _ = false
 

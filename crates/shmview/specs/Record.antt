@@ -1,6 +1,6 @@
 -- The record of a script's run, step by step.
 use Rattle.std.specs.Prelude.{ℕ, ◌≡◌, ◌≤◌, ◌+◌, if◌then◌else◌, List, [], ◌∷◌, ◌++◌, map, length, Option, Some, None}
-use Rattle.shm_base.specs.declared.call.Call.{Call}
+use Rattle.shm_base.specs.Calls.{ProcessCall}
 use Rattle.shm_base.specs.declared.call.Reply.{Reply}
 use Rattle.shm_base.specs.declared.paging.FlushReport.{FlushReport}
 use Rattle.shm_text.specs.Script.{ScriptView}
@@ -20,7 +20,7 @@ use Rattle.shmview.specs.Steps.{has_step, steps_asked}
 use Rattle.shmview.specs.declared.steps.Steps.{Steps}
 
 -- the call that a command line makes with these variables
-abbrev pub call_made : List HolderView → CommandView → Call
+abbrev pub call_made : List HolderView → CommandView → ProcessCall
 call_made hs c = call_of (values_of hs c.pid) c.call
 
 -- one line: its effect on the variables and the world, and its action in the record

@@ -5,4 +5,4 @@ use Rattle.shm_life.proofs.kernel.Kernel.store_by.Goals as goal
 pub returns : goal.returns
 returns g c = λ n.
     let same = c.caller_again.ensures.same in
-    rw (← c.self.view_is) (called _ n c.args.pid c.in-Some.caller (call.Store c.args.addr c.args.bytes.now) _ c.store.new.self c.in-Some.ensures.pid (rw same at c.in-Some.ensures.live) (rw same at (c.store.ensures n)))
+    rw (← c.self.view_is) (called _ n c.args.pid c.in-Some.caller (call.Store c.args.bytes.now c.args.addr) _ c.store.new.self c.in-Some.ensures.pid (rw same at c.in-Some.ensures.live) (rw same at (c.store.ensures n)))

@@ -7,4 +7,4 @@ use Rattle.shm_life.proofs.system.System.store_from.Goals as goal
 pub returns : goal.returns
 returns g c =
     rw (← c.self.view_is)
-    (replied_as _ _ c.args.pid (call.Store c.args.addr c.args.bytes.now) _ (rw (← c.self.view_is) at c.requires.room) (c.store_by-stored.ensures (time_by c.self.inside.clock c.self.inside.calls)) refl)
+    (replied_as _ _ c.args.pid (call.Store c.args.bytes.now c.args.addr) _ (rw (← c.self.view_is) at c.requires.room) (c.store_by-stored.ensures (time_by c.self.inside.clock c.self.inside.calls)) refl)
