@@ -1,10 +1,11 @@
 -- The replies to an access that succeeded, and to one at which a pager failed.
-use Rattle.shm_life.proofs.Names.{◌≡◌, ◌∙◌, ℕ, Bool, true, false, List, [], ◌∷◌, length, Some, refl, sym, ap, arith, common_steps, OnOk, Entry, none-some, Span, Place, Piece, Outcome, gives, Bytes, Machine, pieces_at, wanted_in, span_places, load-wanted, store-wanted, loaded}
-use Rattle.std.specs.Prelude.{Result, Ok, Err, IfOk}
+use Rattle.shm_life.proofs.Names.{◌≡◌, ◌∙◌, ℕ, Bool, true, false, List, [], ◌∷◌, length, Some, refl, sym, ap, arith, common_steps, OnOk, OnErr, Entry, none-some, Span, Place, Piece, Outcome, gives, Bytes, Machine, pieces_at, wanted_in, span_places, load-wanted, store-wanted, loaded}
+use Rattle.std.specs.Prelude.{Option, Result, Ok, Err, IfOk}
+use Rattle.std.specs.Result.{result_or}
+use Rattle.std.proofs.lemmas.Result.{IfOk-weaker}
 use Rattle.shm_base.specs.Access.{stored, writable_places}
 use Rattle.shm_base.specs.Step.{xadd}
 use Rattle.shm_base.specs.History.{is_failure, is_refusal}
-use Rattle.shm_base.specs.Calls.{ProcessCall}
 use Rattle.shm_base.specs.declared.call.Call.TheVariants as call
 use Rattle.shm_base.specs.declared.call.Reply.{Reply}
 use Rattle.shm_base.specs.declared.call.Reply.TheVariants.{Number, Refused}
@@ -14,7 +15,14 @@ use Rattle.shm_attach.specs.declared.process.Caller.{Caller}
 use Rattle.shm_attach.proofs.FlatSteps.{are_asked, loaded-unmarked, stored-unmarked}
 use Rattle.shm_segments.specs.Table.{loaded_number, added_at}
 use Rattle.shm_life.specs.Accessing.{LeavesOrFails, sole_resident}
-use Rattle.shm_life.specs.MachineView.{AnsweredTo, MachineView, Served, done, is_lock, replied, reply_in}
+use Rattle.shm_attach.specs.Spaces.{caller_seen}
+use Rattle.shm_fault.specs.Access.{Accessed, answer_of}
+use Rattle.shm_fault.specs.Exchanging.{replaces}
+use Rattle.shm_fault.specs.declared.touched.Touched.{Touched}
+use Rattle.shm_segments.specs.Exchanged.{left_by}
+use Rattle.shm_life.specs.Exchanged.{IsExchange, swaps_of}
+use Rattle.shm_life.specs.MachineView.{Answered, MachineView, Served, done, names_failure, replied, reply_in}
+use Rattle.shm_life.proofs.Exchanging.{swap-wanted}
 use Rattle.shm_life.proofs.Running.{failing, granted}
 
 pub sole-is : (ps : List Span) (p : Span) → sole_resident ps ≡ Some p → ps ≡ p ∷ []
@@ -23,20 +31,22 @@ sole-is (q ∷ []) p is = grind (arith, common_steps)
 sole-is (q ∷ r ∷ ps) p is = absurd (none-some p is)
 
 -- a reply that refuses nothing and names no failure
-abbrev IsGrant : ProcessCall → Reply → Type 0
-IsGrant call reply = (is_failure call reply ≡ false) × (is_refusal reply ≡ false)
+abbrev IsGrant : (Reply → Bool) → Reply → Type 0
+IsGrant names reply = (names reply ≡ false) × (is_refusal reply ≡ false)
 
-ok-then : {A E : Type 0} {P Q : A → Type 0} (r : Result A E) → ((x : A) → P x → Q x) → IfOk r P → IfOk r Q
-ok-then (Ok a) f p = f a p
-ok-then (Err e) f p = tt
+accessed : {T : Type 0} (o : Outcome) (table : List Entry) (names : Reply → Bool) (reply : T → Reply) (s t : MachineView) (r : Result T Errno)
+    → names (Refused Sigbus) ≡ true → is_refusal o.reply ≡ false → ((x : T) → IsGrant names (reply x))
+    → IfOk r (λ x. o ≡ gives (record s.flat { table = table }) (reply x)) → LeavesOrFails table s r t → Answered o (names (replied reply r)) false (replied reply r) s t
+accessed o table names reply s t (Ok x) fails none grant step leaves =
+    rw (grant x).0 (granted o (reply x) false s t (step ∙ ap (λ (m : Machine). gives m (reply x)) (sym leaves.written)) (grant x).1 leaves.keeps)
+accessed o table names reply s t (Err e) fails none grant step leaves =
+    rw (leaves.err.told, fails) (failing o Sigbus false s t refl (record { instead = none; unchanged = leaves.same; cause = leaves.err.cause }) leaves.keeps)
 
-accessed : {T : Type 0} (o : Outcome) (table : List Entry) (call : ProcessCall) (reply : T → Reply) (s t : MachineView) (r : Result T Errno)
-    → is_failure call (Refused Sigbus) ≡ true → is_lock call ≡ false → is_refusal o.reply ≡ false → ((x : T) → IsGrant call (reply x))
-    → IfOk r (λ x. o ≡ gives (record s.flat { table = table }) (reply x)) → LeavesOrFails table s r t → AnsweredTo o call (replied reply r) s t
-accessed o table call reply s t (Ok x) fails locks none grant step leaves =
-    rw ((grant x).0, locks) (granted o (reply x) false s t (step ∙ ap (λ (m : Machine). gives m (reply x)) (sym leaves.written)) (grant x).1 leaves.keeps)
-accessed o table call reply s t (Err e) fails locks none grant step leaves =
-    rw (leaves.err.told, fails, locks) (failing o Sigbus false s t refl (record { instead = none; unchanged = leaves.same; cause = leaves.err.cause }) leaves.keeps)
+-- an access of the segments, as one of the machine
+pub told : {A E : Type 0} (r : Result A E) (table : List Entry) (s t : MachineView) (ps : List Span) (touched : Touched) → OnOk r (t.flat ≡ record s.flat { table = table }) → OnErr r (t.flat ≡ s.flat)
+    → KeepsMemory s.memory t.memory → Accessed ps s.memory t.memory (answer_of touched r) → LeavesOrFails table s (result_or r (Err Sigbus)) t
+told (Ok a) table s t ps touched written same keeps access = record { written = written; same = tt; keeps = keeps; err = tt }
+told (Err e) table s t ps touched written same keeps access = record { written = tt; same = same; keeps = keeps; err = record { told = refl; cause = access.paged.cause refl } }
 
 add-wanted : (s : Machine) (ps : List Piece) (addr add : ℕ) (wanted : List Place) → wanted_in true ps addr 8 ≡ Some wanted
     → xadd s add (writable_places ps addr 8) ≡ gives (record s { table = added_at s.table wanted add }) (Number (loaded_number s.table wanted))
@@ -57,16 +67,23 @@ module _ (s t : MachineView) (n : ℕ) (c : Caller) (addr : ℕ) (ps : List Span
       → Served s n c (call.Load addr len) (reply_in (Bytes out) r) t
   loads len out r wanted bytes leaves =
       let step = load-wanted s.flat own addr len asked wanted in
-      accessed _ s.flat.table (call.Load addr len) (λ _. Bytes out) s t r refl refl (rw step refl) (λ _. (refl, refl)) (ok-then r (λ _ is. rw is step) bytes) leaves
+      accessed _ s.flat.table (is_failure (call.Load addr len)) (λ _. Bytes out) s t r refl (rw step refl) (λ _. (refl, refl)) (IfOk-weaker r _ _ (λ _ is. rw is step) bytes) leaves
 
   pub stores : (bytes : List ℕ) (r : Result (Unit {0}) Errno) → wanted_in true own addr (length bytes) ≡ Some asked → LeavesOrFails (stored s.flat.table asked bytes) s r t
       → Served s n c (call.Store bytes addr) (replied done r) t
   stores bytes r wanted leaves =
       let step = store-wanted s.flat own addr bytes asked wanted in
-      accessed _ _ (call.Store bytes addr) done s t r refl refl (rw step refl) (λ _. (refl, refl)) (ok-then r (λ _ _. step) leaves.written) leaves
+      accessed _ _ (is_failure (call.Store bytes addr)) done s t r refl (rw step refl) (λ _. (refl, refl)) (IfOk-weaker r _ _ (λ _ _. step) leaves.written) leaves
 
   pub adds : (add : ℕ) (r : Result ℕ Errno) → wanted_in true own addr 8 ≡ Some asked → IfOk r (λ x. x ≡ loaded_number s.flat.table asked) → LeavesOrFails (added_at s.flat.table asked add) s r t
       → Served s n c (call.Xadd addr add) (replied Number r) t
   adds add r wanted number leaves =
       let step = add-wanted s.flat own addr add asked wanted in
-      accessed _ _ (call.Xadd addr add) Number s t r refl refl (rw step refl) (λ _. (refl, refl)) (ok-then r (λ x is. rw is step) number) leaves
+      accessed _ _ (is_failure (call.Xadd addr add)) Number s t r refl (rw step refl) (λ _. (refl, refl)) (IfOk-weaker r _ _ (λ x is. rw is step) number) leaves
+
+  pub swaps : (expected : Option (List ℕ)) (bytes out : List ℕ) (r : Result (Unit {0}) Errno) → wanted_in true own addr (length bytes) ≡ Some asked → OnOk r (out ≡ loaded s.flat.table asked)
+      → LeavesOrFails (left_by (replaces (loaded s.flat.table asked) expected) s.flat.table asked bytes) s r t
+      → IsExchange (swaps_of s.flat addr expected bytes (Some (caller_seen c s.flat.runners))) (reply_in (Bytes out) r) s t
+  swaps expected bytes out r wanted there leaves =
+      let step = swap-wanted s.flat (caller_seen c s.flat.runners) addr expected bytes asked wanted in
+      accessed _ _ names_failure (λ _. Bytes out) s t r refl (rw step refl) (λ _. (refl, refl)) (IfOk-weaker r _ _ (λ _ is. rw is step) there) leaves

@@ -112,13 +112,13 @@ marked-well limits t rs ts m f found w =
 -- SPANS
 
 -- the spans that the pieces of a process gave lie in pages of its segments
-pub spans-there : {write : Bool} {addr n : ℕ} (t : List Entry) (rs : List Runner) (c : Caller) (ps : List Span) → IsCaller c rs → PiecesFit t rs → length ps ≤ 2 → AreSpans write (pieces_by c.pid rs) addr n ps
+pub spans-there : {write : Bool} {addr n : ℕ} (t : List Entry) (rs : List Runner) (c : Caller) (ps : List Span) → IsCaller c rs → PiecesFit t rs → AreSpans write (pieces_by c.pid rs) addr n ps
     → IsAccess (SpanFits t) ps n
-spans-there t rs c ps is fit few spans =
+spans-there t rs c ps is fit spans =
     let own : pieces_by c.pid rs ≡ pieces_at rs c.index = pieces_by-caller c.pid rs (caller_seen c rs) is in
     let fits = caller-fits t c rs is fit in
     let pass : PassPages (page_there t) (pieces_by c.pid rs) = rw own (λ k d lt. (fits k d lt).1) in
-    record { few = few; fit = λ k d lt. (spans.within k d lt, spans.pages (page_there t) pass k d lt); sum = spans.sum }
+    record { few = spans.few; fit = λ k d lt. (spans.within k d lt, spans.pages (page_there t) pass k d lt); sum = spans.sum }
 
 -- the places that a process asks for are those that its own pieces give
 pub asked : (write : Bool) (rs : List Runner) (c : Caller) (addr len : ℕ) (r : Option (List Place)) → IsCaller c rs → wanted write c.pid addr len rs ≡ r → wanted_in write (pieces_at rs c.index) addr len ≡ r

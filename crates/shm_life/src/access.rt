@@ -130,7 +130,7 @@ impl<P: Pager> Kernel<P> {
     fn store_spans(&mut self, spans: &[Span], bytes: &[u8]) -> Result<(), Errno>
         requires spans { IsAccess (SpanFits self.old.flat.table) spans.now (length bytes.now) }
         requires frames { NameFrames self.old.memory spans.now }
-        ensures written { let after = stored self.old.flat.table (span_places false spans.now) bytes.now in
+        ensures { let after = stored self.old.flat.table (span_places false spans.now) bytes.now in
             LeavesOrFails after self.old result self.new }
     {
         let mut touched = Touched::none();
@@ -145,7 +145,7 @@ impl<P: Pager> Kernel<P> {
     fn store_paged(&mut self, spans: Spans, bytes: &[u8]) -> Result<(), Errno>
         requires spans { IsAccess (SpanFits self.old.flat.table) spans (length bytes.now) }
         requires frames { NameFrames self.old.memory spans }
-        ensures written { let after = stored self.old.flat.table (span_places false spans) bytes.now in
+        ensures { let after = stored self.old.flat.table (span_places false spans) bytes.now in
             LeavesOrFails after self.old result self.new }
     {
         self.store_spans(spans.as_slice(), bytes)
@@ -185,7 +185,7 @@ impl<P: Pager> Kernel<P> {
         let added = self.segments.add(spans, add, &mut number, &mut touched);
         // Where a pager failed pages may have moved before.
         self.spaces.note(touched.moved.as_slice());
-        added.and(Ok(number)).or(Err(Errno::Sigbus))
+        added.or(Err(Errno::Sigbus)).and(Ok(number))
     }
 
     // As [`Kernel::add_spans`], where pages may have to come in. Other accesses are kept free of that.
