@@ -21,7 +21,9 @@ pub record IsBusError (e : Errno) (before after : StoreView) : Type 0 where
   pub cause : had_cause before.swap after.swap ≡ true
 
 -- an access that was to leave this table: it did, or a pager failed and the flat machine is as it was
-pub record LeavesOrFails {T : Type 0} (table : List Entry) (before : MachineView) (r : Result T Errno) (after : MachineView) : Type 0 where
+pub record LeavesOrFails
+    {T : Type 0} (table : List Entry) (before : MachineView) (r : Result T Errno)
+    (after : MachineView) : Type 0 where
   pub written : OnOk r (after.flat ≡ record before.flat { table = table })
   pub same : OnErr r (after.flat ≡ before.flat)
   pub keeps : KeepsMemory before.memory after.memory
