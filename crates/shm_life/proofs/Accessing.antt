@@ -1,5 +1,5 @@
 -- The replies to an access that succeeded, and to one at which a pager failed.
-use Rattle.shm_life.proofs.Names.{◌≡◌, ◌∙◌, ℕ, Bool, true, false, List, [], ◌∷◌, length, Some, refl, sym, ap, arith, common_steps, OnOk, OnErr, Entry, none-some, Span, Place, Piece, Outcome, gives, Bytes, Machine, pieces_at, wanted_in, span_places, load-wanted, store-wanted, loaded}
+use Rattle.shm_life.proofs.Names.{◌≡◌, ◌∙◌, ℕ, Bool, true, false, List, [], ◌∷◌, length, Some, refl, sym, ap, arith, common_steps, OnOk, OnErr, Entry, none-some, Span, Place, Piece, Outcome, gives, Bytes, Machine, pieces_at, wanted_in, span_places, load-wanted, store-wanted, loaded, KeepsMemory, Bounds, Runner, StoreView, sizes}
 use Rattle.std.specs.Prelude.{Option, Result, Ok, Err, IfOk}
 use Rattle.std.specs.Result.{result_or}
 use Rattle.std.proofs.lemmas.Result.{IfOk-weaker}
@@ -42,11 +42,19 @@ accessed o table names reply s t (Ok x) fails none grant step leaves =
 accessed o table names reply s t (Err e) fails none grant step leaves =
     rw (leaves.err.told, fails) (failing o Sigbus false s t refl (record { instead = none; unchanged = leaves.same; cause = leaves.err.cause }) leaves.keeps)
 
+abbrev view_with : Bounds → List Entry → List Runner → StoreView → MachineView
+view_with limits t rs m = record { flat = record { limits = limits; areas = sizes m.swap; table = t; runners = rs }; memory = m }
+
 -- an access of the segments, as one of the machine
-pub told : {A E : Type 0} (r : Result A E) (table : List Entry) (s t : MachineView) (ps : List Span) (touched : Touched) → OnOk r (t.flat ≡ record s.flat { table = table }) → OnErr r (t.flat ≡ s.flat)
-    → KeepsMemory s.memory t.memory → Accessed ps s.memory t.memory (answer_of touched r) → LeavesOrFails table s (result_or r (Err Sigbus)) t
-told (Ok a) table s t ps touched written same keeps access = record { written = written; same = tt; keeps = keeps; err = tt }
-told (Err e) table s t ps touched written same keeps access = record { written = tt; same = same; keeps = keeps; err = record { told = refl; cause = access.paged.cause refl } }
+pub told : {A E : Type 0} (r : Result A E) (limits : Bounds) (t u w : List Entry) (rs after : List Runner) (m n : StoreView) (ps : List Span) (touched : Touched) → OnOk r (u ≡ w) → OnErr r (u ≡ t) → after ≡ rs
+    → KeepsMemory m n → Accessed ps m n (answer_of touched r) → LeavesOrFails w (view_with limits t rs m) (result_or r (Err Sigbus)) (view_with limits u after n)
+told (Ok a) limits t u w rs after m n ps touched written same runners keeps access = record { written = rw (written, runners, access.same_sizes) refl; same = tt; keeps = keeps; err = tt }
+told (Err e) limits t u w rs after m n ps touched written same runners keeps access =
+    record { written = tt; same = rw (same, runners, access.same_sizes) refl; keeps = keeps; err = record { told = refl; cause = access.paged.cause refl } }
+
+pub or-ok : {A E : Type 0} (P : Type 0) (r : Result A E) → OnOk r P → OnOk (result_or r (Err Sigbus)) P
+or-ok P (Ok a) p = p
+or-ok P (Err e) p = tt
 
 add-wanted : (s : Machine) (ps : List Piece) (addr add : ℕ) (wanted : List Place) → wanted_in true ps addr 8 ≡ Some wanted
     → xadd s add (writable_places ps addr 8) ≡ gives (record s { table = added_at s.table wanted add }) (Number (loaded_number s.table wanted))

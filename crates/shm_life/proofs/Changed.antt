@@ -136,16 +136,6 @@ pub written-well : {A E : Type 0} (r : Result A E) (limits : Bounds) (t u w : Li
 written-well r limits t u w rs after ts us m n ps touched well same written kept frames accessed runners noted =
     noted-well limits t u rs after ts us m n touched.moved.items well (either-same r t u w written kept same) frames runners noted (moved-by ps m n touched r accessed)
 
-abbrev view_with : Bounds → List Entry → List Runner → StoreView → MachineView
-view_with limits t rs m = record { flat = record { limits = limits; areas = sizes m.swap; table = t; runners = rs }; memory = m }
-
--- one that wrote is answered as the flat machine does
-pub written-granted : {A E : Type 0} (r : Result A E) (o : Outcome) (reply : Reply) (limits : Bounds) (t u w : List Entry) (rs after : List Runner) (m n : StoreView)
-    → o ≡ gives (record { limits = limits; areas = sizes m.swap; table = w; runners = rs }) reply → is_err r ≡ false → OnOk r (u ≡ w) → after ≡ rs → sizes n.swap ≡ sizes m.swap → is_refusal reply ≡ false → KeepsMemory m n
-    → Answered o false false reply (view_with limits t rs m) (view_with limits u after n)
-written-granted r o reply limits t u w rs after m n step fine written runners areas none keeps =
-    granted o reply false (view_with limits t rs m) (view_with limits u after n) (step ∙ rw (runners, ok_fact r (u ≡ w) fine written, areas) refl) none keeps
-
 -- FORK
 
 pub born-fits : (t : List Entry) (rs : List Runner) (k : FlatCaller) (child : Child) → PiecesFit t rs → All (PieceFits t) k.pieces → PiecesFit t (born_child rs k child)

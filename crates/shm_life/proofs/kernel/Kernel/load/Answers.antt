@@ -1,4 +1,4 @@
-use Rattle.shm_life.proofs.Names.{[], ◌∷◌, length}
+use Rattle.shm_life.proofs.Names.{[], ◌∷◌, ◌∙◌, sym, length}
 use Rattle.shm_life.proofs.Accessing.{loads}
 use Rattle.shm_life.proofs.kernel.Kernel.load.Goals as goal
 
@@ -6,7 +6,7 @@ pub returns-in-Some-clause-served : goal.returns-in-Some-clause-served
 returns-in-Some-clause-served g c = λ n.
     let e = c.load_spans.ensures in
     loads c.args.self.now c.load_spans.new.self n c.args.caller.now c.args.addr (c.in-Some.span ∷ []) (length c.args.out.now) c.load_spans.new.out c.load_spans.result
-    (rw c.in-Some.ensures.sole at c.in-Ok.ensures.places) e.bytes e.same
+    (rw (sym c.as_slice.ensures.value ∙ c.in-Some.ensures.sole) at c.in-Ok.ensures.places) e.bytes e.same
 
 pub returns-in-None-clause-served : goal.returns-in-None-clause-served
 returns-in-None-clause-served g c = λ n.
