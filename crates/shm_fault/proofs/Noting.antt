@@ -34,7 +34,7 @@ module _ (es : List Entry) (made locked : ℕ) (sound : AreTables es made locked
   pub noted : (p : PageRec) (v : TableView) → v ≡ record w { pages = set w.pages r.page p } → IsNoted r p made locked es (set_value_at es i v)
   noted p v is =
       let e = edited (λ (g : SegRec). record g { pages = set g.pages r.page p }) (λ (t : TableView). record t { pages = set t.pages r.page p })
-        (λ g. refl) (λ t. refl) (λ id t. refl) es i r.seg made w v sound.apart sound.rising sound.below key value is in
+      (λ g. refl) (λ t. refl) (λ id t. refl) es i r.seg made w v sound.apart sound.rising sound.below key value is in
       record {
         view = e.view;
         tables = record {

@@ -25,11 +25,6 @@ use Rattle.shm_life.specs.MachineView.{Answered, MachineView, Served, done, name
 use Rattle.shm_life.proofs.Exchanging.{swap-wanted}
 use Rattle.shm_life.proofs.Running.{failing, granted}
 
-pub sole-is : (ps : List Span) (p : Span) → sole_resident ps ≡ Some p → ps ≡ p ∷ []
-sole-is [] p is = absurd (none-some p is)
-sole-is (q ∷ []) p is = grind (arith, common_steps)
-sole-is (q ∷ r ∷ ps) p is = absurd (none-some p is)
-
 -- a reply that refuses nothing and names no failure
 abbrev IsGrant : (Reply → Bool) → Reply → Type 0
 IsGrant names reply = (names reply ≡ false) × (is_refusal reply ≡ false)
