@@ -127,32 +127,28 @@ fn rules_of(number: u64) -> Rules
 fn limits_by(limits: &NogLimits) -> Result<Limits, BadLimits>
     ensures { result ≡ limits_by limits.now }
 {
-    let NogLimits {
-        shmmax,
-        shmmni,
-        shmall,
-        frames,
-        memlock,
-        most_pieces,
-        most_processes,
-        most_slots,
-        rules,
-    } = *limits;
-    let rules = rules_of(rules);
-    if most_pieces == 0 && most_processes == 0 && most_slots == 0 {
-        return Limits::new(shmmax, shmmni, shmall, frames, memlock)?.with_rules(rules);
+    let sizes = Sizes {
+        shmmax: limits.shmmax,
+        shmmni: limits.shmmni,
+        shmall: limits.shmall,
+        frames: limits.frames,
+        memlock: limits.memlock,
+        most_pieces: limits.most_pieces,
+        most_processes: limits.most_processes,
+        most_slots: limits.most_slots,
+        rules: rules_of(limits.rules),
+    };
+    if sizes.most_pieces == 0 && sizes.most_processes == 0 && sizes.most_slots == 0 {
+        let profile = Limits::new(
+            sizes.shmmax,
+            sizes.shmmni,
+            sizes.shmall,
+            sizes.frames,
+            sizes.memlock,
+        )?;
+        return profile.with_rules(sizes.rules);
     }
-    Limits::of(&Sizes {
-        shmmax,
-        shmmni,
-        shmall,
-        frames,
-        memlock,
-        most_pieces,
-        most_processes,
-        most_slots,
-        rules,
-    })
+    Limits::of(&sizes)
 }
 
 // The first start error of the areas.

@@ -1,5 +1,6 @@
 -- One table for each segment with pieces, after a change of the map and of the slab.
-use Rattle.shm_attach.proofs.Names.{◌≡◌, ◌≢◌, ℕ, ◌<◌, Option, Some, None, refl, arith, common_steps, cases_eq, none-some, Slab, get, with_value, Updates, PageRef, Tables, seg_in, count_in, TrueTable, TrueSlot, AllTrue, with_frame, counted, counted_under, key_of, HasTable, OneTableEach, Piece, TableView}
+use Rattle.shm_attach.proofs.Names.{◌≡◌, ◌≢◌, ℕ, ◌<◌, Option, Some, None, refl, arith, common_steps, cases_eq, none-some, Slab, get, with_value, Updates, PageRef, Tables, seg_in, count_in, TrueTable, TrueSlot, AllTrue, with_frame, counted, counted_under, key_of, HasTable, OneTableEach, Piece, TableView, ◌∙◌, ◌≤◌, length, size_in}
+use Rattle.shm_attach.specs.Tables.{KeepCounts, KeepTables}
 
 -- a piece that has its table is counted
 pub table-counted : (t : Tables) (p : Piece) → OneTableEach t → HasTable t.slab p → 0 < counted t p.seg
@@ -20,6 +21,15 @@ module _ (t : Tables) (key : ℕ) (e v : TableView) (tied : OneTableEach t) (at 
 
   pub tied-table : OneTableEach (record t { slab = with_value t.slab key v })
   tied-table = grind (arith, common_steps, same, counted-same)
+
+  pub counts-kept : KeepCounts t (record t { slab = with_value t.slab key v })
+  counts-kept id = counted-same (key_of t id)
+
+  sizes : length e.frames ≤ length v.frames → (k : ℕ) → size_in (get t.slab k) ≤ size_in (get (with_value t.slab key v) k)
+  sizes more k = grind (arith, common_steps, more)
+
+  pub tables-kept : length e.frames ≤ length v.frames → KeepTables t.slab (with_value t.slab key v)
+  tables-kept more p has = record { seg = (same p.key).0 ∙ has.seg; pages = omega (arith, has.pages, sizes more p.key) }
 
 -- A MOVE
 

@@ -1,5 +1,5 @@
 -- Spans of bytes of segments, as the places that an access uses.
-use Rattle.std.specs.Prelude.{ℕ, ◌≡◌, ◌+◌, ◌<◌, ◌^◌, Bool, true, false, List, Option, Some, option_map, map, All, sum_by}
+use Rattle.std.specs.Prelude.{ℕ, ◌≡◌, ◌+◌, ◌<◌, ◌≤◌, ◌^◌, Bool, true, false, List, length, Option, Some, option_map, map, All, sum_by}
 use Rattle.shm_base.specs.State.{Piece, Runner}
 use Rattle.shm_base.specs.Access.{Place, places, writable_places}
 use Rattle.shm_base.specs.Processes.{pieces_of_caller}
@@ -34,10 +34,11 @@ wanted write pid addr len rs = wanted_in write (pieces_by pid rs) addr len
 abbrev pub PassPages : (ℕ → ℕ → Bool) → List Piece → Type 0
 PassPages test ps = All (λ (p : Piece). (j : ℕ) → j < p.pages → test p.seg (p.first_page + j) ≡ true) ps
 
--- the spans of an access by a process with these pieces: each is within one page, which the pieces have, and together they have
--- the bytes of the access
+-- the spans of an access by a process with these pieces, at most two: each is within one page, which the pieces have, and
+-- together they have the bytes of the access
 pub record AreSpans (write : Bool) (ps : List Piece) (addr len : ℕ) (s : List Span) : Type 0 where
   pub places : wanted_in write ps addr len ≡ Some (span_places false s)
+  pub few : length s ≤ 2
   pub within : All InPage s
   pub sum : sum_by (λ (p : Span). p.len) s ≡ len
   pub pages : (test : ℕ → ℕ → Bool) → PassPages test ps → All (λ (p : Span). test p.seg (page_of p) ≡ true) s

@@ -2,10 +2,11 @@
 use Rattle.std.specs.Prelude.{◌≡◌, ℕ, ◌+◌, ◌<◌, ◌≤◌, List, [], slice_get, Option, Some, None, nat_eq, All}
 use Rattle.std.specs.HashMap as hash
 use Rattle.slab.specs.Slab.{Slab, get}
+use Rattle.shm_base.specs.declared.paging.PageRef.{PageRef}
 use Rattle.shm_areas.specs.declared.piece.Piece.{Piece}
 use Rattle.shm_attach.specs.declared.process.Runner.{Runner}
 use Rattle.shm_attach.specs.declared.tables.Tables.{Tables}
-use Rattle.shm_attach.specs.Table.{AllTrue, TableView, seg_in, count_in, size_in}
+use Rattle.shm_attach.specs.Table.{AllTrue, TableView, seg_in, count_in, size_in, with_frame}
 
 abbrev pub counted_under : Slab TableView → Option ℕ → ℕ
 counted_under s None = 0
@@ -63,3 +64,11 @@ KeepCounted t u = (p : Piece) → HasTable t.slab p → 0 < counted u p.seg → 
 -- frames that were true of a residency still are
 abbrev pub KeepFrames : Slab TableView → Slab TableView → Type 0
 KeepFrames t u = (at : ℕ → ℕ → Option ℕ) → AllTrue at t → AllTrue at u
+
+-- the frame of a page was noted: the counts and tables are unchanged, and what was true of a residency is true of it with this
+-- frame for the page
+pub record Notes (page : PageRef) (frame : Option ℕ) (t u : Tables) : Type 0 where
+  pub counts : KeepCounts t u
+  pub tables : KeepTables t.slab u.slab
+  pub translated : (at : ℕ → ℕ → Option ℕ) → AllTrue at t.slab → AllTrue (with_frame page frame at) u.slab
+  pub tied : OneTableEach u

@@ -6,9 +6,9 @@ ghost use Rattle.slab.specs.Slab.{get};
 ghost use Rattle.shm_fault.specs.Steps.{moved};
 ghost use Rattle.shm_fault.specs.Store.{frame_of};
 ghost use Rattle.shm_attach.specs.Views.{some_if};
-ghost use Rattle.shm_attach.specs.Table.{frame_in, seg_in, size_in, AllTrue, with_frame};
+ghost use Rattle.shm_attach.specs.Table.{frame_in, seg_in, size_in, AllTrue};
 ghost use Rattle.shm_attach.specs.Tables.{counted, key_of, AreSameTables, OneTableEach};
-ghost use Rattle.shm_attach.specs.Tables.{KeepCounts, KeepCounted, KeepTables, KeepFrames};
+ghost use Rattle.shm_attach.specs.Tables.{KeepCounts, KeepCounted, KeepTables, KeepFrames, Notes};
 
 use crate::table::Table;
 use shm_base::{FrameNo, HostMemory, PageRef};
@@ -215,11 +215,7 @@ impl Tables {
     fn set_at(&mut self, key: usize, page: PageRef, frame: Option<FrameNo>)
         requires own { seg_in (get self.old.slab key) ≡ Some page.seg }
         requires tied { OneTableEach self.old }
-        ensures counts { KeepCounts self.old self.new }
-        ensures tables { KeepTables self.old.slab self.new.slab }
-        ensures translated { (at : ℕ → ℕ → Option ℕ) → AllTrue at self.old.slab
-            → AllTrue (with_frame page frame at) self.new.slab }
-        ensures tied { OneTableEach self.new }
+        ensures { Notes page frame self.old self.new }
     {
         if let Some(table) = self.slab.get_mut(key) {
             table.set(page, frame);
@@ -230,11 +226,7 @@ impl Tables {
     #[inline(never)]
     fn set_sought(&mut self, near: usize, page: PageRef, frame: Option<FrameNo>) -> usize
         requires { OneTableEach self.old }
-        ensures counts { KeepCounts self.old self.new }
-        ensures tables { KeepTables self.old.slab self.new.slab }
-        ensures translated { (at : ℕ → ℕ → Option ℕ) → AllTrue at self.old.slab
-            → AllTrue (with_frame page frame at) self.new.slab }
-        ensures tied { OneTableEach self.new }
+        ensures { Notes page frame self.old self.new }
     {
         let Some(key) = self.key(page.seg) else {
             return near;
@@ -248,11 +240,7 @@ impl Tables {
     #[inline(never)]
     fn set(&mut self, near: usize, page: PageRef, frame: Option<FrameNo>) -> usize
         requires { OneTableEach self.old }
-        ensures counts { KeepCounts self.old self.new }
-        ensures tables { KeepTables self.old.slab self.new.slab }
-        ensures translated { (at : ℕ → ℕ → Option ℕ) → AllTrue at self.old.slab
-            → AllTrue (with_frame page frame at) self.new.slab }
-        ensures tied { OneTableEach self.new }
+        ensures { Notes page frame self.old self.new }
     {
         if self.is_at(near, page.seg) {
             self.set_at(near, page, frame);

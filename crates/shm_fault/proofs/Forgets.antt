@@ -28,12 +28,9 @@ pub forgets-none : (seg : ℕ) (s : Places) → s ≡ after_forgets seg 0 s
 unfolding after_forgets
 forgets-none seg s = refl
 
-forgets-suc : (seg n : ℕ) (s t u : Places) → t ≡ after_forgets seg n s → u ≡ after_forget (record { seg = seg; page = n }) t → u ≡ after_forgets seg (suc n) s
-unfolding after_forgets
-forgets-suc seg n s t u first then = rw (← first) then
-
 pub forgets-then : (seg n : ℕ) (s t u : Places) → t ≡ after_forgets seg n s → u ≡ after_forget (record { seg = seg; page = n }) t → u ≡ after_forgets seg (n + 1) s
-forgets-then seg n s t u first then = let e : n + 1 ≡ suc n = omega arith in rw e (forgets-suc seg n s t u first then)
+unfolding after_forgets
+forgets-then seg n s t u first then = let e : n + 1 ≡ suc n = omega arith in rw (e, ← first) then
 
 -- the segment is removed
 segment-off : (t : StoreView) (seg : ℕ) → places (record t { segs = but seg t.segs }) ≡ without_segment seg (places t)

@@ -35,4 +35,5 @@ mod Copies
 mod Order
 mod Untouched
 mod Locks
+mod Noting
 pub mod Skipped

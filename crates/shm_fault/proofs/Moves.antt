@@ -87,12 +87,9 @@ pub moves-none : (area : ℕ) (s : Places) → s ≡ after_moves area 0 s
 unfolding after_moves
 moves-none area s = refl
 
-moves-suc : (area n : ℕ) (s t u : Places) → t ≡ after_moves area n s → u ≡ after_move (record { area = area; slot = n }) t → u ≡ after_moves area (suc n) s
-unfolding after_moves
-moves-suc area n s t u first then = rw (← first) then
-
 pub moves-then : (area n : ℕ) (s t u : Places) → t ≡ after_moves area n s → u ≡ after_move (record { area = area; slot = n }) t → u ≡ after_moves area (n + 1) s
-moves-then area n s t u first then = let e : n + 1 ≡ suc n = omega arith in rw e (moves-suc area n s t u first then)
+unfolding after_moves
+moves-then area n s t u first then = let e : n + 1 ≡ suc n = omega arith in rw (e, ← first) then
 
 pub stops-moving : (area n : ℕ) (s t u : StoreView) → n < length (area_at s.swap area).owners → places t ≡ after_moves area n (places s) → StopsAtMove (record { area = area; slot = n }) (places t) (places u) → StopsMoving area (places s) (places u)
 stops-moving area n s t u there first stopped = record { slot = n; there = length-place s area n there; stopped = rw first at stopped }

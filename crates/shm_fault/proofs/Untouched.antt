@@ -1,10 +1,10 @@
 -- Page tables of which only a beginning is written.
-use Rattle.shm_fault.proofs.Names.{◌≡◌, ℕ, ◌-◌, ◌+◌, ◌<◌, ◌≤◌, ◌&&◌, Bool, true, eqb, Option, None, Some, refl, Slot, List, length, replicate, set, cond, ap, arith, ◌∙◌, count_by, get_or, get_or_past, length-set, sym, sum_by-append, PageRec, no_page, rec_at, is_swapped}
+use Rattle.shm_fault.proofs.Names.{◌≡◌, ℕ, ◌-◌, ◌+◌, ◌<◌, ◌≤◌, ◌&&◌, Bool, true, eqb, Option, None, Some, refl, Slot, List, length, replicate, set, cond, ap, arith, ◌∙◌, count_by, get_or, get_or_past, length-set, sym, sum_by-append, PageRec, TableView, no_page, rec_at, is_swapped}
 use Rattle.std.proofs.lemmas.List.Folds.{sum_by-replicate}
 use Rattle.std.proofs.lemmas.List.{get_or_default}
 use Rattle.std.specs.Option.{option_eq}
 use Rattle.shm_base.specs.Stored.{padded}
-use Rattle.shm_base.proofs.Stored.{get_or-padded, set-padded, padded-padded, within-padded, fits-padded}
+use Rattle.shm_base.proofs.Stored.{get_or-padded, length-padded, set-padded, padded-padded, within-padded, fits-padded}
 
 -- the pages without a record are not swapped
 pub swapped-padded : (ps : List PageRec) (n : ℕ) → count_by is_swapped (padded ps n no_page) ≡ count_by is_swapped ps
@@ -15,10 +15,18 @@ pub rest-padded : (ps : List PageRec) (n page : ℕ) → length ps ≤ page → 
 rest-padded ps n page past = get_or-padded ps n page no_page ∙ get_or_past ps page no_page past
 
 -- what is noted of a page when it has a record
-pub edit-reached : (ps : List PageRec) (n page : ℕ) (p : PageRec) → length ps ≤ n → page < n → padded (set (padded ps (page + 1) no_page) page p) n no_page ≡ set (padded ps n no_page) page p
+edit-reached : (ps : List PageRec) (n page : ℕ) (p : PageRec) → length ps ≤ n → page < n → padded (set (padded ps (page + 1) no_page) page p) n no_page ≡ set (padded ps n no_page) page p
 edit-reached ps n page p within there =
     set-padded (padded ps (page + 1) no_page) n page p no_page (within-padded ps (page + 1) page no_page (omega arith))
     ∙ ap (λ qs. set qs page p) (padded-padded ps (page + 1) n no_page (omega (arith, there)) within)
+
+abbrev table_with : ℕ → Bool → List PageRec → TableView
+table_with number locked pages = record { number = number; locked = locked; pages = pages }
+
+-- the table in which it is noted
+pub table-reached : (number : ℕ) (locked : Bool) (ps : List PageRec) (n page : ℕ) (p : PageRec) → length ps ≤ n → page < length (padded ps n no_page)
+    → table_with number locked (padded (set (padded ps (page + 1) no_page) page p) n no_page) ≡ table_with number locked (set (padded ps n no_page) page p)
+table-reached number locked ps n page p within there = ap (table_with number locked) (edit-reached ps n page p within (rw (length-padded ps n no_page within) at there))
 
 -- what is read of a page once it has a record
 pub read-reached : (ps : List PageRec) (n page : ℕ) (x : PageRec) → x ≡ get_or (padded ps (page + 1) no_page) page x → x ≡ rec_at (padded ps n no_page) page

@@ -1,6 +1,7 @@
 -- What each call does to the pieces of processes: nothing, or the caller attaches a segment, or loses pieces, or has a child.
 use Rattle.shm_base.specs.Step.{gets}
 use Rattle.shm_laws.proofs.Names.{◌≡◌, ◌⊎◌, ℕ, suc, ◌+◌, ◌-◌, ◌*◌, ◌%◌, ◌≤◌, ◌==◌, ◌&&◌, ℤ, pos, negsuc, Bool, true, false, not, nat_lt, List, [], ◌∷◌, length, map, get_or, Option, Some, None, slice_get, slice_set, refl, sym, ap, ◌∙◌, inl, inr, arith, ne_eqb, common_steps, All, filter, find, cases_eq, not-false, none-some, All-map, Errno, ProcessCall, Shmget, Shmat, Shmdt, Load, Fork, Exec, Exit, Addr, Done, AtFlags, end_of, grants, Segment, Piece, Life, Live, Ended, Runner, Machine, pages_in, Look, Found, Removed, Invalid, identifier, destroyed_at, look, inside, occupied, choose, is_gap, first_chosen, lowest_address, end_address, origin_of, is_named, is_refusal, refuses, creates, Caller, Outcome, caller_from, acts, at_wish, is_rnd, is_remap, pieces_with, with_pieces, attaches, attaches_chosen, attaches_fixed, attaches_found, shmat, detaches, forks, unborn_from, all-cons, all-head, all-tail, Stands, hands_pieces, GetFlags, huge_errno, is_taken, is_full, remaps_null, creates_at, creates_small, slots, reserved, segment_count, free_index, pages_of, within, nat_le, wants_no_other, wants_creation, wish_of, find_key}
+use Rattle.shm_laws.proofs.Asking.{by-shmget}
 use Rattle.shm_laws.proofs.Looks.{found-own}
 use Rattle.shm_laws.proofs.Stepping.{pick, pick_by}
 
@@ -224,23 +225,8 @@ module _ (s : Machine) (n : ℕ) (c : Caller) where
   same-at key size mode None = refl
   same-at key size mode (Some i) = pick Leave (nat_lt (slots s.areas) (reserved s.table + pages_of size)) _ _ refl refl
 
-  same-small : (key size mode : ℕ) (o : Option Errno) → Leave (creates_small s n c key size mode o)
-  same-small key size mode (Some e) = refl
-  same-small key size mode None = pick Leave (nat_le s.limits.shmmni (segment_count s.table)) _ _ refl (same-at key size mode (free_index s.table))
-
-  same-creates : (key size mode : ℕ) (flags : GetFlags) → Leave (creates s n c key size mode flags)
-  same-creates key size mode flags =
-      pick Leave (not (within 1 s.limits.shmmax size)) _ _ refl
-      (pick Leave (nat_lt s.limits.shmall (reserved s.table + pages_of size)) _ _ refl (same-small key size mode (huge_errno s c flags)))
-
-  same-gets : (key size mode : ℕ) (flags : GetFlags) (l : Look) → Leave (gets s n c key size mode flags l)
-  same-gets key size mode flags (Found i x) =
-      pick Leave (wants_no_other flags) _ _ refl (pick Leave (nat_lt x.size size) _ _ refl (pick Leave (not (grants c.cred x.perm (wish_of s.limits.rules mode))) _ _ refl refl))
-  same-gets key size mode flags Removed = pick Leave (wants_creation flags) _ _ (same-creates key size mode flags) refl
-  same-gets key size mode flags Invalid = pick Leave (wants_creation flags) _ _ (same-creates key size mode flags) refl
-
   pub hands-acts : (call : ProcessCall) → Hands s c call (acts s n c call)
-  hands-acts (Shmget key size mode flags) = rests _ _ refl (pick Leave (key == 0) _ _ (same-creates 0 size mode flags) (same-gets key size mode flags (find_key s.table key)))
+  hands-acts (Shmget key size mode flags) = rests _ _ refl (by-shmget s n c Leave (λ r. refl) same-at key size mode flags)
   hands-acts (Shmat id addr flags) = hands-shmat id addr flags
   hands-acts (Shmdt addr) = hands-detaches addr (origin_of addr c.pieces) refl
   hands-acts (Fork child) = hands-forks child (unborn_from 0 child s.runners) refl

@@ -5,6 +5,7 @@ pub mod Turning
 pub mod Fresh
 pub mod Looks
 pub mod Stepping
+pub mod Asking
 pub mod Fates
 pub mod Removing
 pub mod Naming

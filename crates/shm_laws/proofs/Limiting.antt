@@ -1,6 +1,7 @@
 -- No call changes the limits of a machine.
 use Rattle.shm_laws.proofs.Names.{◌≡◌, ◌+◌, ◌%◌, ◌==◌, ◌&&◌, ℕ, ℤ, not, nat_lt, nat_le, within, List, length, Option, Some, None, refl, common_steps, arith, AtFlags, GetFlags, ProcessCall, Shmget, Shmat, Shmdt, Stat, Set, Rmid, Lock, Unlock, Load, Store, Xadd, Fork, Exec, Exit, Swapoff, Event, Place, Segment, Piece, Machine, pages_of, pages_in, Look, Found, Removed, Invalid, find_key, free_index, look, places, writable_places, inside, origin_of, reserved, locked, segment_count, Outcome, Caller, creates, pieces_with, attaches, attaches_chosen, attaches_fixed, attaches_found, shmat, detaches, forks, unborn_from, stat, controls, sets, removes, locks, unlocks, load, store, xadd, takes_away, acts, is_rnd, at_wish, wish_of, wants_creation, wants_no_other, grants, owns, IsMove, Errno, creates_small, huge_errno, is_taken, is_full, is_no_owner, remaps_null, may_not_lock, passes_limit}
 use Rattle.shm_base.specs.Step.{gets, creates_at}
+use Rattle.shm_laws.proofs.Asking.{by-shmget}
 use Rattle.shm_laws.proofs.Refusing.{by-move}
 use Rattle.shm_laws.proofs.Stepping.{pick}
 
@@ -10,21 +11,6 @@ module _ (s : Machine) (n : ℕ) (c : Caller) where
 
   limited-creates_at : (key size mode : ℕ) (o : Option ℕ) → Limited (creates_at s n c key size mode o)
   limited-creates_at key size mode o = grind (arith, common_steps)
-
-  limited-small : (key size mode : ℕ) (o : Option Errno) → Limited (creates_small s n c key size mode o)
-  limited-small key size mode (Some e) = refl
-  limited-small key size mode None = pick Limited (nat_le s.limits.shmmni (segment_count s.table)) _ _ refl (limited-creates_at key size mode (free_index s.table))
-
-  limited-creates : (key size mode : ℕ) (flags : GetFlags) → Limited (creates s n c key size mode flags)
-  limited-creates key size mode flags =
-      pick Limited (not (within 1 s.limits.shmmax size)) _ _ refl
-      (pick Limited (nat_lt s.limits.shmall (reserved s.table + pages_of size)) _ _ refl (limited-small key size mode (huge_errno s c flags)))
-
-  limited-gets : (key size mode : ℕ) (flags : GetFlags) (l : Look) → Limited (gets s n c key size mode flags l)
-  limited-gets key size mode flags (Found i x) =
-      pick Limited (wants_no_other flags) _ _ refl (pick Limited (nat_lt x.size size) _ _ refl (pick Limited (not (grants c.cred x.perm (wish_of s.limits.rules mode))) _ _ refl refl))
-  limited-gets key size mode flags Removed = pick Limited (wants_creation flags) _ _ (limited-creates key size mode flags) refl
-  limited-gets key size mode flags Invalid = pick Limited (wants_creation flags) _ _ (limited-creates key size mode flags) refl
 
   limited-attaches : (id : ℕ) (x : Segment) (flags : AtFlags) (base : ℕ) → Limited (attaches s n c id x flags base)
   limited-attaches id x flags base = pick Limited (nat_lt s.limits.most_pieces (length (pieces_with c id x flags base))) _ _ refl refl
@@ -90,8 +76,7 @@ module _ (s : Machine) (n : ℕ) (c : Caller) where
   limited-takes area o = grind (arith, common_steps)
 
   pub limited-acts : (call : ProcessCall) → Limited (acts s n c call)
-  limited-acts (Shmget key size mode flags) =
-      pick Limited (key == 0) _ _ (limited-creates 0 size mode flags) (limited-gets key size mode flags (find_key s.table key))
+  limited-acts (Shmget key size mode flags) = by-shmget s n c Limited (λ r. refl) limited-creates_at key size mode flags
   limited-acts (Shmat id addr flags) = limited-shmat id addr flags
   limited-acts (Shmdt addr) = limited-detaches addr (origin_of addr c.pieces)
   limited-acts (Stat id) = limited-stat (look s.table id)

@@ -112,13 +112,13 @@ marked-well limits t rs ts m f found w =
 -- SPANS
 
 -- the spans that the pieces of a process gave lie in pages of its segments
-pub spans-there : {write : Bool} {addr n : ℕ} (t : List Entry) (rs : List Runner) (c : Caller) (ps : List Span) → IsCaller c rs → PiecesFit t rs → length ps ≤ 2 → AreSpans write (pieces_by c.pid rs) addr n ps
+pub spans-there : {write : Bool} {addr n : ℕ} (t : List Entry) (rs : List Runner) (c : Caller) (ps : List Span) → IsCaller c rs → PiecesFit t rs → AreSpans write (pieces_by c.pid rs) addr n ps
     → IsAccess (SpanFits t) ps n
-spans-there t rs c ps is fit few spans =
+spans-there t rs c ps is fit spans =
     let own : pieces_by c.pid rs ≡ pieces_at rs c.index = pieces_by-caller c.pid rs (caller_seen c rs) is in
     let fits = caller-fits t c rs is fit in
     let pass : PassPages (page_there t) (pieces_by c.pid rs) = rw own (λ k d lt. (fits k d lt).1) in
-    record { few = few; fit = λ k d lt. (spans.within k d lt, spans.pages (page_there t) pass k d lt); sum = spans.sum }
+    record { few = spans.few; fit = λ k d lt. (spans.within k d lt, spans.pages (page_there t) pass k d lt); sum = spans.sum }
 
 -- the places that a process asks for are those that its own pieces give
 pub asked : (write : Bool) (rs : List Runner) (c : Caller) (addr len : ℕ) (r : Option (List Place)) → IsCaller c rs → wanted write c.pid addr len rs ≡ r → wanted_in write (pieces_at rs c.index) addr len ≡ r
@@ -135,16 +135,6 @@ pub written-well : {A E : Type 0} (r : Result A E) (limits : Bounds) (t u w : Li
     → IsWell limits u after us n
 written-well r limits t u w rs after ts us m n ps touched well same written kept frames accessed runners noted =
     noted-well limits t u rs after ts us m n touched.moved.items well (either-same r t u w written kept same) frames runners noted (moved-by ps m n touched r accessed)
-
-abbrev view_with : Bounds → List Entry → List Runner → StoreView → MachineView
-view_with limits t rs m = record { flat = record { limits = limits; areas = sizes m.swap; table = t; runners = rs }; memory = m }
-
--- one that wrote is answered as the flat machine does
-pub written-granted : {A E : Type 0} (r : Result A E) (o : Outcome) (reply : Reply) (limits : Bounds) (t u w : List Entry) (rs after : List Runner) (m n : StoreView)
-    → o ≡ gives (record { limits = limits; areas = sizes m.swap; table = w; runners = rs }) reply → is_err r ≡ false → OnOk r (u ≡ w) → after ≡ rs → sizes n.swap ≡ sizes m.swap → is_refusal reply ≡ false → KeepsMemory m n
-    → Answered o false false reply (view_with limits t rs m) (view_with limits u after n)
-written-granted r o reply limits t u w rs after m n step fine written runners areas none keeps =
-    granted o reply false (view_with limits t rs m) (view_with limits u after n) (step ∙ rw (runners, ok_fact r (u ≡ w) fine written, areas) refl) none keeps
 
 -- FORK
 

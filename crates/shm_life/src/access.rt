@@ -1,5 +1,5 @@
 //! Loads, stores and additions.
-ghost use Rattle.std.specs.Prelude.{◌≡◌, ◌≤◌, ℕ, false, length, IfOk, IfErr, OnOk, OnErr};
+ghost use Rattle.std.specs.Prelude.{◌≡◌, ◌∷◌, [], ◌≤◌, ℕ, None, Some, false, length, IfOk, IfSome, OnOk, OnErr};
 ghost use Rattle.shm_base.specs.Access.{loaded, stored};
 ghost use Rattle.shm_base.specs.Spans.{span_places};
 ghost use Rattle.shm_base.specs.declared.call.Call.TheVariants as call;
@@ -7,14 +7,14 @@ ghost use Rattle.shm_base.specs.declared.call.Reply.TheVariants.{Bytes, Number};
 ghost use Rattle.shm_base.specs.declared.paging.TheConstants.{PAGE_SIZE};
 ghost use Rattle.shm_fault.specs.Access.{NameFrames};
 ghost use Rattle.shm_fault.specs.Allowed.{IsAccess};
-ghost use Rattle.shm_attach.specs.Spaces.{IsCaller};
+ghost use Rattle.shm_attach.specs.Spaces.{IsCaller, pieces_at};
+ghost use Rattle.shm_attach.specs.Spans.{wanted_in};
 ghost use Rattle.shm_segments.specs.Table.{SpanFits, loaded_number, added_at};
-ghost use Rattle.shm_segments.specs.View.{KeepsMemory};
-ghost use Rattle.shm_life.specs.Accessing.{sole_resident, IsBusError};
+ghost use Rattle.shm_life.specs.Accessing.{LeavesOrFails, sole_resident};
 ghost use Rattle.shm_life.specs.MachineView.{Served, done, replied, reply_in};
 
 use crate::kernel::Kernel;
-use shm_attach::{Caller, Spans};
+use shm_attach::{Caller, Segv, Spans};
 use shm_base::{AccessLen, Chunk, Errno, LONGEST_ACCESS, Reply, Span};
 use shm_fault::Touched;
 use shm_pager::Pager;
@@ -22,7 +22,8 @@ use shm_pager::Pager;
 // The span, where there is one and its frame is known: then no page has to come in.
 #[inline(always)]
 fn resident(spans: &[Span]) -> Option<Span>
-    ensures { result ≡ sole_resident spans.now }
+    ensures is { result ≡ sole_resident spans.now }
+    ensures sole { IfSome result (λ span. spans.now ≡ span ∷ []) }
 {
     let [span] = spans else {
         return None;
@@ -34,6 +35,27 @@ fn resident(spans: &[Span]) -> Option<Span>
 }
 
 impl<P: Pager> Kernel<P> {
+    // The spans of an access, with the frames that are known.
+    #[inline(always)]
+    pub(crate) fn spans_of(
+        &self,
+        caller: &Caller,
+        addr: u64,
+        len: u64,
+        write: bool,
+    ) -> Result<Spans, Segv>
+        requires caller { IsCaller caller.now self.now.flat.runners }
+        requires size { (1 ≤ len) × (len ≤ PAGE_SIZE) }
+        ensures fit { IfOk result (λ spans. IsAccess (SpanFits self.now.flat.table) spans len) }
+        ensures frames { IfOk result (λ spans. NameFrames self.now.memory spans) }
+        ensures places { let pieces = pieces_at self.now.flat.runners caller.now.index in
+            IfOk result (λ spans. wanted_in write pieces addr len ≡ Some (span_places false spans)) }
+        ensures none { let pieces = pieces_at self.now.flat.runners caller.now.index in
+            OnErr result (wanted_in write pieces addr len ≡ None) }
+    {
+        self.spaces.spans_of(caller, addr, len, write)
+    }
+
     // Reads the bytes of spans, and notes which pages moved.
     #[inline(always)]
     fn load_spans(&mut self, spans: &[Span], out: &mut [u8]) -> Result<(), Errno>
@@ -41,18 +63,13 @@ impl<P: Pager> Kernel<P> {
         requires frames { NameFrames self.old.memory spans.now }
         ensures bytes { OnOk result (out.new ≡ loaded self.old.flat.table (span_places false spans.now)) }
         ensures kept { OnErr result (out.new ≡ out.old) }
-        ensures same { self.new.flat ≡ self.old.flat }
-        ensures keeps { KeepsMemory self.old.memory self.new.memory }
-        ensures err { IfErr result (λ e. IsBusError e self.old.memory self.new.memory) }
+        ensures same { LeavesOrFails self.old.flat.table self.old result self.new }
     {
         let mut touched = Touched::none();
         let read = self.segments.read(spans, out, &mut touched);
         // Where a pager failed pages may have moved before.
         self.spaces.note(touched.moved.as_slice());
-        if read.is_err() {
-            return Err(Errno::Sigbus);
-        }
-        Ok(())
+        read.or(Err(Errno::Sigbus))
     }
 
     // As [`Kernel::load_spans`], where pages may have to come in. Other accesses are kept free of that.
@@ -62,9 +79,7 @@ impl<P: Pager> Kernel<P> {
         requires frames { NameFrames self.old.memory spans }
         ensures bytes { OnOk result (out.new ≡ loaded self.old.flat.table (span_places false spans)) }
         ensures kept { OnErr result (out.new ≡ out.old) }
-        ensures same { self.new.flat ≡ self.old.flat }
-        ensures keeps { KeepsMemory self.old.memory self.new.memory }
-        ensures err { IfErr result (λ e. IsBusError e self.old.memory self.new.memory) }
+        ensures same { LeavesOrFails self.old.flat.table self.old result self.new }
     {
         self.load_spans(spans.as_slice(), out)
     }
@@ -81,7 +96,7 @@ impl<P: Pager> Kernel<P> {
         ensures kept { OnErr result (out.new ≡ out.old) }
         ensures size { length out.new ≡ length out.old }
     {
-        let Ok(spans) = self.spaces.spans_of(caller, addr, out.len() as u64, false) else {
+        let Ok(spans) = self.spans_of(caller, addr, out.len() as u64, false) else {
             return Err(Errno::Sigsegv);
         };
         match resident(spans.as_slice()) {
@@ -115,20 +130,14 @@ impl<P: Pager> Kernel<P> {
     fn store_spans(&mut self, spans: &[Span], bytes: &[u8]) -> Result<(), Errno>
         requires spans { IsAccess (SpanFits self.old.flat.table) spans.now (length bytes.now) }
         requires frames { NameFrames self.old.memory spans.now }
-        ensures written { let after = stored self.old.flat.table (span_places false spans.now) bytes.now in
-            OnOk result (self.new.flat ≡ record self.old.flat { table = after }) }
-        ensures same { OnErr result (self.new.flat ≡ self.old.flat) }
-        ensures keeps { KeepsMemory self.old.memory self.new.memory }
-        ensures err { IfErr result (λ e. IsBusError e self.old.memory self.new.memory) }
+        ensures { let after = stored self.old.flat.table (span_places false spans.now) bytes.now in
+            LeavesOrFails after self.old result self.new }
     {
         let mut touched = Touched::none();
         let written = self.segments.write(spans, bytes, &mut touched);
         // Where a pager failed pages may have moved before.
         self.spaces.note(touched.moved.as_slice());
-        if written.is_err() {
-            return Err(Errno::Sigbus);
-        }
-        Ok(())
+        written.or(Err(Errno::Sigbus))
     }
 
     // As [`Kernel::store_spans`], where pages may have to come in. Other accesses are kept free of that.
@@ -136,11 +145,8 @@ impl<P: Pager> Kernel<P> {
     fn store_paged(&mut self, spans: Spans, bytes: &[u8]) -> Result<(), Errno>
         requires spans { IsAccess (SpanFits self.old.flat.table) spans (length bytes.now) }
         requires frames { NameFrames self.old.memory spans }
-        ensures written { let after = stored self.old.flat.table (span_places false spans) bytes.now in
-            OnOk result (self.new.flat ≡ record self.old.flat { table = after }) }
-        ensures same { OnErr result (self.new.flat ≡ self.old.flat) }
-        ensures keeps { KeepsMemory self.old.memory self.new.memory }
-        ensures err { IfErr result (λ e. IsBusError e self.old.memory self.new.memory) }
+        ensures { let after = stored self.old.flat.table (span_places false spans) bytes.now in
+            LeavesOrFails after self.old result self.new }
     {
         self.store_spans(spans.as_slice(), bytes)
     }
@@ -155,7 +161,7 @@ impl<P: Pager> Kernel<P> {
         ensures { let store = call.Store bytes.now addr in
             (n : ℕ) → Served self.old n caller.now store (replied done result) self.new }
     {
-        let Ok(spans) = self.spaces.spans_of(caller, addr, bytes.len() as u64, true) else {
+        let Ok(spans) = self.spans_of(caller, addr, bytes.len() as u64, true) else {
             return Err(Errno::Sigsegv);
         };
         match resident(spans.as_slice()) {
@@ -172,20 +178,14 @@ impl<P: Pager> Kernel<P> {
         ensures number { IfOk result (λ n.
             n ≡ loaded_number self.old.flat.table (span_places false spans.now)) }
         ensures written { let after = added_at self.old.flat.table (span_places false spans.now) add in
-            OnOk result (self.new.flat ≡ record self.old.flat { table = after }) }
-        ensures same { OnErr result (self.new.flat ≡ self.old.flat) }
-        ensures keeps { KeepsMemory self.old.memory self.new.memory }
-        ensures err { IfErr result (λ e. IsBusError e self.old.memory self.new.memory) }
+            LeavesOrFails after self.old result self.new }
     {
         let mut number = 0;
         let mut touched = Touched::none();
         let added = self.segments.add(spans, add, &mut number, &mut touched);
         // Where a pager failed pages may have moved before.
         self.spaces.note(touched.moved.as_slice());
-        if added.is_err() {
-            return Err(Errno::Sigbus);
-        }
-        Ok(number)
+        added.or(Err(Errno::Sigbus)).and(Ok(number))
     }
 
     // As [`Kernel::add_spans`], where pages may have to come in. Other accesses are kept free of that.
@@ -195,10 +195,7 @@ impl<P: Pager> Kernel<P> {
         requires frames { NameFrames self.old.memory spans }
         ensures number { IfOk result (λ n. n ≡ loaded_number self.old.flat.table (span_places false spans)) }
         ensures written { let after = added_at self.old.flat.table (span_places false spans) add in
-            OnOk result (self.new.flat ≡ record self.old.flat { table = after }) }
-        ensures same { OnErr result (self.new.flat ≡ self.old.flat) }
-        ensures keeps { KeepsMemory self.old.memory self.new.memory }
-        ensures err { IfErr result (λ e. IsBusError e self.old.memory self.new.memory) }
+            LeavesOrFails after self.old result self.new }
     {
         self.add_spans(spans.as_slice(), add)
     }
@@ -212,7 +209,7 @@ impl<P: Pager> Kernel<P> {
         ensures { let reply = replied Number result in
             (n : ℕ) → Served self.old n caller.now (call.Xadd addr add) reply self.new }
     {
-        let Ok(spans) = self.spaces.spans_of(caller, addr, 8, true) else {
+        let Ok(spans) = self.spans_of(caller, addr, 8, true) else {
             return Err(Errno::Sigsegv);
         };
         match resident(spans.as_slice()) {

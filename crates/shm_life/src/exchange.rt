@@ -19,6 +19,7 @@ use shm_pager::Pager;
 impl<P: Pager> Kernel<P> {
     #[tactic(auto, using(crate::proofs::Running::kept_refl))]
     // If bytes are expected, replaces the present ones only if they equal those.
+    #[inline(always)]
     fn exchange(
         &mut self,
         caller: &Caller,
@@ -36,7 +37,7 @@ impl<P: Pager> Kernel<P> {
             IsExchange outcome (reply_in (Bytes before.new) result) self.old self.new }
         ensures kept { OnErr result (before.new ≡ before.old) }
     {
-        let Ok(spans) = self.spaces.spans_of(caller, addr, bytes.len() as u64, true) else {
+        let Ok(spans) = self.spans_of(caller, addr, bytes.len() as u64, true) else {
             return Err(Errno::Sigsegv);
         };
         let mut touched = Touched::none();
@@ -45,13 +46,12 @@ impl<P: Pager> Kernel<P> {
             .exchange(spans.as_slice(), expected, bytes, before, &mut touched);
         // If a pager failed, pages may have moved before.
         self.spaces.note(touched.moved.as_slice());
-        if exchanged.is_err() {
-            return Err(Errno::Sigbus);
-        }
-        Ok(())
+        exchanged.or(Err(Errno::Sigbus))
     }
 
     #[tactic(auto, using(crate::proofs::Running::kept_refl))]
+    // Inlined, as what it calls is, so that an exchange does not ask whether bytes are expected.
+    #[inline(always)]
     fn exchange_by(
         &mut self,
         pid: u32,

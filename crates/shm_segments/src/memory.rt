@@ -96,6 +96,7 @@ impl<P: Pager> Segments<P> {
 
     /// Copies the bytes of one or two spans into `before`, and replaces them; if bytes are expected, only if
     /// they equal those. Pages come in as for `read`. PagerFailed: a pager failed, and no byte changed.
+    #[inline(always)]
     pub fn exchange(
         &mut self,
         spans: &[Span],

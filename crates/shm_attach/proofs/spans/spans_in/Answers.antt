@@ -15,6 +15,7 @@ returns-clause-spans c =
     rw c.two.ensures
     (record {
       places = grind (arith, common_steps, append-nil, wanted_in-both);
+      few = omega arith;
       within = grind (arith, common_steps);
       sum = grind (arith, common_steps);
       pages = λ test all.

@@ -1,13 +1,7 @@
-use Rattle.shm_fault.proofs.Names.{◌<◌, List, ap, no_page, PageRec, TableView}
-use Rattle.shm_base.proofs.Stored.{length-padded}
-use Rattle.shm_fault.proofs.Untouched.{edit-reached}
+use Rattle.shm_fault.proofs.Untouched.{table-reached}
 use Rattle.shm_fault.proofs.page_table.PageTable.set_page.Goals as goal
 
 pub returns : goal.returns
 returns c =
-    let ps = c.self.inside.pages.items in
-    let n = c.self.inside.count in
-    let i = c.args.page in
-    let there : i < n = rw (← c.self.view_is, length-padded ps n no_page c.self.invariant.0) at c.requires in
-    let show : List PageRec → TableView = λ qs. record { number = c.self.inside.number; locked = c.self.inside.locked; pages = qs } in
-    rw (c.reach.ensures.pages, ← c.self.view_is) (ap show (edit-reached ps n i c.args.rec c.self.invariant.0 there))
+    let t = c.self.inside in
+    rw (c.reach.ensures.pages, ← c.self.view_is) (table-reached t.number t.locked t.pages.items t.count c.args.page c.args.rec c.self.invariant.0 (rw (← c.self.view_is) at c.requires))

@@ -1,16 +1,15 @@
-use Rattle.shm_fault.proofs.Names.{◌≡◌, ℕ, arith, rec_at, rec_by}
+use Rattle.shm_fault.proofs.Names.{◌≡◌, ℕ, sym, arith, PageRef, rec_at, rec_by}
 use Rattle.shm_fault.specs.Entries.{segs_in_order}
-use Rattle.shm_fault.proofs.Entries.{entry-from, find-entry}
-use Rattle.shm_fault.proofs.Order.{apart-stored, find-order}
+use Rattle.shm_fault.proofs.Noting.{same-rec}
+use Rattle.shm_fault.proofs.Order.{find-order}
 use Rattle.shm_fault.proofs.page_tables.PageTables.next_placed.Goals as goal
 use Rattle.shm_fault.proofs.page_tables.PageTables.next_placed.Goals.{After-next_placed}
 
 -- the segments' record of a page is the one that the table has
 found : (c : After-next_placed) (page : ℕ) → rec_by (segs_in_order c.self.inside.by_id.entries) (record { seg = c.args.first.seg; page = page }) ≡ rec_at c.index.result.now.pages page
 found c page =
-    let es = c.self.inside.by_id.entries in
-    rw (find-order es c.args.first.seg c.self.invariant.apart)
-    (grind (arith, entry-from, find-entry, apart-stored es c.self.invariant.apart, c.in-Some.ensures.some, c.index.ensures))
+    let r : PageRef = record { seg = c.args.first.seg; page = page } in
+    sym (same-rec c.self.inside.by_id.entries _ _ c.self.invariant r c.in-Some.index c.index.result.now c.in-Some.ensures.some c.index.ensures)
 
 pub returns-in-Some-clause-over : goal.returns-in-Some-clause-over
 returns-in-Some-clause-over c = λ page from upto.
