@@ -241,6 +241,8 @@ fn load_call(words: &Words<'_>, index: usize) -> Result<LineCall, FaultKind>
     })
 }
 
+// Kept out of line: the compiler would move the bytes one by one to join them with the other calls' fields.
+#[inline(never)]
 #[tactic(auto, unfolding(crate::specs::Calls::store_call))]
 fn store_call(words: &Words<'_>, index: usize) -> Result<LineCall, FaultKind>
     requires small { index ≤ 4 }
