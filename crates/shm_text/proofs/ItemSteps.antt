@@ -1,5 +1,5 @@
 -- Reading line by line, from left to right.
-use Rattle.shm_text.proofs.Names.{common_steps, arith, ◌≡◌, ◌≤◌, ◌+◌, ◌++◌, ◌∙◌, ap, sym, refl, ℕ, List, [], ◌∷◌, true, false, Option, Some, None, Bool, cond, length, append_assoc, append-nil, length-append, nat_lt, is_some, IsOk, FaultKind, NoLimits, ScriptFault, Item, Bounds, ScriptView, SeenView, ◌>>=◌, line_item, with_item, seen_next, limits_after, processes_in, lines_in, script_by, script_from}
+use Rattle.shm_text.proofs.Names.{common_steps, arith, ◌≡◌, ◌≤◌, ◌+◌, ◌++◌, ◌∙◌, ap, sym, refl, ℕ, List, [], ◌∷◌, true, Option, Some, None, Bool, cond, length, append_assoc, append-nil, length-append, nat_lt, is_some, IsOk, FaultKind, ScriptFault, Item, Bounds, ScriptView, SeenView, ◌>>=◌, line_item, with_item, seen_next, limits_after, processes_in, lines_in, script_by, script_from}
 use Rattle.std.proofs.Common.{Result, Ok, Err}
 use Rattle.shm_text.specs.declared.script.Item.TheVariants as items
 use Rattle.shm_text.specs.Reading.{script_of, items_of, KeptView, KeepsUp}
@@ -93,6 +93,3 @@ said_by all front b e h = ap (λ r. r >>= script_from) e ∙ ap (λ l. script_by
 
 pub ok_with : (b : Option Bounds) (front : List Item) → is_some b ≡ true → IsOk (script_by b front)
 ok_with b front e = grind (arith, common_steps)
-
-pub none_with : (b : Option Bounds) (front : List Item) → is_some b ≡ false → script_by b front ≡ Err (record { line = 1; kind = NoLimits })
-none_with b front e = grind (arith, common_steps)
