@@ -50,7 +50,7 @@ impl Machine {
     // One call of a write, for the bytes after those that were done.
     fn write_on(&mut self, pid: u32, addr: u64, done: usize, bytes: &[u8]) -> Result<(), Refusal>
         requires { (1 ≤ length bytes.now) × (length bytes.now ≤ PAGE_SIZE) }
-        ensures { let store = call.Store (addr + done) bytes.now in
+        ensures { let store = call.Store bytes.now (addr + done) in
             MatchResult result (λ _. Replied self.old.system pid store reply.Done self.new.system)
             (λ e. StoppedAt self.old.system pid (addr + done) store e self.new.system) }
     {
