@@ -1,5 +1,5 @@
 -- The replies to an access that succeeded, and to one at which a pager failed.
-use Rattle.shm_life.proofs.Names.{◌≡◌, ◌∙◌, ℕ, Bool, true, false, List, [], ◌∷◌, length, Some, refl, sym, ap, arith, common_steps, OnOk, OnErr, Entry, none-some, Span, Place, Piece, Outcome, gives, Bytes, Machine, pieces_at, wanted_in, span_places, load-wanted, store-wanted, loaded, KeepsMemory, Bounds, Runner, StoreView, sizes}
+use Rattle.shm_life.proofs.Names.{◌≡◌, ◌∙◌, ℕ, Bool, true, false, List, length, Some, refl, sym, ap, OnOk, OnErr, Entry, Span, Place, Piece, Outcome, gives, Bytes, Machine, pieces_at, wanted_in, span_places, load-wanted, store-wanted, loaded, KeepsMemory, Bounds, Runner, StoreView, sizes}
 use Rattle.std.specs.Prelude.{Option, Result, Ok, Err, IfOk}
 use Rattle.std.specs.Result.{result_or}
 use Rattle.std.proofs.lemmas.Result.{IfOk-weaker}
@@ -14,7 +14,7 @@ use Rattle.shm_base.specs.declared.errno.Errno.TheVariants.{Sigbus}
 use Rattle.shm_attach.specs.declared.process.Caller.{Caller}
 use Rattle.shm_attach.proofs.FlatSteps.{are_asked, loaded-unmarked, stored-unmarked}
 use Rattle.shm_segments.specs.Table.{loaded_number, added_at}
-use Rattle.shm_life.specs.Accessing.{LeavesOrFails, sole_resident}
+use Rattle.shm_life.specs.Accessing.{LeavesOrFails}
 use Rattle.shm_attach.specs.Spaces.{caller_seen}
 use Rattle.shm_fault.specs.Access.{Accessed, answer_of}
 use Rattle.shm_fault.specs.Exchanging.{replaces}

@@ -19,12 +19,9 @@ use Rattle.shm_segments.specs.Table as table
 use Rattle.shm_life.specs.Sound.{AreProcesses}
 use Rattle.shm_life.proofs.Leaving.{orphans-among}
 use Rattle.shm_life.proofs.Pieces.{fit-set, fit-same}
-use Rattle.shm_base.specs.History.{is_refusal}
-use Rattle.shm_base.specs.declared.call.Reply.{Reply}
-use Rattle.shm_life.specs.MachineView.{Answered, MachineView}
-use Rattle.shm_life.proofs.Names.{is_err, sizes, Accessed, AreTrue, KeepsMemory, MovesLead, Touched, answer_of}
+use Rattle.shm_life.proofs.Names.{Accessed, AreTrue, MovesLead, Touched, answer_of}
 use Rattle.shm_life.proofs.Settled.{caller-fits, moved-by, noted-well}
-use Rattle.shm_life.proofs.Running.{granted, ok_fact, true_still, kept-by}
+use Rattle.shm_life.proofs.Running.{true_still, kept-by}
 
 -- LOCKED
 
