@@ -1,6 +1,6 @@
 -- No call changes the limits of a machine.
-use Rattle.shm_laws.proofs.Names.{◌≡◌, ◌+◌, ◌%◌, ◌==◌, ◌&&◌, ℕ, ℤ, not, nat_lt, nat_le, within, List, length, Option, Some, None, refl, common_steps, arith, AtFlags, GetFlags, ProcessCall, Shmget, Shmat, Shmdt, Stat, Set, Rmid, Lock, Unlock, Load, Store, Xadd, Fork, Exec, Exit, Swapoff, Event, Place, Segment, Piece, Machine, pages_of, pages_in, Look, Found, Removed, Invalid, find_key, free_index, look, places, writable_places, inside, origin_of, reserved, locked, segment_count, Outcome, Caller, creates, pieces_with, attaches, attaches_chosen, attaches_fixed, attaches_found, shmat, detaches, forks, unborn_from, stat, controls, sets, removes, locks, unlocks, load, store, xadd, takes_away, acts, is_rnd, at_wish, wish_of, wants_creation, wants_no_other, grants, owns, IsMove, Errno, creates_small, huge_errno, is_taken, is_full, is_no_owner, remaps_null, may_not_lock, passes_limit}
-use Rattle.shm_base.specs.Step.{gets, creates_at}
+use Rattle.shm_laws.proofs.Names.{◌≡◌, ◌%◌, ◌==◌, ◌&&◌, ℕ, ℤ, not, nat_lt, List, length, Option, Some, None, refl, common_steps, arith, AtFlags, ProcessCall, Shmget, Shmat, Shmdt, Stat, Set, Rmid, Lock, Unlock, Load, Store, Xadd, Fork, Exec, Exit, Swapoff, Event, Place, Segment, Piece, Machine, pages_in, Look, Found, Removed, Invalid, look, places, writable_places, inside, origin_of, Outcome, Caller, pieces_with, attaches, attaches_chosen, attaches_fixed, attaches_found, shmat, detaches, forks, unborn_from, stat, controls, sets, removes, locks, unlocks, load, store, xadd, takes_away, acts, is_rnd, at_wish, grants, owns, IsMove, is_taken, is_full, is_no_owner, remaps_null, may_not_lock, passes_limit}
+use Rattle.shm_base.specs.Step.{creates_at}
 use Rattle.shm_laws.proofs.Asking.{by-shmget}
 use Rattle.shm_laws.proofs.Refusing.{by-move}
 use Rattle.shm_laws.proofs.Stepping.{pick}

@@ -1,5 +1,5 @@
 -- The four kinds of step on the segments: still, a sweep after a detach, a creation, a removal.
-use Rattle.shm_laws.proofs.Names.{◌≡◌, ◌⊎◌, ℕ, ◌+◌, ◌*◌, ◌%◌, ◌^◌, ◌≤◌, ◌==◌, ◌&&◌, ℤ, pos, negsuc, Bool, true, false, not, nat_lt, nat_le, within, if◌then◌else◌, List, [], ◌∷◌, length, replicate, get_or, Option, Some, None, slice_get, slice_set, refl, sym, ap, subst, ◌∙◌, inl, inr, arith, common_steps, get-set_other, w64, to_le_bytes, slice_get-get_or, GetFlags, AtFlags, ProcessCall, Shmget, Shmat, Shmdt, Stat, Set, Rmid, Lock, Unlock, Load, Store, Xadd, Fork, Exec, Exit, Swapoff, Reply, Id, Done, Addr, Event, grants, owns, wish_of, Place, places, writable_places, stored, Segment, Entry, Piece, Unborn, Live, Ended, Runner, Machine, pages_in, pages_of, Look, Found, Removed, Invalid, identifier, destroyed_at, free_index, with_segment, look, find_key, inside, cut_segments, origin_of, attach_count, locked, reserved, segment_count, change, attached, marked, detach_all, swept, Outcome, gives, refuses, segments_of, Caller, caller_of, acts, new_segment, creates, creates_at, shmget, wants_creation, wants_no_other, is_rnd, at_wish, attaches, attaches_chosen, attaches_fixed, attaches_found, shmat, pieces_with, with_pieces, detaches, forks, unborn_from, stat, controls, sets, removes, locks, unlocks, load, store, xadd, number_at, takes_away, swapoff, first_runner, child_at, life_in, keeps-set, IsSame, Put, put, pieces_of_caller, Errno, creates_small, huge_errno, rests, attach_all, is_taken, is_full, remaps_null, pieces_errno, inherited, fork_marks, may_not_lock, passes_limit, locks_as, unlocked, is_no_owner}
+use Rattle.shm_laws.proofs.Names.{◌≡◌, ◌⊎◌, ℕ, ◌+◌, ◌*◌, ◌%◌, ◌^◌, ◌≤◌, ◌==◌, ◌&&◌, ℤ, pos, negsuc, Bool, true, false, not, nat_lt, nat_le, within, if◌then◌else◌, List, [], ◌∷◌, length, replicate, get_or, Option, Some, None, slice_get, slice_set, refl, sym, ap, subst, ◌∙◌, inl, inr, arith, common_steps, get-set_other, w64, to_le_bytes, slice_get-get_or, GetFlags, AtFlags, ProcessCall, Shmget, Shmat, Shmdt, Stat, Set, Rmid, Lock, Unlock, Load, Store, Xadd, Fork, Exec, Exit, Swapoff, Reply, Id, Done, Addr, Event, grants, owns, wish_of, Place, places, writable_places, stored, Segment, Entry, Piece, Unborn, Live, Ended, Runner, Machine, pages_in, pages_of, Look, Found, Removed, Invalid, identifier, destroyed_at, free_index, with_segment, look, find_key, inside, cut_segments, origin_of, attach_count, reserved, segment_count, change, attached, marked, detach_all, swept, Outcome, gives, refuses, segments_of, Caller, caller_of, acts, new_segment, creates, creates_at, shmget, wants_creation, wants_no_other, is_rnd, at_wish, attaches, attaches_chosen, attaches_fixed, attaches_found, shmat, pieces_with, with_pieces, detaches, forks, unborn_from, stat, controls, sets, removes, locks, unlocks, load, store, xadd, number_at, takes_away, swapoff, first_runner, child_at, life_in, keeps-set, IsSame, Put, put, pieces_of_caller, Errno, creates_small, huge_errno, rests, attach_all, is_taken, is_full, remaps_null, pieces_errno, inherited, fork_marks, may_not_lock, passes_limit, locks_as, unlocked, is_no_owner}
 use Rattle.shm_base.specs.Step.{gets}
 use Rattle.shm_laws.proofs.Accessing.{writable-parts}
 use Rattle.shm_laws.proofs.Turning.{IsAlike, Turned, unchanged, puts_in, turned-refl, turned-trans, turned-change, turned-attach, turned-detach, turned-stored, set-got}
