@@ -1,5 +1,5 @@
 //! Writes the text of a world.
-ghost use Rattle.std.specs.Prelude.{◌≡◌, ◌⊎◌, ◌+◌, ◌-◌, ◌^◌, ◌<◌, length, OnOk, IfErr, IfOk, string_bytes};
+ghost use Rattle.std.specs.Prelude.{◌≡◌, ◌⊎◌, ◌+◌, ◌-◌, ◌^◌, ◌<◌, [], length, flat_map, OnOk, IfErr, IfOk, string_bytes};
 ghost use Rattle.std.specs.Io.KnownBytes.{Appends};
 ghost use Rattle.shm_print.specs.Text.{events_text};
 ghost use Rattle.shm_slots.specs.View.{AreCountsOf};
@@ -13,7 +13,7 @@ use shm_history::World;
 use shm_laws::lawful;
 use shm_pager::Pager;
 use shm_print::push_event;
-use shm_program::{RunFault, listing, usage, write_output};
+use shm_program::{RunFault, WriteFault, listing, usage, write_output};
 use std::alloc::{AllocError, Global};
 use std::io::Write;
 use std::thread;
@@ -43,86 +43,18 @@ fn lines_from(alloc: Global, first: u64, events: &[Event]) -> Result<String, All
     Ok(text)
 }
 
-// The lines of a history.
-fn history_text(alloc: Global, history: &[Event]) -> Result<String, AllocError>
-    ensures { IfOk result (λ text. string_bytes text ≡ events_text 1 history.now) }
-{
-    lines_from(alloc, 1, history)
-}
-
-// A text and then the parts, in order. Each part is freed once it is copied.
-fn joined(mut text: String, parts: Vec<Result<String, AllocError>>) -> Result<String, AllocError>
-    ensures { IfOk result (λ whole. Completes (string_bytes text) parts.items (string_bytes whole)) }
-{
-    for part in parts {
-        text.push_str(&part?)?;
-    }
-    Ok(text)
-}
-
-// The lines of a history. Up to four threads make those of a long one, or this one alone if the host refuses them.
-fn shared_text<R: Threads + Sync>(
-    rt: &R,
-    alloc: Global,
-    history: &[Event],
-) -> Result<String, AllocError>
-    ensures { IfOk result (λ text. string_bytes text ≡ events_text 1 history.now) }
-{
-    if history.len() < FEW_EVENTS {
-        return history_text(alloc, history);
-    }
-    let size = history.len().div_ceil(MOST_THREADS);
-    let parts = thread::map_chunks(
-        rt,
-        alloc,
-        history,
-        size,
-        &|start: usize, part: &[Event]| -> Result<String, AllocError>
-            requires { start + length part.now < 2 ^ 64 - 1 }
-            ensures { IfOk result (λ text. string_bytes text ≡ events_text (start + 1) part.now) }
-        { lines_from(alloc, start as u64 + 1, part) },
-    )?;
-    let room = String::with_capacity(alloc, history.len().saturating_mul(LINE_BYTES))?;
-    joined(room, parts)
-}
-
 // The text of a world: its event lines, the listing of its segments, and its usage.
-fn world_text<P: Pager>(
-    alloc: Global,
-    world: &World<P>,
-    lines: Result<String, AllocError>,
-) -> Result<String, AllocError>
-    requires lines { IfOk lines (λ text. string_bytes text ≡ events_text 1 world.now.events) }
+fn world_text<P: Pager>(alloc: Global, world: &World<P>) -> Result<String, AllocError>
     ensures text { IfOk result (λ text. string_bytes text ≡ world_text world.now) }
     ensures sound { IsWorldSound world.now }
     ensures counted { AreCountsOf P.failed world.now.memory.swap }
 {
-    let _ = lawful(world);
+    let history = lawful(world);
     let counts = usage(alloc, world)?;
-    let mut text = lines?;
+    let mut text = lines_from(alloc, 1, history)?;
     text.push_str(&listing(alloc, world)?)?;
     text.push_str(&counts)?;
     Ok(text)
-}
-
-// Writes the text of a world with these event lines. The whole text is made before its first byte is written.
-fn write_lines<W: Write, P: Pager>(
-    alloc: Global,
-    writer: &mut W,
-    world: &World<P>,
-    lines: Result<String, AllocError>,
-) -> Result<(), RunFault>
-    requires lines { IfOk lines (λ text. string_bytes text ≡ events_text 1 world.now.events) }
-    ensures written { OnOk result
-        (Appends (W.contents writer.old) (W.contents writer.new) (world_text world.now)) }
-    ensures sound { IsWorldSound world.now }
-    ensures counted { AreCountsOf P.failed world.now.memory.swap }
-    ensures fault { IfErr result (λ f. (f ≡ RunFault.HostMemory) ⊎ (f ≡ RunFault.WriteFailed)) }
-    ensures silent { IfErr result (λ f. IsSilent f (W.contents writer.old) (W.contents writer.new)) }
-{
-    let text = world_text(alloc, world, lines)?;
-    write_output(writer, text.as_bytes())?;
-    Ok(())
 }
 
 /// Writes the text of a world. The whole text is made before its first byte is written.
@@ -138,11 +70,74 @@ pub(crate) fn write_world<W: Write, P: Pager>(
     ensures fault { IfErr result (λ f. (f ≡ RunFault.HostMemory) ⊎ (f ≡ RunFault.WriteFailed)) }
     ensures silent { IfErr result (λ f. IsSilent f (W.contents writer.old) (W.contents writer.new)) }
 {
-    let lines = history_text(alloc, world.history());
-    write_lines(alloc, writer, world, lines)
+    let text = world_text(alloc, world)?;
+    write_output(writer, text.as_bytes())?;
+    Ok(())
 }
 
-/// As `write_world`, but up to four threads make the lines of a long history.
+// The texts, if all were made.
+fn gathered(alloc: Global, made: Vec<Result<String, AllocError>>) -> Result<Vec<String>, AllocError>
+    ensures { IfOk result (λ parts. Completes [] made.items (flat_map string_bytes parts.items)) }
+{
+    let mut parts = Vec::with_capacity(alloc, made.len())?;
+    for part in made {
+        parts.push(part?)?;
+    }
+    Ok(parts)
+}
+
+// The lines of a history, in parts. Up to four threads make them, or this one alone if the host refuses others.
+fn shared_lines<R: Threads + Sync>(
+    rt: &R,
+    alloc: Global,
+    history: &[Event],
+) -> Result<Vec<String>, AllocError>
+    ensures { IfOk result (λ parts. flat_map string_bytes parts.items ≡ events_text 1 history.now) }
+{
+    let size = history.len().div_ceil(MOST_THREADS).max(1);
+    let made = thread::map_chunks(
+        rt,
+        alloc,
+        history,
+        size,
+        &|start: usize, part: &[Event]| -> Result<String, AllocError>
+            requires { start + length part.now < 2 ^ 64 - 1 }
+            ensures { IfOk result (λ text. string_bytes text ≡ events_text (start + 1) part.now) }
+        { lines_from(alloc, start as u64 + 1, part) },
+    )?;
+    gathered(alloc, made)
+}
+
+// The text of a world, in parts: its event lines, the listing of its segments, and its usage.
+fn shared_text<R: Threads + Sync, P: Pager>(
+    rt: &R,
+    alloc: Global,
+    world: &World<P>,
+) -> Result<Vec<String>, AllocError>
+    ensures text { IfOk result (λ parts. flat_map string_bytes parts.items ≡ world_text world.now) }
+    ensures sound { IsWorldSound world.now }
+    ensures counted { AreCountsOf P.failed world.now.memory.swap }
+{
+    let history = lawful(world);
+    let counts = usage(alloc, world)?;
+    let mut parts = shared_lines(rt, alloc, history)?;
+    parts.push(listing(alloc, world)?)?;
+    parts.push(counts)?;
+    Ok(parts)
+}
+
+// Writes texts, one after the other.
+fn write_parts<W: Write>(writer: &mut W, parts: &[String]) -> Result<(), WriteFault>
+    ensures { OnOk result
+        (Appends (W.contents writer.old) (W.contents writer.new) (flat_map string_bytes parts.now)) }
+{
+    for part in parts {
+        write_output(writer, part.as_bytes())?;
+    }
+    Ok(())
+}
+
+/// As `write_world`. Up to four threads make the lines of a long history.
 pub(crate) fn write_shared<R: Threads + Sync, W: Write, P: Pager>(
     rt: &R,
     alloc: Global,
@@ -156,6 +151,10 @@ pub(crate) fn write_shared<R: Threads + Sync, W: Write, P: Pager>(
     ensures fault { IfErr result (λ f. (f ≡ RunFault.HostMemory) ⊎ (f ≡ RunFault.WriteFailed)) }
     ensures silent { IfErr result (λ f. IsSilent f (W.contents writer.old) (W.contents writer.new)) }
 {
-    let lines = shared_text(rt, alloc, world.history());
-    write_lines(alloc, writer, world, lines)
+    if world.history().len() < FEW_EVENTS {
+        return write_world(alloc, writer, world);
+    }
+    let parts = shared_text(rt, alloc, world)?;
+    write_parts(writer, &parts)?;
+    Ok(())
 }
