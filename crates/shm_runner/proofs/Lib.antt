@@ -1,6 +1,7 @@
 mod Causes
 mod Flatness
 mod Parts
+mod Shared
 mod Lives
 mod Asking
 mod Reordering

@@ -1,4 +1,5 @@
 pub mod Output
+pub mod Joined
 pub mod Flat
 pub mod Ordered
 pub mod Marks

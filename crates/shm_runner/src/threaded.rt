@@ -9,7 +9,7 @@ ghost use Rattle.shm_runner.specs.Marks.{is_marked, has_mark, have_mark};
 ghost use Rattle.shm_runner.specs.Threaded.{IsThreadedOutput, IsThreadedRun, IsAllOrNothing};
 
 use crate::fault::run_fault;
-use crate::world::write_world;
+use crate::world::write_shared;
 use shm_history::World;
 use shm_pager::Pager;
 use shm_program::{RunFault, open_world, whole_script};
@@ -90,15 +90,16 @@ fn run_in<T: Threads + Wait + Sync, W: Write, P: Pager + Send>(
         IfErr result (λ f. IsAllOrNothing f (W.contents writer.old) (W.contents writer.new) marked) }
 {
     match run_threads(rt, alloc, world, script, &OpenGate) {
-        Ok(outcome) => write_outcome(alloc, writer, &outcome),
+        Ok(outcome) => write_outcome(rt, alloc, writer, &outcome),
         Err(error) => Err(run_fault(error)),
     }
 }
 
 /// Writes the output of a run with threads as `run_threaded` does, for a run with another gate or world. The whole text is
-/// made before its first byte is written. It fails with `WriteFailed` if the writer fails, and with `HostMemory` before
+/// made before its first byte is written. Up to four threads make the lines of a long history. It fails with `WriteFailed` if the writer fails, and with `HostMemory` before
 /// the first byte, or after the last one if the host refused memory to a call of the run.
-pub fn write_outcome<W: Write, P: Pager>(
+pub fn write_outcome<T: Threads + Sync, W: Write, P: Pager>(
+    rt: &T,
     alloc: Global,
     writer: &mut W,
     outcome: &Outcome<P>,
@@ -114,7 +115,7 @@ pub fn write_outcome<W: Write, P: Pager>(
         let marked = (have_mark outcome.now.transcripts.items ≡ true) × appended in
         IfErr result (λ f. IsAllOrNothing f (W.contents writer.old) (W.contents writer.new) marked) }
 {
-    match write_world(alloc, writer, &outcome.world) {
+    match write_shared(rt, alloc, writer, &outcome.world) {
         Ok(()) => {
             if have_mark(&outcome.transcripts) {
                 Err(RunFault::HostMemory)

@@ -110,7 +110,7 @@ fn written<T: Threads + Wait + Sync>(
     taker: &mut Sink,
 ) -> Result<Option<RunFault>, Fail> {
     let outcome = outcome(rt, alloc, marked)?;
-    Ok(write_outcome(alloc, taker, &outcome).err())
+    Ok(write_outcome(rt, alloc, taker, &outcome).err())
 }
 
 #[test]

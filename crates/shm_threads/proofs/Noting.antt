@@ -1,8 +1,10 @@
 -- A list whose elements are changed one after the other.
 use Prim.Native.Nat.{zero, suc}
-use Rattle.std.specs.Prelude.{◌≡◌, ◌<◌, ◌+◌, ◌++◌, ℕ, List, [], ◌∷◌, map, length, take, drop}
-use Rattle.std.proofs.Common.{ap, ◌∙◌, refl, arith}
+use Rattle.std.specs.Prelude.{◌≡◌, ◌<◌, ◌+◌, ◌++◌, ◌==◌, ℕ, List, [], ◌∷◌, map, length, take, drop, if◌then◌else◌}
+use Rattle.std.proofs.Common.{ap, ◌∙◌, refl, arith, eq-eqb}
 use Rattle.std.proofs.Math.ListN.{get_or, set}
+use Rattle.std.proofs.lemmas.Bool.{ne_eqb}
+use Rattle.shm_threads.specs.declared.births.ProcessState.{ProcessState}
 
 module _ {X : Type 0} (f : X → X) where
   -- the first ones changed, and the rest
@@ -24,3 +26,16 @@ module _ {X : Type 0} (f : X → X) where
   one_noted xs cur i y d lt is value =
       let same : y ≡ f (get_or xs i d) = value ∙ ap (λ ys. f (get_or ys i d)) is ∙ ap f (still xs i d lt) in
       ap (λ ys. set ys i y) is ∙ ap (λ z. set (noted i xs) i z) same ∙ next_noted xs i (i + 1) d lt (omega arith)
+
+module _ (change : ProcessState → ProcessState) (pid : ℕ) where
+  -- the process of this pid is changed
+  abbrev pub changed : ProcessState → ProcessState
+  changed p = if p.pid == pid then change p else p
+
+  -- one more process, which is changed if it has the pid
+  pub this_noted : (all items : List ProcessState) (i : ℕ) (d : ProcessState) → i < length all → items ≡ noted changed i all → (get_or items i d).pid ≡ pid → set items i (change (get_or items i d)) ≡ noted changed (i + 1) all
+  this_noted all items i d lt is own = one_noted changed all items i _ d lt is (rw (eq-eqb (get_or items i d).pid pid own) refl)
+
+  -- and left as it is if it has another
+  pub other_noted : (all items : List ProcessState) (i : ℕ) (d : ProcessState) → i < length all → items ≡ noted changed i all → ((get_or items i d).pid ≡ pid → ⊥) → set items i (get_or items i d) ≡ noted changed (i + 1) all
+  other_noted all items i d lt is other = one_noted changed all items i _ d lt is (rw (ne_eqb (get_or items i d).pid pid other) refl)
