@@ -96,8 +96,9 @@ fn run_in<T: Threads + Wait + Sync, W: Write, P: Pager + Send>(
 }
 
 /// Writes the output of a run with threads as `run_threaded` does, for a run with another gate or world. The whole text is
-/// made before its first byte is written. Up to four threads make the lines of a long history. It fails with `WriteFailed` if the writer fails, and with `HostMemory` before
-/// the first byte, or after the last one if the host refused memory to a call of the run.
+/// made before its first byte is written. Up to four threads make the lines of a long history. It fails with `WriteFailed`
+/// if the writer fails, and with `HostMemory` before the first byte, or after the last one if the host refused memory to a
+/// call of the run.
 pub fn write_outcome<T: Threads + Sync, W: Write, P: Pager>(
     rt: &T,
     alloc: Global,
