@@ -1,5 +1,5 @@
 -- Parts of a text, each the lines of a chunk of the events, make the lines of all events.
-use Rattle.std.specs.Prelude.{◌≡◌, ◌+◌, ◌-◌, ◌*◌, ◌<◌, ◌≤◌, ◌++◌, ℕ, zero, suc, min, List, [], ◌∷◌, length, take, drop, slice_index_or, Result, Ok, Err, IfOk, String, string_bytes}
+use Rattle.std.specs.Prelude.{◌≡◌, ◌+◌, ◌*◌, ◌<◌, ◌≤◌, ◌++◌, ℕ, zero, suc, min, List, [], ◌∷◌, length, take, drop, slice_index_or, Result, Ok, Err, IfOk, String, string_bytes}
 use Rattle.std.proofs.Common.{subst, sym, refl, ap, ◌∙◌, arith, append-nil, append_assoc, length-drop}
 use Rattle.std.proofs.Math.Nat.{suc-mul, mul_comm}
 use Rattle.std.proofs.lemmas.List.{drop-drop}

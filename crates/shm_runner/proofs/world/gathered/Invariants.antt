@@ -1,4 +1,4 @@
-use Rattle.std.proofs.Common.{◌≡◌, ℕ, List, [], string_bytes, flat_map}
+use Rattle.std.proofs.Common.{ℕ, List, [], string_bytes, flat_map}
 use Rattle.std.specs.Vec.Iter.{into_iter_items}
 use Rattle.shm_runner.specs.Joined.{Completes}
 use Rattle.shm_runner.proofs.world.gathered.Given as goal

@@ -1,4 +1,4 @@
-use Rattle.std.proofs.Common.{rules, arith, slice_index_or, subst, ◌≡◌, ◌+◌, ◌*◌, ◌/◌, ◌%◌, min, sym, [], ◌<◌, ◌≤◌, ◌∙◌, ℕ, List, length, IfOk, string_bytes, flat_map}
+use Rattle.std.proofs.Common.{rules, slice_index_or, subst, ◌≡◌, ◌+◌, ◌*◌, ◌/◌, ◌%◌, min, sym, [], ◌<◌, ◌≤◌, ℕ, List, length, IfOk, string_bytes, flat_map}
 use Rattle.std.proofs.Math.Nat.{div-add-mod, lt-div-mul-add}
 use Rattle.shm_base.specs.declared.call.Event.{Event}
 use Rattle.std.proofs.lemmas.Result.{IfOk-weaker}
