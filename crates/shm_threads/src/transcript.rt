@@ -74,3 +74,24 @@ impl Drop for Transcript {
         let Transcript { pid: _, entries: _ } = self;
     }
 }
+
+impl Transcript {
+    ghost use Rattle.std.specs.Prelude.{◌≡◌, [], vec_capacity};
+
+    /// Writes to all the room of an empty transcript, so that the host lends its pages now, while other
+    /// processes start, and not between the calls.
+    pub(crate) fn touch(&mut self)
+        requires { self.old.entries.items ≡ [] }
+        ensures pid { self.new.pid ≡ self.old.pid }
+        ensures empty { self.new.entries.items ≡ [] }
+        ensures room { vec_capacity self.new.entries ≡ vec_capacity self.old.entries }
+    {
+        for _ in 0..self.entries.capacity() {
+            self.entries.push_reserved(Entry {
+                call: Call::Exec,
+                answer: Answer::Reply(Reply::Done),
+            });
+        }
+        self.entries.truncate(0);
+    }
+}

@@ -61,6 +61,7 @@ pub(crate) fn work<C: Caller>(
         Works (C.asked caller.old) (C.asked caller.new) own result.transcript.entries.items
         (not result.is_expired) }
 {
+    transcript.touch();
     let is_expired = caller.born() && !run_lines(caller, lines, pids, &mut transcript);
     caller.leave();
     Ended {
