@@ -1,6 +1,6 @@
 -- The replies to an access that succeeded, and to one at which a pager failed.
 use Rattle.shm_life.proofs.Names.{◌≡◌, ◌∙◌, ℕ, Bool, true, false, List, length, Some, refl, sym, ap, OnOk, OnErr, Entry, Span, Place, Piece, Outcome, gives, Bytes, Machine, pieces_at, wanted_in, span_places, load-wanted, store-wanted, loaded, KeepsMemory, Bounds, Runner, StoreView, sizes}
-use Rattle.std.specs.Prelude.{Option, Result, Ok, Err, IfOk}
+use Rattle.std.specs.Prelude.{Option, Result, Ok, Err, IfOk, IfErr}
 use Rattle.std.specs.Result.{result_or}
 use Rattle.std.proofs.lemmas.Result.{IfOk-weaker}
 use Rattle.shm_base.specs.Access.{stored, writable_places}
@@ -47,9 +47,14 @@ told (Ok a) limits t u w rs after m n ps touched written same runners keeps acce
 told (Err e) limits t u w rs after m n ps touched written same runners keeps access =
     record { written = tt; same = rw (same, runners, access.same_sizes) refl; keeps = keeps; err = record { told = refl; cause = access.paged.cause refl } }
 
-pub or-ok : {A E : Type 0} (P : Type 0) (r : Result A E) → OnOk r P → OnOk (result_or r (Err Sigbus)) P
-or-ok P (Ok a) p = p
-or-ok P (Err e) p = tt
+-- a result with another error in place of its own
+pub or-ok : {A E : Type 0} (P Q : A → Type 0) (r : Result A E) (other : Errno) → ((a : A) → P a → Q a) → IfOk r P → IfOk (result_or r (Err other)) Q
+or-ok P Q (Ok a) other to p = to a p
+or-ok P Q (Err e) other to p = tt
+
+pub or-err : {A E : Type 0} (P Q : Type 0) (r : Result A E) (other : Errno) → (P → Q) → OnErr r P → IfErr (result_or r (Err other)) (λ e. (e ≡ other) × Q)
+or-err P Q (Ok a) other to p = tt
+or-err P Q (Err e) other to p = (refl, to p)
 
 add-wanted : (s : Machine) (ps : List Piece) (addr add : ℕ) (wanted : List Place) → wanted_in true ps addr 8 ≡ Some wanted
     → xadd s add (writable_places ps addr 8) ≡ gives (record s { table = added_at s.table wanted add }) (Number (loaded_number s.table wanted))

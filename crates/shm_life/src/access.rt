@@ -1,5 +1,5 @@
 //! Loads, stores and additions.
-ghost use Rattle.std.specs.Prelude.{◌≡◌, ◌∷◌, [], ◌≤◌, ℕ, None, Some, false, length, IfOk, IfSome, OnOk, OnErr};
+ghost use Rattle.std.specs.Prelude.{◌≡◌, ◌∷◌, [], ◌≤◌, ℕ, None, Some, false, length, IfErr, IfOk, IfSome, OnOk, OnErr};
 ghost use Rattle.shm_base.specs.Access.{loaded, stored};
 ghost use Rattle.shm_base.specs.Spans.{span_places};
 ghost use Rattle.shm_base.specs.declared.call.Call.TheVariants as call;
@@ -14,7 +14,7 @@ ghost use Rattle.shm_life.specs.Accessing.{LeavesOrFails, sole_resident};
 ghost use Rattle.shm_life.specs.MachineView.{Served, done, replied, reply_in};
 
 use crate::kernel::Kernel;
-use shm_attach::{Caller, Segv, Spans};
+use shm_attach::{Caller, Spans};
 use shm_base::{AccessLen, Chunk, Errno, LONGEST_ACCESS, Reply, Span};
 use shm_fault::Touched;
 use shm_pager::Pager;
@@ -35,7 +35,8 @@ fn resident(spans: &[Span]) -> Option<Span>
 }
 
 impl<P: Pager> Kernel<P> {
-    // The spans of an access, with the frames that are known.
+    // The spans of an access, with the frames that are known. Sigsegv where an address has no piece, or where
+    // a write meets a read-only one.
     #[inline(always)]
     pub(crate) fn spans_of(
         &self,
@@ -43,7 +44,7 @@ impl<P: Pager> Kernel<P> {
         addr: u64,
         len: u64,
         write: bool,
-    ) -> Result<Spans, Segv>
+    ) -> Result<Spans, Errno>
         requires caller { IsCaller caller.now self.now.flat.runners }
         requires size { (1 ≤ len) × (len ≤ PAGE_SIZE) }
         ensures fit { IfOk result (λ spans. IsAccess (SpanFits self.now.flat.table) spans len) }
@@ -51,9 +52,11 @@ impl<P: Pager> Kernel<P> {
         ensures places { let pieces = pieces_at self.now.flat.runners caller.now.index in
             IfOk result (λ spans. wanted_in write pieces addr len ≡ Some (span_places false spans)) }
         ensures none { let pieces = pieces_at self.now.flat.runners caller.now.index in
-            OnErr result (wanted_in write pieces addr len ≡ None) }
+            IfErr result (λ e. (e ≡ Errno.Sigsegv) × (wanted_in write pieces addr len ≡ None)) }
     {
-        self.spaces.spans_of(caller, addr, len, write)
+        self.spaces
+            .spans_of(caller, addr, len, write)
+            .or(Err(Errno::Sigsegv))
     }
 
     // Reads the bytes of spans, and notes which pages moved.
@@ -96,9 +99,7 @@ impl<P: Pager> Kernel<P> {
         ensures kept { OnErr result (out.new ≡ out.old) }
         ensures size { length out.new ≡ length out.old }
     {
-        let Ok(spans) = self.spans_of(caller, addr, out.len() as u64, false) else {
-            return Err(Errno::Sigsegv);
-        };
+        let spans = self.spans_of(caller, addr, out.len() as u64, false)?;
         match resident(spans.as_slice()) {
             Some(span) => self.load_spans(&[span], out),
             None => self.load_paged(spans, out),
@@ -161,9 +162,7 @@ impl<P: Pager> Kernel<P> {
         ensures { let store = call.Store bytes.now addr in
             (n : ℕ) → Served self.old n caller.now store (replied done result) self.new }
     {
-        let Ok(spans) = self.spans_of(caller, addr, bytes.len() as u64, true) else {
-            return Err(Errno::Sigsegv);
-        };
+        let spans = self.spans_of(caller, addr, bytes.len() as u64, true)?;
         match resident(spans.as_slice()) {
             Some(span) => self.store_spans(&[span], bytes),
             None => self.store_paged(spans, bytes),
@@ -209,9 +208,7 @@ impl<P: Pager> Kernel<P> {
         ensures { let reply = replied Number result in
             (n : ℕ) → Served self.old n caller.now (call.Xadd addr add) reply self.new }
     {
-        let Ok(spans) = self.spans_of(caller, addr, 8, true) else {
-            return Err(Errno::Sigsegv);
-        };
+        let spans = self.spans_of(caller, addr, 8, true)?;
         match resident(spans.as_slice()) {
             Some(span) => self.add_spans(&[span], add),
             None => self.add_paged(spans, add),

@@ -37,9 +37,7 @@ impl<P: Pager> Kernel<P> {
             IsExchange outcome (reply_in (Bytes before.new) result) self.old self.new }
         ensures kept { OnErr result (before.new ≡ before.old) }
     {
-        let Ok(spans) = self.spans_of(caller, addr, bytes.len() as u64, true) else {
-            return Err(Errno::Sigsegv);
-        };
+        let spans = self.spans_of(caller, addr, bytes.len() as u64, true)?;
         let mut touched = Touched::none();
         let exchanged = self
             .segments

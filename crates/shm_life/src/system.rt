@@ -210,7 +210,7 @@ impl<P: Pager> System<P> {
 
     #[tactic(auto, using(crate::proofs::Running::kept_refl))]
     /// As [`System::call`], but writes the reply to `reply`, which is unknown after HostMemory. A reply has
-    /// 88 bytes, which every function that returns it would clear and copy.
+    /// 80 bytes, which every function that returns it would clear and copy.
     #[inline(always)]
     pub fn call_into(&mut self, pid: u32, call: &Call, reply: &mut Reply) -> Result<(), HostMemory>
         requires room { self.old.calls < most_calls }

@@ -23,5 +23,5 @@ returns-clause-answered g c =
     let there = rw c.as_slice.ensures.value at e.there in
     let written = rw c.as_slice.ensures.value at e.written in
     rw (← c.self.view_is, c.or.ensures)
-    (swaps _ _ 0 c.args.caller.now c.args.addr c.in-Ok.spans (option_copied c.args.expected) c.args.bytes.now c.exchange-exchanged.new.before _ (rw (← c.self.view_is) at c.in-Ok.ensures.places) (or-ok _ r there)
+    (swaps _ _ 0 c.args.caller.now c.args.addr c.in_ok-spans.spans (option_copied c.args.expected) c.args.bytes.now c.exchange-exchanged.new.before _ (rw (← c.self.view_is) at c.in_ok-spans.ensures.places) (or-ok _ _ r _ (λ _ is. is) there)
     (told r _ _ _ _ _ _ _ _ _ c.exchange-exchanged.new.touched written e.same c.note.ensures.runners e.keeps e.access))
