@@ -3,5 +3,6 @@ mod Steps
 mod Following
 mod Found
 mod LeastWrong
+mod Leaving
 mod Own
 mod Placed

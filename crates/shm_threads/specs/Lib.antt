@@ -1,7 +1,9 @@
 pub mod Asked
 pub mod Births
 pub mod Ends
+pub mod Joining
 pub mod Keepers
+pub mod Known
 pub mod Noted
 pub mod Outcomes
 pub mod Pids

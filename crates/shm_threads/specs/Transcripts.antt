@@ -3,7 +3,7 @@ use Rattle.std.specs.Prelude.{◌≡◌, ◌≢◌, ◌<◌, ◌↔◌, ◌⊎�
 use Rattle.std.specs.List.{list_any}
 use Rattle.shm_base.specs.History.{own_part}
 use Rattle.shm_base.specs.Calls.{ProcessCall}
-use Rattle.shm_base.specs.declared.call.Call.TheVariants.{Fork, Exit}
+use Rattle.shm_base.specs.declared.call.Call.TheVariants.{Fork, Exec, Exit}
 use Rattle.shm_base.specs.declared.call.Reply.{Reply}
 use Rattle.shm_base.specs.declared.call.Reply.TheVariants.{Done, Refused}
 use Rattle.shm_base.specs.declared.call.Event.{Event}
@@ -31,6 +31,10 @@ commands_of pid (Command c ∷ ls) = if c.pid == pid then c ∷ commands_of pid 
 abbrev pub reply_in : Answer → Option Reply
 reply_in (Replied r) = Some r
 reply_in HostMemory = None
+
+-- an entry whose call is still to be made
+abbrev pub blank : Entry
+blank = record { call = Exec; answer = Replied Done }
 
 -- the process ends with this call and answer
 abbrev pub is_end : ProcessCall → Answer → Bool
@@ -85,6 +89,10 @@ abbrev pub HasLines : ScriptView → List Event → Transcript → Type 0
 HasLines script history t =
     Follows no_values (commands_of t.pid script.lines) t.entries.items
     ⊎ ((is_child t.pid script.processes ≡ true) × (t.entries.items ≡ []) × (is_forked t.pid history ≡ false))
+
+-- the transcript is empty or follows its process's lines
+abbrev pub IsEmptyOrFollows : List Line → Transcript → Type 0
+IsEmptyOrFollows lines t = (t.entries.items ≡ []) ⊎ Follows no_values (commands_of t.pid lines) t.entries.items
 
 -- only a call that may take memory is marked as out of memory
 abbrev pub IsMarkAllowed : Entry → Type 0

@@ -2,7 +2,7 @@
 ghost use Rattle.std.specs.Prelude.{◌≡◌, map};
 ghost use Rattle.shm_threads.specs.Keepers.{cell_of};
 ghost use Rattle.shm_threads.specs.Pids.{line_pid};
-ghost use Rattle.shm_threads.specs.Plans.{HasRoom};
+ghost use Rattle.shm_threads.specs.Plans.{HasRoom, LeavesLines};
 
 use crate::flusher::{Flusher, flush_all};
 use crate::gate::Gate;
@@ -33,8 +33,8 @@ impl<R: Wait, G: Gate, P: Pager> Caller for ProcessCaller<'_, R, G, P> {
         self.gate.before(self.pid, n)
     }
 
-    fn call(&mut self, command: &Command, vars: &Vars) -> Entry {
-        self.shared.call(self.rt, command, vars)
+    fn call(&mut self, command: &Command, vars: &Vars, entry: &mut Entry) {
+        self.shared.call(self.rt, command, vars, entry);
     }
 
     fn after(&mut self, n: u64) {
@@ -57,7 +57,8 @@ pub(crate) fn run_process<R: Wait, G: Gate, P: Pager>(
 ) -> Ended
     requires room { HasRoom lines.now transcript }
     requires pids { pids.now ≡ map line_pid lines.now }
-    ensures { result.transcript.pid ≡ transcript.pid }
+    ensures pid { result.transcript.pid ≡ transcript.pid }
+    ensures lines { LeavesLines lines.now result }
 {
     let mut caller = ProcessCaller {
         rt,

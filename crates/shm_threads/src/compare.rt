@@ -1,13 +1,14 @@
 //! Compares transcripts with a history. Each worker guarantees its own transcript, and the lock guards one
 //! history. This checks that the history has exactly the calls of the transcripts.
-ghost use Rattle.std.specs.Prelude.{◌≡◌, ℕ, ◌↔◌, ◌<◌, ◌≤◌, IsTrue, IfOk, All, map, length, drop, true, slice_get};
+ghost use Rattle.std.specs.Prelude.{◌≡◌, [], ℕ, ◌↔◌, ◌<◌, ◌≤◌, IsTrue, IfOk, All, map, length, drop, true, slice_get};
 ghost use Rattle.shm_base.specs.History.{own_part};
 ghost use Rattle.shm_text.specs.Variables.{no_values};
 ghost use Rattle.shm_threads.specs.Pids.{ArePids, line_pid};
-ghost use Rattle.shm_threads.specs.Transcripts.{commands_of, Follows, transcript_events, is_fork_of, is_forked, is_child, pid_in, pid_of, HasLines, IsMarkAllowed, IsTranscript, IsAdmitted, is_answered, least_of, pid_at, IsFound, IsLeastOf};
+ghost use Rattle.shm_threads.specs.Transcripts.{commands_of, Follows, IsEmptyOrFollows, transcript_events, is_fork_of, is_forked, is_child, pid_in, pid_of, HasLines, IsMarkAllowed, IsTranscript, IsAdmitted, is_answered, least_of, pid_at, IsFound, IsLeastOf};
+ghost use Rattle.shm_threads.specs.Known.{IsKnown};
 ghost use Rattle.shm_threads.specs.Noted.{AreNoted};
 
-use crate::pids::{Pids, own_command, own_event};
+use crate::pids::{Known, own_command, own_event};
 use crate::transcript::{Answer, Entry, Transcript};
 use shm_base::{Call, Errno, Event, HostMemory, Process, Reply, has_pid};
 use shm_text::{Line, Script, Vars};
@@ -35,12 +36,14 @@ pub fn disagreement<R: Threads + Sync>(
 ) -> Result<Option<u32>, HostMemory>
     ensures { IfOk result (λ found. IsFound script.now history.now transcripts.now.items found) }
 {
-    let none = Pids {
+    let none = Known {
         lines: &[],
         events: &[],
+        follow: false,
     };
+    let stranger = look_over(Vec::new(alloc), &script.processes, history).stranger;
     let mut whole = places(alloc, script.processes.len())?;
-    Ok(disagreement_by(rt, script, history, none, transcripts, &mut whole))
+    Ok(disagreement_by(rt, script, history, none, stranger, transcripts, &mut whole))
 }
 
 /// Places for what is found of this many transcripts, one for each.
@@ -50,26 +53,26 @@ pub(crate) fn places(alloc: Global, count: usize) -> Result<Vec<bool>, HostMemor
     Ok(vec![in alloc; false; count]?)
 }
 
-/// As `disagreement`, with the pids of the first lines and events, and a place for each process of the
+/// As `disagreement`, with what is known, the least pid of a stranger, and a place for each process of the
 /// script. It takes no memory.
 pub(crate) fn disagreement_by<R: Threads + Sync>(
     rt: &R,
     script: &Script,
     history: &[Event],
-    pids: Pids<'_>,
+    known: Known<'_>,
+    stranger: Option<u32>,
     transcripts: &Vec<Transcript>,
     whole: &mut [bool],
 ) -> Option<u32>
-    requires lines { ArePids line_pid script.now.lines pids.lines.now }
-    requires events { ArePids pid_at history.now pids.events.now }
+    requires known { IsKnown script.now history.now transcripts.now.items known }
+    requires stranger { IsLeastOf pid_at (IsAdmitted script.now.processes) history.now stranger }
     requires places { length whole.old ≡ length script.now.processes }
     ensures { IsFound script.now history.now transcripts.now.items result }
 {
     if !has_each(&script.processes, transcripts) {
         return Some(0);
     }
-    let stranger = first_stranger(&script.processes, history);
-    let broken = first_broken(rt, script, history, pids, transcripts, whole);
+    let broken = first_broken(rt, script, history, known, transcripts, whole);
     match broken {
         Some(pid) => Some(least(stranger, pid)),
         None => stranger,
@@ -91,17 +94,33 @@ fn has_each(processes: &[Process], transcripts: &[Transcript]) -> bool
     true
 }
 
-// The least pid of an event whose process is not declared or was not live.
-fn first_stranger(processes: &[Process], history: &[Event]) -> Option<u32>
-    ensures { IsLeastOf pid_at (IsAdmitted processes.now) history.now result }
+/// What one pass over a history finds.
+#[derive(Drop)]
+pub(crate) struct Looked {
+    /// The pids of its first events.
+    pub(crate) pids: Vec<u32>,
+    /// The least pid of a stranger: an event whose process is not declared or was not live.
+    pub(crate) stranger: Option<u32>,
+}
+
+/// Looks for a stranger, and notes the pids of the first events, as many as there is room for.
+pub(crate) fn look_over(room: Vec<u32>, processes: &[Process], history: &[Event]) -> Looked
+    requires { room.items ≡ [] }
+    ensures pids { ArePids pid_at history.now result.pids.items }
+    ensures stranger { IsLeastOf pid_at (IsAdmitted processes.now) history.now result.stranger }
 {
-    let mut found = None;
-    for event in history {
+    let mut pids = room;
+    let mut stranger = None;
+    for index in 0..history.len() {
+        let event = &history[index];
+        if index < pids.capacity() {
+            pids.push_reserved(event.pid);
+        }
         if !is_admitted(processes, event) {
-            found = Some(least(found, event.pid));
+            stranger = Some(least(stranger, event.pid));
         }
     }
-    found
+    Looked { pids, stranger }
 }
 
 fn is_admitted(processes: &[Process], event: &Event) -> bool
@@ -122,16 +141,15 @@ fn first_broken<R: Threads + Sync>(
     rt: &R,
     script: &Script,
     history: &[Event],
-    pids: Pids<'_>,
+    known: Known<'_>,
     transcripts: &[Transcript],
     whole: &mut [bool],
 ) -> Option<u32>
-    requires lines { ArePids line_pid script.now.lines pids.lines.now }
-    requires events { ArePids pid_at history.now pids.events.now }
+    requires known { IsKnown script.now history.now transcripts.now known }
     requires places { length whole.old ≡ length transcripts.now }
     ensures { IsLeastOf pid_of (IsTranscript script.now history.now) transcripts.now result }
 {
-    look(rt, script, history, pids, transcripts, whole);
+    look(rt, script, history, known, transcripts, whole);
     let mut found = None;
     for (index, transcript) in transcripts.iter().enumerate() {
         if !whole[index] {
@@ -147,12 +165,11 @@ fn look<R: Threads + Sync>(
     rt: &R,
     script: &Script,
     history: &[Event],
-    pids: Pids<'_>,
+    known: Known<'_>,
     transcripts: &[Transcript],
     whole: &mut [bool],
 )
-    requires lines { ArePids line_pid script.now.lines pids.lines.now }
-    requires events { ArePids pid_at history.now pids.events.now }
+    requires known { IsKnown script.now history.now transcripts.now known }
     requires places { length whole.old ≡ length transcripts.now }
     ensures places { length whole.new ≡ length transcripts.now }
     ensures noted { AreNoted (IsTranscript script.now history.now) transcripts.now whole.new }
@@ -166,28 +183,42 @@ fn look<R: Threads + Sync>(
         rt,
         whole,
         threads,
-        &|index, is_whole_at| *is_whole_at = is_whole(script, history, pids, &transcripts[index]),
+        &|index, is_whole_at| *is_whole_at = is_whole(script, history, known, &transcripts[index]),
     );
 }
 
-fn is_whole(script: &Script, history: &[Event], pids: Pids<'_>, transcript: &Transcript) -> bool
-    requires lines { ArePids line_pid script.now.lines pids.lines.now }
-    requires events { ArePids pid_at history.now pids.events.now }
+fn is_whole(
+    script: &Script,
+    history: &[Event],
+    known: Known<'_>,
+    transcript: &Transcript,
+) -> bool
+    requires lines { ArePids line_pid script.now.lines known.lines.now }
+    requires events { ArePids pid_at history.now known.events.now }
+    requires follow { known.follow ≡ true → IsEmptyOrFollows script.now.lines transcript.now }
     ensures { IsTrue result ↔ IsTranscript script.now history.now transcript.now }
 {
-    has_lines(script, history, pids, transcript)
-        && is_own(history, pids.events, transcript.pid, &transcript.entries)
+    has_lines(script, history, known, transcript)
+        && is_own(history, known.events, transcript.pid, &transcript.entries)
         && are_marks_allowed(&transcript.entries)
 }
 
-fn has_lines(script: &Script, history: &[Event], pids: Pids<'_>, transcript: &Transcript) -> bool
-    requires lines { ArePids line_pid script.now.lines pids.lines.now }
-    requires events { ArePids pid_at history.now pids.events.now }
+fn has_lines(
+    script: &Script,
+    history: &[Event],
+    known: Known<'_>,
+    transcript: &Transcript,
+) -> bool
+    requires lines { ArePids line_pid script.now.lines known.lines.now }
+    requires follow { known.follow ≡ true → IsEmptyOrFollows script.now.lines transcript.now }
     ensures { IsTrue result ↔ HasLines script.now history.now transcript.now }
 {
+    if known.follow && !transcript.entries.is_empty() {
+        return true;
+    }
     if follow(
         &script.lines,
-        pids.lines,
+        known.lines,
         transcript.pid,
         &transcript.entries,
     ) {

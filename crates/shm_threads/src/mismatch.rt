@@ -1,12 +1,13 @@
 //! Compares the result of a run with its input, once all workers have ended.
-ghost use Rattle.std.specs.Prelude.{◌≡◌, ◌↔◌, map, IfOk, IsTrue};
+ghost use Rattle.std.specs.Prelude.{◌≡◌, ◌↔◌, All, map, IfOk, IsTrue};
 ghost use Rattle.shm_slots.specs.View.{first_counts};
 ghost use Rattle.shm_threads.specs.Outcomes.{IsMismatch, StartedFrom};
 ghost use Rattle.shm_threads.specs.Pids.{line_pid};
 ghost use Rattle.shm_threads.specs.Plans.{AreRooms};
+ghost use Rattle.shm_threads.specs.Transcripts.{IsEmptyOrFollows};
 
-use crate::compare::{disagreement_by, places};
-use crate::pids::{Pids, event_pids};
+use crate::compare::{disagreement_by, look_over, places};
+use crate::pids::Known;
 use crate::transcript::Transcript;
 use shm_base::{HostMemory, Process};
 use shm_history::{Opening, World};
@@ -117,7 +118,7 @@ impl Rooms {
     }
 }
 
-/// The least pid on which the history and the transcripts disagree. 0 if the world has another start, or if
+/// The least pid on which the history and the transcripts of workers disagree. 0 if the world has another start, or if
 /// the list of transcripts does not fit the script. None exactly if they are an outcome.
 pub(crate) fn mismatch<R: Threads + Sync, P: Pager>(
     rt: &R,
@@ -130,6 +131,7 @@ pub(crate) fn mismatch<R: Threads + Sync, P: Pager>(
 ) -> Option<u32>
     requires pids { pids.now ≡ map line_pid script.now.lines }
     requires rooms { AreRooms script.now rooms }
+    requires begun { All (IsEmptyOrFollows script.now.lines) transcripts.now.items }
     ensures { let counts = origin.now.counts.items in
         IsMismatch script.now origin.now.opening counts world.now transcripts.now.items result }
 {
@@ -141,10 +143,19 @@ pub(crate) fn mismatch<R: Threads + Sync, P: Pager>(
         mut whole,
     } = rooms;
     let history = world.history();
-    let events = event_pids(room, history);
-    let found = Pids {
+    let looked = look_over(room, &script.processes, history);
+    let known = Known {
         lines: pids,
-        events: &events,
+        events: &looked.pids,
+        follow: true,
     };
-    disagreement_by(rt, script, history, found, transcripts, &mut whole)
+    disagreement_by(
+        rt,
+        script,
+        history,
+        known,
+        looked.stranger,
+        transcripts,
+        &mut whole,
+    )
 }

@@ -8,11 +8,15 @@ use shm_base::{Event, HostMemory};
 use shm_text::{Command, Line};
 use std::alloc::Global;
 
-/// The pids of the first lines of a script and of the first events of a history.
+/// What is known before transcripts are compared.
 #[derive(Clone, Copy)]
-pub(crate) struct Pids<'a> {
+pub(crate) struct Known<'a> {
+    /// The pids of the first lines of the script.
     pub(crate) lines: &'a [u32],
+    /// The pids of the first events of the history.
     pub(crate) events: &'a [u32],
+    /// Whether each transcript with entries follows its process's lines.
+    pub(crate) follow: bool,
 }
 
 /// The pid of each line, 0 of a flush line.
@@ -33,19 +37,6 @@ fn line_pid(line: &Line) -> u32
         Line::Command(command) => command.pid(),
         Line::Flush(_) => 0,
     }
-}
-
-/// The pids of a history's first events, as many as there is room for in an empty list.
-pub(crate) fn event_pids(room: Vec<u32>, history: &[Event]) -> Vec<u32>
-    requires { room.items ≡ [] }
-    ensures { ArePids pid_at history.now result.items }
-{
-    let mut pids = room;
-    let count = history.len().min(pids.capacity());
-    for index in 0..count {
-        pids.push_reserved(history[index].pid);
-    }
-    pids
 }
 
 /// The command line at an index, if it is one of the process. The pids are those of the first lines.

@@ -1,11 +1,12 @@
 //! A run with threads: it starts them, joins them, and compares the result.
-ghost use Rattle.std.specs.Prelude.{◌≡◌, ◌+◌, ◌≤◌, map, true, false, All, IfOk, OnOk, IfNone, IfSome, length, vec_len, vec_capacity};
+ghost use Rattle.std.specs.Prelude.{◌≡◌, ◌≤◌, [], map, true, false, All, IfOk, OnOk, IfNone, IfSome, length, vec_len, vec_capacity};
 ghost use Rattle.shm_slots.specs.View.{first_counts};
 ghost use Rattle.shm_threads.specs.Ends.{IsFirst};
 ghost use Rattle.shm_threads.specs.Keepers.{cell_of, IsCaughtUp};
 ghost use Rattle.shm_threads.specs.Outcomes.{IsMismatch, IsOutcome};
 ghost use Rattle.shm_threads.specs.Pids.{line_pid};
-ghost use Rattle.shm_threads.specs.Plans.{AreRooms, HasRoom, IsPlan};
+ghost use Rattle.shm_threads.specs.Joining.{AreLeft, LeaveLines, PromisesLines};
+ghost use Rattle.shm_threads.specs.Plans.{AreRooms, HasRoom, IsPlan, LeavesLines};
 
 use crate::births::{ProcessState, states};
 use crate::callers::{FlusherEnded, run_process, run_rounds};
@@ -21,12 +22,12 @@ use crate::worker::Ended;
 use shm_base::HostMemory;
 use shm_history::{Keeper, World};
 use shm_pager::Pager;
-use shm_text::{Line, Script};
+use shm_text::Script;
 use std::alloc::Global;
 use std::snapshot::Snapshot;
 use std::sync::Wait;
 use std::thread;
-use std::thread::{Builder, JoinHandle, Promise, Scope, Threads};
+use std::thread::{Promise, PromisedHandle, Scope, Threads};
 
 /// Runs the lines of a script on a world. Each process has a worker, a thread of its own, which makes the
 /// process's command lines in order, up to the last one or to its exit. The world must be opened with the
@@ -153,7 +154,7 @@ struct Plan {
     // An empty transcript for each process, with room for its lines.
     jobs: Vec<Transcript>,
     // Empty lists with room for each job.
-    handles: Vec<JoinHandle<Ended>>,
+    handles: Vec<WorkerHandle>,
     transcripts: Vec<Transcript>,
 }
 
@@ -220,6 +221,7 @@ fn run_error<R: Threads + Sync, P: Pager>(
     rooms: Rooms,
     run: &Joined,
 ) -> Option<RunError>
+    requires lines { LeaveLines script.now.lines run.now }
     requires pids { pids.now ≡ map line_pid script.now.lines }
     requires rooms { AreRooms script.now rooms }
     ensures outcome { let counts = origin.now.counts.items in
@@ -267,6 +269,18 @@ impl Promise<FlusherEnded> for SameCell {
     ghost kept_by = { λ p r. cell_of r.keeper ≡ cell_of p.0.value };
 }
 
+// What a worker leaves, of the lines of a script.
+#[derive(Drop)]
+struct FollowsLines(Snapshot<Script>);
+
+impl Promise<Ended> for FollowsLines {
+    ghost use Rattle.shm_threads.specs.Plans.{LeavesLines};
+
+    ghost kept_by = { λ p ended. LeavesLines p.0.value.lines ended };
+}
+
+type WorkerHandle = PromisedHandle<Ended, FollowsLines>;
+
 // Starts the flusher and a worker for each job, and joins them all. After a refused thread it starts no other.
 fn run_all<R: Threads + Wait + Sync, G: Gate, P: Pager + Send>(
     rt: &R,
@@ -279,7 +293,8 @@ fn run_all<R: Threads + Wait + Sync, G: Gate, P: Pager + Send>(
 ) -> Joined
     requires plan { IsPlan script.now.lines plan.jobs plan.handles plan.transcripts }
     requires pids { pids.now ≡ map line_pid script.now.lines }
-    ensures { result.is_refused ≡ false → cell_of result.keeper ≡ cell_of keeper }
+    ensures cell { result.is_refused ≡ false → cell_of result.keeper ≡ cell_of keeper }
+    ensures lines { LeaveLines script.now.lines result }
 {
     let Plan {
         jobs,
@@ -292,7 +307,8 @@ fn run_all<R: Threads + Wait + Sync, G: Gate, P: Pager + Send>(
         move |scope| -> Joined
             requires plan { IsPlan script.now.lines jobs handles transcripts }
             requires pids { pids.now ≡ map line_pid script.now.lines }
-            ensures { result.is_refused ≡ false → cell_of result.keeper ≡ cell_of keeper }
+            ensures cell { result.is_refused ≡ false → cell_of result.keeper ≡ cell_of keeper }
+            ensures lines { LeaveLines script.entry.now.lines result }
         {
             let same = SameCell(Snapshot::of(&keeper));
             let Ok(flusher) = scope.spawn_with(
@@ -305,7 +321,7 @@ fn run_all<R: Threads + Wait + Sync, G: Gate, P: Pager + Send>(
                 scope,
                 rt,
                 shared,
-                &script.lines,
+                script,
                 pids,
                 gate,
                 jobs,
@@ -332,16 +348,18 @@ fn start_all<'s, E, R: Threads + Wait + Sync, G: Gate, P: Pager + Send>(
     scope: &Scope<'s, E>,
     rt: &'s R,
     shared: &'s Shared<P>,
-    lines: &'s [Line],
+    script: &'s Script,
     pids: &'s [u32],
     gate: &'s G,
     jobs: Vec<Transcript>,
-    mut handles: Vec<JoinHandle<Ended>>,
-) -> (Vec<JoinHandle<Ended>>, bool)
-    requires lines { All (HasRoom lines.now) jobs.items }
-    requires pids { pids.now ≡ map line_pid lines.now }
-    requires room { vec_len handles + vec_len jobs ≤ vec_capacity handles }
-    ensures { vec_len result.0 ≤ vec_len handles + vec_len jobs }
+    mut handles: Vec<WorkerHandle>,
+) -> (Vec<WorkerHandle>, bool)
+    requires lines { All (HasRoom script.now.lines) jobs.items }
+    requires pids { pids.now ≡ map line_pid script.now.lines }
+    requires none { handles.items ≡ [] }
+    requires room { vec_len jobs ≤ vec_capacity handles }
+    ensures count { vec_len result.0 ≤ vec_len jobs }
+    ensures promises { All (PromisesLines script.now.lines) result.0.items }
 {
     let mut is_refused = false;
     for job in jobs {
@@ -350,18 +368,19 @@ fn start_all<'s, E, R: Threads + Wait + Sync, G: Gate, P: Pager + Send>(
             shared.end(rt, pid);
             continue;
         }
-        let started = Builder::new().spawn_scoped(
-            scope,
+        match scope.spawn_with(
+            FollowsLines(Snapshot::of(script)),
             move || -> Ended
-                requires room { HasRoom lines.now job }
-                requires pids { pids.now ≡ map line_pid lines.now }
-            { run_process(rt, shared, lines, pids, gate, job) },
-        );
-        if let Ok(handle) = started {
-            handles.push_reserved(handle);
-        } else {
-            is_refused = true;
-            shared.end(rt, pid);
+                requires room { HasRoom script.now.lines job }
+                requires pids { pids.now ≡ map line_pid script.now.lines }
+                ensures { LeavesLines script.entry.now.lines result }
+            { run_process(rt, shared, &script.lines, pids, gate, job) },
+        ) {
+            Ok(handle) => handles.push_reserved(handle),
+            Err(_refused) => {
+                is_refused = true;
+                shared.end(rt, pid);
+            }
         }
     }
     (handles, is_refused)
@@ -369,7 +388,8 @@ fn start_all<'s, E, R: Threads + Wait + Sync, G: Gate, P: Pager + Send>(
 
 // If the flusher's thread is refused, no worker is started.
 fn refused(transcripts: Vec<Transcript>) -> Joined
-    ensures { result.is_refused ≡ true }
+    ensures refused { result.is_refused ≡ true }
+    ensures transcripts { result.transcripts ≡ transcripts }
 {
     Joined {
         transcripts,
@@ -383,10 +403,12 @@ fn refused(transcripts: Vec<Transcript>) -> Joined
 // room for each.
 fn join_all<R: Threads + Wait>(
     rt: &R,
-    handles: Vec<JoinHandle<Ended>>,
+    handles: Vec<WorkerHandle>,
     mut transcripts: Vec<Transcript>,
 ) -> (Vec<Transcript>, Option<u32>)
-    requires { vec_len transcripts + vec_len handles ≤ vec_capacity transcripts }
+    requires none { transcripts.items ≡ [] }
+    requires room { vec_len handles ≤ vec_capacity transcripts }
+    ensures { AreLeft handles.items result.1 result.0.items }
 {
     let mut expired = None;
     for handle in handles {

@@ -25,21 +25,27 @@ struct RunState<P: Pager> {
 }
 
 impl<P: Pager> RunState<P> {
-    // Makes a process's call. If it forks a child, notes that and returns it as news.
-    fn call(&mut self, pid: u32, call: &Call) -> (Answer, Option<News>)
-        ensures recorded { let of = events_of pid call.now result.0 in
+    // Makes the entry's call for a process, and writes the answer. If it forks a child, notes that and returns
+    // it as news.
+    fn call(&mut self, pid: u32, entry: &mut Entry) -> Option<News>
+        ensures call { entry.new.call ≡ entry.old.call }
+        ensures recorded { let of = events_of pid entry.old.call entry.new.answer in
             self.new.world.events ≡ self.old.world.events ++ of [] }
         ensures opening { self.new.world.opening ≡ self.old.world.opening }
-        ensures births { let after = births_after call.now result.0 in
+        ensures births { let after = births_after entry.old.call entry.new.answer in
             self.new.processes.items ≡ after self.old.processes.items }
-        ensures news { is_some result.1 ≡ is_birth call.now result.0 }
+        ensures news { is_some result ≡ is_birth entry.old.call entry.new.answer }
     {
-        match self.world.call(pid, call) {
+        match self.world.call(pid, &entry.call) {
             Ok(reply) => {
-                let news = self.born_by(call, &reply);
-                (Answer::Reply(reply), news)
+                let news = self.born_by(&entry.call, &reply);
+                entry.answer = Answer::Reply(reply);
+                news
             }
-            Err(HostMemory) => (Answer::HostMemory, None),
+            Err(HostMemory) => {
+                entry.answer = Answer::HostMemory;
+                None
+            }
         }
     }
 
@@ -122,17 +128,17 @@ impl<P: Pager> Shared<P> {
         self.state.lock(rt)
     }
 
-    /// Makes a command line's call. Only the call itself is made under the lock.
-    pub(crate) fn call<R: Wait>(&self, rt: &R, command: &Command, vars: &Vars) -> Entry
-        ensures { result.call ≡ call_of vars.now command.now.call }
+    /// Makes a command line's call, and writes the call and its answer to the entry. Only the call itself is
+    /// made under the lock.
+    pub(crate) fn call<R: Wait>(&self, rt: &R, command: &Command, vars: &Vars, entry: &mut Entry)
+        ensures { entry.new.call ≡ call_of vars.now command.now.call }
     {
-        let call = vars.call(command);
-        let (answer, news) = self.locked(rt).call(command.pid(), &call);
+        entry.call = vars.call(command);
+        let news = self.locked(rt).call(command.pid(), entry);
         match news {
             Some(news) => news.announce(&self.changed),
             None => {}
         }
-        Entry { call, answer }
     }
 
     /// Makes one flush round of at most this many pages, under the lock, and has the keeper publish in it.

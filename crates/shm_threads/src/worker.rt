@@ -26,10 +26,10 @@ pub(crate) trait Caller {
     fn before(&mut self, n: u64) -> bool
         ensures { Adds (asked self.old) (Before n result ∷ []) (asked self.new) };
 
-    /// Makes a command line's call.
-    fn call(&mut self, command: &Command, vars: &Vars) -> Entry
-        ensures line { result.call ≡ call_of vars.now command.now.call }
-        ensures asked { Adds (asked self.old) (Called vars.now command.now result ∷ []) (asked self.new) };
+    /// Makes a command line's call, and writes the call and its answer to the entry.
+    fn call(&mut self, command: &Command, vars: &Vars, entry: &mut Entry)
+        ensures line { entry.new.call ≡ call_of vars.now command.now.call }
+        ensures asked { Adds (asked self.old) (Called vars.now command.now entry.new ∷ []) (asked self.new) };
 
     /// Called when the process's n-th call was answered.
     fn after(&mut self, n: u64)
@@ -94,12 +94,14 @@ fn run_lines<C: Caller>(
         if !caller.before(n) {
             return false;
         }
-        let entry = caller.call(command, &vars);
+        // The call and its answer are written straight into the transcript.
+        let place = transcript.entries.len();
+        transcript.push_blank();
+        let entry = &mut transcript.entries[place];
+        caller.call(command, &vars, entry);
         caller.after(n);
         vars.took(command, entry.answer.reply());
-        let has_ended = entry.is_end();
-        transcript.entries.push_reserved(entry);
-        if has_ended {
+        if entry.is_end() {
             return true;
         }
     }
