@@ -1,5 +1,6 @@
 -- The output of a run.
-use Rattle.std.specs.Prelude.{◌≡◌, ℕ, List, [], ◌∷◌, ◌++◌, map, true, Some}
+use Rattle.std.specs.Prelude.{◌≡◌, ◌⊎◌, ℕ, List, [], ◌∷◌, ◌++◌, map, true, Option, Some, Result, OnOk, IfErr}
+use Rattle.std.specs.Io.KnownBytes.{Appends}
 use Rattle.shm_base.specs.declared.call.Event.{Event}
 use Rattle.shm_text.specs.Script.{ScriptView}
 use Rattle.shm_program.specs.Listing.{listing_of}
@@ -12,7 +13,9 @@ use Rattle.shm_text.specs.Variables.{call_of}
 use Rattle.shm_text.specs.declared.script.Line.{Line}
 use Rattle.shm_text.specs.declared.script.Line.TheVariants.{Command, Flush}
 use Rattle.shm_program.specs.Values.{HolderView, fresh_holder, values_of, with_answer}
-use Rattle.shm_program.specs.Runs.{IsWorldOf}
+use Rattle.shm_program.specs.Runs.{IsSilent, IsWorldOf}
+use Rattle.shm_program.specs.declared.fault.RunFault.{RunFault}
+use Rattle.shm_program.specs.declared.fault.RunFault.TheVariants.{HostMemory, WriteFailed}
 use Rattle.shm_laws.specs.Worlds.{IsWorldSound}
 use Rattle.shm_runner.specs.Flat.{flat_text}
 
@@ -36,6 +39,15 @@ Runs lines hs es later all = (start : List HolderView) (before : List Line) → 
 -- the output for a world: the event lines, the listing, and the counts
 abbrev pub world_text : WorldState → List ℕ
 world_text w = events_text 1 w.events ++ listing_of w.machine ++ usage_text (tally_of w)
+
+-- The text of a world was appended to what a writer has, or why not. Out of memory, nothing was written. Either way the world is
+-- sound, and each of its counts is a count of a pager
+pub record IsWorldWritten {P : Type 0} (failed : P → ℕ) (world : WorldState) (result : Result (Unit {0}) RunFault) (old new : Option (List ℕ)) : Type 0 where
+  pub written : OnOk result (Appends old new (world_text world))
+  pub sound : IsWorldSound world
+  pub counted : AreCountsOf failed world.memory.swap
+  pub fault : IfErr result (λ f. (f ≡ HostMemory) ⊎ (f ≡ WriteFailed))
+  pub silent : IfErr result (λ f. IsSilent f old new)
 
 -- no pager of this type ever counts a failure
 abbrev pub NeverFails : {P : Type 0} → (P → ℕ) → Type 0

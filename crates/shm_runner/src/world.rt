@@ -1,12 +1,11 @@
 //! Writes the text of a world.
-ghost use Rattle.std.specs.Prelude.{◌≡◌, ◌⊎◌, ◌+◌, ◌-◌, ◌^◌, ◌<◌, [], length, flat_map, OnOk, IfErr, IfOk, string_bytes};
+ghost use Rattle.std.specs.Prelude.{◌≡◌, ◌+◌, ◌-◌, ◌^◌, ◌<◌, [], length, flat_map, OnOk, IfOk, string_bytes};
 ghost use Rattle.std.specs.Io.KnownBytes.{Appends};
 ghost use Rattle.shm_print.specs.Text.{events_text};
 ghost use Rattle.shm_slots.specs.View.{AreCountsOf};
-ghost use Rattle.shm_program.specs.Runs.{IsSilent};
 ghost use Rattle.shm_laws.specs.Worlds.{IsWorldSound};
 ghost use Rattle.shm_runner.specs.Joined.{Completes};
-ghost use Rattle.shm_runner.specs.Output.{world_text};
+ghost use Rattle.shm_runner.specs.Output.{IsWorldWritten, world_text};
 
 use shm_base::Event;
 use shm_history::World;
@@ -63,12 +62,8 @@ pub(crate) fn write_world<W: Write, P: Pager>(
     writer: &mut W,
     world: &World<P>,
 ) -> Result<(), RunFault>
-    ensures written { OnOk result
-        (Appends (W.contents writer.old) (W.contents writer.new) (world_text world.now)) }
-    ensures sound { IsWorldSound world.now }
-    ensures counted { AreCountsOf P.failed world.now.memory.swap }
-    ensures fault { IfErr result (λ f. (f ≡ RunFault.HostMemory) ⊎ (f ≡ RunFault.WriteFailed)) }
-    ensures silent { IfErr result (λ f. IsSilent f (W.contents writer.old) (W.contents writer.new)) }
+    ensures { let old = W.contents writer.old in
+        IsWorldWritten P.failed world.now result old (W.contents writer.new) }
 {
     let text = world_text(alloc, world)?;
     write_output(writer, text.as_bytes())?;
@@ -144,12 +139,8 @@ pub(crate) fn write_shared<R: Threads + Sync, W: Write, P: Pager>(
     writer: &mut W,
     world: &World<P>,
 ) -> Result<(), RunFault>
-    ensures written { OnOk result
-        (Appends (W.contents writer.old) (W.contents writer.new) (world_text world.now)) }
-    ensures sound { IsWorldSound world.now }
-    ensures counted { AreCountsOf P.failed world.now.memory.swap }
-    ensures fault { IfErr result (λ f. (f ≡ RunFault.HostMemory) ⊎ (f ≡ RunFault.WriteFailed)) }
-    ensures silent { IfErr result (λ f. IsSilent f (W.contents writer.old) (W.contents writer.new)) }
+    ensures { let old = W.contents writer.old in
+        IsWorldWritten P.failed world.now result old (W.contents writer.new) }
 {
     if world.history().len() < FEW_EVENTS {
         return write_world(alloc, writer, world);

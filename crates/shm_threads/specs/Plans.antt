@@ -1,5 +1,5 @@
 -- The memory that a run takes before its workers start.
-use Rattle.std.specs.Prelude.{◌≡◌, ◌+◌, ◌≤◌, List, [], false, length, All, Vec, vec_len, vec_capacity}
+use Rattle.std.specs.Prelude.{◌≡◌, ◌≤◌, List, [], false, length, All, Vec, vec_len, vec_capacity}
 use Rattle.std.specs.declared.alloc.Global.{Global}
 use Rattle.shm_text.specs.declared.script.Line.{Line}
 use Rattle.shm_threads.specs.Transcripts.{commands_of, IsEmptyOrFollows}

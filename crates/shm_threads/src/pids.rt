@@ -1,5 +1,5 @@
 //! The pids of lines and of events, one after the other. A search for those of one process reads few bytes there.
-ghost use Rattle.std.specs.Prelude.{◌≡◌, ◌+◌, [], ◌∷◌, ◌<◌, IfNone, IfOk, IfSome, drop, length, map};
+ghost use Rattle.std.specs.Prelude.{◌≡◌, ◌≢◌, ◌↔◌, ◌+◌, ◌∷◌, ◌<◌, IfNone, IfOk, IfSome, IsTrue, drop, length, map, slice_index_or};
 ghost use Rattle.shm_base.specs.History.{own_part};
 ghost use Rattle.shm_threads.specs.Pids.{ArePids, line_pid};
 ghost use Rattle.shm_threads.specs.Transcripts.{commands_of, pid_at};
@@ -39,6 +39,15 @@ fn line_pid(line: &Line) -> u32
     }
 }
 
+// Whether the pid at an index is known, and not this one.
+#[inline(always)]
+fn is_of_another(pids: &[u32], pid: u32, index: usize) -> bool
+    ensures { IsTrue result
+        ↔ (index < length pids.now) × (slice_index_or pids.now index pid ≢ pid) }
+{
+    index < pids.len() && pids[index] != pid
+}
+
 /// The command line at an index, if it is one of the process. The pids are those of the first lines.
 #[inline(always)]
 pub(crate) fn own_command<'a>(
@@ -55,7 +64,7 @@ pub(crate) fn own_command<'a>(
     ensures other { let later = commands_of pid (drop (index + 1) lines.now) in
         IfNone result (commands_of pid (drop index lines.now) ≡ later) }
 {
-    if index < pids.len() && pids[index] != pid {
+    if is_of_another(pids, pid, index) {
         return None;
     }
     let Line::Command(command) = &lines[index] else {
@@ -84,7 +93,7 @@ pub(crate) fn own_event<'a>(
     ensures other { let later = own_part pid (drop (index + 1) history.now) in
         IfNone result (own_part pid (drop index history.now) ≡ later) }
 {
-    if index < pids.len() && pids[index] != pid {
+    if is_of_another(pids, pid, index) {
         return None;
     }
     let event = &history[index];

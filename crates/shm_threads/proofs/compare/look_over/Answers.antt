@@ -1,4 +1,4 @@
-use Rattle.std.proofs.Common.{◌≡◌, ◌+◌, ◌<◌, ◌++◌, ◌∙◌, ℕ, List, [], ◌∷◌, length, map, take, min, subst, sym, ap, arith, Option, Some, vec_len, vec_capacity}
+use Rattle.std.proofs.Common.{◌≡◌, ◌+◌, ◌++◌, ◌∙◌, ℕ, List, [], ◌∷◌, map, take, subst, sym, ap, arith, Option, Some, vec_len}
 use Rattle.shm_threads.specs.Transcripts.{IsAdmitted, pid_at}
 use Rattle.shm_base.specs.declared.call.Event.{Event}
 use Rattle.shm_threads.proofs.Found.{IsFoundIn, one_holds, one_fails, all_looked_at}
