@@ -187,12 +187,7 @@ fn look<R: Threads + Sync>(
     );
 }
 
-fn is_whole(
-    script: &Script,
-    history: &[Event],
-    known: Known<'_>,
-    transcript: &Transcript,
-) -> bool
+fn is_whole(script: &Script, history: &[Event], known: Known<'_>, transcript: &Transcript) -> bool
     requires lines { ArePids line_pid script.now.lines known.lines.now }
     requires events { ArePids pid_at history.now known.events.now }
     requires follow { known.follow ≡ true → IsEmptyOrFollows script.now.lines transcript.now }
@@ -203,12 +198,7 @@ fn is_whole(
         && are_marks_allowed(&transcript.entries)
 }
 
-fn has_lines(
-    script: &Script,
-    history: &[Event],
-    known: Known<'_>,
-    transcript: &Transcript,
-) -> bool
+fn has_lines(script: &Script, history: &[Event], known: Known<'_>, transcript: &Transcript) -> bool
     requires lines { ArePids line_pid script.now.lines known.lines.now }
     requires follow { known.follow ≡ true → IsEmptyOrFollows script.now.lines transcript.now }
     ensures { IsTrue result ↔ HasLines script.now history.now transcript.now }

@@ -318,14 +318,7 @@ fn run_all<R: Threads + Wait + Sync, G: Gate, P: Pager + Send>(
                 return refused(transcripts);
             };
             let (handles, is_refused) = start_all(
-                scope,
-                rt,
-                shared,
-                script,
-                pids,
-                gate,
-                jobs,
-                handles,
+                scope, rt, shared, script, pids, gate, jobs, handles,
             );
             let FlusherEnded { keeper, is_expired } = flusher.join(rt);
             let (transcripts, mut expired) = join_all(rt, handles, transcripts);

@@ -11,5 +11,5 @@ invariant-loop-handle g l =
     (goal.iterator-loop-handle g).can_next l.handle-iterator
     × (goal.iterator-loop-handle g).is_finite l.handle-iterator
     × ((lines : List Line) → All (PromisesLines lines) l.fn.handles.items
-      → All (PromisesLines lines) (into_iter_items l.handle-iterator) × (IsNone l.expired → All (IsEmptyOrFollows lines) l.transcripts.items))
+    → All (PromisesLines lines) (into_iter_items l.handle-iterator) × (IsNone l.expired → All (IsEmptyOrFollows lines) l.transcripts.items))
     × (vec_len l.transcripts + into_iter_len l.handle-iterator ≤ vec_capacity l.transcripts)
