@@ -1,9 +1,7 @@
 -- What is found under an identifier after each change.
-use Rattle.std.proofs.Common.{◌≡◌, ◌≢◌, ℕ, ◌+◌, ◌*◌, ◌/◌, ◌<◌, ◌≤◌, Bool, false, List, [], ◌∷◌, replicate, Some, None, refl, sym, arith, eq-eqb, ne_eqb}
+use Rattle.std.proofs.Common.{◌≡◌, ◌≢◌, ℕ, Bool, [], ◌∷◌, List, None, refl, arith}
 use Rattle.std.proofs.lemmas.Grind.{common_steps}
-use Rattle.std.proofs.lemmas.List.{length-replicate}
-use Rattle.shm_base.specs.declared.paging.Span.{Span}
-use Rattle.shm_fault.specs.Held.{Held, find_held, bytes_of, is_held, with_zeros, without, with_lock, FitsPage}
+use Rattle.shm_fault.specs.Held.{Held, find_held, bytes_of, without, with_lock}
 
 -- DROPPED
 
@@ -14,21 +12,6 @@ find-without_same (g ∷ gs) id = grind (arith, common_steps, (find-without_same
 pub find-without_other : (hs : List Held) (id at : ℕ) → at ≢ id → find_held (without hs id) at ≡ find_held hs at
 find-without_other [] id at ne = refl
 find-without_other (g ∷ gs) id at ne = grind (arith, common_steps, (find-without_other gs id at ne))
-
--- ADDED
-
-pub find-zeros_same : (hs : List Held) (id pages : ℕ) → is_held hs id ≡ false → find_held (with_zeros hs id pages) id ≡ Some (record { id = id; locked = false; bytes = replicate (4096 * pages) 0 })
-find-zeros_same [] id pages new = rw (eq-eqb id id refl) refl
-find-zeros_same (g ∷ gs) id pages new = grind (arith, common_steps, (find-zeros_same gs id pages))
-
-pub find-zeros_other : (hs : List Held) (id pages at : ℕ) → at ≢ id → find_held (with_zeros hs id pages) at ≡ find_held hs at
-find-zeros_other [] id pages at apart = rw (ne_eqb id at (λ is. apart (sym is))) refl
-find-zeros_other (g ∷ gs) id pages at apart = grind (arith, common_steps, (find-zeros_other gs id pages at apart))
-
--- spans of a new segment
-pub fits-zeros : (hs : List Held) (p : Span) (pages : ℕ) → is_held hs p.seg ≡ false → p.at + p.len ≤ 4096 * pages → 0 < p.len → p.at + p.len ≤ 4096 * (p.at / 4096) + 4096
-    → FitsPage (with_zeros hs p.seg pages) p
-fits-zeros hs p pages new whole some page = grind (arith, common_steps, find-zeros_same, length-replicate)
 
 -- LOCKED OR NOT
 

@@ -28,16 +28,6 @@ stands-held (h ∷ hs) (suc i) g at = grind (arith, common_steps, (stands-held h
 pub found_here : (hs : List Held) (i : ℕ) (g : Held) (id : ℕ) → i < length hs → g ≡ get_or hs i g → g.id ≡ id → find_held (drop i hs) id ≡ find_held hs id → find_held hs id ≡ slice_get hs i
 found_here hs i g id within is own rest = grind (arith, common_steps, drop_more, slice_get_read)
 
--- ADDED
-
-held-push : (hs : List Held) (g : Held) (id : ℕ) → is_held hs id ≡ false → g.id ≢ id → is_held (hs ++ g ∷ []) id ≡ false
-held-push [] g id none other = elim (eqb_tells g.id id) [ inl w ↦ absurd (other w.1) | inr w ↦ rw w.0 refl ]
-held-push (h ∷ hs) g id none other = grind (arith, common_steps, (held-push hs g id))
-
-pub apart-push : (hs : List Held) (g : Held) → is_held hs g.id ≡ false → AreHeldApart hs → AreHeldApart (hs ++ g ∷ [])
-apart-push [] g none apart = (refl, tt)
-apart-push (h ∷ hs) g none apart = grind (arith, common_steps, (apart-push hs g), eqb_tells, true_false, held-push)
-
 -- DROPPED
 
 held-without : (hs : List Held) (id at : ℕ) → is_held hs at ≡ false → is_held (without hs id) at ≡ false

@@ -4,6 +4,7 @@ pub mod Pasted
 pub mod Written
 pub mod Names
 pub mod Entries
+pub mod Ordered
 pub mod Pages
 pub mod Ties
 pub mod Slots
@@ -32,8 +33,5 @@ pub mod Forgets
 pub mod Dirtied
 pub mod Accessing
 mod Copies
-mod Order
 mod Untouched
-mod Locks
-mod Noting
 pub mod Skipped

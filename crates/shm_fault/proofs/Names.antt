@@ -8,9 +8,7 @@ pub use Rattle.std.proofs.lemmas.List.Elements.{All-head, All-push, All-tail, Al
 pub use Rattle.std.proofs.lemmas.List.Filters.{sum_by-filter_both}
 pub use Rattle.std.proofs.lemmas.List.Sums.{count_by-le-length, sum_by-append, sum_by-cons, sum_by-le-sum_by, sum_by-set, sum_by_push}
 pub use Rattle.std.specs.List.{flat_map, list_any, range_with_len}
-pub use Rattle.std.specs.Map.{lookup, lookup_key, remove_entry, values_of}
 pub use Rattle.std.specs.Prelude.{All, Contains, IsSome, MatchOption, count_by, nat_eq, option_map}
-pub use Rattle.indexmap.specs.IndexMap.{insert_entry, set_value_at}
 pub use Rattle.shm_base.specs.declared.paging.PageRef.{PageRef}
 pub use Rattle.shm_base.specs.declared.paging.Slot.{Slot}
 pub use Rattle.shm_base.specs.declared.paging.Span.{Span}
@@ -28,11 +26,10 @@ pub use mir.Val.{bool_byte}
 pub use Rattle.shm_fault.specs.Access.{Accessed, AreIn, Brings, IsUntouched, Visited}
 pub use Rattle.shm_fault.specs.Counting.{AtRest, CountsOn, hand_after, hand_for_frame, one_if, raised}
 pub use Rattle.shm_fault.specs.Dropping.{Dropped, Given, IsBlank, StayNowhere, emptied}
-pub use Rattle.shm_fault.specs.Entries.{seg_at, seg_view, segs_view}
 pub use Rattle.shm_fault.specs.Flushing.{IsFlushed, dirty_after, may_flush}
 pub use Rattle.shm_fault.specs.Goes.{Alike, Goes, KeepsLocked, MovesOn, Outline, StaysAway, Visits, frame_by, outline, outlines, referenced_at, unlocked}
 pub use Rattle.shm_fault.specs.Moving.{IsCleared, IsRelocated, SameOwned}
-pub use Rattle.shm_fault.specs.Segs.{AreApart, HasPage, NowhereFrom, NowhereUpTo, SegRec, TableView, but, count_by_id, find_seg, locked_by, locked_pages, new_seg, no_page, page_count, rec_at, rec_by, seg_with, with_rec, with_seg_lock}
+pub use Rattle.shm_fault.specs.Segs.{AreApart, HasPage, NowhereFrom, NowhereUpTo, SegRec, but, count_by_id, find_seg, locked_by, locked_pages, new_seg, no_page, page_count, rec_at, rec_by, seg_with, with_rec, with_seg, with_seg_lock}
 pub use Rattle.shm_fault.specs.Sound.{IsStoreSound, IsTied, Tied}
 pub use Rattle.shm_fault.specs.Steps.{LockedPagesStay, moved}
 pub use Rattle.shm_fault.specs.Store.{IsResident, Still, StoreView, bytes_by, dirty, dirty_in, disowned, fresh_store, has_frame, has_slot, held, held_by, is_dirty_page, is_page, is_swapped, page_bytes, page_of, pages_among, ref_of, resident, same_page, slot_bytes, swapped_among, used}

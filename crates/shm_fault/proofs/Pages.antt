@@ -45,6 +45,10 @@ found-same (g ∷ gs) (h ∷ hs) id e =
     let same : h.id ≡ g.id = ap (λ (x : Outline). x.id) o in
     grind (arith, nat_tests, common_steps, eqb, g.id, same, o, rest, found-same gs hs id rest)
 
+-- a segment that there was is found
+pub found-still : (gs hs : List SegRec) (id : ℕ) → outlines hs ≡ outlines gs → find_seg gs id ≢ None → find_seg hs id ≢ None
+found-still gs hs id e there none = there ((found-same hs gs id (sym e)).2 none)
+
 pub count-same : (gs hs : List SegRec) (id : ℕ) → outlines hs ≡ outlines gs → count_by_id hs id ≡ count_by_id gs id
 count-same gs hs id e = (found-same gs hs id e).0
 

@@ -1,8 +1,10 @@
 -- The blocks that the hand steps over, once frames, page tables or locks have changed.
-use Rattle.shm_fault.proofs.Names.{◌≡◌, ◌≢◌, ◌⊎◌, ℕ, ◌/◌, ◌<◌, Bool, true, false, not, List, [], ◌∷◌, ◌++◌, length, set, Option, Some, None, refl, sym, ap, ◌∙◌, inl, inr, arith, length-set, get_or-set_other, get_or-set_same, cases_eq, cases_lt, eq-eqb, ne_eqb, true≢false, PageRef, Frame, no_frame, frame_at, PageRec, SegRec, but, find_seg, locked_by, new_seg, count_by_id, HasPage, with_rec, StoreView, IsStoreSound, unlocked, owner_passes, emptied, set_past, get_or_past}
+use Rattle.shm_fault.proofs.Names.{◌≡◌, ◌≢◌, ◌⊎◌, ℕ, ◌/◌, ◌<◌, Bool, true, false, not, List, length, set, Option, Some, None, refl, sym, ap, ◌∙◌, inl, inr, arith, length-set, get_or-set_other, get_or-set_same, cases_eq, cases_lt, eq-eqb, ne_eqb, true≢false, PageRef, Frame, no_frame, frame_at, PageRec, SegRec, but, find_seg, locked_by, new_seg, with_seg, count_by_id, HasPage, with_rec, StoreView, IsStoreSound, unlocked, owner_passes, emptied, set_past, get_or_past}
 use Rattle.shm_frames.specs.Skips.{is_skipped}
 use Rattle.shm_clock.specs.Skips.{AreSkipped}
 use Rattle.shm_fault.proofs.Pages.{locked-same, outlines-with}
+use Rattle.shm_fault.proofs.Entries.{find-but, find-out}
+use Rattle.shm_fault.proofs.Ordered.{find-seg_same, find-seg_other}
 
 -- who may go depends on the locks alone
 passes-same : (gs hs : List SegRec) (o : Option PageRef) → ((id : ℕ) → locked_by hs id ≡ locked_by gs id) → owner_passes (unlocked hs) o ≡ owner_passes (unlocked gs) o
@@ -61,33 +63,17 @@ module _ (passes : PageRef → Bool) (frames : List Frame) (skips : List Bool) (
   skipped-emptied (Some f) = skipped-set f (record no_frame { bytes = (frame_at frames f).bytes }) (inr refl)
 
 -- a segment is added, which is not locked
-pub locked-added : (gs : List SegRec) (id pages k : ℕ) → locked_by (gs ++ new_seg id pages ∷ []) k ≡ locked_by gs k
-locked-added [] id pages k = elim (cases_eq id k) [ inl e ↦ rw (eq-eqb id k e) refl | inr ne ↦ rw (ne_eqb id k ne) refl ]
-locked-added (g ∷ gs) id pages k =
-    elim (cases_eq g.id k) [
-      | inl e ↦ rw (eq-eqb g.id k e) refl
-      | inr ne ↦ rw (ne_eqb g.id k ne) (locked-added gs id pages k)
+pub locked-added : (gs : List SegRec) (id pages k : ℕ) → find_seg gs id ≡ None → locked_by (with_seg gs id pages) k ≡ locked_by gs k
+locked-added gs id pages k new =
+    elim (cases_eq id k) [
+      | inl e ↦
+          let none : find_seg gs k ≡ None = rw e at new in
+          let here : find_seg (with_seg gs id pages) k ≡ Some (new_seg id pages) = rw (← e) (find-seg_same gs (new_seg id pages) new) in
+          rw (here, none) refl
+      | inr ne ↦ rw (find-seg_other gs (new_seg id pages) k ne) refl
     ]
 
 -- a segment is taken out
-find-but : (gs : List SegRec) (id k : ℕ) → k ≢ id → find_seg (but id gs) k ≡ find_seg gs k
-find-but [] id k other = refl
-find-but (g ∷ gs) id k other =
-    elim (cases_eq g.id id) [
-      | inl e ↦
-          let off : g.id ≢ k = λ same. other (sym same ∙ e) in
-          rw (eq-eqb g.id id e, ne_eqb g.id k off) (find-but gs id k other)
-      | inr ne ↦ rw (ne_eqb g.id id ne) (elim (cases_eq g.id k) [ inl e ↦ rw (eq-eqb g.id k e) refl | inr off ↦ rw (ne_eqb g.id k off) (find-but gs id k other) ])
-    ]
-
-find-gone : (gs : List SegRec) (id : ℕ) → find_seg (but id gs) id ≡ None
-find-gone [] id = refl
-find-gone (g ∷ gs) id =
-    elim (cases_eq g.id id) [
-      | inl e ↦ rw (eq-eqb g.id id e) (find-gone gs id)
-      | inr ne ↦ rw (ne_eqb g.id id ne, ne_eqb g.id id ne) (find-gone gs id)
-    ]
-
 pub skipped-but : (t : StoreView) (id : ℕ) (skips : List Bool) → IsStoreSound (record t { segs = but id t.segs }) → AreSkipped (unlocked t.segs) t.frames skips → AreSkipped (unlocked (but id t.segs)) t.frames skips
 skipped-but t id skips sound s = record {
   room = s.room;
@@ -102,7 +88,7 @@ skipped-but t id skips sound s = record {
         elim (cases_eq r.seg id) [
           | inl same ↦
               let has₁ : r.page < count_by_id (but id t.segs) id = rw same at has in
-              let none : r.page < 0 = rw (find-gone t.segs id) at has₁ in
+              let none : r.page < 0 = rw (find-out t.segs id) at has₁ in
               absurd (omega (arith, none))
           | inr other ↦ rw (e, find-but t.segs id r.seg other) was
         ]

@@ -1,5 +1,5 @@
 -- Page tables of which only a beginning is written.
-use Rattle.shm_fault.proofs.Names.{◌≡◌, ℕ, ◌-◌, ◌+◌, ◌<◌, ◌≤◌, ◌&&◌, Bool, true, eqb, Option, None, Some, refl, Slot, List, length, replicate, set, cond, ap, arith, ◌∙◌, count_by, get_or, get_or_past, length-set, sym, sum_by-append, PageRec, TableView, no_page, rec_at, is_swapped}
+use Rattle.shm_fault.proofs.Names.{◌≡◌, ℕ, ◌-◌, ◌+◌, ◌<◌, ◌≤◌, ◌&&◌, Bool, true, eqb, Option, None, Some, refl, Slot, List, length, replicate, set, cond, ap, arith, ◌∙◌, count_by, get_or, get_or_past, length-set, sym, sum_by-append, PageRec, SegRec, no_page, rec_at, is_swapped}
 use Rattle.std.proofs.lemmas.List.Folds.{sum_by-replicate}
 use Rattle.std.proofs.lemmas.List.{get_or_default}
 use Rattle.std.specs.Option.{option_eq}
@@ -20,13 +20,13 @@ edit-reached ps n page p within there =
     set-padded (padded ps (page + 1) no_page) n page p no_page (within-padded ps (page + 1) page no_page (omega arith))
     ∙ ap (λ qs. set qs page p) (padded-padded ps (page + 1) n no_page (omega (arith, there)) within)
 
-abbrev table_with : ℕ → Bool → List PageRec → TableView
-table_with number locked pages = record { number = number; locked = locked; pages = pages }
+abbrev table_with : ℕ → Bool → List PageRec → SegRec
+table_with id locked pages = record { id = id; locked = locked; pages = pages }
 
 -- the table in which it is noted
-pub table-reached : (number : ℕ) (locked : Bool) (ps : List PageRec) (n page : ℕ) (p : PageRec) → length ps ≤ n → page < length (padded ps n no_page)
-    → table_with number locked (padded (set (padded ps (page + 1) no_page) page p) n no_page) ≡ table_with number locked (set (padded ps n no_page) page p)
-table-reached number locked ps n page p within there = ap (table_with number locked) (edit-reached ps n page p within (rw (length-padded ps n no_page within) at there))
+pub table-reached : (id : ℕ) (locked : Bool) (ps : List PageRec) (n page : ℕ) (p : PageRec) → length ps ≤ n → page < length (padded ps n no_page)
+    → table_with id locked (padded (set (padded ps (page + 1) no_page) page p) n no_page) ≡ table_with id locked (set (padded ps n no_page) page p)
+table-reached id locked ps n page p within there = ap (table_with id locked) (edit-reached ps n page p within (rw (length-padded ps n no_page within) at there))
 
 -- what is read of a page once it has a record
 pub read-reached : (ps : List PageRec) (n page : ℕ) (x : PageRec) → x ≡ get_or (padded ps (page + 1) no_page) page x → x ≡ rec_at (padded ps n no_page) page

@@ -1,9 +1,13 @@
 -- Stores as they are made, and whole segments that are added, locked or unlocked.
-use Rattle.shm_fault.proofs.Names.{◌≡◌, ℕ, zero, suc, ◌≤◌, ◌+◌, ◌*◌, Bool, true, false, cond, eqb, List, [], ◌∷◌, ◌++◌, map, length, replicate, sum_by, Option, Some, None, is_some, refl, sym, ap, ◌∙◌, inl, inr, arith, flat_map, cases_Bool, cases_lt, length-replicate, map-append, get_or-replicate, get_or_past, replicate-append-replicate, sum_by-cons, sum_by-append, PageRef, Slot, is_held, held_pages, pages_in_store, pages_if_locked, locked_pages_in_store, with_zeros, with_lock, SwapView, IsSwap, swap_slots, owner_of, Frame, IsFrameBlank, SegRec, no_page, rec_at, find_seg, AreApart, rec_by, count_by_id, HasPage, with_seg_lock, new_seg, page_count, locked_pages, StoreView, page_bytes, held_by, fresh_store, IsStoreSound, outline, outlines, nat_tests, common_steps}
+use Rattle.shm_fault.proofs.Names.{◌≡◌, ◌≢◌, ℕ, zero, suc, ◌≤◌, ◌+◌, ◌*◌, Bool, true, false, cond, eqb, List, [], ◌∷◌, ◌++◌, map, length, replicate, sum_by, Option, Some, None, is_some, refl, sym, ap, ◌∙◌, inl, inr, arith, flat_map, cases_Bool, cases_eq, cases_lt, eq-eqb, ne_eqb, length-replicate, get_or-replicate, get_or_past, replicate-append-replicate, sum_by-cons, PageRef, Slot, is_held, held_pages, pages_in_store, pages_if_locked, locked_pages_in_store, with_zeros, with_lock, SwapView, IsSwap, swap_slots, owner_of, Frame, IsFrameBlank, SegRec, no_page, rec_at, find_seg, AreApart, rec_by, count_by_id, HasPage, with_seg_lock, new_seg, with_seg, page_count, locked_pages, StoreView, page_bytes, held_by, fresh_store, IsStoreSound, outline, outlines, nat_tests, common_steps}
 use Rattle.shm_base.specs.declared.bounds.TheConstants.{MOST_FRAMES}
 use Rattle.shm_base.specs.Page.{zero_page}
 use Rattle.shm_fault.specs.Store.{held}
-use Rattle.shm_fault.proofs.Entries.{apart-append, apart-edit}
+use Rattle.shm_fault.specs.Held.{held_id}
+use Rattle.shm_fault.specs.Segs.{seg_id}
+use Rattle.shm_fault.specs.Ordered.{inserted}
+use Rattle.shm_fault.proofs.Entries.{apart-edit}
+use Rattle.shm_fault.proofs.Ordered.{apart-seg, find-seg_same, find-seg_other, map-inserted, sum-inserted}
 use Rattle.shm_fault.proofs.Pages.{rec-past, has-head, has-tail, find-map}
 use Rattle.shm_fault.proofs.Ties.{tied-segs}
 use Rattle.shm_fault.proofs.Bytes.{held_one, held_of, bytes_at, held-is, length-joined}
@@ -50,24 +54,26 @@ module _ (s : StoreView) (sound : IsStoreSound s) where
   -- a segment of zeros is added
   module _ (id n : ℕ) (new : find_seg s.segs id ≡ None) where
     abbrev added : List SegRec
-    added = s.segs ++ new_seg id n ∷ []
+    added = with_seg s.segs id n
 
     abbrev find-or : Option SegRec → ℕ → Option SegRec
     find-or None k = cond (eqb id k) (Some (new_seg id n)) None
     find-or (Some g) k = Some g
 
-    find-added : (gs : List SegRec) (k : ℕ) → find_seg (gs ++ new_seg id n ∷ []) k ≡ find-or (find_seg gs k) k
-    find-added [] k = refl
-    find-added (g ∷ gs) k = grind (arith, nat_tests, find-added gs k)
+    find-added : (k : ℕ) → find_seg added k ≡ find-or (find_seg s.segs k) k
+    find-added k = elim (cases_eq id k) [
+      | inl e ↦ let none : find_seg s.segs k ≡ None = rw e at new in rw (none, ← e, eq-eqb id id refl) (find-seg_same s.segs (new_seg id n) new)
+      | inr ne ↦ find-seg_other s.segs (new_seg id n) k ne ∙ grind (arith, ne_eqb id k ne)
+    ]
 
     blank-at : (k : ℕ) → rec_at (replicate n no_page) k ≡ no_page
     blank-at k = grind (arith, get_or-replicate n k no_page no_page, get_or_past (replicate n no_page) k no_page, length-replicate n no_page)
 
     pub rec-added : (r : PageRef) → rec_by added r ≡ rec_by s.segs r
-    rec-added r = grind (arith, nat_tests, find-added s.segs r.seg, blank-at r.page)
+    rec-added r = grind (arith, nat_tests, find-added r.seg, blank-at r.page)
 
     has-added : (r : PageRef) → HasPage s.segs r → HasPage added r
-    has-added r has = grind (arith, nat_tests, find-added s.segs r.seg, has)
+    has-added r has = grind (arith, nat_tests, find-added r.seg, has)
 
     pub sound-added : sum_by page_count s.segs + n ≤ swap_slots s.swap → IsStoreSound (record s { segs = added })
     unfolding zero_page
@@ -93,13 +99,15 @@ module _ (s : StoreView) (sound : IsStoreSound s) where
           slot_owners = λ k r e. has-added r (sound.tied.slot_owners k r e);
           free = sound.tied.free;
         })
-        (apart-append s.segs (new_seg id n) sound.apart new) sound.frames sound.swap sound.hand
-        (let sum = sum_by-append page_count s.segs (new_seg id n ∷ []) in let one = sum_by-cons page_count (new_seg id n) [] in omega (arith, sum, one, room, length-replicate n no_page))
-        (let sum = sum_by-append locked_pages s.segs (new_seg id n ∷ []) in let one = sum_by-cons locked_pages (new_seg id n) [] in omega (arith, sum, one, sound.locked))
+        (apart-seg s.segs (new_seg id n) sound.apart new) sound.frames sound.swap sound.hand
+        (let sum = sum-inserted page_count seg_id (new_seg id n) s.segs in omega (arith, sum, room, length-replicate n no_page))
+        (let sum = sum-inserted locked_pages seg_id (new_seg id n) s.segs in omega (arith, sum, sound.locked))
 
     pub held-added : held (record s { segs = added }) ≡ with_zeros (held s) id n
     unfolding held
-    held-added = map-append (held_by s.frames s.swap) s.segs (new_seg id n ∷ []) ∙ ap (λ bs. map (held_by s.frames s.swap) s.segs ++ record { id = id; locked = false; bytes = bs } ∷ []) (zeros-joined s.frames s.swap n)
+    held-added =
+        map-inserted (held_by s.frames s.swap) seg_id held_id (λ g. refl) (new_seg id n) s.segs
+        ∙ ap (λ bs. inserted held_id (record { id = id; locked = false; bytes = bs }) (map (held_by s.frames s.swap) s.segs)) (zeros-joined s.frames s.swap n)
 
   -- a segment is locked or unlocked
   module _ (id : ℕ) (locked : Bool) where
@@ -154,6 +162,10 @@ few-locked s sound id true few =
 
 none-from : (o : Option SegRec) → is_some o ≡ false → o ≡ None
 none-from o e = grind arith
+
+-- a segment that is held
+pub held-there : (s : StoreView) → IsStoreSound s → (id : ℕ) → is_held (held s) id ≡ true → find_seg s.segs id ≢ None
+held-there s sound id e none = let no : is_some (find_seg s.segs id) ≡ true = sym (held-in s sound id) ∙ e in let false_is : false ≡ true = rw none at no in cc
 
 -- a segment that is not held
 pub not-held : (s : StoreView) → IsStoreSound s → (id : ℕ) → is_held (held s) id ≡ false → find_seg s.segs id ≡ None

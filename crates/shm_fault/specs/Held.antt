@@ -1,9 +1,11 @@
 -- Segments as lists of bytes, and the effects of loads and stores on them.
-use Rattle.std.specs.Prelude.{ℕ, ◌≡◌, ◌≤◌, ◌+◌, ◌*◌, ◌/◌, Bool, true, false, ◌==◌, not, if◌then◌else◌, List, [], ◌∷◌, ◌++◌, Option, Some, None, length, map, filter, take, drop, replicate, is_some, sum_by}
+use Rattle.std.specs.Prelude.{ℕ, ◌≡◌, ◌≤◌, ◌+◌, ◌*◌, ◌/◌, ◌%◌, Bool, true, false, ◌==◌, not, if◌then◌else◌, List, [], ◌∷◌, ◌++◌, Option, Some, None, length, map, filter, take, drop, replicate, is_some, sum_by}
 use Rattle.std.specs.List.{flat_map}
 use Rattle.shm_base.specs.declared.paging.Span.{Span}
 use Rattle.shm_base.specs.Spans.{InPage}
 use Rattle.shm_base.specs.declared.paging.TheConstants.{PAGE_SIZE}
+use Rattle.shm_base.specs.declared.bounds.TheConstants.{INDEXES}
+use Rattle.shm_fault.specs.Ordered.{inserted}
 
 -- a segment that the store holds
 pub record Held : Type 0 where
@@ -48,9 +50,17 @@ pages_if_locked g = if g.locked then held_pages g else 0
 abbrev pub locked_pages_in_store : List Held → ℕ
 locked_pages_in_store hs = sum_by pages_if_locked hs
 
+abbrev pub held_id : Held → ℕ
+held_id g = g.id
+
 -- the segments, with a new one of zeros
 abbrev pub with_zeros : List Held → ℕ → ℕ → List Held
-with_zeros hs id pages = hs ++ record { id = id; locked = false; bytes = replicate (PAGE_SIZE * pages) 0 } ∷ []
+with_zeros hs id pages =
+    inserted held_id (record { id = id; locked = false; bytes = replicate (PAGE_SIZE * pages) 0 }) hs
+
+-- no segment that is held has this segment's index
+abbrev pub IsIndexFree : List Held → ℕ → Type 0
+IsIndexFree hs id = (other : ℕ) → other % INDEXES ≡ id % INDEXES → is_held hs other ≡ false
 
 -- all segments except one
 abbrev pub without : List Held → ℕ → List Held

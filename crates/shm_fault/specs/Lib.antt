@@ -1,6 +1,7 @@
 pub mod Held
 pub mod Apart
 pub mod Allowed
+pub mod Ordered
 pub mod Segs
 pub mod Entries
 pub mod Store

@@ -1,17 +1,13 @@
 -- Segments by identifier, and where each of their pages is.
-use Rattle.std.specs.Prelude.{ℕ, ◌≡◌, ◌==◌, ◌<◌, ◌≤◌, Bool, false, if◌then◌else◌, List, [], ◌∷◌, Option, Some, None, map, length, get_or, set, replicate, filter, not, is_some, ◌||◌}
+use Rattle.std.specs.Prelude.{ℕ, ◌≡◌, ◌==◌, ◌<◌, ◌≤◌, ◌%◌, Bool, false, if◌then◌else◌, List, [], ◌∷◌, Option, Some, None, map, length, get_or, set, replicate, filter, not, is_some, ◌||◌}
 use Rattle.shm_base.specs.declared.paging.PageRef.{PageRef}
+use Rattle.shm_base.specs.declared.bounds.TheConstants.{INDEXES}
 use Rattle.shm_fault.specs.declared.page_tables.PageRec.{PageRec}
+use Rattle.shm_fault.specs.Ordered.{inserted}
 
 -- a segment: its identifier, whether it is locked, and where its pages are
 pub record SegRec : Type 0 where
   pub id : ℕ
-  pub locked : Bool
-  pub pages : List PageRec
-
--- a page table: how many were made before it, whether its segment is locked, and where the pages are
-pub record TableView : Type 0 where
-  pub number : ℕ
   pub locked : Bool
   pub pages : List PageRec
 
@@ -88,6 +84,17 @@ with_seg_lock id locked g = if g.id == id then record g { locked = locked } else
 -- a segment whose pages have neither frame nor slot
 abbrev pub new_seg : ℕ → ℕ → SegRec
 new_seg id pages = record { id = id; locked = false; pages = replicate pages no_page }
+
+abbrev pub seg_id : SegRec → ℕ
+seg_id g = g.id
+
+-- the segments, with a new one
+abbrev pub with_seg : List SegRec → ℕ → ℕ → List SegRec
+with_seg gs id pages = inserted seg_id (new_seg id pages) gs
+
+-- no segment has this segment's index
+abbrev pub IsIndexFree : List SegRec → ℕ → Type 0
+IsIndexFree gs id = (other : ℕ) → other % INDEXES ≡ id % INDEXES → find_seg gs other ≡ None
 
 abbrev pub page_count : SegRec → ℕ
 page_count g = length g.pages

@@ -121,23 +121,8 @@ impl<P: Pager> PageStore<P> {
         }
     }
 
-    // The place of a page's table. While nothing moved nobody uses it, and 0 will do.
-    fn table_now(&self, page: PageRef, touched: &Touched) -> usize {
-        if !touched.moved.is_empty() {
-            return self.segs.find(page.seg);
-        }
-        0
-    }
-
     // The frame that the page of a span is in. It is the one that the span names, as long as nothing moved.
-    // The page's table may be at `near`.
-    fn frame_now(
-        &self,
-        span: &Span,
-        page: PageRef,
-        near: usize,
-        touched: &Touched,
-    ) -> Option<FrameNo>
+    fn frame_now(&self, span: &Span, page: PageRef, touched: &Touched) -> Option<FrameNo>
         requires page { page ≡ ref_of span.now }
         requires still { touched.now.moved.items ≡ [] → NamesFrame self.now span.now }
         ensures { result ≡ frame_by self.now page }
@@ -145,7 +130,7 @@ impl<P: Pager> PageStore<P> {
         if touched.moved.is_empty() {
             return span.frame;
         }
-        self.segs.page_in(near, page).frame
+        self.segs.page(page).frame
     }
 
     // Brings in the page of a span.
@@ -160,7 +145,7 @@ impl<P: Pager> PageStore<P> {
         ensures stopped { OnErr result (Stops (first.now ∷ []) (places self.old) (places self.new)) }
     {
         let page = self.page_at(first);
-        let frame = self.visit(page, first.frame, 0, None, touched)?;
+        let frame = self.visit(page, first.frame, None, touched)?;
         Ok(InFrames {
             first: frame,
             second: frame,
@@ -188,11 +173,10 @@ impl<P: Pager> PageStore<P> {
             OnErr result (Stops spans (places self.old) (places self.new)) }
     {
         let page = self.page_at(&first);
-        let near = self.visit(page, first.frame, 0, None, touched)?;
+        let near = self.visit(page, first.frame, None, touched)?;
         let page = self.page_at(&second);
-        let table = self.table_now(page, touched);
-        let known = self.frame_now(&second, page, table, touched);
-        let far = self.visit(page, known, table, Some(near), touched)?;
+        let known = self.frame_now(&second, page, touched);
+        let far = self.visit(page, known, Some(near), touched)?;
         Ok(InFrames {
             first: near,
             second: far,

@@ -38,41 +38,37 @@ fn free_slot<P: Pager>(swap: &mut Swap<P>, slot: Option<Slot>)
 }
 
 impl<P: Pager> PageStore<P> {
-    // Takes a page, whose table was found at `near`, out of its frame and its slot. Its bytes are zeros then.
-    fn forget(&mut self, near: usize, page: PageRef)
+    // Takes a page out of its frame and its slot. Its bytes are zeros then.
+    fn forget(&mut self, page: PageRef)
         requires { HasPage self.old.segs page }
         ensures { Forgets page self.old self.new }
     {
-        let place = self.segs.page_in(near, page);
+        let place = self.segs.page(page);
         if place == PageRec::NOWHERE {
             return;
         }
         empty_frame(&mut self.frames, place.frame);
         free_slot(&mut self.swap, place.slot);
-        self.segs.set_page(near, page, PageRec::NOWHERE);
+        self.segs.set_page(page, PageRec::NOWHERE);
     }
 
     // Takes the first page of a segment, from `first` up to `last`, that is somewhere out of its frame and its
-    // slot. Returns the number of the page after it; `last` if no page is anywhere. The segment's table was
-    // found at `near`.
-    fn forget_next(&mut self, near: usize, first: PageRef, last: u32) -> u32
+    // slot. Returns the number of the page after it; `last` if no page is anywhere.
+    fn forget_next(&mut self, first: PageRef, last: u32) -> u32
         requires more { first.page < last }
         requires there { last ≤ count_by_id self.old.segs first.seg }
         ensures on { first.page < result }
         ensures within { result ≤ last }
         ensures drops { DropsOn first.seg first.page result self.old self.new }
     {
-        let page = self.segs.next_placed(near, first, last);
+        let page = self.segs.next_placed(first, last);
         if page == last {
             return last;
         }
-        self.forget(
-            near,
-            PageRef {
-                seg: first.seg,
-                page,
-            },
-        );
+        self.forget(PageRef {
+            seg: first.seg,
+            page,
+        });
         page + 1
     }
 
@@ -83,11 +79,10 @@ impl<P: Pager> PageStore<P> {
         requires there { is_held (held self.old) seg ≡ true }
         ensures { Drops seg self.old self.new }
     {
-        let near = self.segs.find(seg);
-        let touched = self.segs.touched_in(near, seg);
+        let touched = self.segs.touched(seg);
         let mut page = 0;
         while page < touched {
-            page = self.forget_next(near, PageRef { seg, page }, touched);
+            page = self.forget_next(PageRef { seg, page }, touched);
         }
         self.segs.remove(seg);
     }

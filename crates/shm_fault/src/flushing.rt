@@ -20,7 +20,7 @@ impl<P: Pager> PageStore<P> {
         ensures { result ≡ may_flush self.now frame }
     {
         match self.frames.owner(frame) {
-            Some(page) => !self.segs.is_locked(0, page.seg),
+            Some(page) => !self.segs.is_locked(page.seg),
             None => false,
         }
     }
@@ -33,8 +33,7 @@ impl<P: Pager> PageStore<P> {
         requires small { report.old.written + report.old.failed < 2 ^ 64 - 1 }
         ensures { WritesOne frame self.old self.new report.old report.new }
     {
-        let table = self.table_of(frame, 0);
-        match self.page_out(frame, table) {
+        match self.page_out(frame) {
             Ok(()) => report.written += 1,
             Err(_) => report.failed += 1,
         }

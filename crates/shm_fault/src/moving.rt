@@ -61,7 +61,7 @@ fn relocate<P: Pager>(swap: &mut Swap<P>, page: PageRef, from: Slot) -> Result<S
 
 impl<P: Pager> PageStore<P> {
     // A resident page gives its slot back, and is dirty.
-    fn give_back(&mut self, page: PageRef, table: usize, frame: FrameNo, slot: Slot)
+    fn give_back(&mut self, page: PageRef, frame: FrameNo, slot: Slot)
         requires place { rec_by self.old.segs page ≡ record { frame = Some frame; slot = Some slot } }
         ensures goes { Goes self.old self.new }
         ensures still { Still self.old self.new }
@@ -73,7 +73,6 @@ impl<P: Pager> PageStore<P> {
         self.swap.give_slot(slot);
         self.frames.set_dirty(frame, true);
         self.segs.set_page(
-            table,
             page,
             PageRec {
                 frame: Some(frame),
@@ -83,7 +82,7 @@ impl<P: Pager> PageStore<P> {
     }
 
     // A page that is not resident moves to another area.
-    fn carry(&mut self, page: PageRef, table: usize, slot: Slot) -> Result<(), PagerFault>
+    fn carry(&mut self, page: PageRef, slot: Slot) -> Result<(), PagerFault>
         requires place { rec_by self.old.segs page ≡ record { frame = None; slot = Some slot } }
         requires room { FitOutside self.old slot.area }
         ensures goes { Goes self.old self.new }
@@ -98,7 +97,6 @@ impl<P: Pager> PageStore<P> {
     {
         let to = relocate(&mut self.swap, page, slot)?;
         self.segs.set_page(
-            table,
             page,
             PageRec {
                 frame: None,
@@ -124,13 +122,12 @@ impl<P: Pager> PageStore<P> {
         let Some(page) = self.swap.owner(slot) else {
             return Ok(());
         };
-        let table = self.segs.find(page.seg);
-        match self.segs.page_in(table, page).frame {
+        match self.segs.page(page).frame {
             Some(frame) => {
-                self.give_back(page, table, frame, slot);
+                self.give_back(page, frame, slot);
                 Ok(())
             }
-            None => self.carry(page, table, slot),
+            None => self.carry(page, slot),
         }
     }
 

@@ -1,12 +1,11 @@
-//! The page table of one segment: whether it is locked, and where its pages are. Its number says how many tables
-//! were made before it.
+//! The page table of one segment: whether it is locked, and where its pages are.
 //!
 //! Room for the records of all its pages is reserved when the table is made. A record is written once its page is
 //! somewhere, together with those of the pages before it. So pages that nobody touches cost nothing, neither when the
 //! table is made nor when it goes.
 ghost use Rattle.std.specs.Prelude.{◌≡◌, ℕ, ◌+◌, ◌<◌, ◌≤◌, ◌^◌, length, count_by, set, replicate, vec_capacity, false, true, IfOk};
 ghost use Rattle.shm_base.specs.Stored.{padded};
-ghost use Rattle.shm_fault.specs.Segs.{rec_at, no_page, is_placed};
+ghost use Rattle.shm_fault.specs.Segs.{rec_at, no_page, new_seg, is_placed};
 ghost use Rattle.shm_fault.specs.Store.{is_swapped};
 
 use crate::page_tables::PageRec;
@@ -16,7 +15,7 @@ use std::marker::Model;
 
 /// Whether a segment is locked, and where its pages are.
 pub(crate) struct PageTable {
-    number: u64,
+    id: u32,
     locked: bool,
     // How many pages the segment has, and the records of the first of them. The other pages are nowhere.
     count: u32,
@@ -26,7 +25,7 @@ pub(crate) struct PageTable {
 impl Drop for PageTable {
     fn drop(self) {
         let PageTable {
-            number: _,
+            id: _,
             locked: _,
             count: _,
             pages: _,
@@ -37,12 +36,12 @@ impl Drop for PageTable {
 impl Model for PageTable {
     ghost use Rattle.std.specs.Prelude.{◌<◌, ◌≤◌, ◌^◌, length, vec_capacity};
     ghost use Rattle.shm_base.specs.Stored.{padded};
-    ghost use Rattle.shm_fault.specs.Segs.{TableView, no_page};
+    ghost use Rattle.shm_fault.specs.Segs.{SegRec, no_page};
 
-    ghost Value = { TableView };
+    ghost Value = { SegRec };
 
     ghost view = { λ t. record {
-      number = t.number;
+      id = t.id;
       locked = t.locked;
       pages = padded t.pages.items t.count no_page;
     } };
@@ -58,7 +57,7 @@ impl Clone for PageTable {
         let mut pages = Vec::with_capacity(*self.pages.allocator(), self.count as usize)?;
         pages.extend_from_slice(&self.pages)?;
         Ok(PageTable {
-            number: self.number,
+            id: self.id,
             locked: self.locked,
             count: self.count,
             pages,
@@ -142,17 +141,23 @@ fn swapped_in(pages: &Vec<PageRec>) -> u32
 }
 
 impl PageTable {
-    /// A table of this many pages, all nowhere, which is not locked.
-    pub(crate) fn new(alloc: Global, number: u64, count: u32) -> Result<PageTable, AllocError>
-        ensures { let pages = replicate count no_page in
-            IfOk result (λ table. table ≡ record { number = number; locked = false; pages = pages }) }
+    /// The table of a segment of this many pages, all nowhere, which is not locked.
+    pub(crate) fn new(alloc: Global, id: u32, count: u32) -> Result<PageTable, AllocError>
+        ensures { IfOk result (λ table. table ≡ new_seg id count) }
     {
         Ok(PageTable {
-            number,
+            id,
             locked: false,
             count,
             pages: Vec::with_capacity(alloc, count as usize)?,
         })
+    }
+
+    /// The segment's identifier.
+    pub(crate) fn id(&self) -> u32
+        ensures { result ≡ self.now.id }
+    {
+        self.id
     }
 
     /// Whether the segment is locked.

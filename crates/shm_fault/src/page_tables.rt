@@ -1,15 +1,16 @@
 //! The page tables of the segments that the store holds: where each of their pages is.
 //!
-//! They are seen in the order in which they were added, which the number of each table says. They are stored in
-//! another order: where one is taken out, the last takes its place, and no other table is looked at.
-ghost use Rattle.std.specs.Prelude.{◌≡◌, ◌≢◌, ◌<◌, ◌≤◌, ◌^◌, [], ◌∷◌, ◌++◌, sum_by, map, filter, true, not, ◌==◌, None, Some, IfSome, IfNone, IfOk, OnOk, OnErr};
-ghost use Rattle.shm_fault.specs.Segs.{SegRec, find_seg, rec_by, count_by_id, locked_by, page_count, HasPage, is_placed, NowhereFrom, NowhereUpTo, with_rec, with_seg_lock, new_seg};
-ghost use Rattle.shm_fault.specs.Entries.{segs_view, seg_at};
+//! A segment is its index: an identifier is index + 32768 * sequence, and the table of a segment is at its index.
+//! The tables grow by appending. They are seen as the list of the segments in order of their indexes.
+ghost use Rattle.std.specs.Prelude.{◌≡◌, ◌≢◌, ◌+◌, ◌<◌, ◌≤◌, ◌%◌, ◌^◌, [], length, sum_by, map, true, None, Some, IfSome, IfNone, IfOk, OnOk, OnErr};
+ghost use Rattle.shm_base.specs.Stored.{padded};
+ghost use Rattle.shm_base.specs.declared.bounds.TheConstants.{INDEXES};
+ghost use Rattle.shm_fault.specs.Segs.{find_seg, rec_by, count_by_id, locked_by, page_count, HasPage, is_placed, NowhereFrom, NowhereUpTo, with_rec, with_seg_lock, with_seg, but, IsIndexFree};
+ghost use Rattle.shm_fault.specs.Entries.{present, AreIndexed};
 ghost use Rattle.shm_fault.specs.Store.{swapped_pages};
 
 use crate::page_table::PageTable;
-use indexmap::IndexMap;
-use shm_base::{FrameNo, HostMemory, PageRef, Slot};
+use shm_base::{FrameNo, HostMemory, INDEXES, PageRef, Slot};
 use std::alloc::{AllocError, Global};
 use std::marker::Model;
 
@@ -21,25 +22,14 @@ pub struct PageRec {
     pub slot: Option<Slot>,
 }
 
-/// The page tables of segments, in the order in which they were added. Finding one by its segment takes no
-/// longer where there are more of them, nor does taking one out.
+/// The page tables of segments, by index.
 pub(crate) struct PageTables {
-    alloc: Global,
-    by_id: IndexMap<u32, PageTable>,
-    // How many tables were ever made.
-    made: u64,
-    // How many segments are locked. Where none is, no table is looked for to know it.
-    locked: usize,
+    tables: Vec<Option<PageTable>>,
 }
 
 impl Drop for PageTables {
     fn drop(self) {
-        let PageTables {
-            alloc: _,
-            by_id: _,
-            made: _,
-            locked: _,
-        } = self;
+        let PageTables { tables: _ } = self;
     }
 }
 
@@ -49,11 +39,11 @@ impl Model for PageTables {
 
     ghost Value = { List SegRec };
 
-    ghost use Rattle.shm_fault.specs.Entries.{segs_in_order, AreTables};
+    ghost use Rattle.shm_fault.specs.Entries.{present, AreIndexed};
 
-    ghost view = { λ s. segs_in_order s.by_id.entries };
+    ghost view = { λ s. present s.tables.items };
 
-    ghost invariant = { λ s. AreTables s.by_id.entries s.made s.locked };
+    ghost invariant = { λ s. AreIndexed 0 s.tables.items };
 }
 
 impl PageRec {
@@ -64,50 +54,34 @@ impl PageRec {
     };
 }
 
-// The place of a segment. Kept out of line, so that a table that is still where it was costs one comparison.
-#[inline(never)]
-fn index_of(by_id: &IndexMap<u32, PageTable>, id: u32) -> Option<usize>
-    ensures some { IfSome result (λ i. seg_at by_id.now.entries i ≡ Some id) }
-    ensures none { IfNone result (find_seg (segs_view by_id.now.entries) id ≡ None) }
+// The index of a segment.
+fn place_of(id: u32) -> usize
+    ensures { result ≡ id % INDEXES }
 {
-    let (index, _, _) = by_id.get_full(&id)?;
-    Some(index)
+    (id % INDEXES) as usize
 }
 
-// The same, where it was found at `near` before: mostly it is still there.
-#[inline(always)]
-fn index_near(by_id: &IndexMap<u32, PageTable>, near: usize, id: u32) -> Option<usize>
-    ensures some { IfSome result (λ i. seg_at by_id.now.entries i ≡ Some id) }
-    ensures none { IfNone result (find_seg (segs_view by_id.now.entries) id ≡ None) }
+// The table of a segment.
+fn found(tables: &Vec<Option<PageTable>>, id: u32) -> Option<&PageTable>
+    requires { AreIndexed 0 tables.now.items }
+    ensures some { IfSome result (λ table. find_seg (present tables.now.items) id ≡ Some table.now) }
+    ensures none { IfNone result (find_seg (present tables.now.items) id ≡ None) }
 {
-    match by_id.get_index(near) {
-        Some((other, _)) if *other == id => Some(near),
-        _ => index_of(by_id, id),
+    match tables.get(place_of(id)) {
+        Some(Some(table)) if table.id() == id => Some(table),
+        _ => None,
     }
 }
 
-// The place of a segment that there is.
-#[inline(never)]
-fn index_held(by_id: &IndexMap<u32, PageTable>, id: u32) -> usize
-    requires { find_seg (segs_view by_id.now.entries) id ≢ None }
-    ensures { seg_at by_id.now.entries result ≡ Some id }
+// Appends indexes without a segment, up to this one.
+fn reach(tables: &mut Vec<Option<PageTable>>, place: usize) -> Result<(), AllocError>
+    ensures items { tables.new.items ≡ padded tables.old.items (length tables.new.items) None }
+    ensures ok { OnOk result (place < length tables.new.items) }
 {
-    let Some(index) = index_of(by_id, id) else {
-        unreachable!();
-    };
-    index
-}
-
-// The same, where it was found at `near` before.
-#[inline(always)]
-fn index_kept(by_id: &IndexMap<u32, PageTable>, near: usize, id: u32) -> usize
-    requires { find_seg (segs_view by_id.now.entries) id ≢ None }
-    ensures { seg_at by_id.now.entries result ≡ Some id }
-{
-    match by_id.get_index(near) {
-        Some((other, _)) if *other == id => near,
-        _ => index_held(by_id, id),
+    while tables.len() <= place {
+        tables.push(None)?;
     }
+    Ok(())
 }
 
 impl PageTables {
@@ -116,10 +90,7 @@ impl PageTables {
         ensures { result ≡ [] }
     {
         PageTables {
-            alloc,
-            by_id: IndexMap::new(alloc),
-            made: 0,
-            locked: 0,
+            tables: Vec::new(alloc),
         }
     }
 
@@ -128,10 +99,7 @@ impl PageTables {
         ensures { IfOk result (λ copy. copy ≡ self.now) }
     {
         Ok(PageTables {
-            alloc: self.alloc,
-            by_id: self.by_id.clone()?,
-            made: self.made,
-            locked: self.locked,
+            tables: self.tables.clone()?,
         })
     }
 
@@ -141,41 +109,40 @@ impl PageTables {
         ensures { result ≡ sum_by swapped_pages self.now }
     {
         let mut count = 0;
-        for table in self.by_id.values().as_slice() {
-            count += table.swapped();
+        for table in &self.tables {
+            if let Some(table) = table {
+                count += table.swapped();
+            }
         }
         count
     }
 
-    /// One more segment, not locked, whose pages are nowhere. The last number counts as lack of memory.
+    /// One more segment, not locked, whose pages are nowhere. No segment has its index.
     pub(crate) fn add(&mut self, id: u32, pages: u32) -> Result<(), HostMemory>
-        requires new { find_seg self.old id ≡ None }
-        ensures ok { OnOk result (self.new ≡ self.old ++ new_seg id pages ∷ []) }
+        requires new { IsIndexFree self.old id }
+        ensures ok { OnOk result (self.new ≡ with_seg self.old id pages) }
         ensures err { OnErr result (self.new ≡ self.old) }
     {
-        let Some(made) = self.made.checked_add(1) else {
-            return Err(HostMemory);
-        };
-        let table = PageTable::new(self.alloc, self.made, pages)?;
-        self.by_id.insert(id, table)?;
-        self.made = made;
+        let table = PageTable::new(*self.tables.allocator(), id, pages)?;
+        let place = place_of(id);
+        reach(&mut self.tables, place)?;
+        self.tables[place] = Some(table);
         Ok(())
     }
 
-    /// Takes a segment out. The last table takes the place of its own.
+    /// Takes a segment out.
     pub(crate) fn remove(&mut self, id: u32)
-        ensures { self.new ≡ filter (λ (g : SegRec). not (g.id == id)) self.old }
+        requires { find_seg self.old id ≢ None }
+        ensures { self.new ≡ but id self.old }
     {
-        if let Some(table) = self.by_id.swap_remove(&id) {
-            self.locked -= usize::from(table.is_locked());
-        }
+        self.tables[place_of(id)] = None;
     }
 
     /// Where a page is.
     pub(crate) fn page(&self, page: PageRef) -> PageRec
         ensures { result ≡ rec_by self.now page }
     {
-        match self.by_id.get(&page.seg) {
+        match found(&self.tables, page.seg) {
             Some(table) => table.page(page.page),
             None => PageRec::NOWHERE,
         }
@@ -186,72 +153,24 @@ impl PageTables {
         ensures few { result ≤ count_by_id self.now id }
         ensures rest { NowhereFrom result id self.now }
     {
-        match self.by_id.get(&id) {
+        match found(&self.tables, id) {
             Some(table) => table.touched(),
             None => 0,
         }
     }
 
-    /// The same, where the segment's table was found at `near`.
-    pub(crate) fn touched_in(&self, near: usize, id: u32) -> u32
-        ensures few { result ≤ count_by_id self.now id }
-        ensures rest { NowhereFrom result id self.now }
-    {
-        match self.by_id.get_index(near) {
-            Some((other, table)) if *other == id => table.touched(),
-            _ => self.touched(id),
-        }
-    }
-
-    /// Whether a segment is locked, whose table may be at `near`.
-    pub(crate) fn is_locked(&self, near: usize, id: u32) -> bool
+    /// Whether a segment is locked.
+    pub(crate) fn is_locked(&self, id: u32) -> bool
         ensures { result ≡ locked_by self.now id }
     {
-        if self.locked == 0 {
-            return false;
-        }
-        match index_near(&self.by_id, near, id) {
-            Some(index) => self.by_id[index].is_locked(),
+        match found(&self.tables, id) {
+            Some(table) => table.is_locked(),
             None => false,
         }
     }
 
-    /// At which place the table of a segment is. A caller that keeps it need not look for the segment again, as
-    /// long as the table stays there.
-    pub(crate) fn find(&self, id: u32) -> usize {
-        index_of(&self.by_id, id).unwrap_or(0)
-    }
-
-    /// The same, where it may be at `near`: if it is, the segment is not looked for.
-    pub(crate) fn find_near(&self, near: usize, id: u32) -> usize {
-        match self.by_id.get_index(near) {
-            Some((other, _)) if *other == id => near,
-            _ => self.find(id),
-        }
-    }
-
-    /// As [`PageTables::find`], for [`PageTables::is_locked`] alone: where none is locked, that asks for no place.
-    pub(crate) fn find_if_locked(&self, id: u32) -> usize {
-        if self.locked == 0 {
-            return 0;
-        }
-        self.find(id)
-    }
-
-    /// Where a page is, whose table was found at `near`.
-    #[inline(always)]
-    pub(crate) fn page_in(&self, near: usize, page: PageRef) -> PageRec
-        ensures { result ≡ rec_by self.now page }
-    {
-        match self.by_id.get_index(near) {
-            Some((other, table)) if *other == page.seg => table.page(page.page),
-            _ => self.page(page),
-        }
-    }
-
     /// The first page of a segment, from `first` up to `last`, that is somewhere; `last` if there is none.
-    /// The segment's table was found at `near`.
-    pub(crate) fn next_placed(&self, near: usize, first: PageRef, last: u32) -> u32
+    pub(crate) fn next_placed(&self, first: PageRef, last: u32) -> u32
         requires { first.page ≤ last }
         ensures on { first.page ≤ result }
         ensures within { result ≤ last }
@@ -259,44 +178,42 @@ impl PageTables {
         ensures stop { let page = record first { page = result } in
             result < last → is_placed (rec_by self.now page) ≡ true }
     {
-        match index_near(&self.by_id, near, first.seg) {
-            Some(index) => self.by_id[index].next_placed(first.page, last),
+        match found(&self.tables, first.seg) {
+            Some(table) => table.next_placed(first.page, last),
             None => last,
         }
     }
 
-    /// Notes where a page is, whose table was found at `near`.
-    pub(crate) fn set_page(&mut self, near: usize, page: PageRef, rec: PageRec)
+    /// Notes where a page is.
+    pub(crate) fn set_page(&mut self, page: PageRef, rec: PageRec)
         requires { HasPage self.old page }
         ensures { self.new ≡ with_rec self.old page rec }
     {
-        let Some(index) = index_near(&self.by_id, near, page.seg) else {
+        let Some(table) = &mut self.tables[place_of(page.seg)] else {
             unreachable!();
         };
-        self.by_id[index].set_page(page.page, rec);
+        table.set_page(page.page, rec);
     }
 
-    /// Notes the frame that a page is in, or that it is in none. The page keeps its slot. Its table was found
-    /// at `near`.
-    #[inline(always)]
-    pub(crate) fn set_frame(&mut self, near: usize, page: PageRef, frame: Option<FrameNo>)
+    /// Notes the frame that a page is in, or that it is in none. The page keeps its slot.
+    pub(crate) fn set_frame(&mut self, page: PageRef, frame: Option<FrameNo>)
         requires { HasPage self.old page }
         ensures { self.new ≡ with_rec self.old page (record (rec_by self.old page) { frame = frame }) }
     {
-        let index = index_kept(&self.by_id, near, page.seg);
-        self.by_id[index].set_frame(page.page, frame);
+        let Some(table) = &mut self.tables[place_of(page.seg)] else {
+            unreachable!();
+        };
+        table.set_frame(page.page, frame);
     }
 
     /// Locks or unlocks a segment.
     pub(crate) fn set_locked(&mut self, id: u32, locked: bool)
+        requires { find_seg self.old id ≢ None }
         ensures { self.new ≡ map (with_seg_lock id locked) self.old }
     {
-        if let Some(index) = index_of(&self.by_id, id) {
-            let all = self.by_id.len();
-            let table = &mut self.by_id[index];
-            self.locked -= usize::from(table.is_locked());
-            table.set_locked(locked);
-            self.locked = all.min(self.locked + usize::from(locked));
-        }
+        let Some(table) = &mut self.tables[place_of(id)] else {
+            unreachable!();
+        };
+        table.set_locked(locked);
     }
 }

@@ -28,19 +28,8 @@ struct Evicted {
     written: bool,
 }
 
-// The place of the table of the page under the hand, if a segment is locked.
-fn table_at(segs: &PageTables, frames: &Frames, hand: FrameNo) -> usize
-    requires { hand < length frames.now }
-{
-    match frames.owner(hand) {
-        Some(page) => segs.find_if_locked(page.seg),
-        None => 0,
-    }
-}
-
 // The frame whose page has to go, by the clock, among the pages of segments that are not locked. The hand
-// skips blocks of locked pages. To pass other frames of the segment that the hand begins at, no table is
-// looked for.
+// skips blocks of locked pages.
 fn choose(
     segs: &PageTables,
     frames: &mut Frames,
@@ -53,8 +42,7 @@ fn choose(
     ensures { FindsVictim (unlocked segs.now) pinned hand.old hand.new
         frames.old frames.new skips.new result }
 {
-    let near = table_at(segs, frames, *hand);
-    let eligible = |page: PageRef| !segs.is_locked(near, page.seg);
+    let eligible = |page: PageRef| !segs.is_locked(page.seg);
     victim(frames, hand, &eligible, pinned, &mut Looks::new(), skips)
 }
 
@@ -79,25 +67,16 @@ fn fill_from<P: Pager>(
 }
 
 impl<P: Pager> PageStore<P> {
-    // The place of the page table of a frame's page, which may be `near`.
-    pub(crate) fn table_of(&self, frame: FrameNo, near: usize) -> usize
-        requires there { frame < length self.now.frames }
-        requires owned { IsSome (frame_at self.now.frames frame).owner }
-    {
-        self.segs
-            .find_near(near, self.frames.resident_page(frame).seg)
-    }
-
     // The slot of the page in a dirty frame. If it has none, it gets the lowest free slot of the first area
     // that has one.
-    fn slot_for(&mut self, frame: FrameNo, table: usize) -> Slot
+    fn slot_for(&mut self, frame: FrameNo) -> Slot
         requires there { frame < length self.old.frames }
         requires owned { IsSome (frame_at self.old.frames frame).owner }
         requires dirty { (frame_at self.old.frames frame).dirty ≡ true }
         ensures { FindsSlot frame self.old self.new result }
     {
         let page = self.frames.resident_page(frame);
-        let place = self.segs.page_in(table, page);
+        let place = self.segs.page(page);
         if let Some(slot) = place.slot {
             return slot;
         }
@@ -105,7 +84,6 @@ impl<P: Pager> PageStore<P> {
             unreachable!();
         };
         self.segs.set_page(
-            table,
             page,
             PageRec {
                 frame: place.frame,
@@ -130,20 +108,19 @@ impl<P: Pager> PageStore<P> {
     }
 
     /// Writes a dirty frame to the slot of its page, or to the lowest free slot of the first area that has
-    /// one. If the write fails, the frame stays dirty and the page keeps that slot. The page's table was
-    /// found at `table`.
-    pub(crate) fn page_out(&mut self, frame: FrameNo, table: usize) -> Result<(), PagerFault>
+    /// one. If the write fails, the frame stays dirty and the page keeps that slot.
+    pub(crate) fn page_out(&mut self, frame: FrameNo) -> Result<(), PagerFault>
         requires there { frame < length self.old.frames }
         requires owned { IsSome (frame_at self.old.frames frame).owner }
         requires dirty { (frame_at self.old.frames frame).dirty ≡ true }
         ensures { PagesOut frame self.old self.new result }
     {
-        let slot = self.slot_for(frame, table);
+        let slot = self.slot_for(frame);
         self.write_back(frame, slot)
     }
 
     // Takes the page out of a clean frame.
-    fn vacate(&mut self, frame: FrameNo, table: usize) -> PageRef
+    fn vacate(&mut self, frame: FrameNo) -> PageRef
         requires there { frame < length self.old.frames }
         requires owned { IsSome (frame_at self.old.frames frame).owner }
         requires clean { (frame_at self.old.frames frame).dirty ≡ false }
@@ -151,7 +128,7 @@ impl<P: Pager> PageStore<P> {
     {
         let page = self.frames.resident_page(frame);
         self.frames.empty(frame);
-        self.segs.set_frame(table, page, None);
+        self.segs.set_frame(page, None);
         page
     }
 
@@ -171,7 +148,7 @@ impl<P: Pager> PageStore<P> {
     }
 
     // Writes a frame if it is dirty, and returns whether it was.
-    fn clean(&mut self, frame: FrameNo, table: usize) -> Result<bool, PagerFault>
+    fn clean(&mut self, frame: FrameNo) -> Result<bool, PagerFault>
         requires there { frame < length self.old.frames }
         requires owned { IsSome (frame_at self.old.frames frame).owner }
         ensures { Cleans frame self.old self.new result }
@@ -179,20 +156,19 @@ impl<P: Pager> PageStore<P> {
         if !self.frames.is_dirty(frame) {
             return Ok(false);
         }
-        self.page_out(frame, table)?;
+        self.page_out(frame)?;
         Ok(true)
     }
 
     // Makes a frame free: its page leaves it. If the page's write fails, the page stays. The hand is then
-    // after that frame, also after a failure. The page's table may be at `near`.
-    fn evict(&mut self, pinned: Option<FrameNo>, near: usize) -> Result<Evicted, PagerFault>
+    // after that frame, also after a failure.
+    fn evict(&mut self, pinned: Option<FrameNo>) -> Result<Evicted, PagerFault>
         requires full { OwnedBelow self.old.frames (length self.old.frames) }
         ensures { Evicts pinned self.old self.new result }
     {
         let frame = self.turn(pinned);
-        let table = self.table_of(frame, near);
-        let written = self.clean(frame, table)?;
-        let page = self.vacate(frame, table);
+        let written = self.clean(frame)?;
+        let page = self.vacate(frame);
         Ok(Evicted {
             frame,
             page,
@@ -214,7 +190,7 @@ impl<P: Pager> PageStore<P> {
 
     // Gives a free frame that has a page's bytes to the page, which keeps its slot if it has one. The frame's
     // block is not skipped any more, because the page may be one that may go.
-    fn settle(&mut self, frame: FrameNo, page: PageRef, table: usize)
+    fn settle(&mut self, frame: FrameNo, page: PageRef)
         requires there { frame < length self.old.frames }
         requires free { (frame_at self.old.frames frame).owner ≡ None }
         requires has { HasPage self.old.segs page }
@@ -230,16 +206,14 @@ impl<P: Pager> PageStore<P> {
         self.skips.forget(frame);
         self.frames.fill(frame, page);
         self.frames.set_referenced(frame, true);
-        self.segs.set_frame(table, page, Some(frame));
+        self.segs.set_frame(page, Some(frame));
     }
 
-    // Brings a page, whose table was found at `table`, into a free frame. If the read fails, the page stays
-    // where it is.
+    // Brings a page into a free frame. If the read fails, the page stays where it is.
     fn come_in(
         &mut self,
         frame: FrameNo,
         page: PageRef,
-        table: usize,
         touched: &mut Touched,
     ) -> Result<(), PagerFault>
         requires there { frame < length self.old.frames }
@@ -250,19 +224,18 @@ impl<P: Pager> PageStore<P> {
         requires small { touched.old.ins < 2 ^ 32 }
         ensures { ComesIn frame page self.old self.new touched.old touched.new result }
     {
-        let slot = self.segs.page_in(table, page).slot;
+        let slot = self.segs.page(page).slot;
         self.load(frame, slot)?;
-        self.settle(frame, page, table);
+        self.settle(frame, page);
         touched.ins += u64::from(slot.is_some());
         touched.moved.push(PageMove::Came(page, frame));
         Ok(())
     }
 
-    // A free frame: the first one, or that of the page that has to go, whose table may be at `near`.
+    // A free frame: the first one, or that of the page that has to go.
     fn take_frame(
         &mut self,
         pinned: Option<FrameNo>,
-        near: usize,
         touched: &mut Touched,
     ) -> Result<FrameNo, PagerFault>
         requires room { length touched.old.moved.items < 4 }
@@ -272,19 +245,17 @@ impl<P: Pager> PageStore<P> {
         if let Some(frame) = self.frames.free_frame() {
             return Ok(frame);
         }
-        let evicted = self.evict(pinned, near)?;
+        let evicted = self.evict(pinned)?;
         touched.outs += u64::from(evicted.written);
         touched.moved.push(PageMove::Gone(evicted.page));
         Ok(evicted.frame)
     }
 
-    // Brings in a page that is not resident, whose table may be at `near`. It looks for each of the two
-    // tables once.
+    // Brings in a page that is not resident.
     #[inline(never)]
     fn fault(
         &mut self,
         page: PageRef,
-        near: usize,
         pinned: Option<FrameNo>,
         touched: &mut Touched,
     ) -> Result<FrameNo, PagerFault>
@@ -297,9 +268,8 @@ impl<P: Pager> PageStore<P> {
         ensures placed { OnOk result (places self.new ≡ after_visit page pinned (places self.old)) }
         ensures stopped { OnErr result (StopsAt page pinned (places self.old) (places self.new)) }
     {
-        let table = self.segs.find_near(near, page.seg);
-        let frame = self.take_frame(pinned, table, touched)?;
-        self.come_in(frame, page, table, touched)?;
+        let frame = self.take_frame(pinned, touched)?;
+        self.come_in(frame, page, touched)?;
         Ok(frame)
     }
 
@@ -316,13 +286,12 @@ impl<P: Pager> PageStore<P> {
     }
 
     /// Visits a page: it is resident afterwards, with its referenced bit set. `known` is its frame if it is
-    /// resident, its table may be at `near`, and the pinned frame stays as it is.
+    /// resident, and the pinned frame stays as it is.
     #[inline(always)]
     pub(crate) fn visit(
         &mut self,
         page: PageRef,
         known: Option<FrameNo>,
-        near: usize,
         pinned: Option<FrameNo>,
         touched: &mut Touched,
     ) -> Result<FrameNo, PagerFault>
@@ -340,7 +309,7 @@ impl<P: Pager> PageStore<P> {
                 self.touch(page, frame);
                 Ok(frame)
             }
-            None => self.fault(page, near, pinned, touched),
+            None => self.fault(page, pinned, touched),
         }
     }
 }

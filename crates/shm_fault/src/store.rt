@@ -1,10 +1,10 @@
 //! The store, made and looked at.
-ghost use Rattle.std.specs.Prelude.{◌≡◌, ℕ, [], ◌∷◌, ◌++◌, ◌+◌, ◌-◌, ◌≤◌, ◌^◌, true, false, length, map, min, replicate, None, IfOk, OnOk, OnErr};
-ghost use Rattle.shm_fault.specs.Held.{is_held, pages_in_store, locked_pages_in_store, with_zeros, with_lock};
+ghost use Rattle.std.specs.Prelude.{◌≡◌, ◌≢◌, ℕ, ◌+◌, ◌-◌, ◌≤◌, ◌^◌, true, false, length, map, min, replicate, None, IfOk, OnOk, OnErr};
+ghost use Rattle.shm_fault.specs.Held.{is_held, pages_in_store, locked_pages_in_store, with_zeros, with_lock, IsIndexFree};
 ghost use Rattle.shm_slots.specs.View.{swap_slots, owner_of, AreCountsOf};
 ghost use Rattle.shm_slots.specs.Cause.{total};
 ghost use Rattle.shm_frames.specs.Frame.{IsFrameBlank};
-ghost use Rattle.shm_fault.specs.Segs.{count_by_id, with_seg_lock, new_seg};
+ghost use Rattle.shm_fault.specs.Segs.{count_by_id, find_seg, with_seg, with_seg_lock};
 ghost use Rattle.shm_fault.specs.Store.{fresh_store, held, frame_of, Still, resident, swapped, dirty, used};
 ghost use Rattle.shm_base.specs.declared.bounds.TheConstants.{MOST_FRAMES};
 ghost use Rattle.shm_fault.specs.Sound.{IsStoreSound};
@@ -76,6 +76,7 @@ impl<P: Pager> Model for PageStore<P> {
 
 // Locks or unlocks a segment. It also removes all marks of skipped blocks, because unlocked pages may go.
 fn set_lock(segs: &mut PageTables, skips: &mut Skips, seg: u32, locked: bool)
+    requires { find_seg segs.old seg ≢ None }
     ensures segs { segs.new ≡ map (with_seg_lock seg locked) segs.old }
     ensures skips { skips.new ≡ replicate (length skips.old) false }
 {
@@ -122,13 +123,13 @@ impl<P: Pager> PageStore<P> {
     }
 
     /// Adds a segment of this many pages of zeros, which is not locked. It takes all memory that the segment
-    /// will ever need. HostMemory: the host refused memory, and nothing changed. Precondition: all pages
-    /// together are at most the slots.
+    /// will ever need. HostMemory: the host refused memory, and nothing changed. Precondition: no segment that
+    /// is held has its index, and all pages together are at most the slots.
     pub fn add_segment(&mut self, seg: u32, pages: u32) -> Result<(), HostMemory>
-        requires new { is_held (held self.old) seg ≡ false }
+        requires new { IsIndexFree (held self.old) seg }
         requires room { pages_in_store (held self.old) + pages ≤ swap_slots self.old.swap }
         ensures held { OnOk result (held self.new ≡ with_zeros (held self.old) seg pages) }
-        ensures rest { let segs = self.old.segs ++ new_seg seg pages ∷ [] in
+        ensures rest { let segs = with_seg self.old.segs seg pages in
             OnOk result (self.new ≡ record self.old { segs = segs }) }
         ensures still { Still self.old self.new }
         ensures err { OnErr result (self.new ≡ self.old) }

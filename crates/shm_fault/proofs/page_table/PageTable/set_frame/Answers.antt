@@ -10,4 +10,4 @@ returns c =
     let i = c.args.page in
     let was : PageRec = rec_at (padded ps t.count no_page) i in
     let slot = read-reached ps t.count i c.index_mut.result.now (rw c.reach.ensures.pages at c.index_mut.ensures.value) in
-    rw (c.reach.ensures.pages, slot, ← c.self.view_is) (table-reached t.number t.locked ps t.count i (record was { frame = c.args.frame }) c.self.invariant.0 (rw (← c.self.view_is) at c.requires))
+    rw (c.reach.ensures.pages, slot, ← c.self.view_is) (table-reached t.id t.locked ps t.count i (record was { frame = c.args.frame }) c.self.invariant.0 (rw (← c.self.view_is) at c.requires))

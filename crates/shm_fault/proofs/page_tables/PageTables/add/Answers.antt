@@ -1,30 +1,27 @@
-use Rattle.shm_fault.proofs.Names.{◌≡◌, ◌∙◌, ◌+◌, None, refl, ap, arith, find_seg, new_seg, seg_view, TableView}
-use Rattle.shm_fault.specs.Entries.{segs_in_order}
-use Rattle.shm_fault.proofs.Order.{added}
-use Rattle.shm_fault.proofs.Locks.{locked-new}
+use Rattle.std.proofs.lemmas.Result.{MatchResult-from_err}
+use Rattle.shm_fault.proofs.Names.{◌≡◌, ◌∙◌, ◌<◌, None, ap, length, SegRec}
+use Rattle.shm_base.specs.Stored.{padded}
+use Rattle.shm_fault.specs.Segs.{IsIndexFree}
+use Rattle.shm_fault.specs.Entries.{present}
+use Rattle.shm_fault.proofs.Entries.{indexed-added, present-added, present-padded}
 use Rattle.shm_fault.proofs.page_tables.PageTables.add.Goals as goal
+
+pub returns-in_err-reach-clause-err : goal.returns-in_err-reach-clause-err
+returns-in_err-reach-clause-err c = MatchResult-from_err _ _ _ c.from_residual-in_err-reach.ensures.0 λ _.
+    rw (← c.self.view_is) (ap present c.reach.ensures.items ∙ present-padded c.self.inside.tables.items (length c.reach.new.tables.items))
 
 pub invariant_of-self-2 : goal.invariant_of-self-2
 invariant_of-self-2 c =
-    let es = c.self.inside.by_id.entries in
-    let t = c.in_ok-table.table in
-    let none : find_seg (segs_in_order es) c.args.id ≡ None = rw (← c.self.view_is) at c.requires.new in
-    let number : t.number ≡ c.self.inside.made = ap (λ (u : TableView). u.number) c.in_ok-table.ensures in
-    let a = added es c.args.id t c.self.invariant.apart c.self.invariant.rising (rw number c.self.invariant.below) none in
-    let made : c.in-Some.made ≡ t.number + 1 = omega (arith, number, c.in-Some.ensures) in
-    record {
-      apart = rw c.in_ok-insert.ensures.entries a.apart;
-      rising = rw c.in_ok-insert.ensures.entries a.rising;
-      below = rw (c.in_ok-insert.ensures.entries, made) a.below;
-      count = rw (c.in_ok-insert.ensures.entries, a.view, c.in_ok-table.ensures) (locked-new (segs_in_order es) c.args.id c.args.pages ∙ c.self.invariant.count);
-    }
+    let os = c.self.inside.tables.items in
+    let id : c.in_ok-table.table.id ≡ c.args.id = ap (λ (g : SegRec). g.id) c.in_ok-table.ensures in
+    rw c.reach.ensures.items (indexed-added os c.self.invariant c.args.id c.place_of-place.result (length c.reach.new.tables.items) c.place_of-place.ensures c.in_ok-table.table id)
 
 pub returns-clause-ok : goal.returns-clause-ok
 returns-clause-ok c =
-    let es = c.self.inside.by_id.entries in
-    let t = c.in_ok-table.table in
-    let none : find_seg (segs_in_order es) c.args.id ≡ None = rw (← c.self.view_is) at c.requires.new in
-    let number : t.number ≡ c.self.inside.made = ap (λ (u : TableView). u.number) c.in_ok-table.ensures in
-    let a = added es c.args.id t c.self.invariant.apart c.self.invariant.rising (rw number c.self.invariant.below) none in
-    let new : seg_view (c.args.id, t) ≡ new_seg c.args.id c.args.pages = rw c.in_ok-table.ensures refl in
-    rw (← c.self.view_is, ← new) (ap segs_in_order c.in_ok-insert.ensures.entries ∙ a.view)
+    let os = c.self.inside.tables.items in
+    let n = length c.reach.new.tables.items in
+    let id : c.in_ok-table.table.id ≡ c.args.id = ap (λ (g : SegRec). g.id) c.in_ok-table.ensures in
+    let free : IsIndexFree (present os) c.args.id = rw (← c.self.view_is) at c.requires.new in
+    let there : c.place_of-place.result < length (padded os n None) = rw (← c.reach.ensures.items) c.in_ok-reach.ensures.ok in
+    rw (← c.self.view_is, c.reach.ensures.items, ← c.in_ok-table.ensures)
+    (present-added os c.self.invariant c.args.id c.place_of-place.result n c.place_of-place.ensures c.in_ok-table.table id free there)

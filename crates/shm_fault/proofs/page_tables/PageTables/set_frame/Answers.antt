@@ -1,34 +1,37 @@
-use Rattle.shm_fault.proofs.Names.{◌∙◌, ap, set, set_value_at, rec_by, PageRec}
-use Rattle.shm_fault.specs.Entries.{segs_in_order}
-use Rattle.shm_fault.proofs.Entries.{seg_there}
-use Rattle.shm_fault.proofs.Noting.{IsNoted, has-page, noted, page-found, same-rec}
+use Rattle.shm_fault.proofs.Names.{arith, ◌≡◌, ◌∙◌, ◌≢◌, None, Some, SegRec, PageRec, HasPage, find_seg, rec_at, rec_by, set, refl}
+use Rattle.shm_fault.specs.Entries.{present}
+use Rattle.shm_fault.proofs.Entries.{index-there, seg-read, edit-read, page-there}
 use Rattle.shm_fault.proofs.page_tables.PageTables.set_frame.Goals as goal
-use Rattle.shm_fault.proofs.page_tables.PageTables.set_frame.Goals.{After-set_frame}
+use Rattle.shm_fault.proofs.page_tables.PageTables.set_frame.Goals.{After-place_of, In-Some}
+
+there : (c : After-place_of) → find_seg (present c.self.inside.tables.items) c.args.page.seg ≢ None
+there c = page-there _ c.args.page (rw (← c.self.view_is) at c.requires)
+
+pub index_mut-requires : goal.index_mut-requires
+index_mut-requires c = omega (arith, c.self.inside.tables.ok, index-there c.self.inside.tables.items c.self.invariant c.args.page.seg c.place_of.result c.place_of.ensures (there c))
+
+-- the page's segment
+own : (c : In-Some) → find_seg (present c.self.inside.tables.items) c.args.page.seg ≡ Some c.in-Some.table
+own c =
+    seg-read c.self.inside.tables.items c.self.invariant c.args.page.seg c.place_of.result c.place_of.ensures (page-there _ c.args.page (rw (← c.self.view_is) at c.requires)) c.index_mut.result.now c.index_mut.ensures.value ∙ c.in-Some.is
+
+pub unreachable-requires : goal.unreachable-requires
+unreachable-requires c =
+    let place = (goal.at.unreachable-requires c).After-place_of in
+    there place (seg-read c.self.inside.tables.items c.self.invariant c.args.page.seg c.place_of.result c.place_of.ensures (there place) c.index_mut.result.now c.index_mut.ensures.value ∙ c.in_default.is)
 
 pub set_frame-requires : goal.set_frame-requires
 set_frame-requires c =
-    has-page c.self.inside.by_id.entries _ _ c.self.invariant c.args.page c.index_kept-index.result c.index_mut.result.now c.index_kept-index.ensures c.index_mut.ensures.value (rw (← c.self.view_is) at c.requires)
-
-pub index_kept-index-requires : goal.index_kept-index-requires
-index_kept-index-requires c = page-found c.self.inside.by_id.entries _ _ c.self.invariant c.args.page (rw (← c.self.view_is) at c.requires)
-
-pub index_mut-requires : goal.index_mut-requires
-index_mut-requires c = seg_there c.self.inside.by_id.entries c.index_kept-index.result c.args.page.seg c.index_kept-index.ensures
-
--- the page's record afterwards
-abbrev rec : After-set_frame → PageRec
-rec c = record (rec_by (segs_in_order c.self.inside.by_id.entries) c.args.page) { frame = c.args.frame }
-
-done : (c : After-set_frame) → IsNoted c.args.page (rec c) c.self.inside.made c.self.inside.locked c.self.inside.by_id.entries (set_value_at c.self.inside.by_id.entries c.index_kept-index.result c.set_frame.new.self)
-done c =
-    let w = c.index_mut.result.now in
-    let page = c.args.page.page in
-    let was = same-rec c.self.inside.by_id.entries _ _ c.self.invariant c.args.page c.index_kept-index.result w c.index_kept-index.ensures c.index_mut.ensures.value in
-    let is = c.set_frame.ensures ∙ ap (λ (p : PageRec). record w { pages = set w.pages page (record p { frame = c.args.frame }) }) was in
-    noted _ _ _ c.self.invariant c.args.page c.index_kept-index.result w c.index_kept-index.ensures c.index_mut.ensures.value (rec c) c.set_frame.new.self is
-
-pub invariant_of-self : goal.invariant_of-self
-invariant_of-self c = (done (goal.at.invariant_of-self c).After-set_frame).tables
+    let has : HasPage (present c.self.inside.tables.items) c.args.page = rw (← c.self.view_is) at c.requires in
+    rw (own c) at has
 
 pub returns : goal.returns
-returns c = rw (← c.self.view_is) (done (goal.at.returns c).After-set_frame).view
+returns c =
+    let os = c.self.inside.tables.items in
+    let o = goal.at.returns c in
+    let w = c.in-Some.table in
+    let page = c.args.page.page in
+    let rec : PageRec = record (rec_at w.pages page) { frame = c.args.frame } in
+    let is : rec_by (present os) c.args.page ≡ rec_at w.pages page = rw (own o.In-Some) refl in
+    rw (c.set_frame.ensures, ← c.self.view_is, is)
+    (edit-read os c.self.invariant c.args.page.seg c.place_of.result c.place_of.ensures (there o.After-place_of) c.index_mut.result.now c.index_mut.ensures.value w c.in-Some.is (λ (g : SegRec). record g { pages = set g.pages page rec }))

@@ -1,5 +1,6 @@
 use Rattle.shm_fault.proofs.Names.{◌≡◌, ◌≤◌, ◌+◌, None, sum_by, arith, pages_in_store, swap_slots, find_seg, page_count, held, IsStoreSound, common_steps, nat_tests, ℕ, inl, inr, refl, locked_by}
 use Rattle.shm_fault.specs.Store.{frame_of}
+use Rattle.shm_fault.specs.Segs.{IsIndexFree}
 use Rattle.shm_fault.proofs.Seen.{seen}
 use Rattle.shm_fault.proofs.Skipped.{locked-added, skipped-locks}
 use Rattle.shm_fault.proofs.Failures.{OnOk-map, either_way}
@@ -8,8 +9,12 @@ use Rattle.shm_fault.proofs.store.PageStore.add_segment.Given as given
 use Rattle.shm_fault.proofs.store.PageStore.add_segment.Goals as goal
 use Rattle.shm_fault.proofs.store.PageStore.add_segment.Goals.{After-self, After-add}
 
+-- no segment has its index
+free : (g : given.Over) (c : After-self g) → IsIndexFree c.self.inside.segs c.args.seg
+free g c = λ other same. not-held (seen c.self.inside) c.self.invariant.0 other (rw (← c.self.view_is) at (c.requires.new other same))
+
 new : (g : given.Over) (c : After-self g) → find_seg c.self.inside.segs c.args.seg ≡ None
-new g c = not-held (seen c.self.inside) c.self.invariant.0 c.args.seg (rw (← c.self.view_is) at c.requires.new)
+new g c = free g c c.args.seg refl
 
 sound : (g : given.Over) (c : After-add g) → find_seg c.self.inside.segs c.args.seg ≡ None → IsStoreSound (record (seen c.self.inside) { segs = c.add.new.self })
 sound g c none =
@@ -19,14 +24,15 @@ sound g c none =
     grind (arith, sound-added s c.self.invariant.0 c.args.seg c.args.pages none room)
 
 pub add-requires : goal.add-requires
-add-requires g c = record { new = new g (goal.at.add-requires g c).After-self }
+add-requires g c = record { new = free g (goal.at.add-requires g c).After-self }
 
 pub invariant_of-self : goal.invariant_of-self
 invariant_of-self g c =
     let i = c.self.inside in
+    let none = new g (goal.at.invariant_of-self g c).After-self in
     let locks : (id : ℕ) → locked_by c.add.new.self id ≡ locked_by i.segs id = λ id.
-    elim (either_way c.add.result _ _ c.add.ensures.ok c.add.ensures.err) [ inl ok ↦ rw ok (locked-added i.segs c.args.seg c.args.pages id) | inr err ↦ rw err refl ] in
-    (sound g c (new g (goal.at.invariant_of-self g c).After-self), skipped-locks i.segs c.add.new.self i.frames i.skips locks c.self.invariant.1)
+    elim (either_way c.add.result _ _ c.add.ensures.ok c.add.ensures.err) [ inl ok ↦ rw ok (locked-added i.segs c.args.seg c.args.pages id none) | inr err ↦ rw err refl ] in
+    (sound g c none, skipped-locks i.segs c.add.new.self i.frames i.skips locks c.self.invariant.1)
 
 pub returns-clause-sound : goal.returns-clause-sound
 returns-clause-sound g c = sound g c (new g (goal.at.returns-clause-sound g c).After-self)

@@ -13,7 +13,7 @@ slot_there s r has (Some k) e = has k e
 
 pub load-requires-clause-slot : goal.load-requires-clause-slot
 load-requires-clause-slot g c =
-    rw (c.page_in-slot.ensures, ← c.self.view_is)
+    rw (c.page-slot.ensures, ← c.self.view_is)
     (slot_there (seen c.self.inside) c.args.page (λ k e. (slot-own (seen c.self.inside) c.self.invariant.0 c.args.page k e).0) (rec_by c.self.inside.segs c.args.page).slot refl)
 
 pub settle-requires-clause-there : goal.settle-requires-clause-there
@@ -27,7 +27,7 @@ settle-requires-clause-away g c = rw c.load.ensures.rest c.requires.away
 
 pub settle-requires-clause-bytes : goal.settle-requires-clause-bytes
 settle-requires-clause-bytes g c =
-    rw (c.in_ok-load.ensures.bytes, c.in_ok-load.ensures.swap, c.page_in-slot.ensures, ap (λ (v : StoreView). v.segs) c.load.ensures.rest, ← c.self.view_is) refl
+    rw (c.in_ok-load.ensures.bytes, c.in_ok-load.ensures.swap, c.page-slot.ensures, ap (λ (v : StoreView). v.segs) c.load.ensures.rest, ← c.self.view_is) refl
 
 pub returns : goal.returns
 returns g c =
@@ -48,7 +48,7 @@ returns g c =
       few = grind (arith, common_steps);
       ins = grind (arith, nat_tests, common_steps);
       outs = refl;
-      counts = counts-more u _ s z (one_if (is_some c.page_in-slot.result.slot)) 0
+      counts = counts-more u _ s z (one_if (is_some c.page-slot.result.slot)) 0
           (ap (λ n. u.ins + n) (c.from.ensures ∙ byte-one _ ∙ ap one_if c.is_some.ensures)) (ap (λ (v : StoreView). v.ins) settled.rest ∙ c.in_ok-load.ensures.ins)
           (omega arith) (ap (λ (v : StoreView). v.outs) settled.rest ∙ ap (λ (v : StoreView). v.outs) loaded.rest);
       hand = ap (λ (v : StoreView). v.hand) settled.rest ∙ ap (λ (v : StoreView). v.hand) loaded.rest;

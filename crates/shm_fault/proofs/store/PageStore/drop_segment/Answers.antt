@@ -2,7 +2,8 @@ use Rattle.shm_fault.proofs.Names.{◌≡◌, ◌≢◌, ◌≤◌, ◌+◌, ◌
 use Rattle.shm_fault.specs.Store.{frame_of}
 use Rattle.shm_fault.proofs.Seen.{seen}
 use Rattle.shm_fault.proofs.Skipped.{skipped-but}
-use Rattle.shm_fault.proofs.Pages.{count-same}
+use Rattle.shm_fault.proofs.Pages.{count-same, found-still}
+use Rattle.shm_fault.proofs.Whole.{held-there}
 use Rattle.shm_fault.proofs.Drops.{dropped-none, dropped-rest, IsDropped, drops}
 use Rattle.shm_fault.proofs.Forgets.{segment-gone}
 use Rattle.shm_fault.proofs.store.PageStore.drop_segment.Given as given
@@ -18,9 +19,9 @@ whole g c =
     let count = count_by_id s.segs c.args.seg in
     let d : Dropped c.args.seg n s t = rw (← c.self-2.view_is) at c.loop-page.invariant.0 in
     let stay : StayNowhere c.args.seg s t = rw (← c.self-2.view_is) at c.loop-page.invariant.1 in
-    let few : c.touched_in-touched.result ≤ count = rw (← c.self.view_is) c.touched_in-touched.ensures.few in
-    let rest : NowhereFrom c.touched_in-touched.result c.args.seg s.segs = rw (← c.self.view_is) c.touched_in-touched.ensures.rest in
-    let last : n ≡ c.touched_in-touched.result = omega (arith, c.loop-page-test.false, c.loop-page.invariant.2) in
+    let few : c.touched-touched.result ≤ count = rw (← c.self.view_is) c.touched-touched.ensures.few in
+    let rest : NowhereFrom c.touched-touched.result c.args.seg s.segs = rw (← c.self.view_is) c.touched-touched.ensures.rest in
+    let last : n ≡ c.touched-touched.result = omega (arith, c.loop-page-test.false, c.loop-page.invariant.2) in
     let same = count-same s.segs t.segs c.args.seg d.shape in
     let sum : n + (count - n) ≡ count = omega (arith, few, last) in
     rw sum at (dropped-rest c.args.seg n (count - n) s t c.self-2.invariant.0.apart (λ page le lt. stay page (rest page (omega (arith, le, last)))) (omega (arith, few, last, same)) d)
@@ -30,10 +31,17 @@ done g c =
     let s = c.args.self.now in
     rw c.remove.ensures (drops c.args.seg (count_by_id s.segs c.args.seg) s (seen c.self-2.inside) c.self-2.invariant.0 (whole g c) (omega arith))
 
+pub remove-requires : goal.remove-requires
+remove-requires g c =
+    let s = c.args.self.now in
+    let there = held-there s (rw c.self.view_is at c.self.invariant.0) c.args.seg c.requires.there in
+    let d : Dropped c.args.seg c.loop-page.page s (seen c.self-2.inside) = rw (← c.self-2.view_is) at c.loop-page.invariant.0 in
+    found-still s.segs c.self-2.inside.segs c.args.seg d.shape there
+
 pub forget_next-page-requires-clause-there : goal.forget_next-page-requires-clause-there
 forget_next-page-requires-clause-there g c =
     let s = c.args.self.now in
-    let few : c.touched_in-touched.result ≤ count_by_id s.segs c.args.seg = rw (← c.self.view_is) c.touched_in-touched.ensures.few in
+    let few : c.touched-touched.result ≤ count_by_id s.segs c.args.seg = rw (← c.self.view_is) c.touched-touched.ensures.few in
     let same = count-same s.segs c.loop-page.self.segs c.args.seg c.loop-page.invariant.0.shape in
     omega (arith, few, same)
 

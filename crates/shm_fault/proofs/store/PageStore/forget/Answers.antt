@@ -14,29 +14,29 @@ done : (g : given.Over) (c : After-set_page g)
 done g c =
     let i = c.self.inside in
     let e = c.free_slot.ensures in
-    let slot : Given i.swap (rec_by i.segs c.args.page).slot c.free_slot.new.swap = rw c.page_in-place.ensures at e.given in
-    rw (c.set_page.ensures, c.empty_frame.ensures, c.page_in-place.ensures)
+    let slot : Given i.swap (rec_by i.segs c.args.page).slot c.free_slot.new.swap = rw c.page-place.ensures at e.given in
+    rw (c.set_page.ensures, c.empty_frame.ensures, c.page-place.ensures)
     (forgets (seen i) c.self.invariant.0 c.args.page (rw (← c.self.view_is) at c.requires) c.free_slot.new.swap slot e.sound e.steady)
 
 pub empty_frame-requires : goal.empty_frame-requires
-empty_frame-requires g c = λ f e. (frame-own (seen c.self.inside) c.self.invariant.0 c.args.page f (rw c.page_in-place.ensures at e)).0
+empty_frame-requires g c = λ f e. (frame-own (seen c.self.inside) c.self.invariant.0 c.args.page f (rw c.page-place.ensures at e)).0
 
 pub free_slot-requires-clause-there : goal.free_slot-requires-clause-there
-free_slot-requires-clause-there g c = λ k e. (slot-own (seen c.self.inside) c.self.invariant.0 c.args.page k (rw c.page_in-place.ensures at e)).0
+free_slot-requires-clause-there g c = λ k e. (slot-own (seen c.self.inside) c.self.invariant.0 c.args.page k (rw c.page-place.ensures at e)).0
 
 pub invariant_of-self : goal.invariant_of-self
 invariant_of-self g c =
     let i = c.self.inside in (
       (done g c).sound,
       rw (c.set_page.ensures, c.empty_frame.ensures)
-          (skipped-with i.segs c.args.page _ _ i.skips (skipped-emptied (unlocked i.segs) i.frames i.skips c.self.invariant.1 c.page_in-place.result.frame)),
+          (skipped-with i.segs c.args.page _ _ i.skips (skipped-emptied (unlocked i.segs) i.frames i.skips c.self.invariant.1 c.page-place.result.frame)),
     )
 
 pub returns : goal.returns
 returns g c =
     let i = c.self.inside in
     let d = done g (goal.at.returns g c).After-set_page in
-    let slot : Given i.swap (rec_by i.segs c.args.page).slot c.free_slot.new.swap = rw c.page_in-place.ensures at c.free_slot.ensures.given in
+    let slot : Given i.swap (rec_by i.segs c.args.page).slot c.free_slot.new.swap = rw c.page-place.ensures at c.free_slot.ensures.given in
     rw (← c.self.view_is) (record {
       segs = c.set_page.ensures;
       held = d.bytes;
@@ -45,15 +45,15 @@ returns g c =
       size = d.size;
       steady = c.free_slot.ensures.steady;
       rest = record { hand = refl; ins = refl; outs = refl };
-      placed = rw (c.set_page.ensures, c.empty_frame.ensures, c.page_in-place.ensures) (forget-is (seen i) c.args.page c.free_slot.new.swap slot);
+      placed = rw (c.set_page.ensures, c.empty_frame.ensures, c.page-place.ensures) (forget-is (seen i) c.args.page c.free_slot.new.swap slot);
       nowhere = grind (arith, common_steps, with-same);
     })
 
 pub returns-then-eq : goal.returns-then-eq
 returns-then-eq g c =
     let s = seen c.self.inside in
-    let place : c.page_in-place.result ≡ no_page = nowhere _ c.page_in-place.result (sym c.eq.ensures ∙ c.if-eq.true) in
-    let at : rec_by s.segs c.args.page ≡ no_page = sym c.page_in-place.ensures ∙ place in
+    let place : c.page-place.result ≡ no_page = nowhere _ c.page-place.result (sym c.eq.ensures ∙ c.if-eq.true) in
+    let at : rec_by s.segs c.args.page ≡ no_page = sym c.page-place.ensures ∙ place in
     let same : with_rec s.segs c.args.page no_page ≡ s.segs = with-is s.segs c.args.page no_page c.self.invariant.0.apart at in
     let steady : IsSteady s.swap s.swap = record { goes_on = GoesOn-refl s.swap; failures = refl; same_sizes = refl } in
     let rest : AtRest s s = record { hand = refl; ins = refl; outs = refl } in

@@ -2,7 +2,7 @@ use Rattle.shm_fault.proofs.Names.{ap, PageRec, IsStoreSound, length, unlocked}
 use Rattle.shm_fault.specs.Store.{frame_of}
 use Rattle.shm_fault.proofs.Seen.{seen}
 use Rattle.shm_clock.proofs.Skipping.{skipped-none}
-use Rattle.shm_fault.proofs.Whole.{few-locked, sound-locked, held-locked, rec-locked}
+use Rattle.shm_fault.proofs.Whole.{few-locked, sound-locked, held-locked, held-there, rec-locked}
 use Rattle.shm_fault.proofs.store.PageStore.set_locked.Given as given
 use Rattle.shm_fault.proofs.store.PageStore.set_locked.Goals as goal
 use Rattle.shm_fault.proofs.store.PageStore.set_locked.Goals.{After-set_lock}
@@ -12,6 +12,9 @@ sound g c =
     let s = seen c.self.inside in
     let few = few-locked s c.self.invariant.0 c.args.seg c.args.locked (rw (← c.self.view_is) at c.requires.few) in
     rw c.set_lock.ensures.segs (sound-locked s c.self.invariant.0 c.args.seg c.args.locked few)
+
+pub set_lock-requires : goal.set_lock-requires
+set_lock-requires g c = held-there (seen c.self.inside) c.self.invariant.0 c.args.seg (rw (← c.self.view_is) at c.requires.there)
 
 pub invariant_of-self : goal.invariant_of-self
 invariant_of-self g c =

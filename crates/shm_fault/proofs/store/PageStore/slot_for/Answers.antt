@@ -17,7 +17,7 @@ unreachable-requires g c =
     let sound = c.self.invariant.0 in
     let page = c.resident_page-page.result in
     let owned : (frame_at i.frames c.args.frame).owner ≡ Some page = c.resident_page-page.ensures in
-    let none : (rec_by i.segs page).slot ≡ None = ap (λ (p : PageRec). p.slot) (sym c.page_in-place.ensures) ∙ c.in_default.is in
+    let none : (rec_by i.segs page).slot ≡ None = ap (λ (p : PageRec). p.slot) (sym c.page-place.ensures) ∙ c.in_default.is in
     let full : used_slots i.swap ≡ swap_slots i.swap = c.in_default-take_slot.ensures.full in
     let few = some_slotless (seen i) sound.apart page (sound.tied.owners c.args.frame page owned) none in
     let same = used-slots (seen i) sound.apart sound.tied in
@@ -29,11 +29,11 @@ done g c =
     let i = c.self.inside in
     let page = c.resident_page-page.result in
     let slot = c.in-Some-take_slot.slot in
-    let none : (rec_by i.segs page).slot ≡ None = ap (λ (p : PageRec). p.slot) (sym c.page_in-place.ensures) ∙ c.in_default.is in
+    let none : (rec_by i.segs page).slot ≡ None = ap (λ (p : PageRec). p.slot) (sym c.page-place.ensures) ∙ c.in_default.is in
     let first = c.in-Some-take_slot.ensures.found in
     let u : c.take_slot.new.self ≡ with_slot_owner i.swap slot (Some page) = c.in-Some-take_slot.ensures.taken in
     let e = c.take_slot.ensures in
-    rw (c.set_page.ensures, u, c.page_in-place.ensures)
+    rw (c.set_page.ensures, u, c.page-place.ensures)
     (takes (seen i) c.self.invariant.0 page c.args.frame slot c.resident_page-page.ensures (rw (← c.self.view_is) at c.requires.dirty) none
     first.there first.free (rw u at e.sound) (rw u at e.steady.same_sizes) (rw u at e.steady.goes_on))
 
@@ -50,7 +50,7 @@ returns g c =
     let page = c.resident_page-page.result in
     let slot = c.in-Some-take_slot.slot in
     let d = done g (goal.at.returns g c).After-set_page in
-    let none : (rec_by s.segs page).slot ≡ None = ap (λ (p : PageRec). p.slot) (sym c.page_in-place.ensures) ∙ c.in_default.is in
+    let none : (rec_by s.segs page).slot ≡ None = ap (λ (p : PageRec). p.slot) (sym c.page-place.ensures) ∙ c.in_default.is in
     let taken : c.take_slot.new.self ≡ with_slot_owner s.swap slot (Some page) = c.in-Some-take_slot.ensures.taken in
     rw (← c.self.view_is) (record {
       is = d.slot;
@@ -60,7 +60,7 @@ returns g c =
       away = d.away;
       goes = d.goes;
       failures = c.take_slot.ensures.steady.failures;
-      placed = rw (c.set_page.ensures, taken, c.page_in-place.ensures)
+      placed = rw (c.set_page.ensures, taken, c.page-place.ensures)
           (slotted-took s c.args.frame page slot c.resident_page-page.ensures none (found-free s.swap None slot c.self.invariant.0.swap.each c.in-Some-take_slot.ensures.found));
       sound = d.sound;
     })
@@ -69,7 +69,7 @@ pub returns-in-Some : goal.returns-in-Some
 unfolding frame_of
 returns-in-Some g c =
     let s = seen c.self.inside in
-    let has : (rec_by s.segs c.resident_page-page.result).slot ≡ Some c.in-Some.slot = ap (λ (p : PageRec). p.slot) (sym c.page_in-place.ensures) ∙ c.in-Some.is in
+    let has : (rec_by s.segs c.resident_page-page.result).slot ≡ Some c.in-Some.slot = ap (λ (p : PageRec). p.slot) (sym c.page-place.ensures) ∙ c.in-Some.is in
     rw (← c.self.view_is) (record {
       is = λ page owner. cc (owner, has, c.resident_page-page.ensures);
       free = λ page owner none. cc (owner, none, has, c.resident_page-page.ensures);
