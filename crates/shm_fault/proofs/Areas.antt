@@ -1,5 +1,5 @@
 -- Pages that leave a swap area, and the area that is turned off.
-use Rattle.shm_fault.proofs.Names.{◌≡◌, ◌≢◌, ℕ, zero, suc, ◌<◌, ◌≤◌, ◌+◌, true, cond, List, [], ◌∷◌, length, get_or, set, sum_by, Option, Some, None, is_some, refl, sym, ap, ◌∙◌, inl, inr, arith, length-set, get_or-set_same, get_or-set_other, cases_eq, get_or_past, length-map, sum_by-set, sum_by-cons, PageRef, Slot, pages_in_store, used_count, SwapView, no_area, area_at, with_area, off, HasSlot, IsArea, IsSwap, IsFirstFree, OneArea, AfterWriteFault, owner_of, page_in, size_of, sizes, swap_slots, slots_in, used_in, used_slots, with_slot_owner, with_slot_page, without_slot, GoesOn, IsSteady, had_cause, Frame, no_frame, frame_at, PageRec, rec_by, HasPage, with_rec, StoreView, held, IsTied, Tied, IsStoreSound, Goes, Still, AtRest, SameOwned, IsRelocated, IsCleared, common_steps, nat_tests}
+use Rattle.shm_fault.proofs.Names.{◌≡◌, ◌≢◌, ℕ, zero, suc, ◌<◌, ◌≤◌, ◌+◌, true, cond, List, [], ◌∷◌, length, get_or, set, sum_by, Option, Some, None, is_some, refl, sym, ap, ◌∙◌, inl, inr, arith, length-set, get_or-set_same, get_or-set_other, cases_eq, get_or_past, length-map, sum_by-set, sum_by-cons, PageRef, Slot, pages_in_store, used_count, SwapView, no_area, area_at, with_area, off, HasSlot, IsArea, IsSwap, IsFirstFree, OneArea, AfterWriteFault, owner_of, page_in, size_of, sizes, swap_slots, slots_in, used_in, used_slots, with_slot_owner, with_slot_page, without_slot, GoesOn, IsSteady, had_cause, Frame, no_frame, frame_at, PageRec, rec_by, HasPage, with_rec, StoreView, held, IsTied, Tied, IsStoreSound, Goes, Still, IsUncounted, SameOwned, IsRelocated, IsCleared, common_steps, nat_tests}
 use Rattle.shm_fault.proofs.Pages.{rec-with, other, other_ne, has-frame, has-slot}
 use Rattle.shm_fault.proofs.Slots.{OnlySlot, OnlySlot-trans, OnlySlot-owner, OnlySlot-page, OnlySlot-given, page-written, owner-written, owner-set, owner-given, cases_slot, set-cases}
 use Rattle.shm_fault.proofs.Ties.{SlotsApart, Touches, IsOwn-some, segs-same, segs-with, frames-same, frames-set, tied_touched, bytes_touched}
@@ -8,7 +8,7 @@ use Rattle.shm_fault.proofs.Tally.{used-slots}
 use Rattle.shm_fault.proofs.Whole.{pages_in_store-is}
 use Rattle.shm_fault.proofs.Failures.{size-at, pages-same, spent-cause, cause-before, cause-more}
 use Rattle.shm_fault.proofs.Sound.{IsSound-from, Goes-trans, GoesOn-refl}
-use Rattle.shm_fault.proofs.Counting.{AtRest-trans}
+use Rattle.shm_fault.proofs.Counting.{uncounted-trans}
 use Rattle.shm_fault.proofs.Changes.{Keeps, every, keeps-every, keeps-one}
 use Rattle.shm_fault.proofs.Drops.{GivenSlots, given-slots}
 use Rattle.shm_fault.specs.Store.{frame_of}
@@ -193,7 +193,7 @@ pub record IsCleaned (area n : ℕ) (s t : StoreView) : Type 0 where
   pub sound : IsStoreSound t
   pub goes : Goes s t
   pub still : Still s t
-  pub rest : AtRest s t
+  pub rest : IsUncounted s t
   pub free : (slot : ℕ) → slot < n → owner_of t.swap area slot ≡ None
   pub placed : places t ≡ after_moves area n (places s)
 
@@ -203,18 +203,18 @@ cleaned-none area s sound = record {
   sound = sound;
   goes = record { bytes = refl; shape = refl; size = refl; goes_on = GoesOn-refl s.swap; same_sizes = refl; spent = λ e. spent-cause s.swap s.swap sound.swap (GoesOn-refl s.swap) e };
   still = λ seg page. refl;
-  rest = record { hand = refl; ins = refl; outs = refl };
+  rest = record { ins = refl; outs = refl };
   free = λ slot lt. absurd (omega (arith, lt));
   placed = moves-none area (places s);
 }
 
-pub cleaned-more : (area n : ℕ) (s t u : StoreView) → IsCleaned area n s t → IsStoreSound u → Goes t u → Still t u → AtRest t u → IsCleared (record { area = area; slot = n }) t.swap u.swap
+pub cleaned-more : (area n : ℕ) (s t u : StoreView) → IsCleaned area n s t → IsStoreSound u → Goes t u → Still t u → IsUncounted t u → IsCleared (record { area = area; slot = n }) t.swap u.swap
     → places u ≡ after_move (record { area = area; slot = n }) (places t) → IsCleaned area (n + 1) s u
 cleaned-more area n s t u d sound goes still rest cleared placed = record {
   sound = sound;
   goes = Goes-trans s t u d.goes goes;
   still = λ seg page. still seg page ∙ d.still seg page;
-  rest = AtRest-trans s t u d.rest rest;
+  rest = uncounted-trans s t u d.rest rest;
   free = λ slot lt. grind (arith, nat_tests, common_steps, cleared.free, cleared.rest, d.free);
   placed = moves-then area n (places s) (places t) (places u) d.placed placed;
 }

@@ -1,5 +1,5 @@
 -- What an access leaves, put together from the visits to its pages.
-use Rattle.shm_fault.proofs.Names.{◌≡◌, ◌≢◌, ℕ, map, ◌≤◌, ◌+◌, Bool, true, false, ◌&&◌, cond, List, [], ◌∷◌, length, get_or, Option, Some, None, is_some, Result, Ok, Err, is_ok, OnErr, refl, sym, ap, ◌∙◌, arith, All, IsSome, false≢true, PageRef, Span, holds_locked, SwapView, Frame, frame_at, PageRec, Touched, SegRec, rec_by, locked_by, StoreView, held_by, page_of, ref_of, is_swapped, IsResident, pages_among, swapped_among, same_page, LockedPagesStay, KeepsLocked, Visits, frame_by, referenced_at, InFrames, PagerFailed, IsStoreSound, raised, one_if, hand_after, Visited, AreIn, Brings, Accessed, IsUntouched, nat_tests, common_steps}
+use Rattle.shm_fault.proofs.Names.{◌≡◌, ◌≢◌, ℕ, map, ◌≤◌, ◌+◌, Bool, true, false, ◌&&◌, cond, List, [], ◌∷◌, length, get_or, Option, Some, None, is_some, Result, Ok, Err, is_ok, OnErr, refl, sym, ap, ◌∙◌, arith, All, IsSome, false≢true, PageRef, Span, holds_locked, SwapView, Frame, frame_at, PageRec, Touched, SegRec, rec_by, locked_by, StoreView, held_by, page_of, ref_of, is_swapped, IsResident, pages_among, swapped_among, same_page, LockedPagesStay, KeepsLocked, Visits, frame_by, referenced_at, InFrames, PagerFailed, IsStoreSound, raised, one_if, Visited, AreIn, Brings, Accessed, IsUntouched, nat_tests, common_steps}
 use Rattle.shm_fault.specs.Access.{answer_of}
 use Rattle.shm_fault.proofs.Written.{no_span}
 use Rattle.shm_fault.specs.Store.{held, frame_of}
@@ -17,10 +17,6 @@ swap_bit b = cond b 1 0
 bit-le : (b : Bool) → cond b 1 0 ≤ 1
 bit-le true = omega arith
 bit-le false = omega arith
-
-hand-known : (s : StoreView) (pinned known : Option ℕ) → IsSome known → hand_after s known pinned ≡ s.hand
-hand-known s pinned None e = cc
-hand-known s pinned (Some f) e = refl
 
 resident-at : (s : StoreView) (p : Span) → is_some (frame_of s p.seg (page_of p)) ≡ true → IsSome (frame_by s (ref_of p))
 unfolding frame_of
@@ -54,10 +50,6 @@ module _ (p : Span) (s t : StoreView) (u v : Touched) (ok : Bool) (none : IsUnto
       outs_few = omega (arith, w.outs, none.2);
       read_in = read-in-one;
       written_out = written-out-one;
-      turns = record {
-        still = λ all. w.hand ∙ hand-known s None (frame_by s (ref_of p)) (resident-at s p (all 0 p (omega arith)));
-        one = λ q e. let same : p ≡ q = cc in rw (← same) w.hand;
-      };
       swapped = λ e. grind (arith, nat_tests, e, w.ins);
       quiet = λ all. quiet-one (resident-at s p (all 0 p (omega arith)));
       cause = w.cause;
@@ -122,12 +114,6 @@ module _ (p q : Span) (s t z : StoreView) (f : ℕ) (u v w : Touched) (ok : Bool
       let o : w.outs ≡ u.outs = ap (λ (x : Touched). x.outs) same in
       (b.0, b.3 ∙ a.3, i ∙ none.1, o ∙ none.2)
 
-  both-still : All (IsResident s) (p ∷ q ∷ []) → z.hand ≡ s.hand
-  both-still all =
-      let a = one.quiet (resident-at s p (all 0 p (omega arith))) in
-      let known : IsSome (frame_by t (ref_of q)) = rw a.2 (resident-at s q (all 1 q (omega arith))) in
-      two.hand ∙ hand-known t (Some f) (frame_by t (ref_of q)) known ∙ one.hand ∙ hand-known s None (frame_by s (ref_of p)) (resident-at s p (all 0 p (omega arith)))
-
   pub brings-two : Brings (p ∷ q ∷ []) s z w ok
   brings-two = record {
     goes = Goes-trans s t z one.visits.goes two.visits.goes;
@@ -139,7 +125,6 @@ module _ (p q : Span) (s t z : StoreView) (f : ℕ) (u v w : Touched) (ok : Bool
       outs_few = outs-le;
       read_in = two.counts.ins s.ins (read-in-one p s t u v true none one);
       written_out = two.counts.outs s.outs (written-out-one p s t u v true none one);
-      turns = record { still = both-still; one = λ r e. cc };
       swapped = swapped-le;
       quiet = both-quiet;
       cause = λ e. cause-after s t z one.visits.goes two.visits.goes (two.cause e);
@@ -163,7 +148,6 @@ brings-not p q s t u v none w =
         outs_few = omega (arith, w.outs, none.2, least);
         read_in = one.paged.read_in;
         written_out = one.paged.written_out;
-        turns = record { still = λ all. absurd (false≢true (never all)); one = λ r e. cc };
         swapped = λ e. absurd (false≢true e);
         quiet = λ all. absurd (false≢true (never all));
         cause = w.cause;

@@ -1,5 +1,5 @@
 -- What steps count, one after another.
-use Rattle.shm_fault.proofs.Names.{bool_byte, ◌≡◌, ℕ, zero, suc, ◌+◌, Bool, true, false, refl, ◌∙◌, arith, Touched, StoreView, next_count, raised, one_if, AtRest, CountsOn, common_steps, nat_tests}
+use Rattle.shm_fault.proofs.Names.{bool_byte, ◌≡◌, ℕ, zero, suc, ◌+◌, Bool, true, false, refl, ◌∙◌, arith, Touched, StoreView, next_count, raised, one_if, IsUncounted, CountsOn, common_steps, nat_tests}
 
 pub raised-trans : (n a b : ℕ) → raised (raised n a) b ≡ raised n (a + b)
 raised-trans n zero b = let e : 0 + b ≡ b = omega arith in rw e refl
@@ -17,5 +17,5 @@ counts-more u v s t a b ins read_in outs written_out = grind (arith, nat_tests, 
 pub counts-still : (u : Touched) (s t : StoreView) → t.ins ≡ s.ins → t.outs ≡ s.outs → CountsOn u u s t
 counts-still u s t ins outs = record { ins = λ n e. ins ∙ e; outs = λ n e. outs ∙ e }
 
-pub AtRest-trans : (s t u : StoreView) → AtRest s t → AtRest t u → AtRest s u
-AtRest-trans s t u a b = record { hand = b.hand ∙ a.hand; ins = b.ins ∙ a.ins; outs = b.outs ∙ a.outs }
+pub uncounted-trans : (s t u : StoreView) → IsUncounted s t → IsUncounted t u → IsUncounted s u
+uncounted-trans s t u a b = record { ins = b.ins ∙ a.ins; outs = b.outs ∙ a.outs }

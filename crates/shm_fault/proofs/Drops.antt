@@ -1,9 +1,9 @@
 -- A page that leaves its frame and its slot for good.
-use Rattle.shm_fault.proofs.Names.{◌≡◌, ◌≢◌, ℕ, zero, suc, ◌<◌, ◌≤◌, ◌+◌, true, List, [], ◌∷◌, length, set, map, sum_by, Option, Some, None, refl, sym, ap, ◌∙◌, inl, inr, arith, get_or-set_same, not, eqb, cases_eq, cases_lt, eq-eqb, ne_eqb, length-replicate, set-get_or, PageRef, Slot, without, SwapView, owner_of, page_in, without_slot, IsSwap, IsSteady, Frame, frame_at, PageRec, SegRec, AreApart, but, no_page, find_seg, rec_by, count_by_id, HasPage, NowhereUpTo, with_rec, page_count, locked_pages, StoreView, held_by, disowned, IsTied, IsStoreSound, outline, outlines, emptied, Given, IsBlank, Dropped, StayNowhere, AtRest, sum_by-filter_both, nat_tests, common_steps}
+use Rattle.shm_fault.proofs.Names.{◌≡◌, ◌≢◌, ℕ, zero, suc, ◌<◌, ◌≤◌, ◌+◌, true, List, [], ◌∷◌, length, set, map, sum_by, Option, Some, None, refl, sym, ap, ◌∙◌, inl, inr, arith, get_or-set_same, not, eqb, cases_eq, cases_lt, eq-eqb, ne_eqb, length-replicate, set-get_or, PageRef, Slot, without, SwapView, owner_of, page_in, without_slot, IsSwap, IsSteady, Frame, frame_at, PageRec, SegRec, AreApart, but, no_page, find_seg, rec_by, count_by_id, HasPage, NowhereUpTo, with_rec, page_count, locked_pages, StoreView, held_by, disowned, IsTied, IsStoreSound, outline, outlines, emptied, Given, IsBlank, Dropped, StayNowhere, IsUncounted, sum_by-filter_both, nat_tests, common_steps}
 use Rattle.shm_base.specs.Page.{zero_page}
 use Rattle.shm_fault.specs.Store.{held}
 use Rattle.shm_fault.proofs.Entries.{apart-filter, edit-none, find-but, find-out}
-use Rattle.shm_fault.proofs.Counting.{AtRest-trans}
+use Rattle.shm_fault.proofs.Counting.{uncounted-trans}
 use Rattle.shm_fault.proofs.Sound.{IsSound-from, GoesOn-refl, GoesOn-trans}
 use Rattle.shm_fault.proofs.Pages.{outlines-with, rec-with, rec-with_other, rec-past, count-same, apart-same, other, other-true, ref_parts}
 use Rattle.shm_fault.proofs.Slots.{OnlySlot, OnlySlot-given, owner-given, set-cases}
@@ -119,7 +119,7 @@ dropped-none seg s = record {
   steady = record { goes_on = GoesOn-refl s.swap; failures = refl; same_sizes = refl };
   still = λ q ne. refl;
   done = λ page lt. absurd (omega (arith, lt));
-  rest = record { hand = refl; ins = refl; outs = refl };
+  rest = record { ins = refl; outs = refl };
   nothing = λ blank. refl;
   placed = forgets-none seg (places s);
 }
@@ -128,7 +128,7 @@ dropped-none seg s = record {
 pub dropped-more : (seg n : ℕ) (s t u : StoreView) → Dropped seg n s t → HasPage t.segs (record { seg = seg; page = n }) → u.segs ≡ with_rec t.segs (record { seg = seg; page = n }) no_page
     → without (held u) seg ≡ without (held t) seg → ((f : ℕ) → disowned seg (frame_at u.frames f).owner ≡ disowned seg (frame_at t.frames f).owner)
     → ((k : Slot) → disowned seg (owner_of u.swap k.area k.slot) ≡ disowned seg (owner_of t.swap k.area k.slot)) → length u.frames ≡ length t.frames → IsSteady t.swap u.swap
-    → AtRest t u → (rec_by t.segs (record { seg = seg; page = n }) ≡ no_page → u ≡ t)
+    → IsUncounted t u → (rec_by t.segs (record { seg = seg; page = n }) ≡ no_page → u ≡ t)
     → places u ≡ after_forget (record { seg = seg; page = n }) (places t) → Dropped seg (n + 1) s u
 dropped-more seg n s t u d has segs bytes frames slots size steady rest same placed =
     let r : PageRef = record { seg = seg; page = n } in
@@ -145,7 +145,7 @@ dropped-more seg n s t u d has segs bytes frames slots size steady rest same pla
         | inl e ↦ rw e (at r ∙ rec-with t.segs r no_page has)
         | inr ne ↦ at (record { seg = seg; page = page }) ∙ rec-with_other t.segs r (record { seg = seg; page = page }) no_page (other-true r (record { seg = seg; page = page }) (λ same. ne (ap (λ (x : PageRef). x.page) same))) ∙ d.done page (omega arith)
       ];
-      rest = AtRest-trans s t u d.rest rest;
+      rest = uncounted-trans s t u d.rest rest;
       nothing = λ blank. let is : t ≡ s = d.nothing blank in same (rw is (blank n)) ∙ is;
       placed = forgets-then seg n (places s) (places t) (places u) d.placed placed;
     }
@@ -159,7 +159,7 @@ dropped-rest seg n (suc k) s t apart none few d =
     let before = dropped-rest seg n k s t apart (λ page le lt. none page le (omega (arith, lt))) (omega (arith, few)) d in
     let same = with-is t.segs r no_page apart at in
     let steady : IsSteady t.swap t.swap = record { goes_on = GoesOn-refl t.swap; failures = refl; same_sizes = refl } in
-    let rest : AtRest t t = record { hand = refl; ins = refl; outs = refl } in
+    let rest : IsUncounted t t = record { ins = refl; outs = refl } in
     let e : n + suc k ≡ n + k + 1 = omega arith in
     rw e (dropped-more seg (n + k) s t t before (omega (arith, few)) (sym same) refl (λ f. refl) (λ j. refl) refl steady rest (λ none. refl) (forget-nowhere t r same at))
 

@@ -24,7 +24,7 @@ pub use Rattle.shm_slots.specs.Owners.{used_count}
 pub use Rattle.shm_slots.specs.View.{AreaView, HasSlot, IsArea, IsFirstFree, IsSwap, OneArea, SameSlots, SwapView, AfterWriteFault, area_at, is_spent_here, no_area, off, owner_of, page_in, rise, size_of, sizes, swap_slots, slots_in, used_in, used_slots, with_area, with_owner, with_page, with_slot_owner, with_slot_page, without_slot}
 pub use mir.Val.{bool_byte}
 pub use Rattle.shm_fault.specs.Access.{Accessed, AreIn, Brings, IsUntouched, Visited}
-pub use Rattle.shm_fault.specs.Counting.{AtRest, CountsOn, hand_after, hand_for_frame, one_if, raised}
+pub use Rattle.shm_fault.specs.Counting.{IsUncounted, CountsOn, one_if, raised}
 pub use Rattle.shm_fault.specs.Dropping.{Dropped, Given, IsBlank, StayNowhere, emptied}
 pub use Rattle.shm_fault.specs.Flushing.{IsFlushed, dirty_after, may_flush}
 pub use Rattle.shm_fault.specs.Goes.{Alike, Goes, KeepsLocked, MovesOn, Outline, StaysAway, Visits, frame_by, outline, outlines, referenced_at, unlocked}

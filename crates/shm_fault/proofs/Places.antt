@@ -1,11 +1,10 @@
 -- What each step of paging makes of the places.
-use Rattle.shm_fault.proofs.Names.{◌≡◌, ℕ, Bool, true, false, List, [], ◌∷◌, map, set, Option, Some, None, is_some, refl, sym, ap, ◌∙◌, inl, inr, PageRef, Slot, Span, with_slot_owner, Frame, no_frame, frame_at, rec_by, with_rec, StoreView, unlocked, ref_of, frame_by}
+use Rattle.shm_fault.proofs.Names.{next, ◌≡◌, ℕ, Bool, true, false, List, [], ◌∷◌, map, set, length, Option, Some, None, is_some, refl, sym, ap, ◌∙◌, inl, inr, PageRef, Slot, Span, with_slot_owner, Frame, no_frame, frame_at, rec_by, with_rec, StoreView, unlocked, ref_of, frame_by}
 use Rattle.std.proofs.lemmas.List.{length-map}
 use Rattle.std.proofs.Math.Seq.{map-set_same}
 use Rattle.std.specs.Prelude.{position}
 use Rattle.shm_frames.specs.Frame.{is_free}
-use Rattle.shm_clock.specs.Clock.{candidates, passed_by, unset_all}
-use Rattle.shm_fault.specs.Counting.{victim_by, turned}
+use Rattle.shm_clock.specs.Clock.{candidates, victim_of, passed_by, unset_all}
 use Rattle.shm_fault.specs.Placing.{Places, bare, slot_owners, places, free_slot, slotted, with_bit, after_page_out, victim_in, after_turn, vacated, after_clean, after_eviction, after_room, frame_for, settled, referenced, after_visit, after_access, with_dirty, StopsAtWrite, StopsAt, Stops}
 use Rattle.shm_fault.proofs.Placed.{bare-at, bare-set, candidates-bare, victim-bare, passed-bare, unset-bare, position-bare, owners-set}
 
@@ -42,11 +41,11 @@ unfolding places vacated
 vacated-is s t f r bytes owner hand swap segs frames = rw (hand, swap, segs, frames, bare-at s.frames f, owner) (rw (bare-set s.frames f (record no_frame { bytes = bytes })) refl)
 
 -- the clock turns
-pub victim-place : (s : StoreView) (pinned : Option ℕ) → victim_by s pinned ≡ victim_in pinned (places s)
+pub victim-place : (s : StoreView) (pinned : Option ℕ) → victim_of s.frames (candidates (unlocked s.segs) pinned s.frames s.hand) ≡ victim_in pinned (places s)
 unfolding places
 victim-place s pinned = rw (candidates-bare (unlocked s.segs) pinned s.frames s.hand) (sym (victim-bare s.frames (candidates (unlocked s.segs) pinned s.frames s.hand)))
 
-pub turn-is : (s t : StoreView) (pinned : Option ℕ) → t.segs ≡ s.segs → t.swap ≡ s.swap → t.frames ≡ unset_all s.frames (passed_by s.frames (candidates (unlocked s.segs) pinned s.frames s.hand)) → t.hand ≡ turned s pinned
+pub turn-is : (s t : StoreView) (pinned : Option ℕ) → t.segs ≡ s.segs → t.swap ≡ s.swap → t.frames ≡ unset_all s.frames (passed_by s.frames (candidates (unlocked s.segs) pinned s.frames s.hand)) → t.hand ≡ next (length s.frames) (victim_of s.frames (candidates (unlocked s.segs) pinned s.frames s.hand))
     → places t ≡ after_turn pinned (places s)
 unfolding places after_turn
 turn-is s t pinned segs swap frames hand =

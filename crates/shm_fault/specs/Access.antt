@@ -12,7 +12,7 @@ use Rattle.shm_fault.specs.Segs.{rec_by}
 use Rattle.shm_fault.specs.Store.{StoreView, held, frame_of, page_of, ref_of, is_swapped, IsResident, IsReferenced, pages_among, swapped_among}
 use Rattle.shm_fault.specs.Steps.{MovesLead, LockedPagesStay}
 use Rattle.shm_fault.specs.Goes.{Goes, KeepsLocked, Visits, MovesOn, frame_by, referenced_at}
-use Rattle.shm_fault.specs.Counting.{raised, one_if, CountsOn, hand_after}
+use Rattle.shm_fault.specs.Counting.{raised, one_if, CountsOn}
 use Rattle.shm_fault.specs.Placing.{places, after_access, with_dirty, Stops, NoneDirtied, AreDirtied}
 use Rattle.shm_fault.specs.Sound.{IsStoreSound}
 
@@ -37,7 +37,6 @@ pub record Visited
   pub ins : v.ins ≡ u.ins + one_if (ok && is_swapped (rec_by s.segs r))
   pub outs : v.outs ≤ u.outs + 1
   pub counts : CountsOn u v s t
-  pub hand : t.hand ≡ hand_after s known pinned
   pub quiet : IsSome known → (ok ≡ true) × (v ≡ u) × (t.segs ≡ s.segs) × (t.swap ≡ s.swap)
   pub cause : ok ≡ false → had_cause s.swap t.swap ≡ true
 
@@ -52,11 +51,6 @@ AreIn t [] here = ⊤
 AreIn t (p ∷ []) here = IsIn t p here.first
 AreIn t (p ∷ q ∷ ps) here = IsIn t p here.first × IsIn t q here.second
 
--- The hand stays if the pages of all spans were resident. For one span, it moves as the visit to its page moves it.
-pub record Turns (ps : List Span) (s t : StoreView) : Type 0 where
-  pub still : All (IsResident s) ps → t.hand ≡ s.hand
-  pub one : (p : Span) → ps ≡ p ∷ [] → t.hand ≡ hand_after s (frame_by s (ref_of p)) None
-
 -- The effects of paging for spans, whether it succeeds or not. At most as many pages are read, and at most as many written, as
 -- the spans have pages. On success each page that was only in a slot was read. The caller's counts and the store's have each.
 pub record Paged (ps : List Span) (s t : StoreView) (u : Touched) (ok : Bool) : Type 0 where
@@ -66,7 +60,6 @@ pub record Paged (ps : List Span) (s t : StoreView) (u : Touched) (ok : Bool) : 
   pub outs_few : u.outs ≤ pages_among ps
   pub read_in : t.ins ≡ raised s.ins u.ins
   pub written_out : t.outs ≡ raised s.outs u.outs
-  pub turns : Turns ps s t
   pub swapped : ok ≡ true → swapped_among s ps ≤ u.ins
   pub quiet : All (IsResident s) ps → (ok ≡ true) × (t.swap ≡ s.swap) × (u.ins ≡ 0) × (u.outs ≡ 0)
   pub cause : ok ≡ false → had_cause s.swap t.swap ≡ true

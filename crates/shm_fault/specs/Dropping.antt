@@ -10,7 +10,7 @@ use Rattle.shm_fault.specs.Segs.{but, count_by_id, rec_by, no_page, with_rec}
 use Rattle.shm_fault.specs.Store.{StoreView, held, frame_of, disowned}
 use Rattle.shm_fault.specs.Sound.{IsStoreSound}
 use Rattle.shm_fault.specs.Goes.{outlines}
-use Rattle.shm_fault.specs.Counting.{AtRest}
+use Rattle.shm_fault.specs.Counting.{IsUncounted}
 use Rattle.shm_fault.specs.Placing.{places, after_forget, after_forgets, without_segment}
 
 -- the frames, with one of them made free
@@ -60,7 +60,7 @@ pub record Dropped (seg n : ℕ) (s t : StoreView) : Type 0 where
   pub steady : IsSteady s.swap t.swap
   pub still : (q : PageRef) → (q.seg ≡ seg → ⊥) → rec_by t.segs q ≡ rec_by s.segs q
   pub done : (page : ℕ) → page < n → rec_by t.segs (record { seg = seg; page = page }) ≡ no_page
-  pub rest : AtRest s t
+  pub rest : IsUncounted s t
   pub nothing : IsBlank seg s → t ≡ s
   pub placed : places t ≡ after_forgets seg n (places s)
 
@@ -83,7 +83,7 @@ pub record Forgets (page : PageRef) (s t : StoreView) : Type 0 where
   pub slots : SameInSlots page.seg s.swap t.swap
   pub size : length t.frames ≡ length s.frames
   pub steady : IsSteady s.swap t.swap
-  pub rest : AtRest s t
+  pub rest : IsUncounted s t
   pub placed : places t ≡ after_forget page (places s)
   pub nowhere : rec_by s.segs page ≡ no_page → t ≡ s
 
@@ -96,7 +96,7 @@ pub record Drops (seg : ℕ) (s t : StoreView) : Type 0 where
   pub counts : (total t.swap ≡ total s.swap) × GoesOn s.swap t.swap
   pub sizes : sizes t.swap ≡ sizes s.swap
   pub count : length t.frames ≡ length s.frames
-  pub rest : AtRest s t
+  pub rest : IsUncounted s t
   pub places : places t ≡ without_segment seg (after_forgets seg (count_by_id s.segs seg) (places s))
   pub blank : IsBlank seg s → t ≡ record s { segs = but seg s.segs }
   pub sound : IsStoreSound t

@@ -9,7 +9,7 @@ use Rattle.shm_fault.specs.Held.{pages_in_store}
 use Rattle.shm_fault.specs.Store.{StoreView, Still, held}
 use Rattle.shm_fault.specs.Placing.{places, after_moves, free_slot, own_slot, slot_owners, without_area, StopsMoving}
 use Rattle.shm_fault.specs.declared.touched.PagerFailed.{PagerFailed}
-use Rattle.shm_fault.specs.Counting.{AtRest}
+use Rattle.shm_fault.specs.Counting.{IsUncounted}
 use Rattle.shm_fault.specs.Sound.{IsStoreSound}
 use Rattle.shm_fault.specs.Steps.{LockedPagesStay}
 
@@ -67,7 +67,7 @@ pub record MovesOff {A : Type 0} (area : ℕ) (s t : StoreView) (result : Result
   pub count : length t.frames ≡ length s.frames
   pub cause : OnErr result (had_cause s.swap t.swap ≡ true)
   pub moved : IfErr result (λ e. e.touched.moved.items ≡ [])
-  pub rest : AtRest s t
+  pub rest : IsUncounted s t
   pub moves : OnOk result
       (places t ≡ without_area area (after_moves area (length (area_at s.swap area).pages) (places s)))
   pub stopped : OnErr result (StopsMoving area (places s) (places t))

@@ -12,7 +12,7 @@ use Rattle.shm_fault.specs.Segs.{rec_by, with_rec}
 use Rattle.shm_fault.specs.Store.{StoreView, Still, IsFreeFrame, marked, slot_bytes}
 use Rattle.shm_fault.specs.Sound.{IsStoreSound}
 use Rattle.shm_fault.specs.Goes.{Goes, Alike, unlocked, StaysAway, Visits, MovesOn, OnlyMoves, OnlyWrites, CountsWrite, IsSlotOf, frame_by, referenced_at}
-use Rattle.shm_fault.specs.Counting.{raised, one_if, CountsOn, victim_by, turned, hand_for_frame}
+use Rattle.shm_fault.specs.Counting.{raised, one_if, CountsOn}
 use Rattle.shm_fault.specs.Placing.{places, after_page_out, after_clean, after_turn, after_eviction, after_room, frame_for, settled, slotted, vacated, victim_in, with_bit, StopsAtWrite}
 
 -- A frame got the bytes of a slot, or zeros. If a pager failed its bytes are unknown.
@@ -36,8 +36,6 @@ pub record NamesVictim (pinned : Option ℕ) (s t : StoreView) (frame : ℕ) : T
   pub alike : (f : ℕ) → Alike (frame_at s.frames f) (frame_at t.frames f)
   pub pin : (p : ℕ) → pinned ≡ Some p → frame_at t.frames p ≡ frame_at s.frames p
   pub rest : t ≡ record s { frames = t.frames; hand = t.hand }
-  pub victim : frame ≡ victim_by s pinned
-  pub hand : t.hand ≡ turned s pinned
   pub placed : places t ≡ after_turn pinned (places s)
   pub chosen : frame ≡ victim_in pinned (places s)
   pub goes : Goes s t
@@ -125,7 +123,6 @@ pub record Evicts
   pub gone : IfOk result (λ e. OnlyMoves e.page None s t)
   pub free : IfOk result (λ e. IsFreeFrame t.frames e.frame)
   pub err : OnErr result (Still s t)
-  pub hand : t.hand ≡ turned s pinned
   pub ins : t.ins ≡ s.ins
   pub outs : MatchResult result (λ e. t.outs ≡ raised s.outs (one_if e.written)) (λ _. t.outs ≡ s.outs)
   pub placed : OnOk result (places t ≡ after_eviction pinned (places s))
@@ -143,7 +140,6 @@ pub record MakesRoom
   pub ins : v.ins ≡ u.ins
   pub outs : v.outs ≤ u.outs + 1
   pub counts : CountsOn u v s t
-  pub hand : t.hand ≡ hand_for_frame s pinned
   pub placed : OnOk result (places t ≡ after_room pinned (places s))
   pub chosen : IfOk result (λ f. f ≡ frame_for pinned (places s))
   pub stopped : OnErr result (StopsAtWrite pinned (places s) (places t))
@@ -161,7 +157,6 @@ pub record ComesIn
   pub ins : v.ins ≡ u.ins + one_if (is_ok result && is_some (rec_by s.segs page).slot)
   pub outs : v.outs ≡ u.outs
   pub counts : CountsOn u v s t
-  pub hand : t.hand ≡ s.hand
   pub placed : OnOk result (places t ≡ settled page frame (places s))
   pub stopped : OnErr result (places t ≡ places s)
   pub slot : OnErr result (is_some (rec_by s.segs page).slot ≡ true)

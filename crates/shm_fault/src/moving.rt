@@ -6,7 +6,7 @@ ghost use Rattle.shm_fault.specs.Segs.{rec_by};
 ghost use Rattle.shm_fault.specs.Store.{Still};
 ghost use Rattle.shm_fault.specs.Sound.{IsStoreSound};
 ghost use Rattle.shm_fault.specs.Goes.{Goes};
-ghost use Rattle.shm_fault.specs.Counting.{AtRest};
+ghost use Rattle.shm_fault.specs.Counting.{IsUncounted};
 ghost use Rattle.shm_fault.specs.Placing.{places, slot_owners, free_slot, moves_page, after_move, StopsAtMove};
 ghost use Rattle.shm_fault.specs.Moving.{HasFreeOutside, FitOutside, Relocates, MovesOff, IsCleared};
 
@@ -66,7 +66,7 @@ impl<P: Pager> PageStore<P> {
         ensures goes { Goes self.old self.new }
         ensures still { Still self.old self.new }
         ensures cleared { IsCleared slot self.old.swap self.new.swap }
-        ensures rest { AtRest self.old self.new }
+        ensures rest { IsUncounted self.old self.new }
         ensures placed { places self.new ≡ moves_page slot page (Some frame) None (places self.old) }
         ensures sound { IsStoreSound self.new }
     {
@@ -88,7 +88,7 @@ impl<P: Pager> PageStore<P> {
         ensures goes { Goes self.old self.new }
         ensures still { Still self.old self.new }
         ensures cleared { OnOk result (IsCleared slot self.old.swap self.new.swap) }
-        ensures rest { AtRest self.old self.new }
+        ensures rest { IsUncounted self.old self.new }
         ensures placed { let to = free_slot (Some slot.area) (slot_owners self.old.swap) in
             OnOk result (places self.new ≡ moves_page slot page None to (places self.old)) }
         ensures stopped { OnErr result (places self.new ≡ places self.old) }
@@ -113,7 +113,7 @@ impl<P: Pager> PageStore<P> {
         ensures goes { Goes self.old self.new }
         ensures still { Still self.old self.new }
         ensures cleared { OnOk result (IsCleared slot self.old.swap self.new.swap) }
-        ensures rest { AtRest self.old self.new }
+        ensures rest { IsUncounted self.old self.new }
         ensures placed { OnOk result (places self.new ≡ after_move slot (places self.old)) }
         ensures stopped { OnErr result (StopsAtMove slot (places self.old) (places self.new)) }
         ensures cause { OnErr result (had_cause self.old.swap self.new.swap ≡ true) }

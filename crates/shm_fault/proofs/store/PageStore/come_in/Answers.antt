@@ -51,7 +51,6 @@ returns g c =
       counts = counts-more u _ s z (one_if (is_some c.page-slot.result.slot)) 0
           (ap (λ n. u.ins + n) (c.from.ensures ∙ byte-one _ ∙ ap one_if c.is_some.ensures)) (ap (λ (v : StoreView). v.ins) settled.rest ∙ c.in_ok-load.ensures.ins)
           (omega arith) (ap (λ (v : StoreView). v.outs) settled.rest ∙ ap (λ (v : StoreView). v.outs) loaded.rest);
-      hand = ap (λ (v : StoreView). v.hand) settled.rest ∙ ap (λ (v : StoreView). v.hand) loaded.rest;
       placed = rw (← loaded.placed) settled.placed;
       stopped = tt;
       slot = tt;
@@ -75,7 +74,6 @@ returns-in_err-load g c =
       ins = grind (arith, common_steps);
       outs = refl;
       counts = grind (arith, common_steps, counts-still);
-      hand = ap (λ (v : StoreView). v.hand) loaded.rest;
       placed = grind (arith, common_steps);
       stopped = MatchResult-from_err _ _ _ from λ _. loaded.placed;
       slot = grind (arith, common_steps);

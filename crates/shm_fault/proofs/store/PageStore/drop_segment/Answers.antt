@@ -79,7 +79,7 @@ returns g c =
       counts = (d.steady.failures, d.steady.goes_on);
       sizes = d.steady.same_sizes;
       count = d.size;
-      rest = record { hand = d.rest.hand; ins = d.rest.ins; outs = d.rest.outs };
+      rest = record { ins = d.rest.ins; outs = d.rest.outs };
       places = rw c.remove.ensures (segment-gone c.args.seg (count_by_id s.segs c.args.seg) s t d.placed);
       blank = is.blank;
       sound = is.sound;

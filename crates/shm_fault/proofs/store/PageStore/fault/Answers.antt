@@ -38,7 +38,7 @@ visited g c =
     visited-fault c.args.page c.args.pinned c.args.self.now c.come_in.new.self c.args.touched.now c.come_in.new.touched (is_ok c.come_in.result) c.requires.away (visits g c) (moves g c)
     (omega (arith, took.few, came.few)) (rw (← same, ← took.ins) came.ins) (omega (arith, took.outs, came.outs))
     (record { ins = λ n e. came.counts.ins n (took.counts.ins n e); outs = λ n e. came.counts.outs n (took.counts.outs n e) })
-    (came.hand ∙ took.hand) (err_of c.come_in.result _ cause)
+    (err_of c.come_in.result _ cause)
 
 pub returns-clause-visited : goal.returns-clause-visited
 returns-clause-visited g c = rw c.in_ok-come_in.was at (visited g (goal.at.returns-clause-visited g c).After-come_in)
@@ -52,7 +52,7 @@ returns-in_err-frame-clause-visited g c =
     let took = c.take_frame.ensures in
     rw (err_from_is_err_and c.from_residual.result c.from_residual.ensures.1).1
     (visited-fault c.args.page c.args.pinned c.args.self.now c.take_frame.new.self c.args.touched.now c.take_frame.new.touched false c.requires.away (took.visits c.args.page) took.moves
-    (omega (arith, took.few)) (omega (arith, took.ins)) took.outs took.counts took.hand (λ e. c.in_err-frame.ensures.cause))
+    (omega (arith, took.few)) (omega (arith, took.ins)) took.outs took.counts (λ e. c.in_err-frame.ensures.cause))
 
 pub returns-clause-placed : goal.returns-clause-placed
 returns-clause-placed g c =

@@ -1,4 +1,4 @@
-use Rattle.shm_fault.proofs.Names.{◌≡◌, ◌∙◌, sym, arith, common_steps, refl, no_page, rec_by, with_rec, Given, IsSteady, AtRest, unlocked}
+use Rattle.shm_fault.proofs.Names.{◌≡◌, ◌∙◌, sym, arith, common_steps, refl, no_page, rec_by, with_rec, Given, IsSteady, IsUncounted, unlocked}
 use Rattle.shm_fault.proofs.Seen.{seen}
 use Rattle.shm_fault.proofs.Skipped.{skipped-emptied, skipped-with}
 use Rattle.shm_fault.proofs.Sound.{frame-own, slot-own, GoesOn-refl}
@@ -44,7 +44,7 @@ returns g c =
       slots = d.slots;
       size = d.size;
       steady = c.free_slot.ensures.steady;
-      rest = record { hand = refl; ins = refl; outs = refl };
+      rest = record { ins = refl; outs = refl };
       placed = rw (c.set_page.ensures, c.empty_frame.ensures, c.page-place.ensures) (forget-is (seen i) c.args.page c.free_slot.new.swap slot);
       nowhere = grind (arith, common_steps, with-same);
     })
@@ -56,7 +56,7 @@ returns-then-eq g c =
     let at : rec_by s.segs c.args.page ≡ no_page = sym c.page-place.ensures ∙ place in
     let same : with_rec s.segs c.args.page no_page ≡ s.segs = with-is s.segs c.args.page no_page c.self.invariant.0.apart at in
     let steady : IsSteady s.swap s.swap = record { goes_on = GoesOn-refl s.swap; failures = refl; same_sizes = refl } in
-    let rest : AtRest s s = record { hand = refl; ins = refl; outs = refl } in
+    let rest : IsUncounted s s = record { ins = refl; outs = refl } in
     rw (← c.self.view_is) (record {
       segs = sym same;
       held = refl;

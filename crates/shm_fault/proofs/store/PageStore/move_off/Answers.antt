@@ -1,5 +1,5 @@
 use Rattle.shm_fault.proofs.Names.{◌≡◌, refl, List, Option, None, ℕ, set, ap, length, ◌∙◌, arith, area_at, held, IsStoreSound, Still, StoreView, SwapView, common_steps, nat_tests}
-use Rattle.shm_fault.proofs.Counting.{AtRest-trans}
+use Rattle.shm_fault.proofs.Counting.{uncounted-trans}
 use Rattle.shm_fault.specs.Store.{frame_of}
 use Rattle.shm_fault.proofs.Seen.{seen}
 use Rattle.shm_fault.proofs.Sound.{GoesOn-trans, cause-after}
@@ -79,7 +79,7 @@ returns-in_default g c =
       count = e.goes.size ∙ before.goes.size;
       cause = cause-after s c.loop-slot.self t before.goes e.goes c.in_default.ensures.cause;
       moved = c.none.ensures.0;
-      rest = AtRest-trans s c.loop-slot.self t before.rest e.rest;
+      rest = uncounted-trans s c.loop-slot.self t before.rest e.rest;
       moves = tt;
       stopped = stops-moving c.args.area c.loop-slot.slot s c.loop-slot.self t (omega (arith, all, owned, c.loop-slot-test.true)) before.placed c.in_default.ensures.stopped;
       still = still;
@@ -106,7 +106,7 @@ returns g c =
       count = is.goes.size;
       cause = tt;
       moved = tt;
-      rest = record { hand = is.rest.hand; ins = is.rest.ins; outs = is.rest.outs };
+      rest = record { ins = is.rest.ins; outs = is.rest.outs };
       moves = rw (← last) (area-gone s t u c.args.area c.loop-slot.slot (rw e.gone refl) is.placed);
       stopped = tt;
       still = still-off s t c.turn_off.new.self is.still;

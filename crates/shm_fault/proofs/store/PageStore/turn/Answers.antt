@@ -41,8 +41,6 @@ returns g c =
       alike = clock-alike (may_go (unlocked i.segs) c.args.pinned i.frames) i.hand i.frames c.choose.result c.choose.new.frames clock;
       pin = grind (arith, common_steps);
       rest = refl;
-      victim = c.choose.ensures.turned.victim;
-      hand = rw (← c.choose.ensures.turned.victim) c.choose.ensures.hand;
       placed = turn-is s (record s { frames = c.choose.new.frames; hand = c.choose.new.hand }) c.args.pinned refl refl c.choose.ensures.turned.bits (rw (← c.choose.ensures.turned.victim) c.choose.ensures.hand);
       chosen = c.choose.ensures.turned.victim ∙ victim-place s c.args.pinned;
       goes = k.goes;
