@@ -41,7 +41,7 @@ impl<P: Pager> PageStore<P> {
 
     /// Writes the first `n` dirty frames of segments that are not locked, by rising number, each to the
     /// slot of its page, as where that page has to go. A frame whose write failed stays dirty; it is one
-    /// of the `n`. The clock's hand stays. Blocks of 64 frames of which none is dirty are passed at once.
+    /// of the `n`. The clock's hand stays.
     pub fn flush(&mut self, n: u64) -> FlushReport
         ensures flushed { IsFlushed self.old self.new n result }
         ensures held { held self.new ≡ held self.old }

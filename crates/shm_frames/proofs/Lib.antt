@@ -1,4 +1,4 @@
 pub mod Shown
 pub mod Counts
 pub mod First
-pub mod Marks
+pub mod Dirty

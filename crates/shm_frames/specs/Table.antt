@@ -1,5 +1,5 @@
 -- The entries of the table and the bytes of the frames, which contracts see as frames; and the table's invariant.
-use Rattle.std.specs.Prelude.{◌≡◌, ℕ, ◌+◌, ◌/◌, ◌<◌, ◌≤◌, ◌^◌, Bool, true, false, Option, None, Some, is_none, is_some, List, [], ◌∷◌, length, get_or, count_by}
+use Rattle.std.specs.Prelude.{◌≡◌, ℕ, ◌<◌, ◌≤◌, ◌^◌, Bool, true, false, Option, None, Some, is_none, is_some, List, [], ◌∷◌, length, get_or, count_by}
 use Rattle.shm_frames.specs.declared.frames.FrameState.{FrameState}
 use Rattle.shm_base.specs.Stored.{padded}
 use Rattle.shm_base.specs.Page.{zero_page}
@@ -50,15 +50,6 @@ pub record IsFrameTable (table : List FrameState) (first_free owned changed : �
   pub resident : owned ≡ count_by has_owner table
   pub dirty : changed ≡ count_by has_changed table
   pub clear : (i : ℕ) → (state_at table i).owner ≡ None → state_at table i ≡ free_entry
-
--- if an entry is dirty, its block of 64 is marked
-abbrev pub AreMarked : List FrameState → List Bool → Type 0
-AreMarked table marks = (i : ℕ) → (state_at table i).dirty ≡ true → get_or marks (i / 64) false ≡ true
-
--- each block has a mark, or room for one
-pub record HasMarks (count marks capacity : ℕ) : Type 0 where
-  pub few : marks ≤ count / 64 + 1
-  pub room : count / 64 < capacity
 
 -- the entries from `first` on are clean, up to the one that was found, or up to `last`
 abbrev pub CleanFrom : List FrameState → ℕ → ℕ → Option ℕ → Type 0

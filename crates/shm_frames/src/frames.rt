@@ -3,9 +3,8 @@
 //! A table has an entry for each frame. The bytes of the frames are kept apart from it, so a walk over owners
 //! and bits reads no page. Entries and bytes are made when a frame is first used; memory that is reserved for
 //! other frames is not touched. The table keeps a bound below which no frame is free, and counts owned and
-//! dirty frames. It marks each block of 64 frames in which one may be dirty, so a search for dirty frames
-//! skips the other blocks. A free frame has both bits clear, and arbitrary bytes.
-ghost use Rattle.std.specs.Prelude.{◌≡◌, ℕ, ◌+◌, ◌-◌, ◌/◌, ◌<◌, ◌≤◌, ◌^◌, [], ◌∷◌, ◌++◌, length, get_or, set, position, count_by, vec_capacity, None, Some, IfOk, IfSome, IsSome, MatchOption, true, false};
+//! dirty frames. A free frame has both bits clear, and arbitrary bytes.
+ghost use Rattle.std.specs.Prelude.{◌≡◌, ℕ, ◌+◌, ◌-◌, ◌<◌, ◌≤◌, ◌^◌, [], ◌∷◌, ◌++◌, length, get_or, set, position, count_by, vec_capacity, None, Some, IfOk, IfSome, IsSome, MatchOption, true};
 ghost use Rattle.std.specs.Borrow.{sem};
 ghost use Rattle.shm_base.specs.Stored.{padded};
 ghost use Rattle.shm_base.specs.Page.{zero_page};
@@ -34,8 +33,6 @@ pub struct Frames {
     // How many frames are owned, and how many are dirty.
     resident: u32,
     dirty: u32,
-    // Whether a frame of each block may be dirty. Blocks after these have no dirty frame.
-    marks: Vec<bool>,
 }
 
 impl Drop for Frames {
@@ -47,26 +44,23 @@ impl Drop for Frames {
             first_free: _,
             resident: _,
             dirty: _,
-            marks: _,
         } = self;
     }
 }
 
 impl Model for Frames {
-    ghost use Rattle.std.specs.Prelude.{◌≤◌, List, length, vec_capacity};
+    ghost use Rattle.std.specs.Prelude.{◌≤◌, List, vec_capacity};
     ghost use Rattle.shm_frames.specs.Frame.{Frame};
 
     ghost Value = { List Frame };
 
-    ghost use Rattle.shm_frames.specs.Table.{all_frames, AreUsed, IsFrameTable, AreMarked, HasMarks};
+    ghost use Rattle.shm_frames.specs.Table.{all_frames, AreUsed, IsFrameTable};
 
     ghost view = { λ a. all_frames a.table.items a.pages.items a.count };
 
     ghost invariant = { λ a. AreUsed a.table.items a.pages.items a.count
         × (a.count ≤ vec_capacity a.table) × (a.count ≤ vec_capacity a.pages)
-        × IsFrameTable a.table.items a.first_free a.resident a.dirty
-        × AreMarked a.table.items a.marks.items
-        × HasMarks a.count (length a.marks.items) (vec_capacity a.marks) };
+        × IsFrameTable a.table.items a.first_free a.resident a.dirty };
 }
 
 impl FrameState {
@@ -77,10 +71,7 @@ impl FrameState {
     };
 }
 
-// How many frames share one mark.
-pub(crate) const BLOCK: usize = 64;
-
-ghost use Rattle.shm_frames.specs.Table.{free_entry, state_at, has_owner, UsedBelow, AreMarked, CleanFrom};
+ghost use Rattle.shm_frames.specs.Table.{free_entry, state_at, has_owner, UsedBelow, CleanFrom};
 
 // The table's entry of a frame. A frame that was never used is free.
 fn state_of(table: &Vec<FrameState>, frame: FrameNo) -> FrameState
@@ -174,55 +165,15 @@ fn least_free(table: &Vec<FrameState>, first: FrameNo, resident: u32) -> FrameNo
     used as FrameNo
 }
 
-// Marks the block of a frame.
-pub(crate) fn mark(marks: &mut Vec<bool>, frame: FrameNo)
-    requires { frame / 64 < vec_capacity marks.old }
-    ensures marks { marks.new.items ≡ set (padded marks.old.items (frame / 64 + 1) false) (frame / 64) true }
-    ensures room { vec_capacity marks.new ≡ vec_capacity marks.old }
-{
-    let block = frame as usize / BLOCK;
-    for _block in marks.len()..block + 1 {
-        marks.push_reserved(false);
-    }
-    marks[block] = true;
-}
-
-// The first dirty frame from `first` up to `last`.
-fn dirty_between(table: &Vec<FrameState>, first: usize, last: usize) -> Option<FrameNo>
+// The first dirty frame of the table from one on.
+fn dirty_from(table: &Vec<FrameState>, from: FrameNo) -> Option<FrameNo>
     requires { length table.now.items < 2 ^ 32 }
-    ensures some { IfSome result (λ f. (first ≤ f) × ((state_at table.now.items f).dirty ≡ true)) }
-    ensures clean { CleanFrom table.now.items first last result }
-{
-    for frame in first..last.min(table.len()) {
-        if table[frame].dirty {
-            return Some(frame as FrameNo);
-        }
-    }
-    None
-}
-
-// The first dirty frame from one on. Removes the marks of blocks in which no frame is dirty.
-fn dirty_from(table: &Vec<FrameState>, marks: &mut Vec<bool>, from: FrameNo) -> Option<FrameNo>
-    requires few { length table.now.items < 2 ^ 32 }
-    requires blocks { length marks.old.items ≤ 2 ^ 32 }
-    requires marked { AreMarked table.now.items marks.old.items }
     ensures some { IfSome result (λ f. (from ≤ f) × ((state_at table.now.items f).dirty ≡ true)) }
     ensures clean { CleanFrom table.now.items from (length table.now.items) result }
-    ensures marked { AreMarked table.now.items marks.new.items }
-    ensures blocks { length marks.new.items ≡ length marks.old.items }
-    ensures room { vec_capacity marks.new ≡ vec_capacity marks.old }
 {
-    let from = from as usize;
-    for block in from / BLOCK..marks.len() {
-        if marks[block] {
-            let first = from.max(block * BLOCK);
-            let found = dirty_between(table, first, block * BLOCK + BLOCK);
-            if found.is_some() {
-                return found;
-            }
-            if first > from {
-                marks[block] = false;
-            }
+    for frame in from as usize..table.len() {
+        if table[frame].dirty {
+            return Some(frame as FrameNo);
         }
     }
     None
@@ -256,7 +207,6 @@ impl Frames {
             first_free: 0,
             resident: 0,
             dirty: 0,
-            marks: Vec::with_capacity(alloc, count as usize / BLOCK + 1)?,
         })
     }
 
@@ -272,7 +222,6 @@ impl Frames {
             first_free: self.first_free,
             resident: self.resident,
             dirty: self.dirty,
-            marks: copied(&self.marks, self.count / 64 + 1)?,
         })
     }
 
@@ -437,18 +386,16 @@ impl Frames {
         self.dirty -= u32::from(entry.dirty);
         entry.dirty = dirty;
         self.dirty += u32::from(dirty);
-        if dirty {
-            mark(&mut self.marks, frame);
-        }
     }
 
-    /// The first dirty frame from one on; none if there is none. The frames do not change, only the blocks
-    /// that the next search skips: those of 64 frames without a dirty one.
-    pub fn next_dirty(&mut self, from: FrameNo) -> Option<FrameNo>
-        ensures some { IfSome result (IsDirtyFrom self.old from) }
-        ensures least { AreCleanUpTo self.old from result }
-        ensures same { self.new ≡ self.old }
+    /// The first dirty frame from one on; none if there is none.
+    pub fn next_dirty(&self, from: FrameNo) -> Option<FrameNo>
+        ensures some { IfSome result (IsDirtyFrom self.now from) }
+        ensures least { AreCleanUpTo self.now from result }
     {
-        dirty_from(&self.table, &mut self.marks, from)
+        if self.dirty == 0 {
+            return None;
+        }
+        dirty_from(&self.table, from)
     }
 }

@@ -8,13 +8,15 @@ ghost use Rattle.std.specs.Prelude.{◌≡◌, ℕ, ◌+◌, ◌/◌, ◌<◌, �
 ghost use Rattle.shm_base.specs.Stored.{padded};
 ghost use Rattle.shm_frames.specs.Skips.{is_skipped};
 
-use crate::frames::{BLOCK, copied, mark};
+use crate::frames::copied;
 use shm_base::{FrameNo, HostMemory};
 use std::alloc::Global;
 use std::marker::Model;
 
 /// How many frames share one mark.
-pub const BLOCK_FRAMES: u32 = BLOCK as u32;
+pub const BLOCK_FRAMES: u32 = 64;
+
+const BLOCK: usize = BLOCK_FRAMES as usize;
 
 /// The blocks of 64 frames that the clock's hand skips. Contracts see a list of marks, one for each block.
 pub struct Skips {
@@ -42,6 +44,19 @@ impl Model for Skips {
 
     ghost invariant = { λ a. (length a.marks.items ≤ a.blocks) × (a.blocks ≤ vec_capacity a.marks)
         × (a.blocks < 2 ^ 32) };
+}
+
+// Marks the block of a frame.
+fn mark(marks: &mut Vec<bool>, frame: FrameNo)
+    requires { frame / 64 < vec_capacity marks.old }
+    ensures marks { marks.new.items ≡ set (padded marks.old.items (frame / 64 + 1) false) (frame / 64) true }
+    ensures room { vec_capacity marks.new ≡ vec_capacity marks.old }
+{
+    let block = frame as usize / BLOCK;
+    for _block in marks.len()..block + 1 {
+        marks.push_reserved(false);
+    }
+    marks[block] = true;
 }
 
 impl Skips {

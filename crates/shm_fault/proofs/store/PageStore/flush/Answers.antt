@@ -5,23 +5,16 @@ use Rattle.shm_fault.proofs.store.PageStore.flush.Given as given
 use Rattle.shm_fault.proofs.store.PageStore.flush.Goals as goal
 use Rattle.shm_fault.proofs.store.PageStore.flush.Goals.{After-next_dirty, then-is_flushable, else-is_flushable}
 
--- the store once a dirty frame was looked for, and that it is as before
-abbrev after : (g : given.Over) (c : After-next_dirty g) → StoreView
-after g c = record (seen c.self-in-loop-from.inside) { frames = c.next_dirty.new.self }
-
-same : (g : given.Over) (c : After-next_dirty g) → after g c ≡ c.loop-from.self
-same g c = ap (λ (fs : List Frame). record (seen c.self-in-loop-from.inside) { frames = fs }) c.next_dirty.ensures.same ∙ c.self-in-loop-from.view_is
-
 -- what was flushed, up to a frame below which none of those that follow is dirty
 past : (g : given.Over) (c : After-next_dirty g) (last : ℕ) → c.loop-from.from ≤ last → ((i : ℕ) → c.loop-from.from ≤ i → i < last → (frame_at c.self-in-loop-from.inside.frames i).dirty ≡ false)
-    → Flushed c.args.n c.args.self.now last (after g c) c.loop-from.report.written c.loop-from.report.failed
+    → Flushed c.args.n c.args.self.now last c.loop-from.self c.loop-from.report.written c.loop-from.report.failed
 past g c last le clean =
     let s = c.args.self.now in
     let t = c.loop-from.self in
     let from = c.loop-from.from in
     let off : (i : ℕ) → from ≤ i → i < last → (frame_at t.frames i).dirty ≡ false = rw (← c.self-in-loop-from.view_is) clean in
     let sum : from + (last - from) ≡ last = omega (arith, le) in
-    rw (same g c) (rw sum at (flushed-past c.args.n s from (last - from) t c.loop-from.report.written c.loop-from.report.failed (λ i past lt. off i past (omega (arith, lt, le))) c.loop-from.invariant.0))
+    (rw sum at (flushed-past c.args.n s from (last - from) t c.loop-from.report.written c.loop-from.report.failed (λ i past lt. off i past (omega (arith, lt, le))) c.loop-from.invariant.0))
 
 pub loop-from-init : goal.loop-from-init
 loop-from-init g c = rw (← c.self.view_is) (flushed-none c.args.n (seen c.self.inside) c.self.invariant.0, omega arith)
@@ -31,13 +24,13 @@ loop-from-preserved g c =
     let o = (goal.at.loop-from-preserved g c).After-next_dirty in
     let n = c.args.n in
     let s = c.args.self.now in
-    let u = after g o in
+    let u = c.loop-from.self in
     let i = c.in-Some.frame in
     let wrote = c.loop-from.report.written in
     let failed = c.loop-from.report.failed in
     let found = c.in-Some.ensures.some in
     let d : Flushed n s i u wrote failed = past g o i found.past c.in-Some.ensures.least in
-    let there : i < length u.frames = rw c.next_dirty.ensures.same found.there in
+    let there : i < length u.frames = rw (← c.self-in-loop-from.view_is) found.there in
     let within : i + 1 ≤ length s.frames = omega (arith, there, d.goes.size) in
     elim c.if-is_flushable.branch [
       | then-is_flushable w ↦
@@ -56,7 +49,7 @@ returns-in_default-clause-flushed g c =
     let o = (goal.at.returns-in_default-clause-flushed g c).After-next_dirty in
     let s = c.args.self.now in
     let last = length s.frames in
-    flushed-all c.args.n s last (after g o) c.loop-from.report.written c.loop-from.report.failed refl (past g o last c.loop-from.invariant.1 (λ i le lt. c.in_default.ensures.least i le))
+    flushed-all c.args.n s last c.loop-from.self c.loop-from.report.written c.loop-from.report.failed refl (past g o last c.loop-from.invariant.1 (λ i le lt. c.in_default.ensures.least i le))
 
 pub returns-else-report-n-clause-flushed : goal.returns-else-report-n-clause-flushed
 returns-else-report-n-clause-flushed g c =

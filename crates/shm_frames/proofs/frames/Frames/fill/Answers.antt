@@ -2,10 +2,9 @@ use Rattle.std.proofs.Common.{◌≡◌, ◌<◌, ◌≤◌, ◌+◌, ℕ, List,
 use Rattle.shm_base.specs.Stored.{padded}
 use Rattle.shm_base.proofs.Stored.{within-padded}
 use Rattle.shm_frames.specs.declared.frames.FrameState.{FrameState}
-use Rattle.shm_frames.specs.Table.{free_entry, state_at, IsFrameTable, AreMarked}
+use Rattle.shm_frames.specs.Table.{free_entry, state_at, IsFrameTable}
 use Rattle.shm_frames.proofs.Shown.{AreFramesShown, shown, length-shown, reach-shown, edit-shown, entry-is, free-entry, used-set}
 use Rattle.shm_frames.proofs.Counts.{kept-reach, kept-fill, owned-more}
-use Rattle.shm_frames.proofs.Marks.{marked-reach, marked-set}
 use Rattle.shm_frames.proofs.frames.Frames.fill.Goals as goal
 use Rattle.shm_frames.proofs.frames.Frames.fill.Goals.{After-self, After-index_mut-entry}
 
@@ -38,12 +37,6 @@ module _ (c : After-index_mut-entry) (in_count : c.args.frame < c.self.inside.co
   kept : IsFrameTable c.reach.new.table.items c.self.inside.first_free c.self.inside.resident c.self.inside.dirty
   kept = rw c.reach.ensures.table (kept-reach c.self.inside.table.items c.self.inside.first_free c.self.inside.resident c.self.inside.dirty (c.args.frame + 1) c.self.invariant.3)
 
-  marked : AreMarked (set c.reach.new.table.items c.args.frame (record c.index_mut-entry.result.now { owner = Some c.args.owner })) c.self.inside.marks.items
-  marked =
-      let more = marked-reach c.self.inside.table.items c.self.inside.marks.items (c.args.frame + 1) c.self.invariant.4 in
-      let now : AreMarked c.reach.new.table.items c.self.inside.marks.items = rw c.reach.ensures.table more in
-      marked-set c.reach.new.table.items c.self.inside.marks.items c.args.frame _ (λ e. sym (ap (λ (x : FrameState). x.dirty) is_at) ∙ e) now
-
 pub index_mut-entry-requires : goal.index_mut-entry-requires
 index_mut-entry-requires c = omega (arith, at_entry c.self.inside.table.items c.reach.new.table.items c.args.frame c.reach.ensures.table)
 
@@ -68,8 +61,6 @@ invariant_of-self c =
       rw c.reach.ensures.entries c.self.invariant.1,
       rw c.reach.ensures.rooms c.self.invariant.2,
       kept-fill (kept e w) (there e w) (is_at e w) c.args.owner (c.self.inside.first_free + 1) (free e w) bound (λ j lt n. (kept e w).used j (omega (arith, first))),
-      marked e w,
-      c.self.invariant.5,
     )
 
 pub invariant_of-self-else-frame-self : goal.invariant_of-self-else-frame-self
@@ -81,8 +72,6 @@ invariant_of-self-else-frame-self c =
       rw c.reach.ensures.entries c.self.invariant.1,
       rw c.reach.ensures.rooms c.self.invariant.2,
       kept-fill (kept e w) (there e w) (is_at e w) c.args.owner c.self.inside.first_free (free e w) (kept e w).bound (λ j lt n. (kept e w).used j lt),
-      marked e w,
-      c.self.invariant.5,
     )
 
 pub returns-then-frame-self : goal.returns-then-frame-self

@@ -1,13 +1,10 @@
 use Rattle.std.proofs.Common.{◌≡◌, ◌<◌, ◌≤◌, ◌+◌, ◌-◌, ◌/◌, false, true, true≢false, length, set, length-set, refl, sym, ◌∙◌, arith}
-use Rattle.shm_base.specs.Stored.{padded}
-use Rattle.shm_base.proofs.Stored.{fits-padded}
 use Rattle.shm_frames.specs.declared.frames.FrameState.{FrameState}
 use Rattle.shm_frames.specs.Frame.{frame_at}
 use Rattle.std.specs.Int.{from_bool}
 use Rattle.shm_frames.specs.Table.{all_frames, state_at, IsFrameTable}
 use Rattle.shm_frames.proofs.Shown.{shown, edit-shown, entry-is, owned-there, used-set, owned-entry}
 use Rattle.shm_frames.proofs.Counts.{kept-bits, changed-there, changed-more}
-use Rattle.shm_frames.proofs.Marks.{marked-more, marked-set}
 use Rattle.shm_frames.proofs.frames.Frames.set_dirty.Goals as goal
 use Rattle.shm_frames.proofs.frames.Frames.set_dirty.Goals.{After-self, After-index_mut-entry, After-from-2}
 
@@ -36,7 +33,7 @@ overflow_add-self c =
     changed-more c.self.invariant.3 t (is_at o.After-index_mut-entry t) c.args.dirty in
     rw (c.from.ensures, c.from-2.ensures) (omega (arith, m, c.self.invariant.0.within, c.self.invariant.0.few))
 
--- the invariant, except for the marks
+-- the invariant
 module _ (c : After-from-2) (t : c.args.frame < length c.self.inside.table.items) (at : c.index_mut-entry.result.now ≡ state_at c.self.inside.table.items c.args.frame) where
   abbrev now : FrameState
   now = record c.index_mut-entry.result.now { dirty = c.args.dirty }
@@ -54,46 +51,18 @@ module _ (c : After-from-2) (t : c.args.frame < length c.self.inside.table.items
       let s = shown c.self.inside c.self.invariant.0 c.self.view_is in
       edit-shown s c.args.frame c.index_mut-entry.result.now (λ x. record x { dirty = c.args.dirty }) (λ f. record f { dirty = c.args.dirty }) (λ x b. refl) t at
 
-pub mark-requires : goal.mark-requires
-mark-requires c =
-    let o = goal.at.mark-requires c in
-    omega (arith, there o.After-self, c.self.invariant.0.within, c.self.invariant.5.room)
-
 pub invariant_of-self : goal.invariant_of-self
 invariant_of-self c =
     let o = goal.at.invariant_of-self c in
-    let t = there o.After-self in
-    let at = is_at o.After-index_mut-entry t in
-    let i = c.args.frame in
-    let few = fits-padded c.self.inside.marks.items (i / 64 + 1) (c.self.inside.count / 64 + 1) false (omega (arith, t, c.self.invariant.0.within)) c.self.invariant.5.few in (
-      used-set c.self.invariant.0 i _,
-      c.self.invariant.1,
-      c.self.invariant.2,
-      kept o.After-from-2 t at,
-      rw c.mark.ensures.marks (marked-more c.self.inside.table.items c.self.inside.marks.items i _ c.self.invariant.4),
-      rw (c.mark.ensures.marks, c.mark.ensures.room) (record { few = rw (length-set (padded c.self.inside.marks.items (i / 64 + 1) false) (i / 64) true) few; room = c.self.invariant.5.room }),
-    )
-
-pub invariant_of-self-else-dirty : goal.invariant_of-self-else-dirty
-invariant_of-self-else-dirty c =
-    let o = goal.at.invariant_of-self-else-dirty c in
     let t = there o.After-self in (
       used-set c.self.invariant.0 c.args.frame _,
       c.self.invariant.1,
       c.self.invariant.2,
       kept o.After-from-2 t (is_at o.After-index_mut-entry t),
-      marked-set c.self.inside.table.items c.self.inside.marks.items c.args.frame _ (λ e. absurd (true≢false (sym e ∙ c.if-dirty.false))) c.self.invariant.4,
-      c.self.invariant.5,
     )
 
-pub returns-then-dirty : goal.returns-then-dirty
-returns-then-dirty c =
-    let o = goal.at.returns-then-dirty c in
-    let t = there o.After-self in
-    dirtied o.After-from-2 t (is_at o.After-index_mut-entry t)
-
-pub returns-else-dirty : goal.returns-else-dirty
-returns-else-dirty c =
-    let o = goal.at.returns-else-dirty c in
+pub returns : goal.returns
+returns c =
+    let o = goal.at.returns c in
     let t = there o.After-self in
     dirtied o.After-from-2 t (is_at o.After-index_mut-entry t)

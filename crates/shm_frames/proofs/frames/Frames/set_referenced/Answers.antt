@@ -2,7 +2,6 @@ use Rattle.std.proofs.Common.{◌<◌, ◌∙◌, length, refl, sym, ap, arith}
 use Rattle.shm_frames.specs.declared.frames.FrameState.{FrameState}
 use Rattle.shm_frames.proofs.Shown.{shown, edit-shown, entry-is, owned-there, used-set, owned-entry}
 use Rattle.shm_frames.proofs.Counts.{kept-bits}
-use Rattle.shm_frames.proofs.Marks.{marked-set}
 use Rattle.shm_frames.proofs.frames.Frames.set_referenced.Goals as goal
 use Rattle.shm_frames.proofs.frames.Frames.set_referenced.Goals.{After-self}
 
@@ -22,8 +21,6 @@ invariant_of-self c =
       c.self.invariant.1,
       c.self.invariant.2,
       kept-bits c.self.invariant.3 t at (record c.index_mut-entry.result.now { referenced = c.args.referenced }) c.self.inside.dirty (owned-entry s c.args.frame c.index_mut-entry.result.now at c.requires.owned) refl refl,
-      marked-set c.self.inside.table.items c.self.inside.marks.items c.args.frame _ (λ e. sym (ap (λ (x : FrameState). x.dirty) at) ∙ e) c.self.invariant.4,
-      c.self.invariant.5,
     )
 
 pub returns : goal.returns

@@ -1,6 +1,6 @@
 use Rattle.std.proofs.Common.{◌≡◌, ◌≤◌, ◌+◌, ◌/◌, ◌⊎◌, length, false, vec_capacity}
 use Rattle.shm_base.specs.Stored.{padded}
-use Rattle.shm_frames.proofs.frames.mark.Given as goal
+use Rattle.shm_frames.proofs.skips.mark.Given as goal
 
 abbrev pub invariant-loop-block : goal.invariant-loop-block
 invariant-loop-block l = (l.marks.items ≡ padded l.initial.marks.items l._block false)

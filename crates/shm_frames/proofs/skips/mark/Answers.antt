@@ -1,6 +1,6 @@
 use Rattle.std.proofs.Common.{false, refl, sym, ◌∙◌, inl, inr, arith}
 use Rattle.shm_base.proofs.Stored.{more-padded, padded-none}
-use Rattle.shm_frames.proofs.frames.mark.Goals as goal
+use Rattle.shm_frames.proofs.skips.mark.Goals as goal
 
 pub loop-block-init : goal.loop-block-init
 loop-block-init c = (sym (padded-none c.args.marks.now.items c.len-block.result false (omega (arith, c.len-block.ensures))), omega (arith, c.len-block.ensures), refl, inr (rw c.len-block.ensures (omega arith)))

@@ -1,6 +1,0 @@
-use Rattle.shm_frames.specs.Table.{CleanFrom}
-use Rattle.std.proofs.Common.{None}
-use Rattle.shm_frames.proofs.frames.dirty_between.Given as goal
-
-abbrev pub invariant-loop-frame : goal.invariant-loop-frame
-invariant-loop-frame l = CleanFrom l.table.items l.first l.frame None
