@@ -1,5 +1,5 @@
 -- The pages of the segments that are held.
-use Rattle.shm_segments.proofs.Names.{◌≡◌, ◌≢◌, ℕ, ◌+◌, ◌*◌, ◌/◌, ◌≤◌, Bool, false, if◌then◌else◌, List, [], ◌∷◌, length, map, Some, refl, ◌∙◌, arith, ne_eqb, not, ◌==◌, none-some, common_steps, length-replicate, sum_by-cons, sum_by-append, sum_by, All, Span, AreHeldApart, Held, find_held, is_held, held_pages, pages_if_locked, with_zeros, without, with_lock, pasted, written, FitsPage, find_held-id, apart-pasted, sum_by-filter_both, nat_tests, replicate}
+use Rattle.shm_segments.proofs.Names.{◌≡◌, ◌≢◌, ℕ, ◌+◌, ◌*◌, ◌/◌, ◌≤◌, Bool, false, if◌then◌else◌, List, [], ◌∷◌, length, map, Some, refl, ◌∙◌, arith, ne_eqb, not, ◌==◌, none-some, common_steps, length-replicate, sum_by-cons, sum_by, sum-inserted, All, Span, AreHeldApart, Held, held_id, find_held, is_held, held_pages, pages_if_locked, with_zeros, without, with_lock, pasted, written, FitsPage, find_held-id, apart-pasted, sum_by-filter_both, nat_tests, replicate}
 use Rattle.shm_fault.specs.Held.{pages_in_store, locked_pages_in_store, lock_changed}
 use Rattle.shm_segments.proofs.Bytes.{each, written-keeps}
 
@@ -11,11 +11,14 @@ zeros n = replicate (4096 * n) 0
 zeros-pages : (n : ℕ) → length (zeros n) / 4096 ≡ n
 zeros-pages n = let size : length (zeros n) ≡ 4096 * n = length-replicate (4096 * n) 0 in omega (arith, size)
 
+abbrev new-held : ℕ → ℕ → Held
+new-held id n = record { id = id; locked = false; bytes = zeros n }
+
 pub pages-zeros : (hs : List Held) (id n : ℕ) → pages_in_store (with_zeros hs id n) ≡ pages_in_store hs + n
-pages-zeros hs id n = grind (arith, common_steps, sum_by-append, sum_by-cons, zeros-pages)
+pages-zeros hs id n = let sum = sum-inserted held_pages held_id (new-held id n) hs in omega (arith, sum, zeros-pages n)
 
 pub locks-zeros : (hs : List Held) (id n : ℕ) → locked_pages_in_store (with_zeros hs id n) ≡ locked_pages_in_store hs
-locks-zeros hs id n = grind (arith, common_steps, sum_by-append, sum_by-cons)
+locks-zeros hs id n = let sum = sum-inserted pages_if_locked held_id (new-held id n) hs in omega (arith, sum)
 
 -- ONE LESS
 

@@ -1,9 +1,9 @@
 -- What holds after a segment is made, destroyed, locked or written.
-use Rattle.shm_segments.proofs.Names.{locked_in_row, pages_in_row, ◌≡◌, ◌≢◌, ◌⊎◌, ℕ, pos, ℤ, ◌+◌, ◌-◌, ◌*◌, ◌/◌, ◌%◌, ◌<◌, ◌≤◌, Bool, false, if◌then◌else◌, List, Option, Some, None, refl, sym, ap, ◌∙◌, inl, inr, arith, cases_eq, none-some, pages_of, change, Row, entry_at, identifier, key_at, look, with_value, with_row, without_row, free_index-flat, destroyed_at-flat, Held, find_held, is_held, held_pages, pages_if_locked, with_zeros, without, with_lock, apart-push, apart-without, apart-lock, Head, joined_table, Agree, SizesFit, AreSegmentsSound, made, created, destroyed, nat_tests, common_steps, replicate, slice_set, Ok, option_map, Entry, free_index, id_at, live_row, relocked, relocked_head, is_some, Segment, segment_of, bytes_of, MOST_SHMMAX, MOST_SHMALL}
+use Rattle.shm_segments.proofs.Names.{locked_in_row, pages_in_row, ◌≡◌, ◌≢◌, ◌⊎◌, ℕ, pos, ℤ, ◌+◌, ◌-◌, ◌*◌, ◌/◌, ◌%◌, ◌<◌, ◌≤◌, Bool, false, if◌then◌else◌, List, Option, Some, None, refl, sym, ap, ◌∙◌, inl, inr, arith, cases_eq, none-some, pages_of, change, Row, entry_at, identifier, key_at, look, with_value, with_row, without_row, free_index-flat, destroyed_at-flat, Held, find_held, is_held, IsIndexFree, held_pages, pages_if_locked, with_zeros, without, with_lock, apart-zeros, apart-without, apart-lock, Head, joined_table, Agree, SizesFit, AreSegmentsSound, made, created, destroyed, nat_tests, common_steps, replicate, slice_set, Ok, option_map, Entry, free_index, id_at, live_row, relocked, relocked_head, is_some, Segment, segment_of, bytes_of, MOST_SHMMAX, MOST_SHMALL}
 use Rattle.shm_base.specs.Identifier as flat
 use Rattle.shm_segments.proofs.Joins.{LiveAt, live-at, held-as}
 use Rattle.shm_segments.proofs.Edits.{look-live, other-value, agree-lock, joined-locked}
-use Rattle.shm_segments.proofs.Rows.{id_of, IsFree, index-free, free-new, joined-with_row, live-with_row_same, live-with_row_other, agree-with_row, joined-without, live-without, live-without_here, agree-without}
+use Rattle.shm_segments.proofs.Rows.{id_of, IsFree, index-free, free-index, free-new, joined-with_row, live-with_row_same, live-with_row_other, agree-with_row, joined-without, live-without, live-without_here, agree-without}
 use Rattle.shm_segments.proofs.Sums.{sum-with_row, sum-without_row, sum-other, pages-with_other, locked-with_row, locked-within}
 use Rattle.shm_segments.proofs.Keeping.{KeptAs, sizes-other}
 use Rattle.shm_segments.proofs.Held.{pages-zeros, locks-zeros, sum-without, pages-lock, locks-lock}
@@ -110,7 +110,7 @@ kept-made hs rows pages locks i key v k found loose range =
             sizes = sizes free;
             reserved = omega (arith, more, k.reserved);
             locked = k.locked ∙ sym (locked-with_row rows i key v free loose);
-            apart = apart-push hs (record { id = id_of rows i; locked = false; bytes = replicate (4096 * pages_of v.size) 0 }) (free-new hs rows i k.agree free) k.apart;
+            apart = apart-zeros hs (id_of rows i) (pages_of v.size) (free-new hs rows i k.agree free) k.apart;
             few_pages = omega (arith, pages-zeros hs (id_of rows i) (pages_of v.size), k.few_pages);
             few_locked = omega (arith, locks-zeros hs (id_of rows i) (pages_of v.size), k.few_locked);
           };
@@ -134,19 +134,20 @@ pub made-joined : (hs : List Held) (rows : List (Entry Head)) (i key : ℕ) (v :
     → made (joined_table hs rows) key v ≡ Some (pos (id_of rows i), created (joined_table hs rows) i key v)
 made-joined hs rows i key v found = grind (arith, common_steps, flat.free_index, free_index-flat, option_map, pos, flat.identifier, flat.destroyed_at, destroyed_at-flat)
 
--- the next identifier is that of the free index, and no segment is held under it
+-- the next identifier is that of the free index, and no segment is held under it, or under another of its index
 pub record IsNext (hs : List Held) (rows : List (Entry Head)) (id : ℤ) : Type 0 where
   pub i : ℕ
   pub found : free_index rows ≡ Some i
   pub is : id ≡ pos (id_of rows i)
   pub new : is_held hs (id_of rows i) ≡ false
+  pub free : IsIndexFree hs (id_of rows i)
 
 pub next-free : (hs : List Held) (rows : List (Entry Head)) (id : ℤ) → Agree hs rows → Some id ≡ option_map (id_at rows) (free_index rows) → IsNext hs rows id
 next-free hs rows id agree is = by (free_index rows) refl is
   where
     by : (o : Option ℕ) → free_index rows ≡ o → Some id ≡ option_map (id_at rows) o → IsNext hs rows id
     by None found z = absurd (none-some id (sym z))
-    by (Some i) found z = record { i = i; found = found; is = cc z; new = free-new hs rows i agree (index-free rows i agree.few found) }
+    by (Some i) found z = record { i = i; found = found; is = cc z; new = free-new hs rows i agree (index-free rows i agree.few found); free = free-index hs rows i agree (index-free rows i agree.few found) }
 
 -- a segment has few pages
 pub few-pages : (b : Bool) (size : ℕ) → size ≤ MOST_SHMMAX → (if b then pages_of size else 0) ≤ MOST_SHMALL

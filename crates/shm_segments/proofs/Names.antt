@@ -18,12 +18,12 @@ pub use Rattle.shm_base.specs.State.{Runner, Segment, pages_of, Entry as FlatEnt
 pub use Rattle.shm_base.specs.declared.bounds.TheConstants.{MOST_SHMALL, MOST_SHMMAX}
 pub use Rattle.shm_base.specs.declared.errno.Errno.TheVariants.{Eidrm, Einval}
 pub use Rattle.shm_base.specs.declared.paging.Span.{Span}
-pub use Rattle.shm_fault.proofs.Entries.{filter-none}
+pub use Rattle.shm_fault.proofs.Ordered.{apart-zeros, but-inserted, find-zeros_other, find-zeros_same, sum-inserted}
 pub use Rattle.shm_fault.proofs.Sound.{GoesOn-refl, GoesOn-trans}
 pub use Rattle.shm_fault.proofs.Whole.{not-held, rec-added}
 pub use Rattle.shm_fault.specs.Adding.{number_in}
 pub use Rattle.shm_fault.specs.Dropping.{IsBlank}
-pub use Rattle.shm_fault.specs.Segs.{SegRec, but, find_seg, new_seg, rec_in}
+pub use Rattle.shm_fault.specs.Segs.{SegRec, but, find_seg, new_seg, rec_in, with_seg}
 pub use Rattle.shm_fault.specs.Sound.{IsStoreSound}
 pub use Rattle.shm_fault.specs.Steps.{LockedPagesStay}
 pub use Rattle.shm_fault.specs.Store.{StoreView, frame_of, fresh_store, held}
@@ -37,11 +37,11 @@ pub use Rattle.shm_ids.specs.Rows.{row_listed, row_shown}
 pub use Rattle.shm_ids.specs.Table.{entry_at, find_key, identifier, index_of, key_at, look, row_count, unused, with_key, with_row, with_value, without_row, free_index, id_at}
 pub use Rattle.shm_ids.specs.declared.table.LookRefused.TheVariants.{Invalid, Removed}
 pub use Rattle.shm_ids.specs.declared.table.Row.{Row}
-pub use Rattle.shm_fault.proofs.Found.{bytes_of-lock, find-without_other, find-without_same, find-zeros_other, find-zeros_same}
-pub use Rattle.shm_fault.proofs.Kept.{apart-lock, apart-push, apart-without, find-map, find_held-id}
+pub use Rattle.shm_fault.proofs.Found.{bytes_of-lock, find-without_other, find-without_same}
+pub use Rattle.shm_fault.proofs.Kept.{apart-lock, apart-without, find-map, find_held-id}
 pub use Rattle.shm_fault.proofs.Pasted.{apart-pasted, bytes_of-pasted_other, bytes_of-pasted_same, fits-pasted}
 pub use Rattle.shm_fault.specs.Apart.{AreHeldApart}
-pub use Rattle.shm_fault.specs.Held.{FitsPage, Held, held_bytes, bytes_of, find_held, is_held, holds_locked, locked_pages_in_store, pages_if_locked, held_pages, paste, pasted, read_from, with_lock, with_zeros, without, written}
+pub use Rattle.shm_fault.specs.Held.{FitsPage, Held, IsIndexFree, held_bytes, held_id, bytes_of, find_held, is_held, holds_locked, locked_pages_in_store, pages_if_locked, held_pages, paste, pasted, read_from, with_lock, with_zeros, without, written}
 pub use Rattle.shm_slots.specs.Cause.{GoesOn}
 pub use Rattle.shm_slots.specs.View.{SwapView}
 pub use Rattle.shm_segments.specs.Joined.{Agree, Shape, joined_table, locked_in_row, locked_of_rows, pages_in_row, pages_of_rows, segment_of, shape_held, shape_row, whole, live_row, relocked_head, locked_by_in_row, locked_by_of_rows}

@@ -1,5 +1,5 @@
 -- The memory's invariant, and that it shows the table.
-use Rattle.shm_segments.proofs.Names.{◌≡◌, ◌≢◌, ℕ, ◌==◌, false, List, [], ◌∷◌, ◌++◌, length, Option, None, refl, sym, ap, ◌∙◌, arith, eq-eqb, not, append-nil, All, Result, OnOk, OnErr, sum_by, Span, Held, find_held, is_held, holds_locked, with_zeros, without, FitsPage, written, find_held-id, find-without_same, find-without_other, find-zeros_same, find-zeros_other, StoreView, frame_of, fresh_store, Frame, SwapView, SegRec, find_seg, but, new_seg, rec_in, IsBlank, not-held, rec-added, LockedPagesStay, IsStoreSound, GoesOn-refl, GoesOn-trans, GoesOn, Head, joined_table, Agree, SegmentsView, ShowsTable, KeepsMemory, AreSegmentsSound, IsWhole, stored, span_places, SpanFits, filter-append, filter-none, common_steps, is_some, option_map, Ok, Err, FlatEntry, Entry, live_row}
+use Rattle.shm_segments.proofs.Names.{◌≡◌, ◌≢◌, ℕ, ◌==◌, false, List, [], ◌∷◌, ◌++◌, length, Option, None, refl, sym, ap, ◌∙◌, arith, eq-eqb, not, append-nil, All, Result, OnOk, OnErr, sum_by, Span, Held, find_held, is_held, holds_locked, with_zeros, without, FitsPage, written, find_held-id, find-without_same, find-without_other, find-zeros_same, find-zeros_other, but-inserted, StoreView, frame_of, fresh_store, Frame, SwapView, SegRec, find_seg, but, new_seg, with_seg, rec_in, IsBlank, not-held, rec-added, LockedPagesStay, IsStoreSound, GoesOn-refl, GoesOn-trans, GoesOn, Head, joined_table, Agree, SegmentsView, ShowsTable, KeepsMemory, AreSegmentsSound, IsWhole, stored, span_places, SpanFits, common_steps, is_some, option_map, Ok, Err, FlatEntry, Entry, live_row}
 use Rattle.shm_fault.specs.Store.{held}
 use Rattle.shm_segments.proofs.Finding.{live-joined}
 use Rattle.shm_segments.proofs.Shown.{agree-written, store_shown}
@@ -43,19 +43,12 @@ memory-same a b is kept goes frames = record { kept = kept; locks = λ id e. rw 
 
 -- A SEGMENT THAT WAS MADE AND IS DROPPED AGAIN
 
-but-new : (gs : List SegRec) (id n : ℕ) → find_seg gs id ≡ None → but id (gs ++ new_seg id n ∷ []) ≡ gs
-but-new gs id n none =
-    rw (filter-append (λ (g : SegRec). not (g.id == id)) gs (new_seg id n ∷ []), filter-none gs id none, eq-eqb id id refl) (append-nil gs)
-
-taken-back : (a : StoreView) (id n : ℕ) → find_seg a.segs id ≡ None → record a { segs = but id (a.segs ++ new_seg id n ∷ []) } ≡ a
-taken-back a id n none = ap (λ (gs : List SegRec). record a { segs = gs }) (but-new a.segs id n none)
-
 -- a segment that was added and dropped at once
-pub undone : (s t u : StoreView) (id n : ℕ) → IsStoreSound s → is_held (held s) id ≡ false → t ≡ record s { segs = s.segs ++ new_seg id n ∷ [] } → (IsBlank id t → u ≡ record t { segs = but id t.segs }) → u ≡ s
+pub undone : (s t u : StoreView) (id n : ℕ) → IsStoreSound s → is_held (held s) id ≡ false → t ≡ record s { segs = with_seg s.segs id n } → (IsBlank id t → u ≡ record t { segs = but id t.segs }) → u ≡ s
 undone s t u id n sound new is dropped =
     let none : find_seg s.segs id ≡ None = not-held s sound id new in
     let blank : IsBlank id t = λ page. rw is (rec-added s sound id n none (record { seg = id; page = page }) ∙ ap (λ (o : Option SegRec). rec_in o page) none) in
-    dropped blank ∙ ap (λ (v : StoreView). record v { segs = but id v.segs }) is ∙ taken-back s id n none
+    dropped blank ∙ ap (λ (v : StoreView). record v { segs = but id v.segs }) is ∙ ap (λ (gs : List SegRec). record s { segs = gs }) (but-inserted s.segs (new_seg id n) none)
 
 -- held segments that agree with the same rows have the same locks
 pub agree-locks : (hs gs : List Held) (rows : List (Entry Head)) (id : ℕ) → Agree hs rows → Agree gs rows → holds_locked gs id ≡ holds_locked hs id

@@ -1,5 +1,5 @@
 -- Segments that are made and destroyed, as the flat machine's table shows them.
-use Rattle.shm_segments.proofs.Names.{◌≡◌, ◌≢◌, ℕ, ◌+◌, ◌*◌, ◌%◌, ◌<◌, ◌≤◌, ◌==◌, if◌then◌else◌, false, List, length, Some, None, sym, ap, ◌∙◌, arith, inl, inr, length-set, cases_lt, cases_eq, length-replicate, pages_of, with_segment, Row, identifier, entry_at, with_row, without_row, at_set, at_set_other, at_row, at_row_other, with_row-few, free_found, identifier-mod, with_segment-flat, flat_table-make, Held, bytes_of, held_bytes, is_held, with_zeros, without, find-without_same, find-without_other, find-zeros_same, find-zeros_other, Head, segment_of, whole, joined_table, Agree, nat_tests, common_steps, replicate, is_some, option_map, slice_set, Entry, free_index, live_row}
+use Rattle.shm_segments.proofs.Names.{◌≡◌, ◌≢◌, ℕ, ◌+◌, ◌*◌, ◌%◌, ◌<◌, ◌≤◌, ◌==◌, if◌then◌else◌, false, List, length, Some, None, sym, ap, ◌∙◌, arith, inl, inr, length-set, cases_lt, cases_eq, length-replicate, pages_of, with_segment, Row, identifier, entry_at, with_row, without_row, at_set, at_set_other, at_row, at_row_other, with_row-few, free_found, identifier-mod, with_segment-flat, flat_table-make, Held, bytes_of, held_bytes, is_held, IsIndexFree, with_zeros, without, find-without_same, find-without_other, find-zeros_same, find-zeros_other, Head, segment_of, whole, joined_table, Agree, nat_tests, common_steps, replicate, is_some, option_map, slice_set, Entry, free_index, live_row}
 use Rattle.shm_segments.proofs.Joins.{at-live, set-joined, same-held}
 
 -- the identifier that an index has
@@ -66,6 +66,15 @@ index-free rows i few is =
 pub free-new : (hs : List Held) (rows : List (Entry Head)) (i : ℕ) → Agree hs rows → IsFree rows i → is_held hs (id_of rows i) ≡ false
 free-new hs rows i agree free = same-held hs rows (id_of rows i) agree ∙ ap is_some (at-live rows i free.small ∙ free.none)
 
+-- nor under another of its index
+pub free-index : (hs : List Held) (rows : List (Entry Head)) (i : ℕ) → Agree hs rows → IsFree rows i → IsIndexFree hs (id_of rows i)
+free-index hs rows i agree free = λ other same. same-held hs rows other agree ∙ ap is_some (dead other same)
+  where
+    dead : (other : ℕ) → other % 32768 ≡ id_of rows i % 32768 → live_row rows other ≡ None
+    dead other same =
+        let at : other % 32768 ≡ i = same ∙ identifier-mod i (entry_at rows i).destroyed free.small in
+        grind (arith, nat_tests, at, free.none)
+
 -- the row is new, and zeros are held for it
 pub joined-with_row : (hs : List Held) (rows : List (Entry Head)) (i key pages : ℕ) (v : Head) → Agree hs rows → IsFree rows i
     → joined_table (with_zeros hs (id_of rows i) pages) (with_row rows i key v)
@@ -86,7 +95,12 @@ joined-with_row hs rows i key pages v agree free =
     bytes = ap held_bytes (find-zeros_same hs id pages (free-new hs rows i agree free))
 
     same : joined_table gs rows ≡ joined_table hs rows
-    same = grind (arith, common_steps, flat_table-make, gs, find-zeros_other, id, id_of, identifier-mod, agree.few, free.small, free.none)
+    same = flat_table-make (whole gs) (whole hs) rows (λ k r lt is.
+        let d : ℕ = (entry_at rows k).destroyed in
+        let ne : identifier k d ≢ id = λ e.
+        let own : k ≡ i = sym (identifier-mod k d (omega (arith, lt, agree.few))) ∙ ap (λ n. n % 32768) e ∙ identifier-mod i (entry_at rows i).destroyed free.small in
+        cc (rw own at is, free.none) in
+        ap (λ xs. segment_of r xs) (ap held_bytes (find-zeros_other hs id pages (identifier k d) ne)))
 
 -- what is live afterwards
 pub live-with_row_same : (rows : List (Entry Head)) (i key : ℕ) (v : Head) → IsFree rows i → live_row (with_row rows i key v) (id_of rows i) ≡ Some (record { key = key; value = v })

@@ -1,4 +1,4 @@
-use Rattle.shm_segments.proofs.Names.{◌≡◌, pos, List, [], ◌∷◌, ◌++◌, refl, Some, sym, ap, ◌∙◌, arith, to_z, of_z, w32, pages_of, reserved, with_row, with_zeros, new_seg, StoreView, held, find-zeros_same, find_key-absent, whole, common_steps, is_some, rules, FlatEntry, subst, ℤ, joined_table, AreSegmentsSound, ◌+◌}
+use Rattle.shm_segments.proofs.Names.{◌≡◌, pos, List, [], ◌∷◌, ◌++◌, refl, Some, sym, ap, ◌∙◌, arith, to_z, of_z, w32, pages_of, reserved, with_row, with_zeros, with_seg, StoreView, held, find-zeros_same, find_key-absent, whole, common_steps, is_some, rules, FlatEntry, subst, ℤ, joined_table, AreSegmentsSound, ◌+◌}
 use Rattle.shm_segments.proofs.Rows.{id_of}
 use Rattle.shm_segments.proofs.Looking.{next-joined}
 use Rattle.shm_segments.proofs.Making.{kept-made, made-joined, IsNext, next-free}
@@ -17,7 +17,7 @@ next g c =
 pub add_segment-requires-clause-new : goal.add_segment-requires-clause-new
 add_segment-requires-clause-new g c =
     let n = next g (goal.at.add_segment-requires-clause-new g c).After-self in
-    rw n.is n.new
+    rw n.is n.free
 
 pub add_segment-requires-clause-room : goal.add_segment-requires-clause-room
 add_segment-requires-clause-room g c = grind (arith, common_steps, c.self.invariant.kept, c.self.view_is, c.requires.room, reserved-joined)
@@ -47,7 +47,7 @@ dropped g c n =
     let s = c.self.inside.store in
     let id = id_of c.self.inside.table n.i in
     let pages = pages_of c.args.head.size in
-    let rest : c.add_segment.new.self ≡ record s { segs = s.segs ++ new_seg id pages ∷ [] } = rw (n.is, c.pages_of-pages.ensures.value) at c.in_ok-add_segment.ensures.rest in
+    let rest : c.add_segment.new.self ≡ record s { segs = with_seg s.segs id pages } = rw (n.is, c.pages_of-pages.ensures.value) at c.in_ok-add_segment.ensures.rest in
     undone s c.add_segment.new.self c.drop_segment.new.self id pages c.self.invariant.sound n.new rest (rw n.is at c.drop_segment.ensures.blank)
 
 pub invariant_of-self-in-Err : goal.invariant_of-self-in-Err
