@@ -29,13 +29,6 @@ inserted_at p (q ∷ qs) (suc n) le below above =
     (ap (λ (xs : List Piece). q ∷ xs)
     (inserted_at p qs n (omega arith) (λ k d l. below (suc k) d (omega arith)) (λ k d g l. above (suc k) d (omega arith) (omega arith))))
 
--- after the last one
-pub inserted-last : (p : Piece) (qs : List Piece) (n : ℕ) → n ≡ length qs → insert qs n p ≡ qs ++ (p ∷ [])
-inserted-last p [] zero is = refl
-inserted-last p [] (suc n) is = absurd (omega (arith, is))
-inserted-last p (q ∷ qs) zero is = absurd (omega (arith, is))
-inserted-last p (q ∷ qs) (suc n) is = ap (λ (xs : List Piece). q ∷ xs) (inserted-last p qs n (omega (arith, is)))
-
 -- a fit piece that meets no other can be inserted
 pub apart : (p q : flat.Piece) → IsFit p → IsFit q → meets q.base (end_of q) p ≡ false → (end_of q ≤ p.base) ⊎ (end_of p ≤ q.base)
 apart p q fp fq away = grind (arith, common_steps, both_ways)

@@ -1,12 +1,9 @@
 -- The search for the least gap may begin after addresses at which no large enough gap begins.
-use Rattle.shm_areas.proofs.Names.{◌≡◌, ℕ, zero, suc, ◌+◌, ◌*◌, ◌%◌, ◌<◌, ◌≤◌, ◌⊎◌, inl, inr, true, false, List, [], ◌∷◌, ◌++◌, length, get_or, drop, max, refl, sym, ap, ◌∙◌, arith, common_steps, lt-leb, cases_lt, cases_Bool, both_ways, end_of, meets, parts, occupied, inserted, cut, without_named, stored_named, first_chosen, lowest_address, gap_from, leb-true, stored_inserted, stored_cut, stored_without, IsPieceRange, Piece, bare, bare_all, Arranged, IsFit}
+use Rattle.shm_areas.proofs.Names.{◌≡◌, ℕ, zero, suc, ◌+◌, ◌*◌, ◌%◌, ◌<◌, ◌≤◌, ◌⊎◌, inl, inr, true, false, List, [], ◌∷◌, ◌++◌, length, get_or, drop, max, refl, sym, ap, ◌∙◌, arith, common_steps, lt-leb, cases_lt, cases_Bool, both_ways, end_of, meets, parts, occupied, inserted, cut, without_named, first_chosen, lowest_address, gap_from, leb-true, stored_inserted, stored_cut, stored_without, IsPieceRange, Piece, bare, bare_all, Arranged, IsFit}
 use Rattle.std.specs.Prelude.{min, if◌then◌else◌, nat_le}
-use Rattle.std.proofs.lemmas.List.Elements.{All-head, All-tail, All-weaker}
 use Rattle.shm_base.specs.State as flat
-use Rattle.shm_areas.specs.Gap.{IsFilled, IsPassed, IsStretch, AreRight, IsKeptOutside}
-use Rattle.shm_areas.specs.declared.stretch.Stretch.{Stretch}
-use Rattle.shm_areas.proofs.Origins.{NamedEnd}
-use Rattle.shm_areas.proofs.Edits.{lower, bare_inserted, bare_cut, bare_filter, end_upto, end_beyond}
+use Rattle.shm_areas.specs.Gap.{IsFilled}
+use Rattle.shm_areas.proofs.Edits.{lower, bare_inserted, bare_cut, bare_filter, end_upto}
 use Rattle.std.proofs.lemmas.List.Concat.{flat_map-cons}
 use Rattle.shm_areas.proofs.Gaps.{free_below, left_past}
 
@@ -26,7 +23,7 @@ first-begins low a b p ps ar full = elim (cases_lt p.base b) [
 ]
 
 -- a piece that meets a range meets a longer one
-pub occupied-longer : (ps : List flat.Piece) (a b c : ℕ) → b ≤ c → occupied ps a b ≡ true → occupied ps a c ≡ true
+occupied-longer : (ps : List flat.Piece) (a b c : ℕ) → b ≤ c → occupied ps a b ≡ true → occupied ps a c ≡ true
 occupied-longer [] a b c le full = absurd (both_ways false refl full)
 occupied-longer (p ∷ ps) a b c le full = grind (arith, common_steps, full, le, occupied-longer ps a b c le)
 
@@ -34,7 +31,7 @@ occupied-longer (p ∷ ps) a b c le full = grind (arith, common_steps, full, le,
 passed : (pages base : ℕ) (p : Piece) (ps : List Piece) → p.base < base + 4096 * pages → gap_from pages base (bare_all (p ∷ ps)) ≡ gap_from pages (max base (end_of (bare p))) (bare_all ps)
 passed pages base p ps below = rw (lt-leb (base + 4096 * pages) p.base below) refl
 
-pub skip : (pages filled low base n : ℕ) (ps : List Piece) → 1 ≤ pages → base ≤ filled → Arranged low (bare_all ps)
+skip : (pages filled low base n : ℕ) (ps : List Piece) → 1 ≤ pages → base ≤ filled → Arranged low (bare_all ps)
     → ((a : ℕ) → base ≤ a → a < filled → occupied (bare_all ps) a (a + 4096 * pages) ≡ true)
     → ((k : ℕ) (d : Piece) → k < n → end_of (bare (get_or ps k d)) ≤ filled)
     → ((k : ℕ) (d : Piece) → n ≤ k → k < length ps → filled < end_of (bare (get_or ps k d)))
@@ -142,105 +139,10 @@ filled-without filled addr seg ps f =
     lowered-filled filled addr ps (stored_without addr seg ps) f
     (λ a lt full. rw (bare_filter addr seg ps) (occupied-without a (a + 1) addr seg (bare_all ps) (omega (arith, lt)) full))
 
--- WHERE NO GAP OF THIS MANY PAGES BEGINS
-
-pub filled-passed : (pages filled : ℕ) (ps : List Piece) → 1 ≤ pages → IsFilled filled ps → IsPassed pages filled ps
-filled-passed pages filled ps some f =
-    record {
-      first = f.first;
-      high = f.high;
-      none = λ a from lt. occupied-longer (bare_all ps) a (a + 1) (a + 4096 * pages) (omega (arith, some)) (f.full a from lt);
-    }
-
--- a search goes on at the end of a stretch
-pub passed-stretch : (pages from : ℕ) (s : Stretch) (ps : List Piece) → s.pages ≤ pages → s.from ≤ from → IsPassed pages from ps → IsStretch s ps → IsPassed pages (max from s.to) ps
-passed-stretch pages from s ps few begun f g =
-    record {
-      first = omega (arith, f.first);
-      high = omega (arith, f.high, g.high);
-      none = λ a ge below. elim (cases_lt a from) [
-        | inl before ↦ f.none a ge before
-        | inr past ↦
-            occupied-longer (bare_all ps) a (a + 4096 * s.pages) (a + 4096 * pages) (omega (arith, few))
-            (g.none a (omega (arith, past, begun)) (omega (arith, past, below)))
-      ];
-    }
-
--- a piece that meets a range occupies it
-pub occupied-at : (ps : List Piece) (i a b : ℕ) (d : Piece) → i < length ps → meets a b (bare (get_or ps i d)) ≡ true → occupied (bare_all ps) a b ≡ true
-occupied-at [] i a b d lt m = absurd (omega (arith, lt))
-occupied-at (p ∷ ps) zero a b d lt m = rw m refl
-occupied-at (p ∷ ps) (suc i) a b d lt m = grind (arith, common_steps, occupied-at ps i a b d (omega (arith, lt)) m)
-
--- no gap begins between an address and the end of a piece that is too near to it
-pub passed-piece : (pages base i : ℕ) (ps : List Piece) (d : Piece) → i < length ps → IsFit (bare (get_or ps i d)) → (get_or ps i d).base < base + 4096 * pages → IsPassed pages base ps
-    → IsPassed pages (max base (end_of (bare (get_or ps i d)))) ps
-passed-piece pages base i ps d lt fit near f =
-    record {
-      first = omega (arith, f.first);
-      high = omega (arith, f.high, fit.within);
-      none = λ a ge below. elim (cases_lt a base) [
-        | inl before ↦ f.none a ge before
-        | inr past ↦ occupied-at ps i a (a + 4096 * pages) d lt (grind (arith, common_steps, past, below, near))
-      ];
-    }
-
--- a stretch stays right through an insertion
-pub right-inserted : (ss : List Stretch) (p : Piece) (ps : List Piece) → AreRight ss ps → AreRight ss (stored_inserted p ps)
-right-inserted ss p ps right =
-    All-weaker (λ (s : Stretch). IsStretch s ps) (λ (s : Stretch). IsStretch s (stored_inserted p ps))
-    (λ s g.
-    record {
-      some = g.some;
-      high = g.high;
-      none = λ a ge lt. rw (bare_inserted p ps) (occupied-more a (a + 4096 * s.pages) (bare p) (bare_all ps) (g.none a ge lt));
-    })
-    ss right
-
--- WHAT A REMOVAL KEEPS
-
--- the part of a piece above a range still has the addresses that it had there
-own-part-above : (a b from to : ℕ) (p : flat.Piece) → IsFit p → to % 4096 ≡ 0 → a < b → to ≤ a → meets a b p ≡ true → occupied (parts from to p) a b ≡ true
-own-part-above a b from to p fit page lt le m = grind (arith, common_steps, m, end_beyond to p fit page)
-
-occupied-cut_above : (low a b from to : ℕ) (ps : List flat.Piece) → Arranged low ps → to % 4096 ≡ 0 → a < b → to ≤ a → occupied ps a b ≡ true → occupied (cut from to ps) a b ≡ true
-occupied-cut_above low a b from to [] ar page lt le full = full
-occupied-cut_above low a b from to (p ∷ ps) ar page lt le full =
-    rw (flat_map-cons (parts from to) p ps)
-    (occupied-either (parts from to p) (cut from to ps) a b
-    (elim (cases_Bool (meets a b p)) [
-      | inl h ↦ inl (own-part-above a b from to p ar.1.0 page lt le h)
-      | inr h ↦ inr (occupied-cut_above (end_of p) a b from to ps ar.1.1 page lt le (rw h at full))
-    ]))
-
-pub kept-cut : (from to : ℕ) (ps : List Piece) → Arranged lowest_address (bare_all ps) → from % 4096 ≡ 0 → to % 4096 ≡ 0 → IsKeptOutside from to ps (stored_cut from to ps)
-kept-cut from to ps ar first last =
-    record {
-      below = λ a b lt le full. rw (bare_cut from to ps) (occupied-cut_below lowest_address a b from to (bare_all ps) ar first lt le full);
-      above = λ a b lt le full. rw (bare_cut from to ps) (occupied-cut_above lowest_address a b from to (bare_all ps) ar last lt le full);
-    }
-
-occupied-without_above : (a b addr seg end : ℕ) (ps : List Piece) → NamedEnd addr seg end ps → end ≤ a → occupied (bare_all ps) a b ≡ true → occupied (bare_all (stored_without addr seg ps)) a b ≡ true
-occupied-without_above a b addr seg end [] named le full = full
-occupied-without_above a b addr seg end (p ∷ ps) named le full =
-    let own = All-head (λ (p : Piece). stored_named addr seg p ≡ true → end_of (bare p) ≤ end) p ps named in
-    let rest = occupied-without_above a b addr seg end ps (All-tail (λ (p : Piece). stored_named addr seg p ≡ true → end_of (bare p) ≤ end) p ps named) le in
-    elim (cases_Bool (stored_named addr seg p)) [
-      | inl h ↦ rw h (rest (sym (left_past (bare_all ps) (bare p) a b (omega (arith, own h, le))) ∙ full))
-      | inr h ↦ rw h (elim (cases_Bool (meets a b (bare p))) [
-        | inl m ↦ rw m refl
-        | inr m ↦ rw m (rest (rw m at full))
-      ])
-    ]
-
-pub kept-without : (addr seg end : ℕ) (ps : List Piece) → NamedEnd addr seg end ps → IsKeptOutside addr end ps (stored_without addr seg ps)
-kept-without addr seg end ps named =
-    record {
-      below = λ a b lt le full. rw (bare_filter addr seg ps) (occupied-without a b addr seg (bare_all ps) le full);
-      above = λ a b lt le full. occupied-without_above a b addr seg end ps named le full;
-    }
-
 -- the search that begins there finds the least gap
-pub gap-behind : (pages to last n : ℕ) (ps : List Piece) → 1 ≤ pages → Arranged lowest_address (bare_all ps) → IsPassed pages to ps → IsPieceRange to (to + 1) ps n last
-    → gap_from pages first_chosen (bare_all ps) ≡ gap_from pages to (bare_all (drop n ps))
-gap-behind pages to last n ps some ar f r = skip pages to lowest_address first_chosen n ps some f.first ar f.none r.before r.after
+pub gap-behind : (pages filled last n : ℕ) (ps : List Piece) → 1 ≤ pages → Arranged lowest_address (bare_all ps) → IsFilled filled ps → IsPieceRange filled (filled + 1) ps n last
+    → gap_from pages first_chosen (bare_all ps) ≡ gap_from pages filled (bare_all (drop n ps))
+gap-behind pages filled last n ps some ar f r =
+    skip pages filled lowest_address first_chosen n ps some f.first ar
+    (λ a from lt. occupied-longer (bare_all ps) a (a + 1) (a + 4096 * pages) (omega (arith, some)) (f.full a from lt))
+    r.before r.after

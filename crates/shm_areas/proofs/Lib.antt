@@ -8,4 +8,3 @@ pub mod Leaving
 pub mod Reaching
 pub mod Passing
 pub mod Filled
-pub mod Stretches

@@ -1,11 +1,10 @@
 -- The piece with an origin, among the stored pieces and among what they show.
-use Rattle.shm_areas.proofs.Names.{◌≡◌, ◌∙◌, sym, ap, ℕ, zero, suc, ◌+◌, ◌*◌, ◌<◌, ◌≤◌, Bool, true, false, cond, Some, find, option_map, None, List, [], ◌∷◌, ◌++◌, ◌-◌, length, get_or, take, drop, refl, arith, ne_eqb, inl, inr, cases_Bool, cases_lt, both_ways, end_of, has_origin, origin_of, stored_named, stored_without, lowest_address, length-drop, get_or_default, Piece, Arranged, bare, bare_all}
-use Rattle.std.specs.Prelude.{All}
+use Rattle.shm_areas.proofs.Names.{◌≡◌, ◌∙◌, sym, ap, ℕ, zero, suc, ◌+◌, ◌*◌, ◌<◌, ◌≤◌, Bool, true, false, cond, Some, find, option_map, None, List, [], ◌∷◌, ◌++◌, ◌-◌, length, get_or, take, drop, refl, arith, ne_eqb, inl, inr, cases_Bool, has_origin, origin_of, stored_named, stored_without, Piece, bare, bare_all}
+use Rattle.std.specs.Prelude.{Option, slice_range}
+use Rattle.shm_base.specs.State as flat
 use Rattle.std.proofs.Common.{append_assoc, drop-cons, set}
 use Rattle.std.proofs.lemmas.List.{take_more_set, drop-set-lt}
-use Rattle.std.proofs.lemmas.List.Elements.{All-head, All-tail, All-drop}
-use Rattle.std.proofs.lemmas.List.{get_or-drop}
-use Rattle.shm_areas.proofs.Placing.{rising}
+use Rattle.std.proofs.lemmas.List.Elements.{All-head, All-tail}
 use Rattle.shm_areas.specs.Arranged.{AreWithin}
 use Rattle.shm_areas.specs.Edit.{taken_between}
 use Rattle.shm_areas.specs.Met.{IsOriginRange}
@@ -20,23 +19,13 @@ stored_origin addr (p ∷ ps) = go (has_origin addr (bare p)) (stored_origin add
     go true e = refl
     go false e = e
 
--- no stored piece below an address has it as its origin
-pub stored_origin-drop : (addr n : ℕ) (ps : List Piece) → n ≤ length ps → ((k : ℕ) (d : Piece) → k < n → (get_or ps k d).base < addr)
-    → find (λ (p : Piece). has_origin addr (bare p)) ps ≡ find (λ (p : Piece). has_origin addr (bare p)) (drop n ps)
-stored_origin-drop addr zero ps le below = refl
-stored_origin-drop addr (suc n) [] le below = absurd (omega arith)
-stored_origin-drop addr (suc n) (p ∷ ps) le below =
-    let lower : p.base < addr = below 0 p (omega arith) in
-    rw (ne_eqb p.base (addr + 4096 * p.first_page) (λ same. absurd (omega (arith, same, lower))))
-    (stored_origin-drop addr n ps (omega arith) (λ k d l. below (suc k) d (omega arith)))
-
--- no piece below an address has it as its origin, stored or shown
-pub origin_of-drop : (addr n : ℕ) (ps : List Piece) → n ≤ length ps → ((k : ℕ) (d : Piece) → k < n → (get_or ps k d).base < addr)
-    → (find (λ (p : Piece). has_origin addr (bare p)) ps ≡ find (λ (p : Piece). has_origin addr (bare p)) (drop n ps))
-    × (origin_of addr (bare_all ps) ≡ origin_of addr (bare_all (drop n ps)))
-origin_of-drop addr n ps le below =
-    let stored = stored_origin-drop addr n ps le below in
-    (stored, sym (stored_origin addr ps) ∙ ap (option_map bare) stored ∙ stored_origin addr (drop n ps))
+-- and so it names the segment
+pub seg_of_origin : (addr : ℕ) (ps : List Piece) → option_map (λ (p : Piece). p.seg) (find (λ (p : Piece). has_origin addr (bare p)) ps) ≡ option_map (λ (p : flat.Piece). p.seg) (origin_of addr (bare_all ps))
+seg_of_origin addr ps = rw (← stored_origin addr ps) (same (find (λ (p : Piece). has_origin addr (bare p)) ps))
+  where
+    same : (o : Option Piece) → option_map (λ (p : Piece). p.seg) o ≡ option_map (λ (p : flat.Piece). p.seg) (option_map bare o)
+    same None = refl
+    same (Some p) = refl
 
 -- IF NO PIECE HAS A HIGHER FIRST PAGE
 
@@ -50,7 +39,7 @@ Within : ℕ → Piece → Type 0
 Within reach p = p.first_page ≤ reach
 
 -- no piece farther above has the origin
-pub none-further : (addr reach : ℕ) (ps : List Piece) → AreWithin reach ps → ((k : ℕ) (d : Piece) → k < length ps → addr + 4096 * reach < (get_or ps k d).base)
+none-further : (addr reach : ℕ) (ps : List Piece) → AreWithin reach ps → ((k : ℕ) (d : Piece) → k < length ps → addr + 4096 * reach < (get_or ps k d).base)
     → find (λ (p : Piece). has_origin addr (bare p)) ps ≡ None
 unfolding Within
 none-further addr reach [] within above = refl
@@ -76,6 +65,30 @@ rest_range r fewer shorter some =
       above = λ k d g l. r.above (suc k) d (omega arith) (omega arith);
     }
 
+find-first : (addr reach last : ℕ) (ps : List Piece) → AreWithin reach ps → IsOriginRange addr reach ps 0 last
+    → find (λ (p : Piece). has_origin addr (bare p)) (take last ps) ≡ find (λ (p : Piece). has_origin addr (bare p)) ps
+unfolding Within
+find-first addr reach zero ps within r = sym (none-further addr reach ps within (λ k d l. r.above k d (omega arith) l))
+find-first addr reach (suc last) [] within r = refl
+find-first addr reach (suc last) (p ∷ ps) within r =
+    let rest = find-first addr reach last ps (All-tail (Within reach) p ps within) (rest_range r (omega arith) (omega arith) (omega arith)) in
+    elim (cases_Bool (has_origin addr (bare p))) [
+      | inl h ↦ rw h refl
+      | inr h ↦ rw h rest
+    ]
+
+-- the run has the lowest piece with the origin
+pub find-run : (addr reach first last : ℕ) (ps : List Piece) → AreWithin reach ps → IsOriginRange addr reach ps first last
+    → find (λ (p : Piece). has_origin addr (bare p)) (slice_range ps first last) ≡ find (λ (p : Piece). has_origin addr (bare p)) ps
+unfolding Within
+find-run addr reach zero last ps within r = let whole : last - 0 ≡ last = omega arith in rw whole (find-first addr reach last ps within r)
+find-run addr reach (suc first) zero ps within r = absurd (omega (arith, r.order))
+find-run addr reach (suc first) (suc last) [] within r = absurd (omega (arith, r.bound))
+find-run addr reach (suc first) (suc last) (p ∷ ps) within r =
+    let shifted : suc last - suc first ≡ last - first = omega arith in
+    rw (shifted, other-below addr p (r.below 0 p (omega arith)))
+    (find-run addr reach first last ps (All-tail (Within reach) p ps within) (rest_range r (omega arith) (omega arith) (omega arith)))
+
 taken-first : (addr seg reach last : ℕ) (ps : List Piece) → AreWithin reach ps → IsOriginRange addr reach ps 0 last → stored_without addr seg (take last ps) ++ drop last ps ≡ stored_without addr seg ps
 unfolding Within
 taken-first addr seg reach zero ps within r = sym (without-further addr seg reach ps within (λ k d l. r.above k d (omega arith) l))
@@ -97,21 +110,6 @@ taken-run addr seg reach (suc first) (suc last) (p ∷ ps) within r =
     let shifted : suc last - suc first ≡ last - first = omega arith in
     rw (shifted, other-below addr p (r.below 0 p (omega arith)))
     (ap (λ (xs : List Piece). p ∷ xs) (taken-run addr seg reach first last ps (All-tail (Within reach) p ps within) (rest_range r (omega arith) (omega arith) (omega arith))))
-
--- the named pieces end at or below an address
-abbrev pub NamedEnd : ℕ → ℕ → ℕ → List Piece → Type 0
-NamedEnd addr seg end ps = All (λ (p : Piece). stored_named addr seg p ≡ true → end_of (bare p) ≤ end) ps
-
--- so they do if those of the run end there
-pub named-end : (addr seg reach first last end : ℕ) (ps : List Piece) → AreWithin reach ps → IsOriginRange addr reach ps first last
-    → ((k : ℕ) (d : Piece) → first ≤ k → k < last → stored_named addr seg (get_or ps k d) ≡ true → end_of (bare (get_or ps k d)) ≤ end) → NamedEnd addr seg end ps
-named-end addr seg reach first last end ps within r ends k d lt named = elim (cases_lt k first) [
-  | inl low ↦ absurd (both_ways false refl (rw (other-below addr (get_or ps k d) (r.below k d low)) at named))
-  | inr from ↦ elim (cases_lt k last) [
-    | inl there ↦ ends k d from there named
-    | inr past ↦ absurd (both_ways false refl (rw (other-above addr reach (get_or ps k d) (within k d lt) (r.above k d past lt)) at named))
-  ]
-]
 
 -- ONE BY ONE
 
@@ -143,17 +141,3 @@ other-stays addr seg xs kept k last x le lt bound is other =
       other,
     )
     refl
-
--- WHERE A WALK STOPS
-
--- no piece from an index on has the origin, if the first of them is too far above
-pub none-from : (addr reach start i n : ℕ) (ps : List Piece) (d : Piece) → Arranged lowest_address (bare_all ps) → AreWithin reach ps → n ≡ start + i → n < length ps → addr + 4096 * reach < (get_or ps n d).base
-    → find (λ (p : Piece). has_origin addr (bare p)) (drop i (drop start ps)) ≡ None
-none-from addr reach start i n ps d ar within at lt further =
-    none-further addr reach (drop i (drop start ps)) (All-drop (λ (p : Piece). p.first_page ≤ reach) i (drop start ps) (All-drop (λ (p : Piece). p.first_page ≤ reach) start ps within))
-    (λ k e l.
-    let place : get_or (drop i (drop start ps)) k e ≡ get_or ps (start + (i + k)) e = get_or-drop i (drop start ps) k e ∙ get_or-drop start ps (i + k) e in
-    let short : start + (i + k) < length ps = omega (arith, at, lt, l, length-drop i (drop start ps), length-drop start ps) in
-    let up = rising lowest_address ps ar n (start + (i + k)) d (omega (arith, at)) short in
-    let same = get_or_default ps (start + (i + k)) d e short in
-    rw (place, ← same) (omega (arith, up, further)))

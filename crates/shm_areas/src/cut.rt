@@ -1,6 +1,6 @@
 //! Takes a range out of pieces in order: at most one part stays below it, and one above.
 ghost use Rattle.std.specs.Prelude.{◌≡◌, ◌+◌, ◌<◌, ◌≤◌, length, vec_capacity, option_to_list};
-ghost use Rattle.std.specs.List.{splice};
+ghost use Rattle.std.specs.List.{insert as inserted_at, splice};
 ghost use Rattle.shm_base.specs.Access as access;
 ghost use Rattle.shm_base.specs.Space as flat;
 ghost use Rattle.shm_areas.specs.Arranged.{bare, bare_all, Arranged, AreWithin, IsFit};
@@ -118,6 +118,17 @@ pub(crate) fn count_left(pieces: &[Piece], cut: Cut) -> usize
     cut.first + count_of(cut.below) + count_of(cut.above) + (pieces.len() - cut.last)
 }
 
+/// Inserts a piece at an index.
+pub(crate) fn put_at(pieces: &mut Vec<Piece>, at: usize, piece: Piece)
+    requires at { at ≤ length pieces.old.items }
+    requires room { length pieces.old.items < vec_capacity pieces.old }
+    ensures items { pieces.new.items ≡ inserted_at pieces.old.items at piece }
+    ensures capacity { vec_capacity pieces.old ≤ vec_capacity pieces.new }
+{
+    let put = pieces.insert(at, piece);
+    prove!(put.is_ok());
+}
+
 fn insert_part(pieces: &mut Vec<Piece>, at: usize, part: Option<Piece>)
     requires within { at ≤ length pieces.old.items }
     requires room { length pieces.old.items + length (option_to_list part) ≤ vec_capacity pieces.old }
@@ -125,8 +136,7 @@ fn insert_part(pieces: &mut Vec<Piece>, at: usize, part: Option<Piece>)
     ensures capacity { vec_capacity pieces.old ≤ vec_capacity pieces.new }
 {
     if let Some(piece) = part {
-        let put = pieces.insert(at, piece);
-        prove!(put.is_ok());
+        put_at(pieces, at, piece);
     }
 }
 

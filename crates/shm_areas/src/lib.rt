@@ -3,13 +3,10 @@
 
 mod cut;
 mod filling;
-mod groups;
 mod piece;
 mod rests;
 mod search;
 mod space;
-mod stretch;
-mod summary;
 mod taking;
 
 pub use piece::{Piece, Place};

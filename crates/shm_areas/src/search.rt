@@ -3,7 +3,7 @@ ghost use Rattle.std.specs.Prelude.{◌≡◌, ◌+◌, ◌*◌, ◌<◌, ◌≤
 ghost use Rattle.shm_base.specs.Space as flat;
 ghost use Rattle.shm_base.specs.declared.bounds.TheConstants.{MOST_SHMALL};
 ghost use Rattle.shm_areas.specs.Arranged.{bare_all, Arranged};
-ghost use Rattle.shm_areas.specs.Gap.{gap_from, IsPassed};
+ghost use Rattle.shm_areas.specs.Gap.{gap_from};
 ghost use Rattle.shm_areas.specs.Met.{IsPieceRange, IsOriginRange};
 ghost use Rattle.shm_areas.specs.declared.piece.Piece.{Piece as Stored};
 
@@ -35,23 +35,6 @@ pub(crate) fn count_to(pieces: &[Piece], addr: u64) -> usize
     pieces.partition_point(|p| p.base <= addr)
 }
 
-/// How many pieces begin at or below an address, if the first `least` do. Often that is all, which needs no
-/// search.
-fn count_on(pieces: &[Piece], least: usize, addr: u64) -> usize
-    requires arranged { Arranged flat.lowest_address (bare_all pieces.now) }
-    requires bound { least ≤ length pieces.now }
-    requires below { (k : ℕ) (d : Stored) → k < least → (slice_index_or pieces.now k d).base ≤ addr }
-    ensures bound { result ≤ length pieces.now }
-    ensures below { (k : ℕ) (d : Stored) → k < result → (slice_index_or pieces.now k d).base ≤ addr }
-    ensures above { (k : ℕ) (d : Stored) → result ≤ k → k < length pieces.now
-        → addr < (slice_index_or pieces.now k d).base }
-{
-    if least < pieces.len() && pieces[least].base <= addr {
-        return count_to(pieces, addr);
-    }
-    least
-}
-
 /// How many pieces begin below an address.
 pub(crate) fn count_below(pieces: &[Piece], addr: u64) -> usize
     requires { Arranged flat.lowest_address (bare_all pieces.now) }
@@ -71,7 +54,7 @@ pub(crate) fn run_in(pieces: &[Piece], from: u64, to: u64) -> PieceRange
     ensures { IsPieceRange from to pieces.now result.first result.last }
 {
     let count = count_to(pieces, from);
-    let last = count_on(pieces, count, to - 1);
+    let last = count_to(pieces, to - 1);
     if count > 0 && from < pieces[count - 1].end() {
         return PieceRange {
             first: count - 1,
@@ -91,27 +74,6 @@ pub(crate) fn run_of_origin(pieces: &[Piece], addr: u64, reach: u32) -> PieceRan
         first: count_below(pieces, addr),
         last: count_to(pieces, to),
     }
-}
-
-/// The end of the addresses in which no gap for this many pages begins, if none begins below `from`. Goes up
-/// the pieces that end above it, to a gap or to an address to stop at.
-pub(crate) fn passed_to(pieces: &[Piece], from: u64, pages: u32, stop: u64) -> u64
-    requires pages { (1 ≤ pages) × (pages ≤ MOST_SHMALL) }
-    requires arranged { Arranged flat.lowest_address (bare_all pieces.now) }
-    requires passed { IsPassed pages from pieces.now }
-    ensures { IsPassed pages result pieces.now }
-{
-    let size = PAGE_SIZE * pages as u64;
-    let run = run_in(pieces, from, from + 1);
-    let mut reached = from;
-    for place in run.first..pieces.len() {
-        let piece = &pieces[place];
-        if stop <= reached || piece.base >= reached + size {
-            return reached;
-        }
-        reached = reached.max(piece.end());
-    }
-    reached
 }
 
 /// The least gap for this many pages at or above an address. Goes up the pieces that end above it.

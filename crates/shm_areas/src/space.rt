@@ -1,31 +1,28 @@
 //! A sorted list of pieces that do not overlap.
-ghost use Rattle.std.specs.Prelude.{◌≡◌, ℕ, ◌+◌, ◌*◌, ◌%◌, ◌<◌, ◌≤◌, Bool, true, false, All, nat_lt, IfOk, length, IfSome, Some, option_map, find, vec_capacity};
-ghost use Rattle.std.specs.List.{insert as inserted_at};
+ghost use Rattle.std.specs.Prelude.{◌≡◌, ℕ, ◌+◌, ◌*◌, ◌%◌, ◌<◌, ◌≤◌, Bool, true, false, All, nat_lt, IfOk, length, IfNone, IfSome, Some, option_map, find};
 ghost use Rattle.shm_base.specs.Access as access;
 ghost use Rattle.shm_base.specs.Space as flat;
+ghost use Rattle.shm_base.specs.State.{Piece as Flat};
 ghost use Rattle.shm_areas.specs.Arranged.{bare, bare_all, Arranged, IsFit, IsCovering};
 ghost use Rattle.shm_areas.specs.Edit.{stored_inserted, stored_cut, stored_without};
-ghost use Rattle.shm_areas.specs.Gap.{HasNoGap, IsLeastGap, IsPassed, IsStretch};
+ghost use Rattle.shm_areas.specs.Gap.{HasNoGap, IsLeastGap};
 ghost use Rattle.shm_areas.specs.Met.{met};
 ghost use Rattle.shm_areas.specs.declared.piece.Piece.{Piece as Stored};
 ghost use Rattle.shm_base.specs.declared.bounds.TheConstants.{MOST_PIECES, MOST_SHMALL};
 ghost use Rattle.shm_base.specs.declared.paging.TheConstants.{PAGE_SIZE};
 
-use crate::cut::{count_left, cut_of, replace};
+use crate::cut::{count_left, cut_of, put_at, replace};
 use crate::filling::{lowered, raised};
 use crate::piece::{Piece, Place};
 use crate::rests::{Rests, rests_of};
 use crate::search::{count_below, count_to, least_gap, run_in, run_of_origin};
-use crate::stretch::Stretch;
-use crate::summary::{count_ended, group_room, narrow, stretch_room, widen};
-use crate::taking::{end_of_named, take_named};
+use crate::taking::{first_with_origin, take_named};
 use shm_base::{END_ADDRESS, FIRST_GAP, HostMemory, PAGE_SIZE};
 use std::alloc::{AllocError, Global};
 use std::marker::Model;
 
 /// The pieces of a process in order of their bases. Room for the most that the process may have is reserved
-/// at the beginning, so no change takes memory. If there may be more than 256, and there are many, room for a
-/// summary of their gaps may be reserved too ([`Space::reserve_summary`]).
+/// at the beginning, so no change takes memory.
 pub struct Space {
     pieces: Vec<Piece>,
     most: u32,
@@ -34,25 +31,6 @@ pub struct Space {
     reach: u32,
     // Each address from 0x40000000 up to this one is in a piece, so no gap begins below.
     filled: u64,
-    // What is known of the gaps, if there are many pieces: stretches of addresses, and groups of them. A space
-    // without room for any has none.
-    stretches: Vec<Stretch>,
-    groups: Vec<Stretch>,
-}
-
-// Inserts a piece at an index. The next index needs no moves.
-fn put_at(pieces: &mut Vec<Piece>, at: usize, piece: Piece)
-    requires at { at ≤ length pieces.old.items }
-    requires room { length pieces.old.items < vec_capacity pieces.old }
-    ensures items { pieces.new.items ≡ inserted_at pieces.old.items at piece }
-    ensures capacity { vec_capacity pieces.old ≤ vec_capacity pieces.new }
-{
-    if at == pieces.len() {
-        pieces.push_reserved(piece);
-        return;
-    }
-    let put = pieces.insert(at, piece);
-    prove!(put.is_ok());
 }
 
 impl Drop for Space {
@@ -62,17 +40,14 @@ impl Drop for Space {
             most: _,
             reach: _,
             filled: _,
-            stretches: _,
-            groups: _,
         } = self;
     }
 }
 
 impl Model for Space {
     ghost use Rattle.std.specs.Prelude.{◌≤◌, vec_capacity};
-    ghost use Rattle.shm_base.specs.Space.{end_address};
     ghost use Rattle.shm_areas.specs.Arranged.{SpaceView, IsSpace, AreWithin};
-    ghost use Rattle.shm_areas.specs.Gap.{IsFilled, AreBetween, AreRight};
+    ghost use Rattle.shm_areas.specs.Gap.{IsFilled};
 
     ghost Value = { SpaceView };
 
@@ -80,32 +55,21 @@ impl Model for Space {
 
     ghost invariant = { λ s. IsSpace (record { pieces = s.pieces.items; most = s.most })
         × (s.most ≤ vec_capacity s.pieces) × AreWithin s.reach s.pieces.items
-        × IsFilled s.filled s.pieces.items × AreBetween 0 end_address s.stretches.items
-        × AreRight s.stretches.items s.pieces.items × AreRight s.groups.items s.pieces.items };
+        × IsFilled s.filled s.pieces.items };
 }
 
 impl Clone for Space {
     ghost is_clone = { λ s copy. copy ≡ s };
 
-    /// A copy of the pieces, and of what is known of the gaps, with the same room. AllocError: the host refused
-    /// memory.
+    /// A copy of the pieces, with the same room. AllocError: the host refused memory.
     fn clone(&self) -> Result<Space, AllocError> {
         let mut pieces = Vec::with_capacity(*self.pieces.allocator(), self.most as usize)?;
         pieces.extend_from_slice(&self.pieces)?;
-        let mut stretches = Vec::with_capacity(
-            *self.pieces.allocator(),
-            self.stretches.capacity(),
-        )?;
-        stretches.extend_from_slice(&self.stretches)?;
-        let mut groups = Vec::with_capacity(*self.pieces.allocator(), self.groups.capacity())?;
-        groups.extend_from_slice(&self.groups)?;
         Ok(Space {
             pieces,
             most: self.most,
             reach: self.reach,
             filled: self.filled,
-            stretches,
-            groups,
         })
     }
 }
@@ -125,23 +89,7 @@ impl Space {
             most,
             reach: 0,
             filled: FIRST_GAP,
-            stretches: Vec::new(alloc),
-            groups: Vec::new(alloc),
         })
-    }
-
-    /// Reserves the room for the summary of the gaps, once there are many pieces. Without it a choice of an
-    /// address looks at more pieces. HostMemory: the host refused memory, and nothing changed.
-    pub fn reserve_summary(&mut self) -> Result<(), HostMemory>
-        ensures { self.new ≡ self.old }
-    {
-        let room = stretch_room(self.pieces.len(), self.most);
-        if room <= self.stretches.capacity() {
-            return Ok(());
-        }
-        self.groups.reserve(group_room(room))?;
-        self.stretches.reserve(room)?;
-        Ok(())
     }
 
     /// The most pieces that there may be.
@@ -198,64 +146,9 @@ impl Space {
         })
     }
 
-    // Where a search for a gap of this many pages continues from an address, below which none begins: at a gap,
-    // or at `to` or above it. Visits the pieces of stretches with a wide gap.
-    fn pass(&self, from: u64, to: u64, pages: u32) -> u64
-        requires pages { (1 ≤ pages) × (pages ≤ MOST_SHMALL) }
-        requires passed { IsPassed pages from self.now.pieces }
-        ensures { IsPassed pages result self.now.pieces }
-    {
-        let mut reached = from;
-        let first = count_ended(&self.stretches, from);
-        for stretch in &self.stretches[first..] {
-            if to <= reached {
-                return reached;
-            }
-            reached = stretch.passed_from(&self.pieces, reached, pages);
-            if reached < stretch.to {
-                return reached;
-            }
-        }
-        reached
-    }
-
-    // The same through a group: at a gap, or at the group's end or above it.
-    fn pass_group(&self, group: &Stretch, from: u64, pages: u32) -> u64
-        requires pages { (1 ≤ pages) × (pages ≤ MOST_SHMALL) }
-        requires passed { IsPassed pages from self.now.pieces }
-        requires right { IsStretch group.now self.now.pieces }
-        ensures { IsPassed pages result self.now.pieces }
-    {
-        if group.to <= from {
-            return from;
-        }
-        if group.passes(from, pages) {
-            return from.max(group.to);
-        }
-        self.pass(from, group.to, pages)
-    }
-
-    // The end of addresses in which no gap for this many pages begins, often at the least gap. Visits the
-    // stretches of groups with a wide gap.
-    fn start(&self, pages: u32) -> u64
-        requires { (1 ≤ pages) × (pages ≤ MOST_SHMALL) }
-        ensures { IsPassed pages result self.now.pieces }
-    {
-        let mut start = self.filled;
-        if count_ended(&self.stretches, start) == self.stretches.len() {
-            return start;
-        }
-        for group in &self.groups {
-            start = self.pass_group(group, start, pages);
-            if start < group.to {
-                return start;
-            }
-        }
-        self.pass(start, END_ADDRESS, pages)
-    }
-
     /// The address of the least gap for this many pages at or above 0x40000000, a multiple of 4096 (this
-    /// profile; shmop(2) leaves the choice to the system). None if no gap is large enough.
+    /// profile; shmop(2) leaves the choice to the system). None if no gap is large enough. Walks up the pieces
+    /// that end above the filled addresses, to the gap.
     #[tactic(auto, using(crate::proofs::Gaps::free_below))]
     pub fn choose(&self, pages: u32) -> Option<u64>
         requires { (1 ≤ pages) × (pages ≤ MOST_SHMALL) }
@@ -263,9 +156,8 @@ impl Space {
         ensures least { MatchOption result (HasNoGap (bare_all self.now.pieces) pages)
             (λ base. IsLeastGap (bare_all self.now.pieces) pages base) }
     {
-        let start = self.start(pages);
-        let run = run_in(&self.pieces, start, start + 1);
-        least_gap(&self.pieces[run.first..], start, pages)
+        let run = run_in(&self.pieces, self.filled, self.filled + 1);
+        least_gap(&self.pieces[run.first..], self.filled, pages)
     }
 
     /// Whether a piece has a page among this many from an address on. The range may end above the last
@@ -325,7 +217,6 @@ impl Space {
         self.reach = self.reach.max(piece.first_page);
         self.filled = raised(self.filled, &piece);
         put_at(&mut self.pieces, at, piece);
-        narrow(&mut self.stretches, &mut self.groups, &self.pieces, at);
     }
 
     /// Takes a range out. Of a piece that reaches beyond it the parts outside stay, each as a piece with its
@@ -342,13 +233,6 @@ impl Space {
         self.reach = self.reach.max(cut.reach());
         self.filled = lowered(self.filled, from);
         replace(&mut self.pieces, cut);
-        widen(
-            &mut self.stretches,
-            &mut self.groups,
-            &self.pieces,
-            from,
-            to,
-        );
     }
 
     /// The lowest piece with this origin, as it is stored. A piece's origin is the address at which its
@@ -357,34 +241,25 @@ impl Space {
         ensures stored { result ≡ find (λ (p : Stored). flat.has_origin addr (bare p)) self.now.pieces }
         ensures flat { option_map bare result ≡ flat.origin_of addr (bare_all self.now.pieces) }
     {
-        let start = count_below(&self.pieces, addr);
-        let to = addr.saturating_add(PAGE_SIZE * self.reach as u64);
-        for piece in &self.pieces[start..] {
-            if piece.base > to {
-                return None;
-            }
-            if piece.has_origin(addr) {
-                return Some(*piece);
-            }
-        }
-        None
+        let run = run_of_origin(&self.pieces, addr, self.reach);
+        first_with_origin(&self.pieces[run.first..run.last], addr)
     }
 
-    /// Takes out the pieces of a segment that have this origin.
-    pub fn take_at(&mut self, addr: u64, seg: u32)
-        ensures kept { self.new ≡ record self.old { pieces = stored_without addr seg self.old.pieces } }
-        ensures flat { bare_all self.new.pieces ≡ flat.without_named addr seg (bare_all self.old.pieces) }
+    /// Takes out what is left of an attach: the lowest piece with this origin names the segment, and all
+    /// pieces of that segment with this origin go. Returns the segment; none if no piece has this origin.
+    pub fn take_at(&mut self, addr: u64) -> Option<u32>
+        ensures segment { result
+            ≡ option_map (λ (p : Flat). p.seg) (flat.origin_of addr (bare_all self.old.pieces)) }
+        ensures none { IfNone result (self.new ≡ self.old) }
+        ensures kept { IfSome result (λ seg.
+            self.new ≡ record self.old { pieces = stored_without addr seg self.old.pieces }) }
+        ensures flat { IfSome result (λ seg.
+            bare_all self.new.pieces ≡ flat.without_named addr seg (bare_all self.old.pieces)) }
     {
         let run = run_of_origin(&self.pieces, addr, self.reach);
-        let end = end_of_named(&self.pieces, run, addr, seg);
+        let seg = first_with_origin(&self.pieces[run.first..run.last], addr)?.seg;
         self.filled = lowered(self.filled, addr);
         take_named(&mut self.pieces, run, addr, seg);
-        widen(
-            &mut self.stretches,
-            &mut self.groups,
-            &self.pieces,
-            addr,
-            end,
-        );
+        Some(seg)
     }
 }

@@ -1,40 +1,23 @@
 //! Takes out what is left of an attach.
-ghost use Rattle.std.specs.Prelude.{◌≡◌, ◌≤◌, ◌<◌, ℕ, true, length, slice_index_or, vec_capacity};
-ghost use Rattle.shm_base.specs.Access as access;
-ghost use Rattle.shm_base.specs.Space as flat;
-ghost use Rattle.shm_areas.specs.Arranged.{bare, bare_all, Arranged, IsFit};
-ghost use Rattle.shm_areas.specs.Edit.{stored_named, taken_between};
+ghost use Rattle.std.specs.Prelude.{◌≡◌, ◌≤◌, find, length, vec_capacity};
+ghost use Rattle.shm_base.specs.Space.{has_origin};
+ghost use Rattle.shm_areas.specs.Arranged.{bare};
+ghost use Rattle.shm_areas.specs.Edit.{taken_between};
 ghost use Rattle.shm_areas.specs.declared.piece.Piece.{Piece as Stored};
 
 use crate::piece::Piece;
 use crate::search::PieceRange;
 
-// The end of a piece of the segment with this origin, if it is above `end`.
-fn end_with(end: u64, piece: &Piece, addr: u64, seg: u32) -> u64
-    requires { IsFit (bare piece.now) }
-    ensures higher { end ≤ result }
-    ensures own { stored_named addr seg piece.now ≡ true → access.end_of (bare piece.now) ≤ result }
+/// The lowest piece with an origin.
+pub(crate) fn first_with_origin(pieces: &[Piece], addr: u64) -> Option<Piece>
+    ensures { result ≡ find (λ (p : Stored). has_origin addr (bare p)) pieces.now }
 {
-    if piece.is_named(addr, seg) {
-        end.max(piece.end())
-    } else {
-        end
+    for piece in pieces {
+        if piece.has_origin(addr) {
+            return Some(*piece);
+        }
     }
-}
-
-/// The end of the last piece of a segment with this origin in a run, or the origin if there is none.
-pub(crate) fn end_of_named(pieces: &[Piece], run: PieceRange, addr: u64, seg: u32) -> u64
-    requires arranged { Arranged flat.lowest_address (bare_all pieces.now) }
-    requires bound { run.last ≤ length pieces.now }
-    ensures { (k : ℕ) (d : Stored) → run.first ≤ k → k < run.last
-        → stored_named addr seg (slice_index_or pieces.now k d) ≡ true
-        → access.end_of (bare (slice_index_or pieces.now k d)) ≤ result }
-{
-    let mut end = addr;
-    for k in run.first..run.last {
-        end = end_with(end, &pieces[k], addr, seg);
-    }
-    end
+    None
 }
 
 /// Takes the pieces of a segment with this origin out of a run. The rest of the run moves down piece by

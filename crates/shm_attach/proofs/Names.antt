@@ -41,7 +41,6 @@ pub use Rattle.slab.specs.Slab.{Slab, Updates, get, with_value}
 pub use Rattle.shm_attach.specs.Table.{AllTrue, TrueTable, TrueSlot, count_in, frame_in, seg_in, size_in, translations_from, translations_in, translations_of, with_frame, TableView}
 pub use Rattle.shm_attach.specs.Exact.{AreCountsExact, AreTablesSound, HasReservations, most_of_segment, no_reservations, one_reserved}
 pub use Rattle.shm_attach.specs.Lost.{LostView}
-pub use Rattle.shm_attach.specs.Part.{IsCuttable, LeavesRoom}
 pub use Rattle.shm_attach.specs.Place.{IsPlaceFor, IsRange}
 pub use Rattle.shm_attach.specs.Spaces.{AreTrue, IsCaller, SpacesView, Translation, caller_seen, life_at, pieces_at}
 pub use Rattle.shm_attach.specs.Spans.{pieces_by, unmarked, wanted_in}

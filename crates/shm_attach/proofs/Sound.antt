@@ -1,6 +1,8 @@
 -- A change of one process keeps the counts exact, and each piece keeps its segment's table.
-use Rattle.shm_attach.proofs.Names.{is_live, true, false, true≢false, most_at, length-set_value_at, values_of, ◌≡◌, ◌≢◌, ℕ, ◌+◌, ◌<◌, ◌≤◌, List, [], length, Some, slice_get, sym, subst, arith, common_steps, All, length-map, set_value_at, lowest_address, inserted, cut, without_named, pieces_of, bare_all, Arranged, arranged_cut, arranged_inserted, Tables, runner_view, runners_view, with_pieces_at, with_life_at, pieces_at, life_at, counted, stored_at, HasTable, OneTableEach, AllHaveTables, IsPlaceFor, IsCuttable, AreCountsExact, AreTablesSound, HasReservations, no_reservations, one_reserved, Piece, Runner, MOST_PIECES, most_of_segment}
+use Rattle.shm_attach.proofs.Names.{is_live, true, false, true≢false, most_at, length-set_value_at, values_of, ◌≡◌, ◌≢◌, ℕ, ◌+◌, ◌<◌, ◌≤◌, List, [], length, Option, None, Some, slice_get, sym, subst, arith, common_steps, All, length-map, set_value_at, lowest_address, inserted, cut, without_named, pieces_of, bare_all, Arranged, arranged_cut, arranged_inserted, Tables, runner_view, runners_view, with_pieces_at, with_life_at, pieces_at, life_at, counted, stored_at, HasTable, OneTableEach, AllHaveTables, IsPlaceFor, AreCountsExact, AreTablesSound, HasReservations, no_reservations, one_reserved, Piece, Runner, MOST_PIECES, most_of_segment}
 use Rattle.shm_base.specs.State as flat
+use Rattle.shm_attach.specs.Changes.{attached_at, without_attach, without_segment}
+use Rattle.shm_attach.specs.Mapping.{IsPageRange}
 use Rattle.shm_attach.proofs.Processes.{some_if-le, runners_set, length-inserted, shorter_filter}
 use Rattle.shm_attach.proofs.Keeping.{IsExact-changed, IsExact-life, arranged-without, small_counts, own_counted}
 use Rattle.shm_attach.proofs.HavingTables.{most_at-set, stored_at-value, pieces_at-stored, stored_at-set, stored_at-other, tables-changed, tables-all}
@@ -37,14 +39,23 @@ pub fit-inserted : (extra : ℕ → ℕ) (es : List (ℕ × Runner)) (t : Tables
 fit-inserted extra es t i p sound place live = grind (arith, common_steps, length-inserted, arranged_inserted, true≢false)
 
 -- a range of whole pages is cut out
-pub fit-cut : (extra : ℕ → ℕ) (es : List (ℕ × Runner)) (t : Tables) (i from to : ℕ) → AreTablesSound extra es t → IsCuttable from to (pieces_at (runners_view es) i)
+pub fit-cut : (extra : ℕ → ℕ) (es : List (ℕ × Runner)) (t : Tables) (i from to : ℕ) → AreTablesSound extra es t → IsPageRange from to → length (cut from to (pieces_at (runners_view es) i)) ≤ MOST_PIECES
     → AreFit (runners_view es) i (cut from to (pieces_at (runners_view es) i))
-fit-cut extra es t i from to sound can = grind (arith, common_steps, arranged_cut)
+fit-cut extra es t i from to sound range few = grind (arith, common_steps, arranged_cut)
 
 -- the pieces of an attach are removed
-pub fit-without : (extra : ℕ → ℕ) (es : List (ℕ × Runner)) (t : Tables) (i addr seg : ℕ) → AreTablesSound extra es t
+fit-without : (extra : ℕ → ℕ) (es : List (ℕ × Runner)) (t : Tables) (i addr seg : ℕ) → AreTablesSound extra es t
     → AreFit (runners_view es) i (without_named addr seg (pieces_at (runners_view es) i))
 fit-without extra es t i addr seg sound = grind (arith, common_steps, shorter_filter, arranged-without)
+
+-- what is left of an attach is removed, if there is any
+pub fit-attach : (extra : ℕ → ℕ) (es : List (ℕ × Runner)) (t : Tables) (i addr : ℕ) → AreTablesSound extra es t
+    → AreFit (runners_view es) i (without_attach addr (pieces_at (runners_view es) i))
+fit-attach extra es t i addr sound = by (attached_at addr (pieces_at (runners_view es) i))
+  where
+    by : (o : Option ℕ) → AreFit (runners_view es) i (without_segment addr o (pieces_at (runners_view es) i))
+    by None = record { few = sound.exact.pieces i; order = sound.exact.arranged i; idle = sound.exact.idle i }
+    by (Some seg) = fit-without extra es t i addr seg sound
 
 pub sound-changed : (extra : ℕ → ℕ) (es : List (ℕ × Runner)) (t u : Tables) (i : ℕ) (w v : Runner) (f : List flat.Piece → List flat.Piece) → i < length es
     → Some w ≡ slice_get (values_of es) i → v.life ≡ w.life → bare_all v.space.pieces ≡ f (bare_all w.space.pieces) → v.space.most ≡ w.space.most → AreTablesSound extra es t

@@ -1,7 +1,7 @@
 -- What a change of one process's pieces leaves of the processes and of the tables.
-use Rattle.std.specs.Prelude.{◌≡◌, ◌≢◌, ℕ, ◌+◌, List, length}
+use Rattle.std.specs.Prelude.{◌≡◌, ◌≢◌, ℕ, ◌+◌, List, length, Option, Some, None, option_map}
 use Rattle.shm_base.specs.State as flat
-use Rattle.shm_base.specs.Space.{cut, pieces_of}
+use Rattle.shm_base.specs.Space.{cut, origin_of, pieces_of, without_named}
 use Rattle.shm_areas.specs.Arranged.{bare_all}
 use Rattle.shm_areas.specs.declared.piece.Piece.{Piece}
 use Rattle.shm_attach.specs.Exact.{AreTablesSound}
@@ -26,3 +26,15 @@ pub record AreRecounted (met : List Piece) (from to : ℕ) (t u : Tables) : Type
   pub tables : KeepCounted t u
   pub translated : KeepFrames t.slab u.slab
   pub tied : OneTableEach u
+
+-- the segment of the attach with this origin: that of the lowest piece
+abbrev pub attached_at : ℕ → List flat.Piece → Option ℕ
+attached_at addr ps = option_map (λ (p : flat.Piece). p.seg) (origin_of addr ps)
+
+abbrev pub without_segment : ℕ → Option ℕ → List flat.Piece → List flat.Piece
+without_segment addr None ps = ps
+without_segment addr (Some seg) ps = without_named addr seg ps
+
+-- the pieces, without what is left of the attach
+abbrev pub without_attach : ℕ → List flat.Piece → List flat.Piece
+without_attach addr ps = without_segment addr (attached_at addr ps) ps

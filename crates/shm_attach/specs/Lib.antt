@@ -3,7 +3,6 @@ pub mod Spaces
 pub mod Table
 pub mod Tables
 pub mod Exact
-pub mod Part
 pub mod Place
 pub mod Spans
 pub mod Fork

@@ -7,7 +7,7 @@ ghost use Rattle.shm_attach.specs.Place.{IsRange};
 ghost use Rattle.shm_base.specs.declared.bounds.TheConstants.{MOST_SHMALL};
 ghost use Rattle.shm_base.specs.declared.paging.TheConstants.{PAGE_SIZE};
 
-use crate::changes::{exchange, reserve_summary, space_at};
+use crate::changes::{exchange, space_at};
 use crate::process::Caller;
 use crate::spaces::Spaces;
 use shm_areas::Piece;
@@ -16,15 +16,6 @@ use shm_fault::PageStore;
 use shm_pager::Pager;
 
 impl Spaces {
-    // Reserves the room for a summary of the gaps of a process that has many pieces.
-    fn make_room(&mut self, caller: &Caller) -> Result<(), HostMemory>
-        requires { IsCaller caller.now self.old.runners }
-        ensures { self.new ≡ self.old }
-    {
-        reserve_summary(&mut self.processes, caller.index)?;
-        Ok(())
-    }
-
     /// Attaches all pages of a segment at a base, in place of whatever its range has: pieces in the range are
     /// removed, and those that reach beyond it are cut. The segments that lost pages to it are noted. If the
     /// piece is the first of its segment, the translations are read from the store. All memory is taken
@@ -52,7 +43,6 @@ impl Spaces {
             → AreTrue self.new.translations store.now }
         ensures err { OnErr result (self.new ≡ self.old) }
     {
-        self.make_room(caller)?;
         let end = base + PAGE_SIZE * pages as u64;
         let key = self.tables.reserve(store, seg, pages)?;
         self.lost

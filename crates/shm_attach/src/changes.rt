@@ -1,10 +1,10 @@
-//! Changes of the pieces of one process. `put` adds every piece and `take` removes every piece, whatever the
-//! cause: shmat, a remap, shmdt, fork, exec and exit. Pieces, counts and translations change together, so the
+//! Changes of the pieces of one process. `put` adds every piece, `take_range` and `take_attach` remove every
+//! piece, whatever the cause: shmat, a remap, shmdt, fork, exec and exit. Pieces, counts and translations change together, so the
 //! counts stay exact and each piece has its segment's table. A shmat reserves that table, by one count more,
 //! until its piece is in.
-ghost use Rattle.std.specs.Prelude.{◌≡◌, ℕ, ◌<◌, ◌≤◌, ◌+◌, length, true, All};
+ghost use Rattle.std.specs.Prelude.{◌≡◌, ℕ, ◌<◌, ◌≤◌, ◌+◌, length, true, All, IfNone};
 ghost use Rattle.shm_base.specs.Guest.{is_live};
-ghost use Rattle.shm_base.specs.Space.{lowest_address, inserted, meets, pieces_of};
+ghost use Rattle.shm_base.specs.Space.{lowest_address, cut, inserted, meets, pieces_of};
 ghost use Rattle.shm_areas.specs.declared.piece.Piece.{Piece as Stored};
 ghost use Rattle.shm_base.specs.declared.bounds.TheConstants.{MOST_PIECES};
 ghost use Rattle.shm_attach.specs.Exact.{most_of_segment};
@@ -13,25 +13,14 @@ ghost use Rattle.shm_attach.specs.Views.{life_view, with_life_at, runners_view, 
 ghost use Rattle.shm_attach.specs.Spaces.{life_at};
 ghost use Rattle.shm_attach.specs.Tables.{counted, stored_at, HasTable, OneTableEach, KeepCounted, KeepTables};
 ghost use Rattle.shm_attach.specs.Place.{IsPlaceFor};
-ghost use Rattle.shm_attach.specs.Part.{left, CanGo, LeavesRoom};
 ghost use Rattle.shm_attach.specs.Exact.{AreTablesSound, HasReservations, one_reserved};
-ghost use Rattle.shm_attach.specs.Changes.{IsChanged, AreRecounted};
-ghost use Rattle.shm_attach.specs.Mapping.{held, Exchanged, CanReplace};
+ghost use Rattle.shm_attach.specs.Changes.{IsChanged, AreRecounted, attached_at, without_attach};
+ghost use Rattle.shm_attach.specs.Mapping.{held, Exchanged, CanReplace, IsPageRange};
 
 use crate::process::{Life, Runner};
 use crate::tables::Tables;
 use indexmap::IndexMap;
 use shm_areas::{Piece, Space};
-use shm_base::HostMemory;
-
-/// What is removed from the pieces of a process.
-#[derive(Clone, Copy)]
-pub(crate) enum Part {
-    /// The addresses in a range: pieces there are removed, and those that reach beyond it are cut.
-    Range { from: u64, to: u64 },
-    /// What is left of an attach: the pieces of a segment with this origin.
-    Attach { addr: u64, seg: u32 },
-}
 
 /// The address space of the process at an index.
 #[inline(always)]
@@ -42,19 +31,6 @@ pub(crate) fn space_at(processes: &IndexMap<u32, Runner>, index: usize) -> &Spac
     ensures most { result.now.most ≡ most_at processes.now.entries index }
 {
     &processes[index].space
-}
-
-/// Reserves the room that the pieces of a process need for a summary of their gaps, once there are many.
-/// HostMemory: the host refused memory, and nothing changed.
-pub(crate) fn reserve_summary(
-    processes: &mut IndexMap<u32, Runner>,
-    index: usize,
-) -> Result<(), HostMemory>
-    requires { index < length processes.old.entries }
-    ensures { processes.new.entries ≡ processes.old.entries }
-{
-    processes[index].space.reserve_summary()?;
-    Ok(())
 }
 
 /// Adds a piece. Its segment's table exists.
@@ -95,39 +71,55 @@ fn recount(tables: &mut Tables, met: &[Piece], from: u64, to: u64)
     }
 }
 
-/// Removes pieces, and the tables of segments that have none left.
-pub(crate) fn take(
+/// Removes the addresses in a range: pieces there are removed, and those that reach beyond it are cut. Removes
+/// the tables of segments that have no piece left.
+pub(crate) fn take_range(
     processes: &mut IndexMap<u32, Runner>,
     tables: &mut Tables,
     index: usize,
-    part: Part,
+    from: u64,
+    to: u64,
 )
     requires there { index < length processes.old.entries }
-    requires part { CanGo part (held processes.old.entries index) }
-    requires room { let es = processes.old.entries in
-        LeavesRoom (most_at es index) part (held es index) }
+    requires range { IsPageRange from to }
+    requires room { let es = processes.old.entries in length (cut from to (held es index)) ≤ most_at es index }
     requires reservations { HasReservations processes.old.entries tables.old }
     ensures { let kept = KeepCounted tables.old tables.new in
         let es = processes.old.entries in
-        IsChanged kept es processes.new.entries tables.old tables.new index (left part) }
+        IsChanged kept es processes.new.entries tables.old tables.new index (cut from to) }
 {
     let space = &mut processes[index].space;
-    match part {
-        Part::Range { from, to } => {
-            let met = space.met(from, to);
-            if met.is_empty() {
-                return;
-            }
-            recount(tables, met, from, to);
-            space.cut(from, to);
-        }
-        Part::Attach { addr, seg } => {
-            let before = space.pieces().len();
-            space.take_at(addr, seg);
-            let gone = before - space.pieces().len();
-            tables.release(seg, gone as u32);
-        }
+    let met = space.met(from, to);
+    if met.is_empty() {
+        return;
     }
+    recount(tables, met, from, to);
+    space.cut(from, to);
+}
+
+/// Removes what is left of an attach, and its segment's table if the segment has no piece left. Returns the
+/// segment; none if no piece has this origin.
+pub(crate) fn take_attach(
+    processes: &mut IndexMap<u32, Runner>,
+    tables: &mut Tables,
+    index: usize,
+    addr: u64,
+) -> Option<u32>
+    requires there { index < length processes.old.entries }
+    requires reservations { HasReservations processes.old.entries tables.old }
+    ensures segment { result ≡ attached_at addr (held processes.old.entries index) }
+    ensures changed { let kept = KeepCounted tables.old tables.new in
+        let es = processes.old.entries in
+        IsChanged kept es processes.new.entries tables.old tables.new index (without_attach addr) }
+    ensures none { IfNone result (processes.new.entries ≡ processes.old.entries) }
+    ensures same { IfNone result (tables.new ≡ tables.old) }
+{
+    let space = &mut processes[index].space;
+    let before = space.pieces().len();
+    let seg = space.take_at(addr)?;
+    let gone = before - space.pieces().len();
+    tables.release(seg, gone as u32);
+    Some(seg)
 }
 
 /// Replaces whatever is in a piece's range by the piece: pieces there are removed, and those that reach
@@ -143,11 +135,7 @@ pub(crate) fn exchange(
     requires reserved { AreTablesSound (one_reserved piece.seg) processes.old.entries tables.old }
     ensures { Exchanged processes.old.entries processes.new.entries tables.old tables.new index piece }
 {
-    let range = Part::Range {
-        from: piece.base,
-        to: piece.end(),
-    };
-    take(processes, tables, index, range);
+    take_range(processes, tables, index, piece.base, piece.end());
     put(processes, tables, index, piece);
     tables.replace(piece.seg, piece.key, 1, 0);
 }

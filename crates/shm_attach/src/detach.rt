@@ -1,30 +1,30 @@
 //! Detaches pieces: those of one attach by shmdt, all of them by exec and exit.
-ghost use Rattle.std.specs.Prelude.{◌≡◌, []};
+ghost use Rattle.std.specs.Prelude.{◌≡◌, [], IfNone, IfSome};
 ghost use Rattle.shm_base.specs.Space.{without_named};
 ghost use Rattle.shm_base.specs.Step.{with_end, segments_of};
+ghost use Rattle.shm_attach.specs.Changes.{attached_at};
 ghost use Rattle.shm_attach.specs.Mapping.{own_pieces, with_own_pieces};
 ghost use Rattle.shm_attach.specs.Spaces.{caller_seen, IsCaller, KeepTrue};
 
-use crate::changes::{Part, set_life_at, space_at, take};
+use crate::changes::{set_life_at, space_at, take_attach, take_range};
 use crate::process::{Caller, Life};
 use crate::spaces::Spaces;
 use shm_base::{END_ADDRESS, LOWEST_ADDRESS};
 
 impl Spaces {
-    /// Removes the pieces of a segment with this origin: what is left of an attach. Takes no memory.
-    pub fn detach(&mut self, caller: &Caller, addr: u64, seg: u32)
+    /// Removes what is left of an attach: the lowest piece with this origin names the segment, and all pieces
+    /// of that segment with this origin go. Returns the segment; none if no piece has this origin. Takes no
+    /// memory.
+    pub fn detach(&mut self, caller: &Caller, addr: u64) -> Option<u32>
         requires { IsCaller caller.now self.old.runners }
-        ensures gone { self.new.runners
-            ≡ with_own_pieces self.old caller.now (without_named addr seg (own_pieces self.old caller.now)) }
+        ensures segment { result ≡ attached_at addr (own_pieces self.old caller.now) }
+        ensures none { IfNone result (self.new ≡ self.old) }
+        ensures gone { IfSome result (λ seg. self.new.runners
+            ≡ with_own_pieces self.old caller.now (without_named addr seg (own_pieces self.old caller.now))) }
         ensures most { self.new.most ≡ self.old.most }
         ensures translated { KeepTrue self.old self.new }
     {
-        take(
-            &mut self.processes,
-            &mut self.tables,
-            caller.index,
-            Part::Attach { addr, seg },
-        );
+        take_attach(&mut self.processes, &mut self.tables, caller.index, addr)
     }
 
     /// Removes all pieces of a process, and notes their segments. Takes no memory.
@@ -37,14 +37,12 @@ impl Spaces {
     {
         self.lost
             .note(space_at(&self.processes, caller.index).pieces());
-        take(
+        take_range(
             &mut self.processes,
             &mut self.tables,
             caller.index,
-            Part::Range {
-                from: LOWEST_ADDRESS,
-                to: END_ADDRESS,
-            },
+            LOWEST_ADDRESS,
+            END_ADDRESS,
         );
     }
 

@@ -11,7 +11,7 @@ ghost use Rattle.shm_attach.specs.Mapping.{pieces_between, split_between, refusa
 ghost use Rattle.shm_attach.specs.Spaces.{IsCaller, KeepTrue};
 ghost use Rattle.shm_attach.specs.Views.{most_at};
 
-use crate::changes::{Part, exchange, space_at, take};
+use crate::changes::{exchange, space_at, take_range};
 use crate::lost::Lost;
 use crate::process::{Caller, Runner};
 use crate::spaces::Spaces;
@@ -211,11 +211,12 @@ impl Spaces {
             return Err(Errno::Enomem);
         }
         self.lost.note(space.met(from, to));
-        take(
+        take_range(
             &mut self.processes,
             &mut self.tables,
             caller.index,
-            Part::Range { from, to },
+            from,
+            to,
         );
         Ok(())
     }

@@ -24,7 +24,7 @@ enum Act {
     Cut(u64, u64),
     /// The lowest piece with this origin.
     Origin(u64, Option<Piece>),
-    /// Takes out the pieces of a segment with this origin.
+    /// Takes out what is left of the attach with this origin, which is of this segment.
     Take(u64, u32),
     /// All pieces, and how many there are.
     Pieces(&'static [Piece]),
@@ -95,10 +95,7 @@ fn answers(space: &mut Space, act: &Act) -> bool {
         Act::Outside(from, to, count) => from < to && space.count_outside(from, to) == count,
         Act::Cut(from, to) => cut(space, from, to),
         Act::Origin(addr, piece) => space.origin_of(addr) == piece,
-        Act::Take(addr, seg) => {
-            space.take_at(addr, seg);
-            true
-        }
+        Act::Take(addr, seg) => space.take_at(addr) == Some(seg),
         Act::Pieces(pieces) => space.pieces() == pieces,
         Act::Count(count) => space.pieces().len() == count,
     }

@@ -105,12 +105,10 @@ fn attach(
         .is_ok()
 }
 
-/// Detaches the segment with this origin, and returns it.
+/// Detaches what is left of the attach with this origin, and returns its segment.
 fn detach(spaces: &mut Spaces, addr: u64) -> Option<u32> {
     let caller = spaces.caller(1)?;
-    let seg = spaces.space(&caller).origin_of(addr)?.seg;
-    spaces.detach(&caller, addr, seg);
-    Some(seg)
+    spaces.detach(&caller, addr)
 }
 
 fn fork(spaces: &mut Spaces, child: u32) -> bool {

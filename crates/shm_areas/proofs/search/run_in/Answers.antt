@@ -12,9 +12,9 @@ end-requires c =
 pub returns-then-from-end : goal.returns-then-from-end
 returns-then-from-end c =
     let e = c.count_to-count.ensures in
-    let l = c.count_on-last.ensures in
+    let l = c.count_to-last.ensures in
     let reaches : c.args.from < end_of (bare (get_or c.args.pieces.now (c.count_to-count.result - 1) nothing)) = omega (arith, c.end.ensures, c.if-from-end.true) in
-    run_from lowest_address c.args.from c.args.to c.count_to-count.result c.count_on-last.result c.args.pieces.now nothing
+    run_from lowest_address c.args.from c.args.to c.count_to-count.result c.count_to-last.result c.args.pieces.now nothing
     c.requires.arranged c.requires.order
     (record { bound = e.bound; below = e.below; above = e.above }) (record { bound = l.bound; below = l.below; above = l.above })
     (omega (arith, c.if-count-gt0.true)) reaches
@@ -22,13 +22,13 @@ returns-then-from-end c =
 pub returns : goal.returns
 returns c =
     let e = c.count_to-count.ensures in
-    let l = c.count_on-last.ensures in
+    let l = c.count_to-last.ensures in
     let over : (c.count_to-count.result ≡ 0) ⊎ (end_of (bare (get_or c.args.pieces.now (c.count_to-count.result - 1) nothing)) ≤ c.args.from) =
     elim c.else-count-gt0.branch [
       | else-count-gt0-via-then-count-gt0+else-from-end w ↦ inr (omega (arith, w.end.ensures, w.if-from-end.false))
       | else-count-gt0-via-else-count-gt0 w ↦ inl (omega (arith, w.if-count-gt0.false))
     ] in
-    run_behind lowest_address c.args.from c.args.to c.count_to-count.result c.count_on-last.result c.args.pieces.now nothing
+    run_behind lowest_address c.args.from c.args.to c.count_to-count.result c.count_to-last.result c.args.pieces.now nothing
     c.requires.arranged c.requires.order
     (record { bound = e.bound; below = e.below; above = e.above }) (record { bound = l.bound; below = l.below; above = l.above })
     over

@@ -1,8 +1,7 @@
-use Rattle.shm_areas.proofs.Names.{ap, ◌≡◌, ◌≤◌, ◌∙◌, length, List, arith, common_steps, length-map, lowest_address, cut, Piece, bare, bare_all, stored_cut, left_by}
+use Rattle.shm_areas.proofs.Names.{ap, ◌≡◌, ◌≤◌, ◌∙◌, length, List, arith, common_steps, length-map, cut, Piece, bare, bare_all, stored_cut, left_by}
 use Rattle.shm_areas.specs.Arranged.{SpaceView}
 use Rattle.shm_areas.proofs.Edits.{bare_cut, arranged_cut}
-use Rattle.shm_areas.proofs.Filled.{filled-cut, kept-cut}
-use Rattle.shm_areas.specs.Gap.{IsKeptOutside}
+use Rattle.shm_areas.proofs.Filled.{filled-cut}
 use Rattle.shm_areas.proofs.Reaching.{within-left}
 use Rattle.shm_areas.proofs.space.Space.cut.Goals.{After-cut_of-cut}
 use Rattle.shm_areas.proofs.space.Space.cut.Goals as goal
@@ -25,24 +24,12 @@ pub returns-clause-flat : goal.returns-clause-flat
 returns-clause-flat c = ap (λ (s : SpaceView). bare_all s.pieces) (returns-clause-kept c) ∙ bare_cut c.args.from c.args.to c.args.self.now.pieces
 
 pub invariant_of-self : goal.invariant_of-self
-invariant_of-self c =
-    let kept : IsKeptOutside c.args.from c.args.to c.self.inside.pieces.items c.deref-2.result.now =
-    rw (c.deref-2.ensures.value, c.replace.ensures.items, left (goal.at.invariant_of-self c).After-cut_of-cut, ← c.self.view_is)
-    (kept-cut c.args.from c.args.to c.self.inside.pieces.items c.self.invariant.0.arranged c.requires.from c.requires.to) in (
-      grind (arith, common_steps, arranged_cut, returns-clause-flat, returns-clause-kept, few),
-      grind (arith, common_steps),
-      rw c.replace.ensures.items
-          (within-left c.self.inside.reach c.reach.result c.max-self-inside.result c.self.inside.pieces.items c.cut_of-cut.result (omega (arith, c.max-self-inside.ensures)) (omega (arith, c.max-self-inside.ensures))
-          c.self.invariant.2 c.reach.ensures.below c.reach.ensures.above),
-      rw (c.replace.ensures.items, left (goal.at.invariant_of-self c).After-cut_of-cut, c.lowered-self-inside.ensures, ← c.self.view_is)
-          (filled-cut c.self.inside.filled c.args.from c.args.to c.self.inside.pieces.items c.self.invariant.0.arranged c.requires.from c.self.invariant.3),
-      c.widen.ensures.order,
-      rw (← c.deref-2.ensures.value) (c.widen.ensures.right c.self.inside.pieces.items kept c.self.invariant.5),
-      rw (← c.deref-2.ensures.value) (c.widen.ensures.groups c.self.inside.pieces.items kept c.self.invariant.5 c.self.invariant.6),
-    )
-
-pub widen-requires-clause-arranged : goal.widen-requires-clause-arranged
-widen-requires-clause-arranged c =
-    let rest = c.replace.ensures.items ∙ left (goal.at.widen-requires-clause-arranged c).After-cut_of-cut in
-    rw (c.deref-2.ensures.value, rest, bare_cut c.args.from c.args.to c.args.self.now.pieces, ← c.self.view_is)
-    (arranged_cut lowest_address c.args.from c.args.to (bare_all c.self.inside.pieces.items) c.self.invariant.0.arranged c.requires.from c.requires.to (omega (arith, c.requires.order)))
+invariant_of-self c = (
+  grind (arith, common_steps, arranged_cut, returns-clause-flat, returns-clause-kept, few),
+  grind (arith, common_steps),
+  rw c.replace.ensures.items
+      (within-left c.self.inside.reach c.reach.result c.max-self-inside.result c.self.inside.pieces.items c.cut_of-cut.result (omega (arith, c.max-self-inside.ensures)) (omega (arith, c.max-self-inside.ensures))
+      c.self.invariant.2 c.reach.ensures.below c.reach.ensures.above),
+  rw (c.replace.ensures.items, left (goal.at.invariant_of-self c).After-cut_of-cut, c.lowered-self-inside.ensures, ← c.self.view_is)
+      (filled-cut c.self.inside.filled c.args.from c.args.to c.self.inside.pieces.items c.self.invariant.0.arranged c.requires.from c.self.invariant.3),
+)

@@ -7,7 +7,4 @@ invariant_of-result c = (
   grind (arith, common_steps),
   λ k d lt. absurd (grind (arith, common_steps, lt)),
   record { first = omega arith; high = omega arith; full = λ a from to. absurd (omega (arith, from, to)) },
-  grind (arith, common_steps),
-  λ k d lt. absurd (grind (arith, common_steps, lt)),
-  λ k d lt. absurd (grind (arith, common_steps, lt)),
 )

@@ -11,7 +11,7 @@ use Rattle.shm_attach.proofs.spaces.Spaces.attach.Goals as goal
 -- THE CALLER
 
 live : (g : Over) (c : After-self g) → IsCaller c.args.caller.now (runners_view c.self.inside.processes.entries)
-live g c = rw (← c.make_room.ensures, ← c.self.view_is) at c.requires.live
+live g c = rw (← c.self.view_is) at c.requires.live
 
 stands : (g : Over) (c : After-self g) → c.args.caller.now.index < length c.self.inside.processes.entries
 stands g c = caller_within c.args.caller.now c.self.inside.processes.entries (live g c)
@@ -37,7 +37,7 @@ exchange-requires g c =
     let within = stands g b.After-self in
     let most = c.self.invariant.1.each i within in
     let bound = c.self.invariant.1.bound in
-    let room : length (cut c.args.base (c.args.base + 4096 * c.args.pages) (pieces_at rs i)) + 1 ≤ c.self.inside.most = rw (← c.make_room.ensures, ← c.self.view_is) at c.requires.room in
+    let room : length (cut c.args.base (c.args.base + 4096 * c.args.pages) (pieces_at rs i)) + 1 ≤ c.self.inside.most = rw (← c.self.view_is) at c.requires.room in
     record {
       can =
           record {
@@ -73,6 +73,6 @@ pub returns-clause-translated : goal.returns-clause-translated
 returns-clause-translated g c = λ old.
     let at = frame_of c.args.store.now in
     let t = c.self.inside.tables.slab in
-    let shown : translations_of t ≡ c.args.self.now.translations = ap (λ (v : SpacesView). v.translations) (c.self.view_is ∙ c.make_room.ensures) in
+    let shown : translations_of t ≡ c.args.self.now.translations = ap (λ (v : SpacesView). v.translations) c.self.view_is in
     let first : AllTrue at t = all-true at t (subst (λ (xs : List Translation). AreTrue xs c.args.store.now) (sym shown) old) in
     true-all at c.exchange.new.tables.slab (c.exchange.ensures.translated at (c.in_ok-key.ensures.translated first))

@@ -1,4 +1,4 @@
-use Rattle.shm_attach.proofs.Names.{LostView, ◌∙◌, ◌≡◌, ◌<◌, ap, refl, arith, [], length, common_steps, map-map, lowest_address, end_address, cut, runners_view, SpacesView, pieces_at, no_reservations}
+use Rattle.shm_attach.proofs.Names.{LostView, ◌∙◌, ◌≡◌, ◌<◌, ap, arith, [], length, common_steps, map-map, lowest_address, end_address, cut, runners_view, SpacesView, pieces_at, no_reservations}
 use Rattle.shm_attach.proofs.Callers.{caller_within, with_pieces-of}
 use Rattle.shm_attach.proofs.Keeping.{cut-all}
 use Rattle.shm_attach.proofs.Translations.{keeps}
@@ -15,19 +15,16 @@ all_go c = cut-all lowest_address (pieces_at (runners_view c.self.inside.process
 pub space_at-requires : goal.space_at-requires
 space_at-requires c = within (goal.at.space_at-requires c).After-self
 
-pub take-requires-clause-there : goal.take-requires-clause-there
-take-requires-clause-there c = within (goal.at.take-requires-clause-there c).After-self
+pub take_range-requires-clause-there : goal.take_range-requires-clause-there
+take_range-requires-clause-there c = within (goal.at.take_range-requires-clause-there c).After-self
 
-pub take-requires-clause-part : goal.take-requires-clause-part
-take-requires-clause-part c = record { from_page = refl; to_page = refl; order = omega arith; few = omega (arith, ap length (all_go (goal.at.take-requires-clause-part c).After-self)) }
-
-pub take-requires-clause-room : goal.take-requires-clause-room
-take-requires-clause-room c = rw (all_go (goal.at.take-requires-clause-room c).After-self) (omega arith)
+pub take_range-requires-clause-room : goal.take_range-requires-clause-room
+take_range-requires-clause-room c = rw (all_go (goal.at.take_range-requires-clause-room c).After-self) (omega arith)
 
 pub invariant_of-self : goal.invariant_of-self
 invariant_of-self c = (
-  c.take.ensures.sound no_reservations c.self.invariant.0,
-  room_kept c.self.inside.most c.self.inside.processes.entries c.take.new.processes.entries c.self.invariant.1 c.take.ensures.count c.take.ensures.most,
+  c.take_range.ensures.sound no_reservations c.self.invariant.0,
+  room_kept c.self.inside.most c.self.inside.processes.entries c.take_range.new.processes.entries c.self.invariant.1 c.take_range.ensures.count c.take_range.ensures.most,
   ap (λ (l : LostView). l.most) c.note.ensures ∙ c.self.invariant.2,
 )
 
@@ -39,4 +36,4 @@ returns-clause-runners c = grind (arith, common_steps, all_go, with_pieces-of)
 
 pub returns-clause-translated : goal.returns-clause-translated
 returns-clause-translated c =
-    keeps c.args.self.now.translations c.self.inside.tables.slab c.take.new.tables.slab (ap (λ (v : SpacesView). v.translations) c.self.view_is) c.take.ensures.translated
+    keeps c.args.self.now.translations c.self.inside.tables.slab c.take_range.new.tables.slab (ap (λ (v : SpacesView). v.translations) c.self.view_is) c.take_range.ensures.translated

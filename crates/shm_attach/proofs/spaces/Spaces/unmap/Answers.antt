@@ -17,19 +17,19 @@ note-requires c =
     let most = c.self.invariant.1.each c.args.caller.now.index (within (goal.at.note-requires c).After-self) in
     omega (arith, c.met.ensures.count, c.space_at-space.ensures.most, most, c.self.invariant.2)
 
-pub take-requires-clause-there : goal.take-requires-clause-there
-take-requires-clause-there c = within (goal.at.take-requires-clause-there c).After-self
+pub take_range-requires-clause-there : goal.take_range-requires-clause-there
+take_range-requires-clause-there c = within (goal.at.take_range-requires-clause-there c).After-self
 
-pub take-requires-clause-room : goal.take-requires-clause-room
-take-requires-clause-room c =
-    let most = c.self.invariant.1.each c.args.caller.now.index (within (goal.at.take-requires-clause-room c).After-self) in
+pub take_range-requires-clause-room : goal.take_range-requires-clause-room
+take_range-requires-clause-room c =
+    let most = c.self.invariant.1.each c.args.caller.now.index (within (goal.at.take_range-requires-clause-room c).After-self) in
     let count = rw c.space_at-space.ensures.flat at c.count_outside.ensures in
     omega (arith, count, most, c.if-count_outside-self.false)
 
 pub invariant_of-self : goal.invariant_of-self
 invariant_of-self c = (
-  c.take.ensures.sound no_reservations c.self.invariant.0,
-  room_kept c.self.inside.most c.self.inside.processes.entries c.take.new.processes.entries c.self.invariant.1 c.take.ensures.count c.take.ensures.most,
+  c.take_range.ensures.sound no_reservations c.self.invariant.0,
+  room_kept c.self.inside.most c.self.inside.processes.entries c.take_range.new.processes.entries c.self.invariant.1 c.take_range.ensures.count c.take_range.ensures.most,
   ap (λ (l : LostView). l.most) c.note.ensures ∙ c.self.invariant.2,
 )
 
@@ -41,4 +41,4 @@ returns-clause-runners c = grind (arith, common_steps, with_pieces-of)
 
 pub returns-clause-translated : goal.returns-clause-translated
 returns-clause-translated c =
-    keeps c.args.self.now.translations c.self.inside.tables.slab c.take.new.tables.slab (ap (λ (v : SpacesView). v.translations) c.self.view_is) c.take.ensures.translated
+    keeps c.args.self.now.translations c.self.inside.tables.slab c.take_range.new.tables.slab (ap (λ (v : SpacesView). v.translations) c.self.view_is) c.take_range.ensures.translated
