@@ -48,4 +48,4 @@ RecreditsBy pid cred before code after =
 
 -- calls note this time from now on
 abbrev pub TellsTime : ℕ → Machine → ℕ → Machine → Type 0
-TellsTime time before code after = (code ≡ 0) × (after.system ≡ record before.system { clock = Some time; only_calls = false })
+TellsTime time before code after = (code ≡ 0) × (after.system ≡ record before.system { clock = Some time })

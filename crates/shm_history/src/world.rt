@@ -11,6 +11,7 @@ ghost use Rattle.shm_fault.specs.Flushing.{IsFlushed};
 ghost use Rattle.shm_life.specs.MachineView.{IsExactly, KeepsOn};
 ghost use Rattle.shm_base.specs.Memory.{TakesNoMemory};
 ghost use Rattle.shm_life.specs.Listed.{segment_at};
+ghost use Rattle.shm_life.specs.SystemState.{IsAtOpening};
 ghost use Rattle.shm_history.specs.WorldState.{tally_of, AreCounted, calls_of, step_calls, IsCalled, IsRun, RunTo, MayStop, StopsIn, StepTakesNone};
 
 use shm_base::{Call, Event, FlushReport, HostMemory, Reply, ShmId, ShmidDs, Step, Tally};
@@ -52,8 +53,7 @@ impl<P: Pager> Model for World<P> {
 
     ghost invariant = { λ w. (w.system.calls ≡ length w.history.items)
         × IsHistory w.system.opening w.history.items w.system.machine
-        × AreCounted w.history.items w.system.memory.swap × (w.system.only_calls ≡ true)
-        × (w.system.clock ≡ None) };
+        × AreCounted w.history.items w.system.memory.swap × (w.system.clock ≡ None) };
 }
 
 // Makes room for one more event, if there is none.
@@ -72,11 +72,9 @@ fn make_room(history: &mut Vec<Event>) -> Result<(), HostMemory>
 
 impl<P: Pager> World<P> {
     #[tactic(auto, using(crate::proofs::Counted::counted_none))]
-    /// A world without events, over a system that nothing has changed: no process was admitted or dismissed, and no
-    /// credentials and no time were set.
+    /// A world without events, over a system as it started.
     pub fn new(alloc: Global, system: System<P>) -> World<P>
-        requires new { system.calls ≡ 0 }
-        requires only_calls { system.only_calls ≡ true }
+        requires new { IsAtOpening system }
         ensures opening { result.opening ≡ system.opening }
         ensures events { result.events ≡ [] }
         ensures machine { result.machine ≡ system.machine }

@@ -77,7 +77,6 @@ replied_as s t pid call reply room a rest = record {
   counted = ap (λ (x : SystemState). x.calls) rest;
   opening = ap (λ (x : SystemState). x.opening) rest;
   clock = ap (λ (x : SystemState). x.clock) rest;
-  only_calls = ap (λ (x : SystemState). x.only_calls) rest;
   keeps = a.keeps;
   locked = a.locked;
   still = a.still;

@@ -25,7 +25,7 @@ IsExchange o reply s t = Answered o (names_failure reply) false reply s t
 
 -- the exchange is counted as a call
 abbrev pub counted : SystemState → MachineView → SystemState
-counted s t = record s { calls = s.calls + 1; only_calls = false; machine = t.flat; memory = t.memory }
+counted s t = record s { calls = s.calls + 1; machine = t.flat; memory = t.memory }
 
 pub record Exchanged (o : Outcome) (before : SystemState) (reply : Reply) (after : SystemState) : Type 0 where
   pub room : before.calls < most_calls

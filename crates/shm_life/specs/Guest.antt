@@ -10,13 +10,12 @@ use Rattle.shm_base.specs.Guest.{admits, dismisses, recredits, standing, left_by
 use Rattle.shm_life.specs.SystemState.{SystemState}
 
 -- the machine is changed, or everything is unchanged if that is refused. It is not a call: memory, opening and clock are
--- unchanged, and the system counts as changed by other than calls
+-- unchanged
 pub record IsChanged
     {T E : Type 0} (before : SystemState) (change : Result Machine E) (result : Result T E)
     (after : SystemState) : Type 0 where
   pub outcome : change ≡ left_by result after.machine
-  pub rest : after ≡ record before { machine = after.machine; only_calls = after.only_calls }
-  pub changed : OnOk result (after.only_calls ≡ false)
+  pub rest : after ≡ record before { machine = after.machine }
   pub refused : OnErr result (after ≡ before)
 
 abbrev pub Admitted : SystemState → Process → Result (Unit {0}) AdmitRefusal → SystemState → Type 0

@@ -14,9 +14,7 @@ pub record Unmapped
     : Type 0 where
   pub room : before.calls < most_calls
   pub outcome : unmaps before.machine (time_of before) pid addr len ≡ left_by result after.machine
-  pub rest :
-      after ≡ record before { machine = after.machine; memory = after.memory; only_calls = after.only_calls }
-  pub changed : OnOk result (after.only_calls ≡ false)
+  pub rest : after ≡ record before { machine = after.machine; memory = after.memory }
   pub refused : OnErr result (after ≡ before)
   pub keeps : KeepsOn before.memory after.memory
   pub locked : LocksNothing before.memory after.memory
@@ -29,4 +27,4 @@ pub record IsProtected
   pub outcome :
       protects before.machine (time_of before) pid addr len w
       ≡ record { state = after.machine; refusal = refusal_in result }
-  pub rest : after ≡ record before { machine = after.machine; only_calls = false }
+  pub rest : after ≡ record before { machine = after.machine }

@@ -42,7 +42,6 @@ impl<P: ClonePager> System<P> {
             opening: self.opening.try_clone()?,
             calls: self.calls,
             clock: self.clock,
-            only_calls: self.only_calls,
             kernel: self.kernel.try_clone()?,
         })
     }

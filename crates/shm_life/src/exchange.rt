@@ -73,8 +73,7 @@ impl<P: Pager> Kernel<P> {
 }
 
 impl<P: Pager> System<P> {
-    /// Replaces 1 to 4,096 bytes in one step (xchg); `before` gets the old ones. From then on the system
-    /// counts as changed by other than calls.
+    /// Replaces 1 to 4,096 bytes in one step (xchg); `before` gets the old ones.
     ///
     /// - Esrch: the process is not live.
     /// - Sigsegv: an address has no piece, or a read-only one.
@@ -97,7 +96,6 @@ impl<P: Pager> System<P> {
     {
         let exchanged = self.kernel.exchange_by(pid, addr, None, bytes, before);
         self.calls += 1;
-        self.only_calls = false;
         exchanged
     }
 
@@ -122,7 +120,6 @@ impl<P: Pager> System<P> {
             .kernel
             .exchange_by(pid, addr, Some(expected), bytes, before);
         self.calls += 1;
-        self.only_calls = false;
         compared
     }
 }

@@ -60,7 +60,6 @@ impl<P: Pager> System<P> {
         if let Err(refusal) = self.kernel.admit(alloc, process)? {
             return Ok(Err(refusal));
         }
-        self.only_calls = false;
         Ok(Ok(()))
     }
 
@@ -70,7 +69,6 @@ impl<P: Pager> System<P> {
         ensures { Dismissed self.old pid result self.new }
     {
         self.kernel.dismiss(pid)?;
-        self.only_calls = false;
         Ok(())
     }
 
@@ -80,16 +78,14 @@ impl<P: Pager> System<P> {
         ensures { Recredited self.old pid cred result self.new }
     {
         self.kernel.set_cred(pid, cred)?;
-        self.only_calls = false;
         Ok(())
     }
 
     /// Sets the time that calls note from now on, until another is given. With none it is again each call's
     /// place in the history.
     pub fn set_time(&mut self, time: Option<u64>)
-        ensures { self.new ≡ record self.old { clock = time; only_calls = false } }
+        ensures { self.new ≡ record self.old { clock = time } }
     {
         self.clock = time;
-        self.only_calls = false;
     }
 }

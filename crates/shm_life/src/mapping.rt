@@ -96,7 +96,6 @@ impl<P: Pager> System<P> {
     {
         let time = self.time();
         self.kernel.unmap(time, pid, addr, len)?;
-        self.only_calls = false;
         Ok(())
     }
 
@@ -106,8 +105,7 @@ impl<P: Pager> System<P> {
     /// A part of a piece with another protection is a piece of its own, unless it joins a neighbour of the
     /// same attach that has this protection. Whole pieces never join, and a piece that has the protection
     /// already is not split. No time is set, except under `Rules::REST_IS_ATTACHED`: each segment with one
-    /// more piece then gets the time of the next call as its attach time, and a last pid. From then on the
-    /// system counts as changed by other than calls, also if this is refused.
+    /// more piece then gets the time of the next call as its attach time, and a last pid.
     ///
     /// - Esrch: the process is not live.
     /// - Einval: the address is within a page.
@@ -121,7 +119,6 @@ impl<P: Pager> System<P> {
         ensures { IsProtected self.old pid addr len writable result self.new }
     {
         let time = self.time();
-        self.only_calls = false;
         self.kernel.protect(time, pid, addr, len, writable)
     }
 }

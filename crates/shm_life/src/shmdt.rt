@@ -18,12 +18,10 @@ impl<P: Pager> Kernel<P> {
         requires { IsCaller caller.now self.old.flat.runners }
         ensures { Served self.old time caller.now (call.Shmdt addr) (replied done result) self.new }
     {
-        let Some(origin) = self.spaces.space(caller).origin_of(addr) else {
+        let Some(seg) = self.spaces.detach(caller, addr) else {
             return Err(Errno::Einval);
         };
-        self.spaces.detach(caller, addr, origin.seg);
-        let lost = [origin.seg];
-        after_detach(&mut self.segments, &self.spaces, &lost, time, caller.pid);
+        after_detach(&mut self.segments, &self.spaces, &[seg], time, caller.pid);
         Ok(())
     }
 }

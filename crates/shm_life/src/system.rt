@@ -44,15 +44,13 @@ impl Model for Opening {
     ghost view = { λ o. record { limits = o.limits; areas = o.areas.items; processes = o.processes.items } };
 }
 
-/// A machine over swap areas. Contracts see its opening, its count of calls, and the flat machine. Before the
-/// first call the flat machine is what the opening says, unless the host changed it.
+/// A machine over swap areas. Contracts see its opening, its count of calls, the time that the host gave, and
+/// the flat machine.
 pub struct System<P: Pager> {
     pub(crate) opening: Opening,
     pub(crate) calls: u64,
     // The time that calls note, if the host gave one.
     pub(crate) clock: Option<u64>,
-    // Whether only calls and flushes changed the machine, and the host gave no time.
-    pub(crate) only_calls: bool,
     pub(crate) kernel: Kernel<P>,
 }
 
@@ -62,15 +60,12 @@ impl<P: Pager> Drop for System<P> {
             opening: _,
             calls: _,
             clock: _,
-            only_calls: _,
             kernel: _,
         } = self;
     }
 }
 
 impl<P: Pager> Model for System<P> {
-    ghost use Rattle.std.specs.Prelude.{◌≡◌, None, true};
-    ghost use Rattle.shm_base.specs.State.{start_of};
     ghost use Rattle.shm_life.specs.SystemState.{SystemState};
 
     ghost Value = { SystemState };
@@ -79,13 +74,9 @@ impl<P: Pager> Model for System<P> {
       opening = s.opening;
       calls = s.calls;
       clock = s.clock;
-      only_calls = s.only_calls;
       machine = s.kernel.flat;
       memory = s.kernel.memory;
     } };
-
-    ghost invariant = { λ s. s.only_calls ≡ true
-        → (s.clock ≡ None) × (s.calls ≡ 0 → s.kernel.flat ≡ start_of s.opening) };
 }
 
 // The slot counts of the areas.
@@ -156,7 +147,6 @@ impl<P: Pager> System<P> {
             opening,
             calls: 0,
             clock: None,
-            only_calls: true,
             kernel,
         })
     }

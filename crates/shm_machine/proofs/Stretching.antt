@@ -152,7 +152,6 @@ reached-next before now after addr done len pid call reply r moves next some few
   calls = moves.counted ∙ ap (λ n. n + 1) r.calls ∙ omega (arith, calls-next addr done len next some few);
   opening = moves.opening ∙ r.opening;
   clock = moves.clock ∙ r.clock;
-  only_calls = moves.only_calls ∙ r.only_calls;
   goes_on = GoesOn-trans before.memory.swap now.memory.swap after.memory.swap r.goes_on moves.keeps.goes_on;
 }
 

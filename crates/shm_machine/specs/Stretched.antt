@@ -29,7 +29,6 @@ pub record Reached (before : SystemState) (addr bytes : ℕ) (stood : SystemStat
   pub calls : stood.calls ≡ before.calls + calls_for addr bytes
   pub opening : stood.opening ≡ before.opening
   pub clock : stood.clock ≡ before.clock
-  pub only_calls : stood.only_calls ≡ before.only_calls
   pub goes_on : GoesOn before.memory.swap stood.memory.swap
 
 -- the call at an address was refused; at 2^64 or above no call is made, since no piece is there

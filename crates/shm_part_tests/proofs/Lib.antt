@@ -1,3 +1,4 @@
 pub mod Names
+pub mod Inserting
 pub mod Rows
 pub mod Trials

@@ -15,12 +15,13 @@ pub use Rattle.shm_fault.specs.Access.{NameFrames}
 pub use Rattle.shm_fault.specs.Store.{StoreView, frame_of, fresh_store, held, page_of}
 pub use Rattle.shm_frames.specs.Frame.{Frame}
 pub use Rattle.shm_pager.specs.Pages.{PagerView, pager_seen}
-pub use Rattle.shm_fault.proofs.Found.{fits-zeros}
-pub use Rattle.shm_fault.proofs.Kept.{apart-lock, apart-push, apart-without}
+pub use Rattle.shm_fault.proofs.Ordered.{apart-zeros, fits-zeros, map-inserted}
+pub use Rattle.shm_fault.proofs.Kept.{apart-lock, apart-without}
 pub use Rattle.shm_fault.proofs.Pasted.{apart-pasted, fits-pasted, fits-written, length-paste}
 pub use Rattle.shm_fault.specs.Allowed.{IsAccess}
 pub use Rattle.shm_fault.specs.Apart.{AreHeldApart}
-pub use Rattle.shm_fault.specs.Held.{FitsPage, Held, held_bytes, bytes_of, find_held, is_held, pages_in_store, held_pages, pasted, with_lock, with_zeros, without, written}
+pub use Rattle.shm_fault.specs.Ordered.{inserted}
+pub use Rattle.shm_fault.specs.Held.{FitsPage, Held, IsIndexFree, held_bytes, held_id, bytes_of, find_held, is_held, pages_in_store, held_pages, pasted, with_lock, with_zeros, without, written}
 pub use Rattle.shm_slots.specs.View.{AreaView, SwapView, fresh, new_swap, owner_of, size_of}
-pub use Rattle.shm_part_tests.specs.Trial.{AreAlike, HasThree, Row, frame_named, pages_all, pages_pinned, row_of, row_pages, row_with_lock, three_pages}
+pub use Rattle.shm_part_tests.specs.Trial.{AreAlike, HasThree, Row, frame_named, pages_all, pages_pinned, row_id, row_of, row_pages, row_with_lock, three_pages}
 pub use Rattle.shm_part_tests.specs.Unlocked.{is_unlocked}

@@ -1,5 +1,7 @@
 -- What the rows of a run say about the segments of the store.
-use Rattle.shm_part_tests.proofs.Names.{◌≡◌, ℕ, ◌+◌, ◌/◌, ◌≤◌, ◌==◌, Bool, true, false, not, List, [], ◌∷◌, ◌++◌, length, map, filter, take, drop, get_or, Option, Some, is_some, option_map, refl, sym, ap, ◌∙◌, inl, inr, arith, All, sum_by, eqb_tells, common_steps, length-replicate, length-map, sum_by-cons, All-head, All-tail, All-get_or, All-map, Span, Held, find_held, held_bytes, bytes_of, is_held, held_pages, pages_in_store, with_zeros, without, with_lock, FitsPage, pasted, written, AreHeldApart, apart-push, apart-without, apart-lock, apart-pasted, fits-pasted, length-paste, StoreView, held, frame_of, page_of, Row, row_of, row_pages, row_with_lock, pages_all, frame_named, AreAlike, IsAccess, NameFrames}
+use Rattle.shm_part_tests.proofs.Names.{replicate, None, IsIndexFree, held_id, inserted, map-inserted, apart-zeros, row_id, ◌≡◌, ℕ, ◌+◌, ◌/◌, ◌≤◌, ◌==◌, Bool, true, false, not, List, [], ◌∷◌, ◌++◌, length, map, filter, take, drop, get_or, Option, Some, is_some, option_map, refl, sym, ap, ◌∙◌, inl, inr, arith, All, sum_by, eqb_tells, common_steps, length-replicate, length-map, sum_by-cons, All-head, All-tail, All-get_or, All-map, Span, Held, find_held, held_bytes, bytes_of, is_held, held_pages, pages_in_store, with_zeros, without, with_lock, FitsPage, pasted, written, AreHeldApart, apart-without, apart-lock, apart-pasted, fits-pasted, length-paste, StoreView, held, frame_of, page_of, Row, row_of, row_pages, row_with_lock, pages_all, frame_named, AreAlike, IsAccess, NameFrames}
+use Rattle.std.proofs.Common.{◌*◌, ◌%◌}
+use Rattle.shm_base.specs.declared.bounds.TheConstants.{INDEXES}
 
 pub row_pages-is : (hs : List Held) (id : ℕ) → row_pages (map row_of hs) id ≡ option_map held_pages (find_held hs id)
 row_pages-is [] id = refl
@@ -9,9 +11,19 @@ pub all-is : (hs : List Held) → pages_all (map row_of hs) ≡ pages_in_store h
 all-is [] = refl
 all-is (g ∷ gs) = grind (arith, common_steps, sum_by-cons, all-is gs)
 
-pub rows-zeros : (hs : List Held) (id pages : ℕ) → map row_of (with_zeros hs id pages) ≡ map row_of hs ++ record { seg = id; locked = false; pages = pages } ∷ []
-rows-zeros [] id pages = grind (arith, common_steps, length-replicate)
-rows-zeros (g ∷ gs) id pages = ap (λ (l : List Row). row_of g ∷ l) (rows-zeros gs id pages)
+pub rows-zeros : (hs : List Held) (id pages : ℕ) → map row_of (with_zeros hs id pages) ≡ inserted row_id (record { seg = id; locked = false; pages = pages }) (map row_of hs)
+rows-zeros hs id pages =
+    let bytes : List ℕ = replicate (4096 * pages) 0 in
+    let size : length bytes ≡ 4096 * pages = length-replicate (4096 * pages) 0 in
+    let count : length bytes / 4096 ≡ pages = omega (arith, size) in
+    map-inserted row_of held_id row_id (λ g. refl) (record { id = id; locked = false; bytes = bytes }) hs
+    ∙ ap (λ n. inserted row_id (record { seg = id; locked = false; pages = n }) (map row_of hs)) count
+
+-- no segment has an index that no row has
+pub index-free : (hs : List Held) (rows : List Row) (id : ℕ) → rows ≡ map row_of hs → ((other : ℕ) → other % INDEXES ≡ id % INDEXES → row_pages rows other ≡ None) → IsIndexFree hs id
+index-free hs rows id told none = λ other same.
+    let gone : option_map held_pages (find_held hs other) ≡ None = sym (row_pages-is hs other) ∙ ap (λ rs. row_pages rs other) (sym told) ∙ none other same in
+    grind (arith, common_steps, gone)
 
 pub rows-without : (hs : List Held) (id : ℕ) → map row_of (without hs id) ≡ filter (λ (r : Row). not (r.seg == id)) (map row_of hs)
 rows-without [] id = refl
@@ -67,8 +79,13 @@ module _ (s : StoreView) (hs : List Held) (rows : List Row) (a : AreAlike s hs r
   -- WHAT A CALL LEAVES
 
   pub alike-added : (t : StoreView) (ks : List Held) (qs : List Row) (id n : ℕ) → is_held (held s) id ≡ false → held t ≡ with_zeros (held s) id n → ks ≡ with_zeros hs id n
-      → qs ≡ rows ++ record { seg = id; locked = false; pages = n } ∷ [] → length t.frames ≡ length s.frames → AreAlike t ks qs
-  alike-added t ks qs id n none is plain more size = grind (arith, common_steps, rows-zeros, apart-push)
+      → qs ≡ inserted row_id (record { seg = id; locked = false; pages = n }) rows → length t.frames ≡ length s.frames → AreAlike t ks qs
+  alike-added t ks qs id n none is plain qs_is size = record {
+    frames = size ∙ a.frames;
+    same = plain ∙ ap (λ l. with_zeros l id n) a.same ∙ sym is;
+    told = qs_is ∙ ap (inserted row_id (record { seg = id; locked = false; pages = n })) a.told ∙ sym (rows-zeros (held s) id n) ∙ ap (map row_of) (sym is);
+    apart = rw is (apart-zeros (held s) id n none a.apart);
+  }
 
   pub alike-dropped : (t : StoreView) (ks : List Held) (qs : List Row) (id : ℕ) → held t ≡ without (held s) id → ks ≡ without hs id
       → qs ≡ filter (λ (r : Row). not (r.seg == id)) rows → length t.frames ≡ length s.frames → AreAlike t ks qs

@@ -11,6 +11,9 @@ pub record Row : Type 0 where
   pub locked : Bool
   pub pages : ℕ
 
+abbrev pub row_id : Row → ℕ
+row_id r = r.seg
+
 abbrev pub row_of : Held → Row
 row_of g = record { seg = g.id; locked = g.locked; pages = held_pages g }
 

@@ -1,7 +1,7 @@
 //! Pages that come in, go out, are flushed and moved. The tests look at their bytes, their pagers and the
 //! tally.
 ghost use Rattle.std.specs.Prelude.{◌≡◌, ◌+◌, ◌≤◌, false, length, IfOk, OnOk, IsTrue};
-ghost use Rattle.shm_fault.specs.Held.{FitsPage, is_held, pages_in_store, with_zeros};
+ghost use Rattle.shm_fault.specs.Held.{FitsPage, IsIndexFree, pages_in_store, with_zeros};
 ghost use Rattle.shm_slots.specs.View.{IsAreaSize, swap_slots};
 ghost use Rattle.shm_fault.specs.Store.{held, frame_of, page_of};
 ghost use Rattle.shm_part_tests.specs.Trial.{HasThree};
@@ -32,7 +32,7 @@ pub(crate) fn add_segment<P: Pager>(
     seg: u32,
     pages: u32,
 ) -> Result<(), HostMemory>
-    requires new { is_held (held store.old) seg ≡ false }
+    requires new { IsIndexFree (held store.old) seg }
     requires room { pages_in_store (held store.old) + pages ≤ swap_slots store.old.swap }
     ensures held { OnOk result (held store.new ≡ with_zeros (held store.old) seg pages) }
     ensures frames { OnOk result (length store.new.frames ≡ length store.old.frames) }

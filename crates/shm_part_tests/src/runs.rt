@@ -4,12 +4,15 @@ ghost use Rattle.std.specs.Prelude.{◌≡◌, ◌+◌, ◌<◌, ◌==◌, ◌||
 ghost use Rattle.shm_fault.specs.Held.{FitsPage, is_held};
 ghost use Rattle.shm_fault.specs.Allowed.{IsAccess};
 ghost use Rattle.shm_fault.specs.Store.{held};
-ghost use Rattle.shm_part_tests.specs.Trial.{Row as Told, row_pages, row_with_lock, pages_all, pages_pinned, frame_named, AreAlike};
+ghost use Rattle.std.specs.List.{insert};
+ghost use Rattle.shm_base.specs.declared.bounds.TheConstants.{INDEXES};
+ghost use Rattle.shm_fault.specs.Ordered.{inserted};
+ghost use Rattle.shm_part_tests.specs.Trial.{Row as Told, row_id, row_pages, row_with_lock, pages_all, pages_pinned, frame_named, AreAlike};
 
 use crate::pagers::{fuse, mirror};
 use crate::paging::{add_segment, is_area};
 use crate::store::PlainStore;
-use shm_base::{HostMemory, Span};
+use shm_base::{HostMemory, INDEXES, Span};
 use shm_fault::{PageStore, Touched};
 use shm_pager::{FusePager, MirrorPager, Pager, RamPager};
 use shm_slots::Swap;
@@ -131,7 +134,33 @@ fn has<P: Pager>(pair: &Pair<P>, seg: u32) -> bool
     find(&pair.rows, seg).is_some()
 }
 
-// Adds a segment, if the areas have a slot for each page and it does not exist yet.
+// Whether a segment has this one's index.
+fn is_index_used(rows: &Vec<Row>, seg: u32) -> bool
+    ensures { result ≡ false → (other : ℕ) → other % INDEXES ≡ seg % INDEXES
+        → row_pages rows.now.items other ≡ None }
+{
+    for row in rows {
+        if row.seg % INDEXES == seg % INDEXES {
+            return true;
+        }
+    }
+    false
+}
+
+// Where a row is inserted: before the first one with a higher index.
+fn row_place(rows: &Vec<Row>, seg: u32) -> usize
+    ensures within { result ≤ length rows.now.items }
+    ensures place { (r : Told) → r.seg ≡ seg → inserted row_id r rows.now.items ≡ insert rows.now.items result r }
+{
+    for place in 0..rows.len() {
+        if seg % INDEXES < rows[place].seg % INDEXES {
+            return place;
+        }
+    }
+    rows.len()
+}
+
+// Adds a segment, if the areas have a slot for each page and no segment has its index.
 fn add<P: Pager>(
     rt: &impl Abort,
     pair: &mut Pair<P>,
@@ -143,7 +172,7 @@ fn add<P: Pager>(
 {
     assert!(rt; pages <= 4096);
     let wanted = all_pages(rt, &pair.rows) + u64::from(pages);
-    if has(pair, seg) || wanted > pair.paged.swap().capacity() {
+    if is_index_used(&pair.rows, seg) || wanted > pair.paged.swap().capacity() {
         return Ok(());
     }
     match add_segment(rt, &mut pair.paged, seg, pages) {
@@ -159,7 +188,8 @@ fn add<P: Pager>(
         locked: false,
         pages,
     };
-    match pair.rows.push(row) {
+    let place = row_place(&pair.rows, seg);
+    match pair.rows.insert(place, row) {
         Ok(()) => Ok(()),
         Err(_) => Err(HostMemory),
     }

@@ -1,11 +1,13 @@
-//! The store: its segments, in the order in which they were added.
+//! The store: its segments, in the order of their indexes.
 ghost use Rattle.std.specs.Prelude.{◌≡◌, ◌+◌, ◌<◌, ◌≤◌, [], length, map, slice_get, false, true, OnOk, OnErr};
 ghost use Rattle.shm_fault.specs.Apart.{AreHeldApart};
-ghost use Rattle.shm_fault.specs.Held.{find_held, is_held, pasted, with_zeros, without, with_lock, FitsPage, span_bytes, read_from, written};
+ghost use Rattle.std.specs.List.{insert};
+ghost use Rattle.shm_fault.specs.Ordered.{inserted};
+ghost use Rattle.shm_fault.specs.Held.{Held, held_id, find_held, is_held, pasted, with_zeros, without, with_lock, FitsPage, span_bytes, read_from, written};
 ghost use Rattle.shm_fault.specs.Allowed.{IsAccess};
 
 use crate::segment::Segment;
-use shm_base::{HostMemory, Span};
+use shm_base::{HostMemory, INDEXES, Span};
 use std::alloc::Global;
 use std::marker::Model;
 
@@ -67,6 +69,20 @@ fn paste_at(segments: &mut Vec<Segment>, span: &Span, new: &[u8])
     segment.paste(span.at, new);
 }
 
+// Where a segment is inserted: before the first one with a higher index.
+fn place_for(segments: &Vec<Segment>, seg: u32) -> usize
+    ensures within { result ≤ length segments.now.items }
+    ensures place { (g : Held) → g.id ≡ seg
+        → inserted held_id g segments.now.items ≡ insert segments.now.items result g }
+{
+    for place in 0..segments.len() {
+        if seg % INDEXES < segments[place].id() % INDEXES {
+            return place;
+        }
+    }
+    segments.len()
+}
+
 impl PlainStore {
     /// A store without segments.
     pub fn new(alloc: Global) -> PlainStore
@@ -87,7 +103,8 @@ impl PlainStore {
         ensures err { OnErr result (self.new ≡ self.old) }
     {
         let segment = Segment::zeros(self.alloc, seg, pages)?;
-        self.segments.push(segment)?;
+        let place = place_for(&self.segments, seg);
+        self.segments.insert(place, segment)?;
         Ok(())
     }
 

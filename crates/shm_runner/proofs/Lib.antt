@@ -2,8 +2,4 @@ mod Causes
 mod Flatness
 mod Parts
 mod Shared
-mod Lives
-mod Asking
-mod Reordering
-mod Scheduling
 mod Texts

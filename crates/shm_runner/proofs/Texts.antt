@@ -17,9 +17,7 @@ use Rattle.shm_runner.proofs.Flatness.{flat_printed, flat_unfailing, none_unfail
 use Rattle.shm_program.proofs.Texts.{shown}
 use Rattle.shm_threads.specs.Transcripts.{AreTranscripts}
 use Rattle.shm_runner.specs.Marks.{have_mark}
-use Rattle.shm_runner.specs.Scheduled.{IsScheduled}
 use Rattle.shm_runner.specs.Threaded.{IsThreadedOutput, IsAllOrNothing}
-use Rattle.shm_runner.proofs.Scheduling.{are_scheduled}
 use Rattle.shm_program.specs.declared.fault.RunFault.{RunFault}
 
 -- what is known of a world that is printed, other than the order of its history
@@ -45,9 +43,7 @@ module _ {P : Type 0} (failed : P → ℕ) (swap : SwapView) (script : ScriptVie
       → IsWritten (IsThreadedOutput failed swap marked script areas) old new
   text_of marked w transcripts old new k began run marks written =
       let unfailing = none_unfailing failed script areas w k.is_world k.counted in
-      let scheduled : marked ≡ false → failures_in w.events ≡ 0 → IsScheduled script areas w.events w.machine = λ clear none. subst (λ (sizes : List ℕ). IsScheduled script sizes w.events w.machine) k.is_world.over
-      (are_scheduled script w transcripts k.is_world.sound.legal (record { opened = k.is_world.opened; run = run; unmarked = marks ∙ clear; unfailing = none })) in
-      (world_text w, record { world = w; transcripts = transcripts; is_world = k.is_world; began = began; counted = k.counted; unfailing = unfailing; is_run = run; marks = marks; scheduled = scheduled; printed = refl }, written)
+      (world_text w, record { world = w; transcripts = transcripts; is_world = k.is_world; began = began; counted = k.counted; unfailing = unfailing; is_run = run; marks = marks; printed = refl }, written)
 
   pub threaded_text : (result : Result (Unit {0}) RunFault) (w : WorldState) (transcripts : List Transcript) (old new : Option (List ℕ)) → Known failed script areas w → GoesOn swap w.memory.swap → AreTranscripts script w.events transcripts → OnOk result ((have_mark transcripts ≡ false) × Appends old new (world_text w))
       → OnOk result (IsWritten (IsThreadedOutput failed swap false script areas) old new)

@@ -11,14 +11,12 @@ use Rattle.shm_program.specs.Runs.{IsWorldOf, IsSilent, IsCause, Prints}
 use Rattle.shm_laws.specs.Worlds.{IsWorldSound}
 use Rattle.shm_runner.specs.Marks.{have_mark}
 use Rattle.shm_runner.specs.Output.{NeverFails, world_text}
-use Rattle.shm_runner.specs.Scheduled.{IsScheduled}
 use Rattle.shm_program.specs.declared.fault.RunFault.{RunFault}
 use Rattle.shm_program.specs.declared.fault.RunFault.TheVariants.{HostMemory}
 
 -- The text of the world of a run of the script's processes, each in its own order, over the swap areas as they were passed in;
 -- and whether one of its calls is marked as out of memory. Its counts began there, and each is a count of a pager. With pagers
--- that never fail, no reply reports a failure. If no call is marked and no reply reports a failure, the run is that of a
--- schedule of the script
+-- that never fail, no reply reports a failure
 pub record IsThreadedOutput {P : Type 0} (failed : P → ℕ) (swap : SwapView) (marked : Bool) (script : ScriptView) (areas : List ℕ) (text : List ℕ) : Type 0 where
   pub world : WorldState
   pub transcripts : List Transcript
@@ -28,7 +26,6 @@ pub record IsThreadedOutput {P : Type 0} (failed : P → ℕ) (swap : SwapView) 
   pub unfailing : NeverFails failed → failures_in world.events ≡ 0
   pub is_run : AreTranscripts script world.events transcripts
   pub marks : have_mark transcripts ≡ marked
-  pub scheduled : marked ≡ false → failures_in world.events ≡ 0 → IsScheduled script areas world.events world.machine
   pub printed : text ≡ world_text world
 
 -- nothing is written; or everything is, if a call of the run was out of memory

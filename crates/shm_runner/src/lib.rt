@@ -2,11 +2,9 @@
 #![tactic(auto)]
 
 mod fault;
-mod schedule;
 mod serial;
 mod threaded;
 mod world;
 
-pub use schedule::{rerun, scheduled};
 pub use serial::run_serial;
 pub use threaded::{run_threaded, write_outcome};

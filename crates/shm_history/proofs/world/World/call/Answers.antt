@@ -20,6 +20,6 @@ invariant_of-self-2 g c =
     let items : slice_set c.push_reserved.new.self.items c.len-place.result (record { pid = c.index_mut-event.result.now.pid; call = c.index_mut-event.result.now.call; reply = c.call_into.new.reply }) ≡ old ++ e ∷ [] = rw (pushed, place, here) (set-append_seam old begun [] e) in
     let called = c.in_default.ensures.ok in
     let counted : c.call_into.new.self.calls ≡ length old + 1 = called.counted ∙ ap (λ (n : ℕ). n + 1) c.self.invariant.0 in
-    let moved : IsMove c.self.inside.system.machine (length old + 1) e c.call_into.new.self.machine = rw (c.self.invariant.4, c.self.invariant.0) at called.move in
+    let moved : IsMove c.self.inside.system.machine (length old + 1) e c.call_into.new.self.machine = rw (c.self.invariant.3, c.self.invariant.0) at called.move in
     rw (items, called.opening)
-    (counted ∙ sym (length-append old (e ∷ [])), history_more c.self.inside.system.opening old e _ _ c.self.invariant.1 moved, counted_more old e c.self.inside.system.memory.swap c.call_into.new.self.memory.swap called.keeps.goes_on c.store.ensures.exact.sound.swap called.cause c.self.invariant.2, called.only_calls ∙ c.self.invariant.3, called.clock ∙ c.self.invariant.4)
+    (counted ∙ sym (length-append old (e ∷ [])), history_more c.self.inside.system.opening old e _ _ c.self.invariant.1 moved, counted_more old e c.self.inside.system.memory.swap c.call_into.new.self.memory.swap called.keeps.goes_on c.store.ensures.exact.sound.swap called.cause c.self.invariant.2, called.clock ∙ c.self.invariant.3)

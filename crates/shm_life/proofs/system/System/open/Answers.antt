@@ -26,19 +26,11 @@ invariant_of-kernel g c = (
   c.in_ok-new-3.ensures.most ∙ c.most_pieces.ensures.value,
 )
 
-pub invariant_of-result : goal.invariant_of-result
-invariant_of-result g c = λ _. (
-  refl,
-  λ _.
-      rw (c.in_ok-new-2.ensures.memory, c.in_ok-new-2.ensures.table, c.in_ok-new.ensures, sizes-new g.P.Pager.content g.P.Pager.failed c.args.pagers.items, c.in_ok-new-3.ensures.runners, c.in_ok-from_slice.ensures.items, c.in_ok-sizes_of.ensures, c.deref.ensures.value) refl,
-)
-
 pub returns : goal.returns
 returns g c = record {
   opening = rw (c.in_ok-from_slice.ensures.items, c.in_ok-sizes_of.ensures, c.deref.ensures.value) refl;
   calls = refl;
   clock = refl;
-  only_calls = refl;
   machine =
       rw (c.in_ok-new-2.ensures.memory, c.in_ok-new-2.ensures.table, c.in_ok-new.ensures, sizes-new g.P.Pager.content g.P.Pager.failed c.args.pagers.items, c.in_ok-new-3.ensures.runners, c.in_ok-from_slice.ensures.items, c.in_ok-sizes_of.ensures, c.deref.ensures.value) refl;
   memory = rw (← c.in_ok-new.ensures) c.in_ok-new-2.ensures.memory;

@@ -1,5 +1,5 @@
-use Rattle.shm_runner.proofs.Scheduling.{found_serial, masked_serial}
-use Rattle.shm_runner.proofs.schedule.rerun.Goals as goal
+use Rattle.shm_scheduled.proofs.Scheduling.{found_serial, masked_serial}
+use Rattle.shm_scheduled.proofs.schedule.rerun.Goals as goal
 
 pub returns-clause-law : goal.returns-clause-law
 returns-clause-law c = λ areas. found_serial c.args.script.now areas c.args.found.now

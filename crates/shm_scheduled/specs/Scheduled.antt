@@ -16,7 +16,7 @@ use Rattle.shm_print.specs.Text.{events_text}
 use Rattle.shm_program.specs.Listing.{listing_of}
 use Rattle.shm_runner.specs.Flat.{flat_text}
 use Rattle.shm_runner.specs.Marks.{have_mark}
-use Rattle.shm_runner.specs.Ordered.{AreOrdered, in_order, ordered, serial_events}
+use Rattle.shm_scheduled.specs.Ordered.{AreOrdered, in_order, ordered, serial_events}
 
 -- the calls with their replies, and the machine that they led to
 abbrev pub run_of : List Event → Machine → Run

@@ -15,7 +15,7 @@ use Rattle.shm_threads.specs.declared.transcript.Answer.{Answer}
 use Rattle.shm_threads.specs.declared.transcript.Answer.TheVariants.{Reply as Replied, HostMemory}
 use Rattle.shm_threads.specs.declared.transcript.Entry.{Entry}
 use Rattle.shm_runner.specs.Marks.{has_mark, is_marked}
-use Rattle.shm_runner.proofs.Lives.{has_exit, has_exited, is_exit}
+use Rattle.shm_scheduled.proofs.Lives.{has_exit, has_exited, is_exit}
 
 -- a line of another process is passed over
 pub skipped : (pid : ℕ) (values : List (Option ℕ)) (c : CommandView) (ls : List Line) (replies : List Reply) → c.pid == pid ≡ false → next_call pid values (Command c ∷ ls) replies ≡ next_call pid values ls replies

@@ -29,12 +29,14 @@ use Rattle.shm_print.specs.Text.{events_text}
 use Rattle.shm_program.specs.Values.{fresh_holder}
 use Rattle.shm_program.specs.Listing.{listing_of}
 use Rattle.shm_runner.specs.Flat.{flat_end}
+use Rattle.shm_slots.specs.View.{SwapView}
 use Rattle.shm_runner.specs.Marks.{has_mark, have_mark}
-use Rattle.shm_runner.specs.Ordered.{in_order}
-use Rattle.shm_runner.specs.Scheduled.{AreSerial, IsClear, IsScheduled, IsSerial, run_of}
-use Rattle.shm_runner.proofs.Asking.{asked, asked-out, none-more, own-exit}
-use Rattle.shm_runner.proofs.Reordering.{as-serial}
-use Rattle.shm_runner.proofs.Lives.{child-unborn, ended-still, exited-ended, has_exit, has_exited, unborn-stays, unborn-still}
+use Rattle.shm_runner.specs.Threaded.{IsThreadedOutput}
+use Rattle.shm_scheduled.specs.Ordered.{in_order}
+use Rattle.shm_scheduled.specs.Scheduled.{AreSerial, IsClear, IsScheduled, IsSerial, run_of}
+use Rattle.shm_scheduled.proofs.Asking.{asked, asked-out, none-more, own-exit}
+use Rattle.shm_scheduled.proofs.Reordering.{as-serial}
+use Rattle.shm_scheduled.proofs.Lives.{child-unborn, ended-still, exited-ended, has_exit, has_exited, unborn-stays, unborn-still}
 
 -- ONE TRANSCRIPT FOR EACH PROCESS
 
@@ -184,6 +186,12 @@ serial-by : (script : ScriptView) (areas : List ℕ) (events : List Event) (end 
 serial-by script areas events end schedule same =
     let serial = as-serial script areas (schedule_of events) end schedule.0 in
     record { lines = serial.lines; replies = serial.events ∙ same }
+
+-- so is the world whose text a run with threads wrote
+pub printed_scheduled : {P : Type 0} (failed : P → ℕ) (swap : SwapView) (script : ScriptView) (areas text : List ℕ) (out : IsThreadedOutput failed swap false script areas text) → failures_in out.world.events ≡ 0 → IsScheduled script areas out.world.events out.world.machine
+printed_scheduled failed swap script areas text out none =
+    subst (λ (sizes : List ℕ). IsScheduled script sizes out.world.events out.world.machine) out.is_world.over
+    (are_scheduled script out.world out.transcripts out.is_world.sound.legal (record { opened = out.is_world.opened; run = out.is_run; unmarked = out.marks; unfailing = none }))
 
 pub found_serial : (script : ScriptView) (areas : List ℕ) (found : List Finding) → AreOutcomes script (start script areas) found → AreSerial script areas found
 found_serial script areas found list k d lt = let f = list.sound k d lt in serial-by script areas _ f.0 f.1 f.2

@@ -24,8 +24,8 @@ use Rattle.shm_program.specs.Values.{HolderView, fresh_holder, values_of, with_v
 use Rattle.shm_schedules.specs.Schedules.{Leads, Run, after, is_live, next, next_call, replies_to, reply_of, start}
 use Rattle.shm_schedules.proofs.Walking.{made-by}
 use Rattle.shm_runner.specs.Flat.{flat_end, flat_events, holders_after, line_step}
-use Rattle.shm_runner.specs.Ordered.{AreOrdered, first_line, in_order, ordered, pids_of, serial_events, without_first}
-use Rattle.shm_runner.proofs.Asking.{skipped}
+use Rattle.shm_scheduled.specs.Ordered.{AreOrdered, first_line, in_order, ordered, pids_of, serial_events, without_first}
+use Rattle.shm_scheduled.proofs.Asking.{skipped}
 
 -- THE LINES THAT ARE LEFT
 

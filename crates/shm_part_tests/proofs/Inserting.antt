@@ -1,0 +1,19 @@
+-- Where a segment is inserted among others in order of their indexes.
+use Rattle.shm_part_tests.proofs.Names.{◌≡◌, ℕ, zero, suc, ◌+◌, ◌<◌, ◌≤◌, List, [], ◌∷◌, length, get_or, refl, ap, arith}
+use Rattle.std.proofs.Common.{◌%◌}
+use Rattle.std.proofs.lemmas.Bool.{lt-ltb, le-ltb}
+use Rattle.std.specs.List.{insert}
+use Rattle.shm_base.specs.declared.bounds.TheConstants.{INDEXES}
+use Rattle.shm_fault.specs.Ordered.{inserted}
+
+-- all before the place have no higher index, and the next one has
+pub inserted-at : {T : Type 0} (id : T → ℕ) (x : T) (xs : List T) (n : ℕ) → n ≤ length xs → ((k : ℕ) (d : T) → k < n → id (get_or xs k d) % INDEXES ≤ id x % INDEXES)
+    → ((d : T) → n < length xs → id x % INDEXES < id (get_or xs n d) % INDEXES) → inserted id x xs ≡ insert xs n x
+inserted-at id x [] zero within below next = refl
+inserted-at id x [] (suc n) within below next = absurd (omega (arith, within))
+inserted-at id x (y ∷ ys) zero within below next =
+    let lt : id x % INDEXES < id y % INDEXES = next x (omega arith) in rw (lt-ltb (id x % INDEXES) (id y % INDEXES) lt) refl
+inserted-at id x (y ∷ ys) (suc n) within below next =
+    let le : id y % INDEXES ≤ id x % INDEXES = below 0 x (omega arith) in
+    rw (le-ltb (id x % INDEXES) (id y % INDEXES) le)
+    (ap (λ zs. y ∷ zs) (inserted-at id x ys n (omega (arith, within)) (λ k d l. below (suc k) d (omega (arith, l))) (λ d l. next d (omega (arith, l)))))

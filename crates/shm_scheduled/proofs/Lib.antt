@@ -1,0 +1,4 @@
+mod Lives
+mod Asking
+mod Reordering
+mod Scheduling
