@@ -18,3 +18,5 @@ pub mod Protecting
 pub mod Copies
 pub mod Served
 pub mod Absent
+pub mod ByIndex
+pub mod Alone

@@ -1,6 +1,7 @@
 pub mod Views
 pub mod Spaces
 pub mod Table
+pub mod Keys
 pub mod Tables
 pub mod Exact
 pub mod Place

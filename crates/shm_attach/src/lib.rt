@@ -9,6 +9,7 @@ mod detach;
 mod failing;
 mod fork;
 mod guest;
+mod keys;
 mod listing;
 mod lost;
 mod mapping;

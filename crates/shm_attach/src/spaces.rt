@@ -1,5 +1,5 @@
 //! The pieces of all processes.
-ghost use Rattle.std.specs.Prelude.{◌≡◌, ◌≢◌, ◌≤◌, length, map, [], None, Some, IfSome, IfNone, IfOk, OnErr, All, AllPairs};
+ghost use Rattle.std.specs.Prelude.{◌≡◌, ◌≢◌, ◌↔◌, ◌≤◌, length, true, map, [], None, Some, IfSome, IfNone, IfOk, OnErr, All, AllPairs};
 ghost use Rattle.shm_base.specs.State.{life_at_start, runner_at_start};
 ghost use Rattle.shm_base.specs.Segments.{attach_count};
 ghost use Rattle.shm_base.specs.Step.{caller_from, unborn_from};
@@ -10,7 +10,7 @@ ghost use Rattle.shm_fault.specs.Store.{StoreView};
 ghost use Rattle.shm_fault.specs.Access.{NameFrames};
 ghost use Rattle.shm_fault.specs.Steps.{MovesLead};
 ghost use Rattle.shm_areas.specs.Arranged.{bare_all};
-ghost use Rattle.shm_attach.specs.Spaces.{IsCaller, Translation, AreTrue, pieces_at};
+ghost use Rattle.shm_attach.specs.Spaces.{IsCaller, IsOnlyAt, Translation, AreTrue, pieces_at};
 ghost use Rattle.shm_attach.specs.Spans.{wanted, pieces_by, AreSpans};
 
 use crate::changes::space_at;
@@ -191,6 +191,14 @@ impl Spaces {
         ensures unnamed { result ≡ 0 → All (λ (t : Translation). t.seg ≢ seg) self.now.translations }
     {
         self.tables.count(seg)
+    }
+
+    /// Whether no other segment with this segment's index is attached. Of the segments that exist at the same
+    /// time, no two have one index.
+    pub fn is_only_at(&self, seg: u32) -> bool
+        ensures { (result ≡ true) ↔ IsOnlyAt seg self.now.runners }
+    {
+        self.tables.is_only_at(seg)
     }
 
     /// The spans of an access to `len` addresses of a process, each with the frame that is kept for its page.

@@ -1,32 +1,28 @@
 //! The attach counts, and the frames of the pages of attached segments. The pieces of a segment share one
 //! table, and each has its key, so a move of a page is noted in one place. A segment without pieces has no
 //! table.
-ghost use Rattle.std.specs.Prelude.{◌≡◌, ℕ, ◌+◌, ◌^◌, ◌<◌, ◌≤◌, true, [], Option, Some, IfOk, OnOk, OnErr};
+ghost use Rattle.std.specs.Prelude.{◌≡◌, ◌↔◌, ℕ, ◌+◌, ◌^◌, ◌<◌, ◌≤◌, true, [], Option, Some, IfOk, OnOk, OnErr};
 ghost use Rattle.slab.specs.Slab.{get};
 ghost use Rattle.shm_fault.specs.Steps.{moved};
 ghost use Rattle.shm_fault.specs.Store.{frame_of};
 ghost use Rattle.shm_attach.specs.Views.{some_if};
 ghost use Rattle.shm_attach.specs.Table.{frame_in, seg_in, size_in, AllTrue};
-ghost use Rattle.shm_attach.specs.Tables.{counted, key_of, AreSameTables, OneTableEach};
+ghost use Rattle.shm_attach.specs.Tables.{counted, key_of, AreSameTables, IsOnlyAt, OneTableEach};
 ghost use Rattle.shm_attach.specs.Tables.{KeepCounts, KeepCounted, KeepTables, KeepFrames, Notes};
 
+use crate::keys::Keys;
 use crate::table::Table;
 use shm_base::{FrameNo, HostMemory, PageRef};
 use shm_fault::{PageMove, PageStore};
 use shm_pager::Pager;
 use slab::Slab;
 use std::alloc::{AllocError, Global};
-use std::collections::HashMap;
 
 /// The tables of the attached segments, and the key of each.
 pub(crate) struct Tables {
     alloc: Global,
-    keys: HashMap<u32, usize>,
+    keys: Keys,
     slab: Slab<Table>,
-    // The keys under which the segments of the last pages that left and that came were found. Tables of other
-    // segments, or none, may be there now.
-    last_gone: usize,
-    last_came: usize,
 }
 
 impl Drop for Tables {
@@ -35,14 +31,13 @@ impl Drop for Tables {
             alloc: _,
             keys: _,
             slab: _,
-            last_gone: _,
-            last_came: _,
         } = self;
     }
 }
 
 impl Tables {
     /// No pieces and no tables.
+    #[tactic(auto, unfolding(crate::specs::Keys::key_at))]
     pub(crate) fn new(alloc: Global) -> Tables
         ensures none { (id : ℕ) → counted result id ≡ 0 }
         ensures slots { result.slab.slots ≡ [] }
@@ -50,10 +45,8 @@ impl Tables {
     {
         Tables {
             alloc,
-            keys: HashMap::new(alloc),
+            keys: Keys::new(alloc),
             slab: Slab::new(alloc),
-            last_gone: 0,
-            last_came: 0,
         }
     }
 
@@ -61,14 +54,12 @@ impl Tables {
     pub(crate) fn try_clone(&self) -> Result<Tables, AllocError>
         ensures { IfOk result (λ copy. AreSameTables self.now copy) }
     {
-        let keys = self.keys.clone()?;
+        let keys = self.keys.try_clone()?;
         let slab = self.slab.clone()?;
         Ok(Tables {
             alloc: self.alloc,
             keys,
             slab,
-            last_gone: self.last_gone,
-            last_came: self.last_came,
         })
     }
 
@@ -76,18 +67,15 @@ impl Tables {
     pub(crate) fn key(&self, seg: u32) -> Option<usize>
         ensures { result ≡ key_of self.now seg }
     {
-        self.keys.get(&seg).copied()
+        self.keys.find(seg)
     }
 
-    // Whether the table of a segment has this key.
-    #[inline(always)]
-    fn is_at(&self, key: usize, seg: u32) -> bool
-        ensures { result ≡ true → seg_in (get self.now.slab key) ≡ Some seg }
+    /// Whether no other segment with a segment's index has pieces.
+    pub(crate) fn is_only_at(&self, seg: u32) -> bool
+        requires { OneTableEach self.now }
+        ensures { (result ≡ true) ↔ IsOnlyAt self.now seg }
     {
-        match self.slab.get(key) {
-            Some(table) => table.seg() == seg,
-            None => false,
-        }
+        self.keys.is_only_at(seg)
     }
 
     /// The number of pieces of a segment.
@@ -147,6 +135,7 @@ impl Tables {
         pages: u32,
     ) -> Result<usize, HostMemory>
         requires fits { counted self.old seg + 1 < 2 ^ 32 }
+        requires only { IsOnlyAt self.old seg }
         requires tied { OneTableEach self.old }
         ensures counts { let more = λ (id : ℕ). some_if id seg 1 in
             OnOk result ((id : ℕ) → counted self.new id ≡ counted self.old id + more id) }
@@ -167,8 +156,9 @@ impl Tables {
         let mut table = Table::new(self.alloc, seg);
         table.extend(store, pages)?;
         self.slab.reserve(1)?;
+        self.keys.reserve(seg)?;
         let key = self.slab.vacant_key();
-        self.keys.insert(seg, key)?;
+        self.keys.put(seg, key);
         self.slab.insert_reserved(table);
         Ok(key)
     }
@@ -190,7 +180,7 @@ impl Tables {
             return;
         };
         if table.replace(gone, parts) == 0 {
-            self.keys.remove(&seg);
+            self.keys.remove(seg);
             self.slab.try_remove(key);
         }
     }
@@ -222,31 +212,15 @@ impl Tables {
         }
     }
 
-    // Notes the frame of a page. Returns the key of its segment's table, or `near` if there is none.
+    // Notes the frame of a page. Kept out of line, so that accesses to resident pages do not pay for it.
     #[inline(never)]
-    fn set_sought(&mut self, near: usize, page: PageRef, frame: Option<FrameNo>) -> usize
+    fn set(&mut self, page: PageRef, frame: Option<FrameNo>)
         requires { OneTableEach self.old }
         ensures { Notes page frame self.old self.new }
     {
-        let Some(key) = self.key(page.seg) else {
-            return near;
-        };
-        self.set_at(key, page, frame);
-        key
-    }
-
-    // As `set_sought`, but the key may be `near`, which needs no search. Kept out of line, so that accesses to
-    // resident pages do not pay for it.
-    #[inline(never)]
-    fn set(&mut self, near: usize, page: PageRef, frame: Option<FrameNo>) -> usize
-        requires { OneTableEach self.old }
-        ensures { Notes page frame self.old self.new }
-    {
-        if self.is_at(near, page.seg) {
-            self.set_at(near, page, frame);
-            return near;
+        if let Some(key) = self.key(page.seg) {
+            self.set_at(key, page, frame);
         }
-        self.set_sought(near, page, frame)
     }
 
     /// Notes the frames of pages that moved, in order, each in its segment's table. Takes no memory.
@@ -261,12 +235,8 @@ impl Tables {
     {
         for entry in moves {
             match *entry {
-                PageMove::Gone(page) => {
-                    self.last_gone = self.set(self.last_gone, page, None);
-                }
-                PageMove::Came(page, frame) => {
-                    self.last_came = self.set(self.last_came, page, Some(frame));
-                }
+                PageMove::Gone(page) => self.set(page, None),
+                PageMove::Came(page, frame) => self.set(page, Some(frame)),
             }
         }
     }

@@ -22,3 +22,5 @@ mod touched;
 pub use page_tables::PageRec;
 pub use store::PageStore;
 pub use touched::{PageMove, PageTally, PagerFailed, Touched};
+
+// .

@@ -80,7 +80,7 @@ fn is_range(base: u64, pages: u32) -> bool
         && base <= END_ADDRESS - PAGE_SIZE * pages as u64
 }
 
-/// Attaches pages of a segment to process 1, if there is room for one more piece.
+/// Attaches pages of a segment to process 1, if there is room for one more piece and the segment's index is its own.
 fn attach(
     spaces: &mut Spaces,
     store: &PageStore<RamPager>,
@@ -97,7 +97,7 @@ fn attach(
     };
     let space = spaces.space(&caller);
     let left = space.count_outside(base, base + PAGE_SIZE * pages as u64);
-    if left >= space.most() as usize {
+    if left >= space.most() as usize || !spaces.is_only_at(seg) {
         return false;
     }
     spaces

@@ -19,18 +19,18 @@ noted c =
       | in-Gone w ↦
           rw (w.self-is, w.in-Gone.is)
           (record {
-            counts = w.set-self.ensures.counts;
-            tables = w.set-self.ensures.tables;
-            translated = w.set-self.ensures.translated;
-            tied = record { keyed = w.set-self.ensures.tied.keyed; named = w.set-self.ensures.tied.named; some = w.set-self.ensures.tied.some };
+            counts = w.set.ensures.counts;
+            tables = w.set.ensures.tables;
+            translated = w.set.ensures.translated;
+            tied = record { keyed = w.set.ensures.tied.keyed; named = w.set.ensures.tied.named; some = w.set.ensures.tied.some };
           })
       | in-Came w ↦
           rw (w.self-is, w.in-Came.is)
           (record {
-            counts = w.set-self-in-Came.ensures.counts;
-            tables = w.set-self-in-Came.ensures.tables;
-            translated = w.set-self-in-Came.ensures.translated;
-            tied = record { keyed = w.set-self-in-Came.ensures.tied.keyed; named = w.set-self-in-Came.ensures.tied.named; some = w.set-self-in-Came.ensures.tied.some };
+            counts = w.set-in-Came.ensures.counts;
+            tables = w.set-in-Came.ensures.tables;
+            translated = w.set-in-Came.ensures.translated;
+            tied = record { keyed = w.set-in-Came.ensures.tied.keyed; named = w.set-in-Came.ensures.tied.named; some = w.set-in-Came.ensures.tied.some };
           })
     ]
 

@@ -1,6 +1,6 @@
 use Rattle.shm_attach.proofs.Names.{refl, sym}
 use Rattle.shm_attach.proofs.Tied.{true-unknown}
-use Rattle.shm_attach.proofs.tables.Tables.set_sought.Goals as goal
+use Rattle.shm_attach.proofs.tables.Tables.set.Goals as goal
 
 pub returns-in_default : goal.returns-in_default
 returns-in_default c = record {
