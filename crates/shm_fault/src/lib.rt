@@ -22,5 +22,3 @@ mod touched;
 pub use page_tables::PageRec;
 pub use store::PageStore;
 pub use touched::{PageMove, PageTally, PagerFailed, Touched};
-
-// .
