@@ -20,3 +20,4 @@ pub mod Peopled
 pub mod Exchanging
 pub mod Pids
 pub mod Accessing
+mod Indexed

@@ -3,6 +3,7 @@ use Rattle.shm_life.proofs.Going.{Goes, attached-goes, attached-first, renewed-f
 use Rattle.shm_base.specs.Rules.{rest_is_attached}
 use Rattle.shm_life.proofs.Attaching.{shmat-placed, on-err}
 use Rattle.shm_life.proofs.Running.{granted, kept_refl, answered_as}
+use Rattle.shm_life.proofs.Indexed.{only-at}
 use Rattle.shm_life.proofs.kernel.Kernel.shmat.Given.{Over}
 use Rattle.shm_life.proofs.kernel.Kernel.shmat.Goals as goal
 use Rattle.shm_life.proofs.kernel.Kernel.shmat.Goals.{After-place_for, After-segments, After-lost}
@@ -16,6 +17,11 @@ attach_rests-requires g c =
     let caller = c.args.caller.now in
     let is : IsCaller caller c.self.inside.spaces.runners = rw (← c.self.view_is) at c.requires in
     rw (kept g c) (rests-live c.self.inside.limits _ _ caller c.self.invariant.0.kept is c.in-Ok.placed.base (c.in-Ok.placed.base + 4096 * c.in-Ok.placed.pages))
+
+pub attach-requires-clause-only : goal.attach-requires-clause-only
+attach-requires-clause-only g c =
+    let fits : PieceFits c.self.inside.segments.table (piece_for c.args.flags c.in-Ok.placed) = rw (← c.self.view_is) at c.in-Ok.ensures.fits in
+    only-at c.self.inside.segments.table c.self.inside.spaces.runners c.in-Ok.placed.seg fits.0 c.self.invariant.0.kept.pieces
 
 goes : (g : Over) (c : After-lost g) → Goes c.self.inside.limits c.attached.new.self.table c.attach.new.self.runners c.lost.result.now
 goes g c =
