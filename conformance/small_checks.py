@@ -289,7 +289,8 @@ def check_same_replies(count, peer, folder, conform):
             both, said = compare_case(case, small.get(case.name, []), full)
             made += both
             count.take(not said, f"the small peer: {case.name}: {said}")
-    check_compared(count, os.path.join(folder, "replies"), conform)
+    if conform:
+        check_compared(count, os.path.join(folder, "replies"), conform)
     count.take(made >= LEAST_COMPARED, f"the small peer: {made} commands were made by both peers, at least {LEAST_COMPARED} can be")
 
 
