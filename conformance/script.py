@@ -18,6 +18,7 @@ from dataclasses import dataclass, field
 
 sys.path.append(os.path.join(os.path.dirname(os.path.dirname(os.path.abspath(__file__))), "bindings", "python"))
 
+from nogcuvema._ending import Parser, run_command  # noqa: E402, F401
 from nogcuvema.explain import nearest  # noqa: E402
 from nogcuvema.machine import Flag  # noqa: E402
 from nogcuvema.script import (ADDRESS, ATTACH_FLAGS, CALLS, GET_FLAGS, SIZE, NoForm, OperandKind, ScriptFault,  # noqa: E402

@@ -8,6 +8,7 @@ import sys
 import textwrap
 from typing import Dict, List, Optional, Sequence
 
+from ._ending import run_command
 from ._library import LibraryMissing
 from .calls import RULES
 from .errors import MachineError, NoMemory
@@ -242,4 +243,4 @@ def main(words: List[str]) -> int:
 
 
 if __name__ == "__main__":
-    sys.exit(main(sys.argv[1:]))
+    sys.exit(run_command("nogcuvema", lambda: main(sys.argv[1:])))

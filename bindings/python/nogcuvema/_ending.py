@@ -1,10 +1,18 @@
 """Ends a command whose output can't be written with one line and a status, instead of a traceback."""
+import argparse
 import contextlib
 import os
 import sys
-from typing import Callable
+from typing import IO, Callable, Optional
 
 CANT_WRITE, INTERRUPTED = 3, 130
+
+
+class Parser(argparse.ArgumentParser):
+    """Does not pass over a help text that can't be written, as argparse does."""
+
+    def print_help(self, file: Optional[IO[str]] = None) -> None:
+        print(self.format_help(), end="", file=file)
 
 
 def run_command(name: str, main: Callable[[], int]) -> int:

@@ -5,6 +5,7 @@ import re
 import sys
 from typing import Dict, Iterator, List, Set
 
+from ._ending import run_command
 from .script import CALLS, Command, Script, ScriptFault, Variable, read_script
 
 FIRST_WORDS = ("limits", "process", "child")
@@ -96,4 +97,4 @@ def main() -> int:
 
 
 if __name__ == "__main__":
-    sys.exit(main())
+    sys.exit(run_command("explain", main))
