@@ -76,6 +76,23 @@ is_current() {
     [ -z "$newer" ]
 }
 
+# Prints what a program said on standard error. Where that is a terminal, a fault of the script ends with a hint; a test or another
+# program gets the program's own text.
+hint() {
+    [ -t 2 ] || { cat >&2; return; }
+    sed "s/^$name: line [0-9][0-9]*: .*/& (shmsim --explain says more)/" >&2
+}
+
+# run_program PROGRAM WORD...: runs a program in the place of this script, with `hint` where standard error is a terminal
+run_program() {
+    [ -t 2 ] || exec "$@"
+    exec 3>&1
+    text=$("$@" 2>&1 >&3 3>&-)
+    status=$?
+    [ -z "$text" ] || echo "$text" | hint
+    exit "$status"
+}
+
 # Runs the sources without any proof. If an earlier run kept a program and no source is newer, that program runs. Otherwise the
 # toolchain's quick run does, and its own last lines follow the program's output.
 run_unproved() {
@@ -85,7 +102,7 @@ run_unproved() {
     fi
     kept=$top/build/unproved/$name
     echo "$name: nothing is proved on this machine by this run" >&2
-    if is_current "$kept"; then exec "$kept" "$@"; fi
+    if is_current "$kept"; then run_program "$kept" "$@"; fi
     has_toolchain
     said=$(mktemp) || exit 125
     trap 'rm -f "$said"' EXIT
@@ -101,7 +118,7 @@ run_unproved() {
         fi
         exit 125
     fi
-    grep -vE '^(checked: ended status=|races: |run=ended status=|interpreter: )' "$said" >&2
+    grep -vE '^(checked: ended status=|races: |run=ended status=|interpreter: )' "$said" | hint
     exit "$status"
 }
 
