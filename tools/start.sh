@@ -2,17 +2,20 @@
 # anything is built, so a wrong word gets its answer within a second.
 program=$top/crates/$name/out/$name
 docs=$top/docs
+examples=$top/examples
 packages=$top/bindings/python
 # ./install puts built programs in place, without sources; this file has their version
 installed=$top/installed
 if [ -f "$installed" ]; then
     program=$top/bin/$name
-    packages=$top/python
-    docs=$(dirname "$(dirname "$top")")/share/doc/nogcuvema
+    docs=$(dirname "$(dirname "$top")")/share/doc/nogcuvema/docs
+    examples=$(dirname "$docs")/examples
 fi
 
+# the version; of the programs of --unproved it says so
 version() {
     if [ -f "$installed" ]; then cat "$installed"; return; fi
+    if [ -n "${unproved-}" ]; then echo "$(unproved='' version)-unproved"; return; fi
     sed -n 's/^## \([0-9][0-9.]*\).*/\1/p' "$top/CHANGELOG.md" | head -n 1
 }
 
@@ -22,6 +25,11 @@ refuse_words() {
     echo "$name: $2" >&2
     echo "$name: SWAP is ram:N, sparse:N, mirror:N, fuse:N:rK or fuse:N:wK, N slots from 1 to 65536; $name --help says more" >&2
     exit 2
+}
+
+# once WORD VALUE: refuses a word that is given twice; VALUE is what the first one set
+once() {
+    [ -z "$2" ] || refuse_words "$usage" "$1 is given twice"
 }
 
 # is_number TEXT MOST: decimal digits, from 1 to MOST
