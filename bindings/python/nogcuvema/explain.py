@@ -86,6 +86,9 @@ def explain(text: str) -> List[str]:
 
 
 def main() -> int:
+    if sys.argv[1:]:
+        print(f"explain: no such word: {sys.argv[1]}; usage: python3 -m nogcuvema.explain < SCRIPT", file=sys.stderr)
+        return 2
     text = sys.stdin.buffer.read().decode("latin-1")
     told = explain(text)
     for line in told:

@@ -87,6 +87,9 @@ def steps(lines: Iterable[str]) -> Iterator[Dict[str, Any]]:
 
 
 def main() -> int:
+    if sys.argv[1:]:
+        print(f"record: no such word: {sys.argv[1]}; usage: python3 -m nogcuvema.record < RECORD", file=sys.stderr)
+        return 2
     try:
         for step in steps(sys.stdin):
             print(json.dumps(step))
