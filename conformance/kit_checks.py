@@ -317,8 +317,8 @@ def check_mostly_skipped(count, folder, conform):
     """A comparison of less than half of the commands says so in its last line, and why. What follows a skipped command that changes
     the state is skipped for the reason of that command."""
     program = write_file(folder, "three_replies", "#!/bin/sh\n" + "".join(f"echo '{line}'\n" for line in MADE), 0o755)
-    text = HEAD + "".join(f"# A rule. profile\n{line.split(' ', 1)[1].replace('0x00000000', 'private').replace(' = ', chr(10) + '#= ')}\n" for line in MADE)
-    case = write_file(folder, "three.shm", text)
+    lines = [line.split(" ", 1)[1].replace("0x00000000", "private").replace(" = ", "\n#= ") for line in MADE]
+    case = write_file(folder, "three.shm", HEAD + "".join(f"# A rule. profile\n{line}\n" for line in lines))
     for places, wanted in HALF:
         lines = [line.partition(" = ")[0] + f" = skipped: why {at}" if at in places else line for at, line in enumerate(MADE)]
         write_file(folder, "three.out", "".join(line + "\n" for line in lines))

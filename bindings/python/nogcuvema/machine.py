@@ -307,14 +307,15 @@ def why_not_opened(code: int, limits: Limits, areas: Sequence[Area], processes: 
         return out_of("the number of areas", len(areas), 1, MOST_AREAS)
     if code == BAD_AREA_SIZE:
         most = limits.most_slots if _is_larger(limits) else MOST_SLOTS
-        return next((out_of(f"areas[{place}]: slots", it.slots, 1, most) for place, it in enumerate(areas) if not 1 <= it.slots <= most), "")
+        wrong = ((place, it.slots) for place, it in enumerate(areas) if not 1 <= it.slots <= most)
+        return next((out_of(f"areas[{place}]: slots", slots, 1, most) for place, slots in wrong), "")
     if code == BAD_PROCESSES:
         return out_of("the number of processes", len(processes), 0, limits.most_processes if _is_larger(limits) else MOST_PROCESSES)
     if code == BAD_PID:
         pids = [it.pid for it in processes]
-        wrong = next((pid for pid in pids if not 1 <= pid <= I32), None)
+        outside = next((pid for pid in pids if not 1 <= pid <= I32), None)
         twice = next((pid for place, pid in enumerate(pids) if pid in pids[:place]), None)
-        return f"pid {twice} is given twice" if wrong is None else out_of("pid", wrong, 1, I32)
+        return f"pid {twice} is given twice" if outside is None else out_of("pid", outside, 1, I32)
     return ""
 
 
