@@ -178,7 +178,7 @@ def check_words(count, folder, conform):
             ("no runs", ["--runs", "0", "at-once", "1", "1"], 2, "--runs takes a number from 1 to 1000000: 0"),
             ("TAP", ["--tap", "at-once", "1", "1"], 2, "--tap is not for at-once scripts"),
             ("the system's namespace", ["--shared", "at-once", "1", "1"], 2, "--shared is not for at-once scripts"),
-            ("no peer", ["--no-peer", *no, "at-once", "9", "1"], 0, "scripts: 0 run, 9 skipped: no peer is run\n"),
+            ("no peer", ["--no-peer", *no, "at-once", "9", "1"], 2, "--no-peer is not for at-once scripts"),
             ("no such judge", ["--judge", "/nosuch/judge", "at-once", "1", "1"], 3, "no such command: /nosuch/judge"),
             ("no such peer", [*no, "at-once", "1", "1", "--peer", "/nosuch"], 3, "the peer was not started"),
             ("an illegal log", [*no, *run, *peer], 1, "script 0 of seed 7: ILLEGAL\n  the script:\n" + text + "  the log:\n"),

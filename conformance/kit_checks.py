@@ -336,11 +336,15 @@ def check_no_peer_here(count, folder):
     for tool in ("sh", "echo"):
         if not os.path.exists(os.path.join(none, tool)):
             os.symlink(f"/bin/{tool}", os.path.join(none, tool))
-    done = subprocess.run([sys.executable, "-B", os.path.join(TOP, "conform"), *words[:2], paths[0]], capture_output=True, text=True,
-                          env={**os.environ, "PATH": none}, check=False)
-    wanted = "ALL SKIPPED: no command was compared: no C compiler (cc) is here"
-    is_right = done.returncode == 0 and done.stdout.splitlines()[-1:] == [wanted]
-    count.take(is_right, f"no compiler: status {done.returncode}, {done.stdout!r}, {done.stderr!r}")
+    lack = "no C compiler (cc) is here"
+    for given, status, last in (
+            ([*words[:2], paths[0]], 0, f"ALL SKIPPED: no command was compared: {lack}"),
+            (["--judge", "echo", "at-once", "9", "1"], 0, f"scripts: 0 run, 9 skipped: {lack}"),
+            ([*words[:2], "random", "1", "1"], 3, f"conform: random scripts need a peer: {lack}")):
+        done = subprocess.run([sys.executable, "-B", os.path.join(TOP, "conform"), *given], capture_output=True, text=True,
+                              env={**os.environ, "PATH": none}, check=False)
+        is_right = done.returncode == status and (done.stdout + done.stderr * status).splitlines()[-1:] == [last]
+        count.take(is_right, f"no compiler, {given}: status {done.returncode}, {done.stdout!r}, {done.stderr!r}")
 
 
 def check_kit(count, folder, conform):
