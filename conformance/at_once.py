@@ -18,7 +18,7 @@ from dataclasses import dataclass, field, replace
 from running import TOP, Stopped, end_group
 from script import DECLARATIONS
 
-JUDGES = ("crates/shmcheck/out/shmcheck", "build/unproved/shmcheck")
+JUDGES = ("crates/shmcheck/out/shmcheck", "build/unproved/shmcheck", "bin/shmcheck")
 # how far the judge searches if the order of a log's lines does not have its replies
 MOST, SECONDS = 4000, 60
 LINE = re.compile(r"(\d+) ([a-z]+)((?: \S+)*) = (\S.*)")

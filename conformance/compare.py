@@ -8,6 +8,7 @@ from script import has_form, is_expected, stat_words, without_clock
 
 # calls that change nothing although they are not refused
 READS = ("load", "stat", "swapoff")
+SKIPPED = "skipped: "
 
 
 @dataclass
@@ -31,13 +32,15 @@ class Result:
     agree: int = 0
     by_rule: dict = field(default_factory=dict)
     skipped: dict = field(default_factory=dict)
+    causes: dict = field(default_factory=dict)      # the same, but what follows a skipped command counts for that one's reason
     different: list = field(default_factory=list)
     first_rule: str = ""
     whole: int = 0
 
-    def skip(self, reason, count=1):
+    def skip(self, reason, count=1, cause=""):
         if count:
             self.skipped[reason] = self.skipped.get(reason, 0) + count
+            self.causes[cause or reason] = self.causes.get(cause or reason, 0) + count
 
     def name(self, rule):
         self.by_rule[rule] = self.by_rule.get(rule, 0) + 1
@@ -55,12 +58,8 @@ class Result:
 def against_rules(case, events, is_linux=False):
     """The commands whose reply is not the one that the case requires."""
     told = [command.told(is_linux) for command in case.commands]
-    wrong = [Difference(command, event.call, event.reply, reply)
-             for command, reply, event in zip(case.commands, told, events) if not is_expected(reply, event.reply)]
-    if len(events) != len(case.commands):
-        last = case.commands[-1]
-        wrong.append(Difference(last, last.text, f"{len(events)} events", f"{len(case.commands)} commands"))
-    return wrong
+    return [Difference(command, event.call, event.reply, reply)
+            for command, reply, event in zip(case.commands, told, events) if not is_expected(reply, event.reply)]
 
 
 def against_peer(case, events, others, has_clock=False, has_system_limits=False, is_linux=False):
@@ -74,7 +73,8 @@ def against_peer(case, events, others, has_clock=False, has_system_limits=False,
     for index, (command, event, other) in enumerate(zip(case.commands, events, others)):
         is_alike = compare_one(result, machine, command, event, other)
         if not is_alike:
-            result.skip("behind a difference that changes the state", len(events) - index - 1)
+            cause = other.reply[len(SKIPPED):] if other.is_skipped else ""
+            result.skip("behind a difference that changes the state", len(events) - index - 1, cause)
             break
         machine.follow(event, other)
     return result
@@ -88,7 +88,7 @@ def changes_nothing(event):
 def compare_one(result, machine, command, event, other):
     """Counts one command. Returns whether program and peer are in the same state after it."""
     if other.is_skipped:
-        result.skip(other.reply[len("skipped: "):])
+        result.skip(other.reply[len(SKIPPED):])
         return changes_nothing(event) or event.word in READS
     ours = event.reply if machine.has_clock else without_clock(event.reply)
     if event.call == other.call and ours == other.reply:

@@ -6,7 +6,9 @@ import io
 import os
 import re
 import subprocess
+import sys
 import xml.etree.ElementTree as xml
+from concurrent.futures import ThreadPoolExecutor
 from dataclasses import replace
 
 import near_misses
@@ -96,7 +98,7 @@ CITED = ("POSIX.1-2017, page 1384", "POSIX.1-2017 page 1384", "POSIX shmget()", 
 LINUX_CITED = ("observed on Linux 6.18", "observed on Linux 7.0", "Linux: shmctl(2), ERRORS")
 LINUX_UNCITED = ("observed on Linux", "as Linux has it", "shmctl(2)", "Linux 6.18", "profile")
 TAP = """TAP version 13
-1..5
+1..6
 ok 1 - right: agree
 not ok 2 - bad: MALFORMED: {0}/bad.shm: line 3: '1 exit': {1}
 not ok 3 - other: FAILS: the program gives another reply than the rule
@@ -104,14 +106,17 @@ not ok 3 - other: FAILS: the program gives another reply than the rule
 #         here  0
 #         told  1
 #         rule  A # segment. profile
-not ok 4 - missing: STOPPED: {0}/missing.out: can't be read: No such file or directory
-ok 5 - undone # SKIP no command can be made there
-# cases: FAILS 1, MALFORMED 1, STOPPED 1, agree 1, skipped 1
-# commands: 2 compared, agree 1, profile 0, DIFFER 0, skipped 1
+not ok 4 - broken: STOPPED: {0}/broken.out: no event line: 'hello'
+ok 5 - missing # SKIP there is no {0}/missing.out
+ok 6 - undone # SKIP no command can be made there
+# cases: FAILS 1, MALFORMED 1, STOPPED 1, agree 1, skipped 2
+# commands: 3 compared, agree 1, profile 0, DIFFER 0, skipped 2
+#   skipped: no record of the case: 1
 #   skipped: none: 1
+# MOSTLY SKIPPED: 2 of 3 commands were not compared: no record of the case (1), none (1)
 """
-JUNIT = (("right", None, ""), ("bad", "error", "MALFORMED"), ("other", "failure", "FAILS"), ("missing", "error", "STOPPED"),
-         ("undone", "skipped", None))
+JUNIT = (("right", None, ""), ("bad", "error", "MALFORMED"), ("other", "failure", "FAILS"), ("broken", "error", "STOPPED"),
+         ("missing", "skipped", None), ("undone", "skipped", None))
 # replies that no call can have, and some that one can
 NO_FORM = ("0x", "0xzz", "key=1", "key=0x00000011 uid=x", "EINVALL", "abc", "=", "-1", "\ufffd")
 OTHER_FORM = ("ok", "null", "0x40000000", "7", "18446744073709551616", "99999999999999999999999", "00", "EIDRM", "errno75")
@@ -151,13 +156,14 @@ def check_malformed(count):
 
 
 def write_cases(folder):
-    """A valid case and four malformed ones, with a program that gives one reply and a folder of the peer's output."""
+    """A right case and others with each kind of result, with a program that gives one reply and a folder of the peer's output."""
     program = write_file(folder, "one_reply", f"#!/bin/sh\necho '{EVENT}'\n", 0o755)
     paths = [write_file(folder, "right.shm", RIGHT), write_file(folder, "bad.shm", HEAD + "1 exit\n"),
              write_file(folder, "other.shm", RIGHT.replace("= 0", "= 1").replace("A seg", "A # seg")),
-             write_file(folder, "missing.shm", RIGHT), write_file(folder, "undone.shm", RIGHT)]
+             write_file(folder, "broken.shm", RIGHT), write_file(folder, "missing.shm", RIGHT), write_file(folder, "undone.shm", RIGHT)]
     write_file(folder, "right.out", EVENT + "\n")
     write_file(folder, "other.out", EVENT + "\n")
+    write_file(folder, "broken.out", "hello\n")
     write_file(folder, "undone.out", "1 1 shmget 0x00000000 1 600 = skipped: none\n")
     return ["--program", program, "--replies", folder], paths
 
@@ -168,8 +174,9 @@ def check_results(count, folder, conform):
     words, paths = write_cases(folder)
     status, said = conform(*words, *paths)
     order = re.findall(r"^(\w+): (agree|MALFORMED|FAILS|STOPPED|skipped)(?:$|: )", said, re.M)
-    wanted = [("right", "agree"), ("bad", "MALFORMED"), ("other", "FAILS"), ("missing", "STOPPED"), ("undone", "skipped")]
-    count.take(status == 3 and order == wanted, f"five cases: status {status}, {said}")
+    wanted = [("right", "agree"), ("bad", "MALFORMED"), ("other", "FAILS"), ("broken", "STOPPED"), ("missing", "skipped"),
+              ("undone", "skipped")]
+    count.take(status == 3 and order == wanted, f"six cases: status {status}, {said}")
     status, said = conform(*words, paths[1], paths[0])
     is_right = status == 2 and said.startswith(f"bad: MALFORMED: {paths[1]}: ")
     is_right = is_right and "\nright: agree\ncases: MALFORMED 1, agree 1\n" in said
@@ -184,7 +191,7 @@ def check_results(count, folder, conform):
 
 def check_junit(count, file):
     suite = xml.parse(file).getroot().find("testsuite")
-    wanted = {"name": "conformance", "tests": "5", "failures": "1", "errors": "2", "skipped": "1"}
+    wanted = {"name": "conformance", "tests": "6", "failures": "1", "errors": "2", "skipped": "2"}
     count.take({**suite.attrib, "time": ""} == {**wanted, "time": ""}, f"--junit: {suite.attrib}")
     got = []
     for test in suite.findall("testcase"):
@@ -242,11 +249,112 @@ def check_own_program(count, folder):
         running.TOP = top
 
 
+# words of which one would be ignored, or that are wrong, with the only line that is printed
+REFUSED = (
+    ("--rules linux --program X", "--program and --rules linux exclude each other: only the library follows Linux's rules"),
+    ("--program X --rules linux sizes", "--program and --rules linux exclude each other: only the library follows Linux's rules"),
+    ("--library --program X", "--program and --library exclude each other: each names what is tested"),
+    ("--program X --library=/nosuch random 1 1", "--program and --library exclude each other: each names what is tested"),
+    ("--no-peer --peer X", "--peer and --no-peer exclude each other: the one asks for a peer, the other for none"),
+    ("--no-peer --replies /", "--replies and --no-peer exclude each other: the replies are a peer's"),
+    ("--no-peer --shared", "--shared and --no-peer exclude each other: it is the peer that is in a namespace"),
+    ("--no-peer --seconds", "--seconds and --no-peer exclude each other: it is the peer that waits"),
+    ("--replies / --peer X", "--peer and --replies exclude each other: the replies are there already"),
+    ("--replies / --shared", "--shared and --replies exclude each other: the replies are there already"),
+    ("--runs 3 sizes", "--runs is not for cases"), ("--judge X", "--judge is not for cases"),
+    ("random 1 1 --no-peer", "--no-peer is not for random scripts"), ("random 1 1 --replies /", "--replies is not for random scripts"),
+    ("random 1 1 --runs 3", "--runs is not for random scripts"), ("random 1 1 --judge X", "--judge is not for random scripts"),
+    ("random 1 1 --tap", "--tap is not for random scripts"), ("random 1 1 --junit X", "--junit is not for random scripts"),
+    ("--program X at-once 1 1", "--program is not for at-once scripts"), ("--library at-once 1 1", "--library is not for at-once scripts"),
+    ("--rules linux at-once 1 1", "--rules is not for at-once scripts"), ("--seconds at-once 1 1", "--seconds is not for at-once scripts"),
+    ("--replies / at-once 1 1", "--replies is not for at-once scripts"), ("--junit X at-once 1 1", "--junit is not for at-once scripts"),
+    *((f"--list {words}", f"{words.split()[0]} is not for --list") for words in (
+        "--program X", "--no-peer", "--shared", "--seconds", "--limit 3", "--replies /", "--runs 3", "--judge X", "--tap", "--junit X",
+        "--peer X")),
+    ("--tap --tap", "--tap is given twice"), ("--program X --program Y", "--program is given twice"),
+    ("--library --library=X", "--library is given twice"), ("--limit 3 --limit 4", "--limit is given twice"),
+    *((f"{word} {rest}", f"{word} takes a count and a seed, numbers from 1 and from 0: {word} {rest}") for word in ("random", "at-once")
+      for rest in ("x 1", "1 x", "1", "1 2 3", "0 1", "1 1.5", "+1 1", "1 \u0662")),
+    ("--limit x", "--limit takes whole seconds from 1 to 86400: x"), ("--limit 0", "--limit takes whole seconds from 1 to 86400: 0"),
+    ("--limit \u00b2", "--limit takes whole seconds from 1 to 86400: \u00b2"),
+    ("--limit 86401", "--limit takes whole seconds from 1 to 86400: 86401"),
+    ("--runs 1000001 at-once 1 1", "--runs takes a number from 1 to 1000000: 1000001"),
+    ("--library=", "--library= takes a folder"), ("--rules posix", "--rules takes profile or linux: posix"),
+    ("--replies /nosuch", "--replies takes a folder; there is no such folder: /nosuch"), ("nosuch random 1 1", "no such case: nosuch"),
+    ("--peer", "no such option, or it lacks its value: --peer"), ("--nosuch", "no such option, or it lacks its value: --nosuch"),
+)
+EMPTY = ((["--program", ""], "--program takes a command"), (["--judge", " ", "at-once", "1", "1"], "--judge takes a command"),
+         (["--junit", ""], "--junit takes a file"))
+
+
+def check_refused(count, folder):
+    """Words that would be ignored, and wrong ones, are refused before anything is built or run, and nothing else is printed."""
+    log = os.path.join(folder, "built")
+    for tool in ("cc", "rt"):
+        write_file(folder, tool, f"#!/bin/sh\necho {tool} >> {log}\nexit 1\n", 0o755)
+    environment = {**os.environ, "PATH": folder + os.pathsep + os.environ["PATH"]}
+
+    def ended(words):
+        done = subprocess.run([os.path.join(TOP, "conform"), *words], capture_output=True, text=True, env=environment, check=False)
+        return done.returncode, done.stdout, done.stderr
+
+    rows = [*((text.split(), told) for text, told in REFUSED), *EMPTY]
+    with ThreadPoolExecutor(4) as pool:
+        for (words, told), found in zip(rows, pool.map(lambda row: ended(row[0]), rows)):
+            count.take(found == (2, "", f"conform: {told}\n"), f"./conform {words}: {found} where {told!r} is wanted")
+    count.take(not os.path.exists(log), "wrong words of ./conform start a compiler")
+
+
+# the replies to three commands, and the last line of the comparison if more than half of them is skipped
+MADE = ["1 1 shmget 0x00000000 1 600 = 0", "2 1 rmid 0 = ok", "3 1 shmget 0x00000000 1 600 = 32768"]
+HALF = (([], ""), ([2], ""),
+        ([0], "MOSTLY SKIPPED: 3 of 3 commands were not compared: why 0 (3)"),
+        ([1], "MOSTLY SKIPPED: 2 of 3 commands were not compared: why 1 (2)"),
+        ([1, 2], "MOSTLY SKIPPED: 2 of 3 commands were not compared: why 1 (2)"))
+
+
+def check_mostly_skipped(count, folder, conform):
+    """A comparison of less than half of the commands says so in its last line, and why. What follows a skipped command that changes
+    the state is skipped for the reason of that command."""
+    program = write_file(folder, "three_replies", "#!/bin/sh\n" + "".join(f"echo '{line}'\n" for line in MADE), 0o755)
+    lines = [line.split(" ", 1)[1].replace("0x00000000", "private").replace(" = ", "\n#= ") for line in MADE]
+    case = write_file(folder, "three.shm", HEAD + "".join(f"# A rule. profile\n{line}\n" for line in lines))
+    for places, wanted in HALF:
+        lines = [line.partition(" = ")[0] + f" = skipped: why {at}" if at in places else line for at, line in enumerate(MADE)]
+        write_file(folder, "three.out", "".join(line + "\n" for line in lines))
+        status, said = conform("--program", program, "--replies", folder, case)
+        last = said.splitlines()[-1] if said else ""
+        is_right = last == wanted if wanted else "MOSTLY" not in said
+        count.take(status == 0 and is_right, f"replies without {places}: status {status}, {said!r} where {wanted!r} is wanted")
+
+
+def check_no_peer_here(count, folder):
+    """Without a C compiler no peer is built, and the last line says that nothing was compared."""
+    words, paths = write_cases(folder)
+    none = os.path.join(folder, "none")
+    os.makedirs(none, exist_ok=True)
+    for tool in ("sh", "echo"):
+        if not os.path.exists(os.path.join(none, tool)):
+            os.symlink(f"/bin/{tool}", os.path.join(none, tool))
+    lack = "no C compiler (cc) is here"
+    for given, status, last in (
+            ([*words[:2], paths[0]], 0, f"ALL SKIPPED: no command was compared: {lack}"),
+            (["--judge", "echo", "at-once", "9", "1"], 0, f"scripts: 0 run, 9 skipped: {lack}"),
+            ([*words[:2], "random", "1", "1"], 3, f"conform: random scripts need a peer: {lack}")):
+        done = subprocess.run([sys.executable, "-B", os.path.join(TOP, "conform"), *given], capture_output=True, text=True,
+                              env={**os.environ, "PATH": none}, check=False)
+        is_right = done.returncode == status and (done.stdout + done.stderr * status).splitlines()[-1:] == [last]
+        count.take(is_right, f"no compiler, {given}: status {done.returncode}, {done.stdout!r}, {done.stderr!r}")
+
+
 def check_kit(count, folder, conform):
     check_malformed(count)
     check_odd_replies(count)
     folder = os.path.join(folder, "kit")
     check_results(count, folder, conform)
+    check_refused(count, folder)
+    check_mostly_skipped(count, folder, conform)
+    check_no_peer_here(count, folder)
     check_said_once(count, folder, conform)
     check_list(count, folder, conform)
     check_mappings(count, folder, conform)

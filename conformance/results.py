@@ -51,7 +51,7 @@ class Results:
     def print_tap(self, outcome):
         is_right = outcome.word in PASSED + ("skipped",)
         line = f"{'ok' if is_right else 'not ok'} {len(self.outcomes)} - "
-        skipped = f"{outcome.name} # SKIP no command can be made there"
+        skipped = f"{outcome.name} # SKIP " + (outcome.told.replace("#", "\\#") or "no command can be made there")
         line += skipped if outcome.word == "skipped" else outcome.line.replace("#", "\\#")
         print("\n".join([line, *("# " + it for text in outcome.lines for it in text.splitlines())]), flush=True)
 

@@ -51,9 +51,12 @@ def run_program(words, case, limit):
         message = done.stderr.decode(errors="replace").strip().splitlines()[-1:] or ["nothing was said"]
         raise Stopped(f"the program ended with status {done.returncode}: {message[0]}")
     try:
-        return read_events(done.stdout.decode("ascii", "replace"), "the program")
+        events = read_events(done.stdout.decode("ascii", "replace"), "the program")
     except BadInput as error:
         raise Stopped(str(error)) from None
+    if len(events) != len(case.commands):
+        raise Stopped(f"the program printed {len(events)} lines for {len(case.commands)} commands")
+    return events
 
 
 def build_peer(folder, is_static=False):

@@ -18,7 +18,9 @@ from dataclasses import dataclass, field
 
 sys.path.append(os.path.join(os.path.dirname(os.path.dirname(os.path.abspath(__file__))), "bindings", "python"))
 
+from nogcuvema._ending import Parser, run_command  # noqa: E402, F401
 from nogcuvema.explain import nearest  # noqa: E402
+from nogcuvema.machine import Flag  # noqa: E402
 from nogcuvema.script import (ADDRESS, ATTACH_FLAGS, CALLS, GET_FLAGS, SIZE, NoForm, OperandKind, ScriptFault,  # noqa: E402
                               number_of, read_script, words_of)
 
@@ -55,7 +57,8 @@ def flags_of_kit(kind, names):
         is_behind_nothing = words[0] in ("-", *names) and (kind is GET_FLAGS or rest == ["-"])
         if len(set(words)) != len(words) or is_behind_nothing and len(words) > 1:
             raise NoForm
-        return kind.form(",".join(rest) or "-")
+        value, extra = kind.form(",".join(rest) or "-"), int(sum(Flag[word.upper()] for word in words if word in names))
+        return (value[0], value[1] | extra) if kind is GET_FLAGS else value | extra
     return kind._replace(allowed=f"{kind.allowed}; with --library also {' and '.join(names)}", form=flags_of)
 
 

@@ -17,8 +17,9 @@ TOOL = os.path.join(TOP, "tools", "small_peer")
 C89 = ["-std=c89", "-pedantic", "-Wall", "-Wextra", "-Werror"]
 NOBODY = 65534
 SECONDS = 20
-# how many commands of the cases both peers make: fewer would be a peer that skips too much
-LEAST_COMPARED = 540
+CASES = os.path.join(HERE, "cases")
+# how many commands of the cases both peers make, as root or not: fewer would be a peer that skips too much
+LEAST_COMPARED = {True: 1500, False: 500}
 MAY_END = "skipped: the access may end its process"
 # every form of an operand and of a reply, and numbers of more than 32 bits
 FORMS = """limits 16777216 16 64 16 4
@@ -146,6 +147,12 @@ RECORD = "boot: hello\r\nscript one\r\nnote: under the limits of this system\r\n
     "script two\r\n1 1 stat 0 = EINVAL\r\n2 1 load 0x0 1 = panic: trap\r\n"
 
 
+# why a peer that user 0 runs skips a command: it makes all others, whoever their user is
+NEVER_MADE = {"no process makes this call", "no such child can be", "no swap area is the script's", "the access may end its process",
+              "the peer's own memory may be there", "this peer makes no exec", "the range is not one range of the system",
+              "nobody here can wait for its end"}
+
+
 def run_tool(*words):
     return subprocess.run([sys.executable, "-B", TOOL, *words], capture_output=True, text=True, check=False)
 
@@ -156,10 +163,10 @@ def write_file(path, text):
     return path
 
 
-def build(folder, paths, compiler="cc", port="port_of_linux", words=()):
+def build(folder, paths, compiler="cc", port="port_of_linux", words=(), rules="profile"):
     """Builds the small peer with these scripts. Returns its path, or the compiler's output."""
     os.makedirs(folder, exist_ok=True)
-    done = run_tool("data", *paths)
+    done = run_tool("data", "--rules", rules, *paths)
     if done.returncode != 0:
         return "", done.stderr
     write_file(os.path.join(folder, "small_script.h"), done.stdout)
@@ -210,9 +217,9 @@ def run_group(words, file):
         process.wait()
 
 
-def run_small(folder, paths, limits, is_root, words=(), files=64):
+def run_small(folder, paths, limits, is_root, words=(), files=64, rules="profile"):
     """The small peer's output for each of these scripts, by name, with a limit on open files."""
-    program, said = build(folder, paths, words=words)
+    program, said = build(folder, paths, words=words, rules=rules)
     if not program:
         return {}, said
     os.chmod(program, 0o755)
@@ -253,24 +260,36 @@ def compare_case(case, small, full):
     return made, "" if len(small) == len(case.commands) else f"{len(small)} lines for {len(case.commands)} commands"
 
 
-def groups_of_cases():
-    """The cases grouped by their limits and by whether their user is 0."""
-    groups = {}
-    for name in sorted(it for it in os.listdir(os.path.join(HERE, "cases")) if it.endswith(".shm")):
-        path = os.path.join(HERE, "cases", name)
+def cases_in(folder, has_flags=False):
+    """The cases of a folder, with their paths."""
+    for name in sorted(it for it in os.listdir(folder) if it.endswith(".shm")):
+        path = os.path.join(folder, name)
         with open(path, encoding="ascii") as file:
-            case = read_case(path, file.read())
-        is_root = next(iter(case.users.values()))[0] == 0
-        groups.setdefault((tuple(case.limits[:3] + [0, case.limits[4]]), is_root), []).append((path, case))
+            yield path, read_case(path, file.read(), has_mappings=has_flags)
+
+
+def groups_of_cases():
+    """The cases grouped by their limits, by who runs them, and by the rules. User 0 runs all of them, and those of Linux's rules; an
+    ordinary user runs those whose first user is not user 0."""
+    groups = {}
+    for rules, found in (("profile", cases_in(CASES)), ("linux", cases_in(os.path.join(CASES, "rules"), True))):
+        for path, case in found:
+            limits = tuple(case.limits[:3] + [0, case.limits[4]])
+            groups.setdefault((limits, True, rules), []).append((path, case))
+            if rules == "profile" and next(iter(case.users.values()))[0] != 0:
+                groups.setdefault((limits, False, rules), []).append((path, case))
     return groups
 
 
-def check_compared(count, replies, conform):
-    """The kit compares the small peer's output as it does with any other peer, and reports under which limits it was made."""
+def check_compared(count, replies, conform, is_root):
+    """The kit compares the small peer's output as it does with any other peer, and reports under which limits it was made, and
+    whether most was skipped: without root it is one user."""
     status, said = conform("--replies", replies)
-    is_right = status == 0 and re.search("^cases: agree \\d+, profile \\d+, skipped \\d+$", said, re.M)
+    is_right = status == 0 and re.search("^cases: agree \\d+, profile \\d+" + ("" if is_root else ", skipped \\d+") + "$", said, re.M)
     is_right = is_right and "\nnote: under the limits of this system\n" in said
-    count.take(is_right, f"the small peer's replies, compared: status {status}, {said}")
+    last = said.splitlines()[-1] if said else ""
+    is_told = re.match(r"MOSTLY SKIPPED: \d+ of 1677 commands were not compared: no right to be this user \(\d+\), ", last)
+    count.take(is_right and bool(is_told) != is_root, f"the small peer's replies, compared: status {status}, {said}")
     path = write_file(os.path.join(replies, "wide.shm"), WIDE)
     for note, word in (("note: under the limits of this system\n", "profile (limits of the system 1)"), ("", "DIFFER")):
         write_file(os.path.join(replies, "wide.out"), note + "1 1 shmget 0x00000000 2 600 = 0\n")
@@ -279,18 +298,28 @@ def check_compared(count, replies, conform):
 
 
 def check_same_replies(count, peer, folder, conform):
-    """Each command that both peers make has the same reply."""
-    made = 0
-    for number, ((limits, is_root), cases) in enumerate(groups_of_cases().items()):
-        small, said = run_small(os.path.join(folder, f"group{number}"), [path for path, _ in cases], limits, is_root)
+    """Each command that both peers make has the same reply, and user 0 makes the commands of every user."""
+    made, skipped = {True: 0, False: 0}, set()
+    for number, ((limits, is_root, rules), cases) in enumerate(groups_of_cases().items()):
+        # a folder for each user, so that the second run of a case does not replace the first
+        small, said = run_small(os.path.join(folder, "root" if is_root else "user", f"group{number}"), [path for path, _ in cases],
+                                limits, is_root, rules=rules)
         count.take(not said, f"the small peer: {said}")
         for _path, case in cases:
             full = Peer([peer]).run(case.text, len(case.commands))
             both, said = compare_case(case, small.get(case.name, []), full)
-            made += both
-            count.take(not said, f"the small peer: {case.name}: {said}")
-    check_compared(count, os.path.join(folder, "replies"), conform)
-    count.take(made >= LEAST_COMPARED, f"the small peer: {made} commands were made by both peers, at least {LEAST_COMPARED} can be")
+            made[is_root] += both
+            who = "as root" if is_root else "as an ordinary user"
+            count.take(not said, f"the small peer {who}: {case.name}: {said}")
+            if is_root:
+                skipped |= {reason for line in small.get(case.name, []) for reason in re.findall(" = skipped: (.*)", line)}
+    if conform:
+        for who in "root", "user":
+            check_compared(count, os.path.join(folder, who, "replies"), conform, who == "root")
+    for is_root, who in (True, "as root"), (False, "as an ordinary user"):
+        least = LEAST_COMPARED[is_root]
+        count.take(made[is_root] >= least, f"the small peer {who}: {made[is_root]} commands were made by both peers, at least {least} can be")
+    count.take(skipped <= NEVER_MADE, f"the small peer as root skips what it could make: {skipped - NEVER_MADE}")
 
 
 def check_forms(count, folder):
@@ -338,13 +367,37 @@ def check_tool(count, folder):
             said = file.read()
         count.take(said == wanted, f"tools/small_peer replies: {name}: {said!r}")
     bad = write_file(os.path.join(folder, "bad.shm"), "limits 1 1 1 2 0\nprocess 1 1 1\n1 nosuch\n")
+    check_linux_data(count, folder)
     for words, status, text in (
-            ((), 2, "tools/small_peer data"), (("data", "--nosuch"), 2, "tools/small_peer data"), (("data", "/nosuch"), 1, "can't be read"),
+            ((), 2, "usage: small_peer"), (("data", "--nosuch"), 2, "--nosuch"), (("nosuch",), 2, "invalid choice: 'nosuch'"),
+            (("data", "--rules", "posix"), 2, "invalid choice: 'posix'"), (("replies", record), 2, "FOLDER"),
+            (("replies", record, replies, "more"), 2, "more"), (("data", "/nosuch"), 1, "can't be read"),
+            (("data", "rules/nosuch"), 1, "small_peer: rules/nosuch: can't be read"),
+            (("data", os.path.join(CASES, "rules", "flags_of_shmget.shm")), 1, "bad line: 600,creat,noreserve"),
+            (("data", "--rules", "linux", os.path.join(CASES, "mappings", "unmap_cuts.shm")), 1, "the peer knows neither unmap nor protect"),
             (("data", bad), 1, f"small_peer: {bad}: line 3: bad line: nosuch, allowed here: a call"),
-            (("replies", "/nosuch", replies), 2, "small_peer: /nosuch: No such file"),
+            (("replies", "/nosuch", replies), 3, "small_peer: /nosuch: No such file"),
             (("replies", path, replies), 1, "has no line 'script NAME'")):
         done = run_tool(*words)
         count.take(done.returncode == status and text in done.stderr, f"tools/small_peer {words}: {done.returncode}, {done.stderr}")
+
+
+def check_linux_data(count, folder):
+    """With Linux's rules the flags are in the data, by the numbers of small_peer.c, and so are all cases of these rules."""
+    path = write_file(os.path.join(folder, "flags.shm"), "limits 4096 1 1 2 0\nprocess 1 0 0\n1 shmget private 1 600,hugetlb\n"
+                      "1 shmget private 1 000,creat,noreserve\n1 shmat 0 null exec\n1 shmat 0 null rnd,exec,rdonly\n")
+    done = run_tool("data", "--rules", "linux", path)
+    # the low half of the third operand of each command
+    flags = [int(re.findall("0x[0-9a-f]+", line)[5], 16) for line in done.stdout.splitlines() if line.startswith("    { 0, -1, ")]
+    count.take(flags == [0o4600, 0o11000, 0o100000, 0o130000], f"tools/small_peer data --rules linux: {flags}, {done.stdout}{done.stderr}")
+    for words, folders in (["data"], [CASES]), (["data", "--rules", "linux"], [CASES, os.path.join(CASES, "rules")]):
+        wanted = [name[:-4] for it in folders for name in sorted(os.listdir(it)) if name.endswith(".shm")]
+        done = run_tool(*words)
+        found = re.findall(r'^    \{ "(\w+)", processes_', done.stdout, re.M)
+        count.take(found == wanted, f"tools/small_peer {words}: {found} where {wanted} is wanted")
+    # a name is that of a case
+    by_name, by_path = run_tool("data", "sizes"), run_tool("data", os.path.join(CASES, "sizes.shm"))
+    count.take(by_name.returncode == 0 and by_name.stdout == by_path.stdout, f"tools/small_peer data sizes: {by_name.stderr}")
 
 
 def check_small_peer(count, peer, folder, conform):

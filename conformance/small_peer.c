@@ -7,8 +7,11 @@
    Requests go to each worker by a pipe of its own, answers come back by one that all share. Identifiers, pids, addresses
    and the user are printed as those of the script.
 
-   Left out on purpose: a command that needs more than those calls (another user, exec, swapoff), or that might end its
-   process, is printed as skipped. A process that dies all the same leaves a line without a reply, which is the last one. */
+   A port may also have BECOME, which gives a process another user. Then a peer that user 0 starts has a process for each
+   user of the script; otherwise it is the script's first user, and the calls of the others are skipped.
+
+   Left out on purpose: a command that needs more than those calls (exec, swapoff), or that might end its process, is
+   printed as skipped. A process that dies all the same leaves a line without a reply, which is the last one. */
 #include "small_port.h"
 
 #ifndef PROCESSES
@@ -30,6 +33,21 @@
 #ifndef SHM_REMAP
 #define SHM_REMAP 0
 #endif
+#ifndef SHM_EXEC
+#define SHM_EXEC 0
+#endif
+#ifndef SHM_HUGETLB
+#define SHM_HUGETLB 0
+#endif
+#ifndef SHM_NORESERVE
+#define SHM_NORESERVE 0
+#endif
+#ifdef BECOME
+#define HAS_BECOME HAS_USERS
+#else
+#define HAS_BECOME 0
+#define BECOME(uid, gid) ((void)(uid), (void)(gid), -1)
+#endif
 #ifndef SHM_LOCK
 #define SHM_LOCK -1
 #define SHM_UNLOCK -1
@@ -47,7 +65,8 @@ enum { PAGE = 4096, BYTES = 64, OPERANDS = 4 };
 /* ---- a script as data: the numbers of 64 bits have 32 in each part ---- */
 
 enum call { GET, ATTACH, DETACH, LOAD, STORE, ADD, STAT, SET, REMOVE, LOCK, UNLOCK, FORK, EXEC, EXIT, SWAPOFF };
-enum { CREAT = 01000, EXCL = 02000, RDONLY = 010000, RND = 020000, REMAP = 040000 };
+enum { CREAT = 01000, EXCL = 02000, HUGETLB = 04000, NORESERVE = 010000 };
+enum { RDONLY = 010000, RND = 020000, REMAP = 040000, EXECUTE = 0100000 };
 struct number { unsigned long high, low; };
 struct operand { int variable; struct number number; };
 /* variable: the one that takes the answer, or -1; process: its place among the declared ones; bytes: what is stored */
@@ -124,6 +143,8 @@ static void put_get_flags(unsigned long flags) {
     put_digits(number_of(flags & 0777), 3, 3);
     if (flags & CREAT) put_text(",creat");
     if (flags & EXCL) put_text(",excl");
+    if (flags & HUGETLB) put_text(",hugetlb");
+    if (flags & NORESERVE) put_text(",noreserve");
 }
 
 static void put_attach_flags(unsigned long flags) {
@@ -131,6 +152,7 @@ static void put_attach_flags(unsigned long flags) {
     if (flags & RND) put_flag(&is_first, "rnd");
     if (flags & REMAP) put_flag(&is_first, "remap");
     if (flags & RDONLY) put_flag(&is_first, "rdonly");
+    if (flags & EXECUTE) put_flag(&is_first, "exec");
     if (is_first) put_char('-');
 }
 
@@ -232,11 +254,13 @@ static void settle(struct answer *a, long value) {
 
 /* a script's flags as the kernel has them */
 static int get_flags(int flags) {
-    return (flags & 0777) | (flags & CREAT ? IPC_CREAT : 0) | (flags & EXCL ? IPC_EXCL : 0);
+    return (flags & 0777) | (flags & CREAT ? IPC_CREAT : 0) | (flags & EXCL ? IPC_EXCL : 0) |
+        (flags & HUGETLB ? SHM_HUGETLB : 0) | (flags & NORESERVE ? SHM_NORESERVE : 0);
 }
 
 static int attach_flags(int flags) {
-    return (flags & RDONLY ? SHM_RDONLY : 0) | (flags & RND ? SHM_RND : 0) | (flags & REMAP ? SHM_REMAP : 0);
+    return (flags & RDONLY ? SHM_RDONLY : 0) | (flags & RND ? SHM_RND : 0) | (flags & REMAP ? SHM_REMAP : 0) |
+        (flags & EXECUTE ? SHM_EXEC : 0);
 }
 
 static void control(const struct request *q, struct answer *a) {
@@ -302,6 +326,7 @@ static struct number variables[PROCESSES][26];
 static struct segment segments[SEGMENTS];
 static int segment_count;
 static unsigned long own_uid, own_gid;
+static int is_each_user;      /* a process for each user of the script; otherwise there is one user, this process's */
 static const char *why_none;  /* why no command of the script can be made; 0: some can */
 
 static void skip(const char *why) {
@@ -452,6 +477,10 @@ static int is_answered(const struct answer *a) {
     return !a->is_refused;
 }
 
+static int has_get_flags(unsigned long flags) {
+    return (SHM_HUGETLB || !(flags & HUGETLB)) && (SHM_NORESERVE || !(flags & NORESERVE));
+}
+
 static void run_get(int index, const struct number *v, struct number *result) {
     struct request q;
     struct answer a;
@@ -460,6 +489,7 @@ static void run_get(int index, const struct number *v, struct number *result) {
     q.key = v[0].low;
     q.size = value_of(v[1]);
     q.flags = (int)v[2].low;
+    if (!has_get_flags(v[2].low)) { skip("this system has no such flag"); return; }
     note_destroyed();
     if (segment_count == SEGMENTS) { skip("more segments than SEGMENTS"); return; }
     ask(index, &q, &a);
@@ -469,7 +499,8 @@ static void run_get(int index, const struct number *v, struct number *result) {
 }
 
 static int has_attach_flags(unsigned long flags) {
-    return (SHM_RDONLY || !(flags & RDONLY)) && (SHM_RND || !(flags & RND)) && (SHM_REMAP || !(flags & REMAP));
+    return (SHM_RDONLY || !(flags & RDONLY)) && (SHM_RND || !(flags & RND)) && (SHM_REMAP || !(flags & REMAP)) &&
+        (SHM_EXEC || !(flags & EXECUTE));
 }
 
 /* the port tells which addresses are free: elsewhere the peer's own memory may be */
@@ -537,7 +568,7 @@ static void put_word(const char *name, unsigned long value) {
 }
 
 static void put_user(const char *name, unsigned long real, unsigned long own, unsigned long script_own) {
-    put_word(name, real == own ? script_own : real);
+    put_word(name, real == own && !is_each_user ? script_own : real);
 }
 
 static void put_time(const char *name, unsigned long time) {
@@ -582,11 +613,12 @@ static void run_control(int index, int call, const struct number *v) {
     q.task = DO_CONTROL;
     q.flags = commands[call - STAT];
     q.id = real_identifier(v[0]);
-    q.uid = own_uid;
-    q.gid = own_gid;
+    q.uid = is_each_user ? v[1].low : own_uid;
+    q.gid = is_each_user ? v[2].low : own_gid;
     q.mode = v[3].low;
     if (q.flags == -1) { skip("this system has no such command"); return; }
-    if (call == SET && (v[1].low != user->uid || v[2].low != user->gid)) { skip("there is one user here"); return; }
+    if (call == SET && !is_each_user && (v[1].low != user->uid || v[2].low != user->gid))
+        { skip("there is one user here"); return; }
     ask(index, &q, &a);
     if (!is_answered(&a)) return;
     if (call == STAT) put_segment(&a.segment);
@@ -727,6 +759,7 @@ static int learn_user(void) {
     if (is_known) {
         own_uid = made.shm_perm.cuid;
         own_gid = made.shm_perm.cgid;
+        is_each_user = HAS_BECOME && own_uid == 0;
     }
     if (id != -1) shmctl(id, IPC_RMID, &made);
     return is_known;
@@ -739,16 +772,32 @@ static int is_own_user(int index) {
     return is_alike && d->uid == first->uid && d->gid == first->gid;
 }
 
+/* a worker becomes its user, and answers whether it could */
+static void start_as(const struct declared *user) {
+    struct answer a;
+    clear(&a, sizeof a);
+    a.is_refused = BECOME(user->uid, user->gid) != 0;
+    write_whole(answers[1], &a, sizeof a);
+    if (a.is_refused) exit(0);
+}
+
 static void start_worker(int index) {
     struct process *p = &processes[index];
+    struct answer a;
     long pid;
     p->parent = -1;
-    p->life = script->processes[index].is_child ? UNBORN : is_own_user(index) ? LIVE : OTHER_USER;
+    p->life = script->processes[index].is_child ? UNBORN : is_each_user || is_own_user(index) ? LIVE : OTHER_USER;
     if (p->life != LIVE) return;
     pid = fork();
+    if (pid == 0 && is_each_user) start_as(&script->processes[index]);
     if (pid == 0) serve(index);
     if (pid < 0) stop("fork is refused");
     p->real = (unsigned long)pid;
+    if (!is_each_user) return;
+    read_whole(answers[0], &a, sizeof a);
+    if (!a.is_refused) return;
+    p->life = OTHER_USER;
+    while (wait((int *)0) != pid) continue;
 }
 
 /* what a script leaves is removed, so that the next one begins on a clean system */

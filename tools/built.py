@@ -1,15 +1,26 @@
-"""The built programs."""
-import os
-import subprocess
+#!/usr/bin/env python3
+"""The built programs. Nothing here builds one: a test starts no proof.
 
+    tools/built.py CRATE    prints where the proved program of CRATE is; status 125 if it is not built from these sources
+"""
+from __future__ import annotations
+
+import os
+import sys
+
+sys.dont_write_bytecode = True
 from crates import TOP
 
 
-def is_source(name):
+class NotBuilt(Exception):
+    """There is no program of these sources."""
+
+
+def is_source(name: str) -> bool:
     return name.endswith((".rt", ".antt"))
 
 
-def newest_source():
+def newest_source() -> float:
     """The time of the last change of a source."""
     times = [os.stat(f"{TOP}/crates.txt").st_mtime]
     for at, folders, names in os.walk(f"{TOP}/crates"):
@@ -19,11 +30,29 @@ def newest_source():
     return max(times)
 
 
-def program_of(crate):
-    """Returns a crate's program. If it is missing, or older than a source, it is proved and built first."""
-    program = f"{TOP}/crates/{crate}/out/{crate}"
-    if os.path.exists(program) and os.stat(program).st_mtime >= newest_source():
-        return program
-    subprocess.run([f"{TOP}/tools/build", crate], check=True)
-    os.utime(program)
-    return program
+def program_of(crate: str, may_be_unproved: bool = False) -> str:
+    """Returns a crate's program that no source is newer than: the proved one, or else, if that will do, the one that --unproved
+    kept."""
+    places = [f"{TOP}/crates/{crate}/out/{crate}", f"{TOP}/build/unproved/{crate}"][:2 if may_be_unproved else 1]
+    newest = newest_source()
+    for path in places:
+        if os.access(path, os.X_OK) and os.stat(path).st_mtime >= newest:
+            return path
+    how = f"tools/build {crate} proves and builds it" + f", and ./{crate} --unproved compiles it" * may_be_unproved
+    raise NotBuilt(f"{crate} is not built from these sources: {how}")
+
+
+def main(words: list[str]) -> int:
+    if len(words) != 1 or words[0].startswith("-"):
+        print(__doc__.strip(), file=sys.stderr)
+        return 2
+    try:
+        print(program_of(words[0]))
+    except NotBuilt as why:
+        print(why, file=sys.stderr)
+        return 125
+    return 0
+
+
+if __name__ == "__main__":
+    sys.exit(main(sys.argv[1:]))

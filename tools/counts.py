@@ -10,6 +10,8 @@ class Count:
     """Counts what passed, failed and was skipped; prints each failure and skip at once."""
 
     def __init__(self, part):
+        # no part of ./test starts a proof: tools/build refuses to
+        os.environ["NOGCUVEMA_NO_PROOF"] = "1"
         self.part = part
         self.passed = self.failed = self.skipped = 0
 

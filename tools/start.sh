@@ -2,17 +2,20 @@
 # anything is built, so a wrong word gets its answer within a second.
 program=$top/crates/$name/out/$name
 docs=$top/docs
+examples=$top/examples
 packages=$top/bindings/python
 # ./install puts built programs in place, without sources; this file has their version
 installed=$top/installed
 if [ -f "$installed" ]; then
     program=$top/bin/$name
-    packages=$top/python
-    docs=$(dirname "$(dirname "$top")")/share/doc/nogcuvema
+    docs=$(dirname "$(dirname "$top")")/share/doc/nogcuvema/docs
+    examples=$(dirname "$docs")/examples
 fi
 
+# the version; of the programs of --unproved it says so
 version() {
     if [ -f "$installed" ]; then cat "$installed"; return; fi
+    if [ -n "${unproved-}" ]; then echo "$(unproved='' version)-unproved"; return; fi
     sed -n 's/^## \([0-9][0-9.]*\).*/\1/p' "$top/CHANGELOG.md" | head -n 1
 }
 
@@ -22,6 +25,11 @@ refuse_words() {
     echo "$name: $2" >&2
     echo "$name: SWAP is ram:N, sparse:N, mirror:N, fuse:N:rK or fuse:N:wK, N slots from 1 to 65536; $name --help says more" >&2
     exit 2
+}
+
+# once WORD VALUE: refuses a word that is given twice; VALUE is what the first one set
+once() {
+    [ -z "$2" ] || refuse_words "$usage" "$1 is given twice"
 }
 
 # is_number TEXT MOST: decimal digits, from 1 to MOST
@@ -76,6 +84,23 @@ is_current() {
     [ -z "$newer" ]
 }
 
+# Prints what a program said on standard error. Where that is a terminal, a fault of the script ends with a hint; a test or another
+# program gets the program's own text.
+hint() {
+    [ -t 2 ] || { cat >&2; return; }
+    sed "s/^$name: line [0-9][0-9]*: .*/& (shmsim --explain says more)/" >&2
+}
+
+# run_program PROGRAM WORD...: runs a program in the place of this script, with `hint` where standard error is a terminal
+run_program() {
+    [ -t 2 ] || exec "$@"
+    exec 3>&1
+    text=$("$@" 2>&1 >&3 3>&-)
+    status=$?
+    [ -z "$text" ] || echo "$text" | hint
+    exit "$status"
+}
+
 # Runs the sources without any proof. If an earlier run kept a program and no source is newer, that program runs. Otherwise the
 # toolchain's quick run does, and its own last lines follow the program's output.
 run_unproved() {
@@ -85,7 +110,7 @@ run_unproved() {
     fi
     kept=$top/build/unproved/$name
     echo "$name: nothing is proved on this machine by this run" >&2
-    if is_current "$kept"; then exec "$kept" "$@"; fi
+    if is_current "$kept"; then run_program "$kept" "$@"; fi
     has_toolchain
     said=$(mktemp) || exit 125
     trap 'rm -f "$said"' EXIT
@@ -101,7 +126,7 @@ run_unproved() {
         fi
         exit 125
     fi
-    grep -vE '^(checked: ended status=|races: |run=ended status=|interpreter: )' "$said" >&2
+    grep -vE '^(checked: ended status=|races: |run=ended status=|interpreter: )' "$said" | hint
     exit "$status"
 }
 

@@ -1,6 +1,7 @@
 /* What small_peer.c needs of Linux: an example to copy for another kernel. docs/CONFORMANCE.md tells what each line is. */
 #define _GNU_SOURCE
 #include <errno.h>
+#include <grp.h>
 #include <stdlib.h>
 #include <sys/shm.h>
 #include <sys/wait.h>
@@ -10,6 +11,11 @@
 #define KEY_OF(s) ((s)->shm_perm.__key)
 /* whether processes have users, of which 0 may do everything */
 #define HAS_USERS 1
+/* gives this process another user and group, if user 0 runs it: 0 if it has them now. A port without this has one user */
+static int become(unsigned uid, unsigned gid) {
+    return setgroups(0, NULL) || setresgid(gid, gid, gid) || setresuid(uid, uid, uid) || getuid() != uid || getgid() != gid;
+}
+#define BECOME(uid, gid) become((unsigned)(uid), (unsigned)(gid))
 /* the addresses where a script may attach: nothing of the peer's own is there */
 #define FREE_FROM 0x10000UL
 #define FREE_TO 0x500000000000UL

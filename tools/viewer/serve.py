@@ -257,4 +257,8 @@ def main(program, packages, examples, tour, port, path, *swaps):
 
 
 if __name__ == "__main__":
-    sys.exit(main(*sys.argv[1:]))
+    try:
+        sys.exit(main(*sys.argv[1:]))
+    except OSError as error:
+        print(f"shmview: {error.filename or 'the output'}: {error.strerror}", file=sys.stderr)
+        sys.exit(3)

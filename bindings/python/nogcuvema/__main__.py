@@ -1,6 +1,7 @@
 """A prompt for a machine: python3 -m nogcuvema [SWAP...] reads lines of the script language and answers each at once.
 
-It also takes the lines help [CALL], show, undo, snapshot NAME, restore NAME, save FILE and quit. docs/SCRIPT.md has the language."""
+It also takes the lines help [CALL], show, undo, snapshot NAME, restore NAME, save FILE, and quit or exit. docs/SCRIPT.md has the
+language."""
 import os
 import shutil
 import subprocess
@@ -8,6 +9,7 @@ import sys
 import textwrap
 from typing import Dict, List, Optional, Sequence
 
+from ._ending import run_command
 from ._library import LibraryMissing
 from .calls import RULES
 from .errors import MachineError, NoMemory
@@ -18,7 +20,7 @@ from .script import CALLS, Command, FlushLine, Run, Script, ScriptFault, areas_o
 USAGE = "usage: python3 -m nogcuvema [SWAP...]: SWAP is ram:N, sparse:N, mirror:N, fuse:N:rK or fuse:N:wK; ram:64 without one"
 # the limits and processes if the first line is no limits line
 HEAD = ("limits 65536 16 64 4 1", "process 1 100 100", "child 2", "child 3")
-OWN_WORDS = ("help", "show", "undo", "snapshot", "restore", "save", "quit")
+OWN_WORDS = ("help", "show", "undo", "snapshot", "restore", "save", "quit", "exit")
 HELP = """A line is a call of a process: its pid, the call and its operands. A variable stores the answer.
     1 s = shmget private 8192 600
     1 a = shmat s null -
@@ -26,9 +28,15 @@ HELP = """A line is a call of a process: its pid, the call and its operands. A v
     1 load a+4093 6
 Calls: {calls}
 help CALL explains a call. 0 flush N writes out dirty pages. show prints the machine, undo takes the last line back,
-snapshot NAME keeps the current state, restore NAME returns to it, save FILE writes a script of all accepted lines, quit ends.
+snapshot NAME keeps the current state, restore NAME returns to it, save FILE writes a script of all accepted lines, quit or exit
+ends. show needs the viewer's program, shmview: it takes the one that ./shmview or ./shmview --unproved built in the repository, or
+the one that ./install installed, also by its name on the path. Without one it prints segments and counts.
 Limits and processes come first: limits SHMMAX SHMMNI SHMALL FRAMES MEMLOCK, process PID UID GID, child PID. If you begin
 with a call, these lines come first: {head}"""
+
+
+WITHOUT = ("to see processes, frames and slots, build the program shmview in the repository, by ./shmview or ./shmview --unproved, or "
+           "install it by ./install")
 
 
 def help_of(call: str) -> str:
@@ -48,12 +56,15 @@ class Prompt:
         self.areas = areas_of(self.swap)
         self.script = Script()
         self.taken: List[str] = []
+        # lines that were typed, also those that were not accepted
+        self.typed = 0
         self.run: Optional[Run] = None
         self.undoable: List[Moment] = []
         self.snapshots: Dict[str, Moment] = {}
 
     def answer(self, line: str) -> List[str]:
         """The answer to a line."""
+        self.typed += 1
         words = line.split()
         if not words or words[0].startswith("#"):
             return []
@@ -82,10 +93,10 @@ class Prompt:
         before = self.moment_before(line)
         if self.script.limits is None and line.split()[0] != "limits":
             for head in HEAD:
-                self.script.read_line(len(self.taken) + 1, head)
+                self.script.read_line(self.typed, head)
                 self.taken.append(head)
         try:
-            read = self.script.read_line(len(self.taken) + 1, line)
+            read = self.script.read_line(self.typed, line)
         except ScriptFault as fault:
             return explain_fault(fault, line)
         if read is not None:
@@ -96,7 +107,7 @@ class Prompt:
                 return [str(error)]
         self.taken.append(line)
         self.keep(before)
-        return [f"warning: {it}" for it in warnings(self.script) if it.startswith(f"line {len(self.taken)}:")] + told
+        return [f"warning: {it}" for it in warnings(self.script) if it.startswith(f"line {self.typed}:")] + told
 
     def make(self, line: object) -> str:
         if self.run is None:
@@ -175,7 +186,7 @@ class Prompt:
             done = subprocess.run([viewer, "--steps", f"{last}-{last}", *self.swap], input=self.text(), capture_output=True, text=True, check=False)
             if done.returncode == 0:
                 return [done.stdout.strip()]
-        without = "" if viewer else "to see processes, frames and slots, build or install the program shmview"
+        without = "" if viewer else WITHOUT
         return [(listing(self.run.machine) + usage(self.run.machine)).strip()] + [without] * bool(without)
 
     def save(self, name: str) -> List[str]:
@@ -195,7 +206,7 @@ def viewer_program() -> str:
     here = os.path.dirname(os.path.abspath(__file__))
     top = os.path.dirname(os.path.dirname(os.path.dirname(here)))
     libraries = os.path.dirname(os.path.dirname(os.path.dirname(here)))
-    places = [f"{top}/crates/shmview/out/shmview", f"{libraries}/nogcuvema/bin/shmview"]
+    places = [f"{top}/crates/shmview/out/shmview", f"{top}/build/unproved/shmview", f"{libraries}/nogcuvema/bin/shmview"]
     found = shutil.which("shmview")
     if found:
         places.append(os.path.join(os.path.dirname(os.path.realpath(found)), "bin", "shmview"))
@@ -226,7 +237,9 @@ def main(words: List[str]) -> int:
             readline.parse_and_bind("tab: complete")
         except ImportError:
             pass
-        print("A machine with the swap areas " + " ".join(prompt.swap) + ". help explains the prompt, quit ends it.")
+        print("A machine with the swap areas " + " ".join(prompt.swap) + ". help explains the prompt, quit or exit ends it.")
+        viewer = viewer_program()
+        print(f"show draws the machine by {viewer}." if viewer else f"show prints segments and counts; {WITHOUT}.")
     while True:
         try:
             line = input("> " if is_seen else "")
@@ -235,11 +248,11 @@ def main(words: List[str]) -> int:
         except KeyboardInterrupt:
             print()
             continue
-        if line.split() == ["quit"]:
+        if line.split() in (["quit"], ["exit"]):
             return 0
         for text in prompt.answer(line):
             print(text, flush=True)
 
 
 if __name__ == "__main__":
-    sys.exit(main(sys.argv[1:]))
+    sys.exit(run_command("nogcuvema", lambda: main(sys.argv[1:])))

@@ -158,8 +158,9 @@ class Library:
             return f"code {code}"
         return bytes(text[:min(length.value, len(text) - 1)]).decode("ascii", "replace")
 
-    def error(self, code: int, name: str) -> Optional[Exception]:
-        return error_of(code, self.text(code), name) if code else None
+    def error(self, code: int, name: str, told: str = "") -> Optional[Exception]:
+        """The exception for a code of a function; `told` says which number was wrong."""
+        return error_of(code, self.text(code) + (f": {told}" if told else ""), name) if code else None
 
 
 _kept: Dict[Tuple[str, ...], Library] = {}

@@ -5,6 +5,7 @@ import re
 import sys
 from typing import Dict, Iterator, List, Set
 
+from ._ending import run_command
 from .script import CALLS, Command, Script, ScriptFault, Variable, read_script
 
 FIRST_WORDS = ("limits", "process", "child")
@@ -85,6 +86,9 @@ def explain(text: str) -> List[str]:
 
 
 def main() -> int:
+    if sys.argv[1:]:
+        print(f"explain: no such word: {sys.argv[1]}; usage: python3 -m nogcuvema.explain < SCRIPT", file=sys.stderr)
+        return 2
     text = sys.stdin.buffer.read().decode("latin-1")
     told = explain(text)
     for line in told:
@@ -96,4 +100,4 @@ def main() -> int:
 
 
 if __name__ == "__main__":
-    sys.exit(main())
+    sys.exit(run_command("explain", main))

@@ -1,17 +1,19 @@
 """A machine and its calls. docs/MACHINE.md lists the refusals of each call; a method here names only what differs in Python."""
 import enum
 import operator
+import sys
 from ctypes import byref, c_int32, c_uint8, c_uint32, c_uint64
 from dataclasses import dataclass
 from types import TracebackType
-from typing import Any, Dict, Iterable, List, Optional, Sequence, Tuple, Type, Union
+from typing import Any, Callable, Dict, Iterable, List, Optional, Sequence, Tuple, Type, Union
 
 from . import _library as low
 from .errors import Incomplete, OUT_OF_RANGE, OutOfRange
 
 Buffer = Union[bytes, bytearray, memoryview]
 PRIVATE = 0
-U32, U64, I32 = 2 ** 32 - 1, 2 ** 64 - 1, 2 ** 31 - 1
+MOST_BYTES = 64     # of a load, a store or an exchange
+U16, U32, U64, I32 = 2 ** 16 - 1, 2 ** 32 - 1, 2 ** 64 - 1, 2 ** 31 - 1
 DEST, LOCKED = 512, 1024
 
 
@@ -192,23 +194,144 @@ class ProcessEntry:
     gid: int
 
 
-def _number(value: Any, most: int, what: str, least: int = 0) -> int:
-    """The number, if it fits C's type; ctypes would truncate it silently."""
-    value = operator.index(value)
+def _wrong_type(what: str, wanted: str, value: Any) -> TypeError:
+    return TypeError(f"{what}: {wanted} is wanted, not {type(value).__name__}")
+
+
+def out_of(what: str, value: int, least: int, most: int, show: Callable[[int], str] = str) -> str:
+    """What a number is, and what it may be."""
+    return f"{what} {show(value)} is not from {show(least)} to {show(most)}"
+
+
+def _number(value: Any, most: int, what: str, least: int = 0, show: Callable[[int], str] = str,
+            told: Optional[Tuple[int, int]] = None) -> int:
+    """The number, if it is in the range; ctypes would truncate it silently. `told` is the range that the message names, if the
+    library itself refuses the rest."""
+    try:
+        value = operator.index(value)
+    except TypeError:
+        raise _wrong_type(what, "a whole number", value) from None
     if not least <= value <= most:
-        raise OutOfRange(OUT_OF_RANGE, f"{what} {value} is not from {least} to {most}", "nogcuvema")
+        raise OutOfRange(OUT_OF_RANGE, out_of(what, value, *(told or (least, most)), show), "nogcuvema")
     return int(value)
 
 
-def _room(data: Buffer) -> Tuple[Any, int]:
-    """A copy of the bytes for C, and how many there are."""
-    held = bytes(data)
+def _pid(value: Any, what: str = "pid") -> int:
+    """A pid as C has it. One that no process can have is answered by the library, as ESRCH for example."""
+    return _number(value, U32, what, told=(1, I32))
+
+
+def _mode(value: Any, most: int = 0o777) -> int:
+    return _number(value, most, "mode", show=oct)
+
+
+def _truth(value: Any, what: str) -> int:
+    """A truth value as C has it. Another type, such as a text, is a mistake, although Python would find it true."""
+    if not isinstance(value, (bool, int)):
+        raise _wrong_type(what, "True or False", value)
+    return int(bool(value))
+
+
+def _bytes(data: Any, what: str) -> bytes:
+    """The bytes of a buffer. A number is none: bytes(5) would be five zeros."""
+    try:
+        return memoryview(data).tobytes()
+    except TypeError:
+        raise _wrong_type(what, "a bytes-like object", data) from None
+
+
+def _room(data: Any, what: str = "data", most: int = 0) -> Tuple[Any, int]:
+    """A copy of the bytes for C, and how many there are: at least 1 and at most `most`, if that is given."""
+    held = _bytes(data, what)
+    if most:
+        _number(len(held), most, f"the length of {what}", 1)
     return (c_uint8 * max(1, len(held))).from_buffer_copy(held or b"\0"), len(held)
+
+
+def _items(values: Any, kind: type, what: str) -> List[Any]:
+    """The values as a list, each of this type."""
+    try:
+        items = list(values)
+    except TypeError:
+        raise _wrong_type(what, f"a list of {kind.__name__}", values) from None
+    for place, item in enumerate(items):
+        if not isinstance(item, kind):
+            raise _wrong_type(f"{what}[{place}]", f"{'an' if kind is Area else 'a'} {kind.__name__}", item)
+    return items
 
 
 def _segment(struct: low.SegmentStruct) -> Segment:
     values = {name: getattr(struct, name) for name, _ in struct._fields_ if name != "status"}
     return Segment(is_marked=bool(struct.status & DEST), is_locked=bool(struct.status & LOCKED), **values)
+
+
+# the ranges of the limits, in the profile and in a larger machine
+PROFILE = {"shmmax": (1, 2 ** 24), "shmmni": (1, 4096), "shmall": (1, 65536), "frames": (2, 4096)}
+LARGER = {"shmmax": (1, 2 ** 40), "shmmni": (1, 32768), "shmall": (1, 2 ** 28), "frames": (2, 2 ** 24), "most_pieces": (1, 65530),
+          "most_processes": (1, 32768), "most_slots": (1, 2 ** 28)}
+SIZES = ("most_pieces", "most_processes", "most_slots")
+BAD_LIMIT, BAD_AREAS, BAD_AREA_SIZE, BAD_PROCESSES, BAD_PID = 2010, 2021, 2022, 2023, 2024
+ADMIT_BAD_PID, ADMIT_TAKEN, ADMIT_MANY = 2031, 2032, 2033
+MOST_AREAS, MOST_SLOTS, MOST_PROCESSES, MIRROR = 8, 65536, 64, 3
+
+
+def _is_larger(limits: Limits) -> bool:
+    """Whether one of the last three sizes is given: then the machine is not one of the profile."""
+    return any(getattr(limits, name) for name in SIZES)
+
+
+def range_of(limits: Limits, name: str) -> Tuple[int, int]:
+    """The least and the most value of a limit."""
+    if name == "memlock":
+        return 0, max(0, limits.frames - 2)
+    if name == "rules":
+        return 0, int(Rules.LINUX)
+    return LARGER[name] if _is_larger(limits) or name in SIZES else PROFILE[name]
+
+
+def _told_range(limits: Limits, name: str) -> Tuple[int, int]:
+    """The same for a message, also if another limit is no number."""
+    try:
+        return range_of(limits, name)
+    except TypeError:
+        return 0, U64
+
+
+def why_not_opened(code: int, limits: Limits, areas: Sequence[Area], processes: Sequence[Process]) -> str:
+    """The number that is wrong, with its range, for a code of nog_open; nothing for other codes."""
+    names = [name for name, _ in low.LimitsStruct._fields_]
+    if BAD_LIMIT < code <= BAD_LIMIT + len(names):
+        name = names[code - BAD_LIMIT - 1]
+        return out_of(name, getattr(limits, name), *range_of(limits, name))
+    if code == BAD_AREAS:
+        return out_of("the number of areas", len(areas), 1, MOST_AREAS)
+    if code == BAD_AREA_SIZE:
+        most = limits.most_slots if _is_larger(limits) else MOST_SLOTS
+        wrong = ((place, it.slots) for place, it in enumerate(areas) if not 1 <= it.slots <= most)
+        return next((out_of(f"areas[{place}]: slots", slots, 1, most) for place, slots in wrong), "")
+    if code == BAD_PROCESSES:
+        return out_of("the number of processes", len(processes), 0, limits.most_processes if _is_larger(limits) else MOST_PROCESSES)
+    if code == BAD_PID:
+        pids = [it.pid for it in processes]
+        outside = next((pid for pid in pids if not 1 <= pid <= I32), None)
+        twice = next((pid for place, pid in enumerate(pids) if pid in pids[:place]), None)
+        return f"pid {twice} is given twice" if outside is None else out_of("pid", outside, 1, I32)
+    return ""
+
+
+def _check_areas(areas: Sequence[Area]) -> None:
+    """Refuses a kind that does not exist, and a failure of a side that the area does not have, or of call 0."""
+    for place, area in enumerate(areas):
+        _number(area.kind, MIRROR, f"areas[{place}]: kind", 1)
+        for number, it in enumerate(_items(area.failures, Failure, f"areas[{place}]: failures")):
+            what = f"areas[{place}]: failures[{number}]"
+            _number(it.call, U64, f"{what}: call", 1)
+            _number(it.side, 1 if area.kind == MIRROR else 0, f"{what}: side")
+            _truth(it.is_write, f"{what}: is_write")
+
+
+def _process(it: Process) -> low.ProcessStruct:
+    return low.ProcessStruct(_pid(it.pid), _truth(it.is_born, "is_born"), _number(it.uid, U32, "uid"), _number(it.gid, U32, "gid"))
 
 
 class Machine:
@@ -222,25 +345,32 @@ class Machine:
                  processes: Iterable[Process] = (Process(1),)) -> None:
         self._library = low.load_library()
         self._machine = low.MachineStruct()
-        limits, areas, processes = limits or Limits(), list(areas), list(processes)
+        limits = Limits() if limits is None else limits
+        if not isinstance(limits, Limits):
+            raise _wrong_type("limits", "a Limits", limits)
+        areas, processes = _items(areas, Area, "areas"), _items(processes, Process, "processes")
+        _check_areas(areas)
         failures = [(place, failure) for place, area in enumerate(areas) for failure in area.failures]
+        their_limits = low.LimitsStruct(*(_number(getattr(limits, name), U64, name, told=_told_range(limits, name))
+                                          for name, _ in low.LimitsStruct._fields_))
+        most = limits.most_slots or MOST_SLOTS
         their_areas = (low.AreaStruct * len(areas))(
-            *((_number(it.kind, U32, "kind"), _number(it.slots, U32, "slots")) for it in areas))
+            *((it.kind, _number(it.slots, U32, f"areas[{place}]: slots", told=(1, most))) for place, it in enumerate(areas)))
         their_failures = (low.FailureStruct * len(failures))(
-            *((place, _number(it.side, U32, "side"), int(it.is_write), 0, _number(it.call, U64, "call"))
-              for place, it in failures))
-        their_processes = (low.ProcessStruct * len(processes))(
-            *((_number(it.pid, U32, "pid"), int(it.is_born), _number(it.uid, U32, "uid"), _number(it.gid, U32, "gid"))
-              for it in processes))
-        their_limits = low.LimitsStruct(*(_number(getattr(limits, name), U64, name) for name, _ in low.LimitsStruct._fields_))
-        self._call("nog_open", byref(their_limits), their_areas, len(areas), their_failures, len(failures),
-                   their_processes, len(processes))
+            *((place, it.side, int(it.is_write), 0, it.call) for place, it in failures))
+        their_processes = (low.ProcessStruct * len(processes))(*map(_process, processes))
+        code = self._library.functions.nog_open(byref(self._machine), byref(their_limits), their_areas, len(areas), their_failures,
+                                                len(failures), their_processes, len(processes))
+        if code:
+            raise self._library.error(code, "nog_open", why_not_opened(code, limits, areas, processes))  # type: ignore[misc]
 
     @classmethod
     def from_script(cls, text: str, swap: Union[str, Sequence[str]] = "ram:64") -> "Machine":
         """Opens the machine that a script declares, over the swap areas that `swap` names, and makes its calls in the
         order of its lines. A refused call of the script raises nothing; `nogcuvema.script.Run` gives the replies."""
         from .script import Run, areas_of, read_script
+        if not isinstance(text, (str, bytes)):
+            raise _wrong_type("text", "a script's text", text)
         script = read_script(text)
         run = Run.open(script, areas_of(swap))
         for _ in run.steps():
@@ -277,109 +407,116 @@ class Machine:
     def get(self, pid: int, key: int, size: int, mode: int = 0o600, flags: int = 0) -> int:
         """shmget: the identifier of the segment with this key, or of a new one."""
         found = c_int32()
-        self._call("nog_get", _number(pid, U32, "pid"), _number(key, U32, "key"), _number(size, U64, "size"),
-                   _number(mode, U32, "mode"), _number(flags, U32, "flags"), byref(found))
+        self._call("nog_get", _pid(pid), _number(key, U32, "key"), _number(size, U64, "size"),
+                   _mode(mode), _number(flags, U16, "flags"), byref(found))
         return found.value
 
     def attach(self, pid: int, segment: int, addr: Optional[int] = None, flags: int = 0) -> int:
         """shmat: the address of the attachment; None lets the machine choose it."""
         at = c_uint64()
-        self._call("nog_attach", _number(pid, U32, "pid"), _identifier(segment), _number(addr or 0, U64, "addr"),
-                   _number(flags, U32, "flags"), byref(at))
+        self._call("nog_attach", _pid(pid), _identifier(segment),
+                   0 if addr is None else _number(addr, U64, "addr"), _number(flags, U16, "flags"), byref(at))
         return at.value
 
     def detach(self, pid: int, addr: int) -> None:
         """shmdt: detaches the segment that was attached at the address."""
-        self._call("nog_detach", _number(pid, U32, "pid"), _number(addr, U64, "addr"))
+        self._call("nog_detach", _pid(pid), _number(addr, U64, "addr"))
 
     def stat(self, pid: int, segment: int) -> Segment:
         """shmctl, IPC_STAT: the segment, if the process may read it."""
         struct = low.SegmentStruct()
-        self._call("nog_stat", _number(pid, U32, "pid"), _identifier(segment), byref(struct))
+        self._call("nog_stat", _pid(pid), _identifier(segment), byref(struct))
         return _segment(struct)
 
     def set(self, pid: int, segment: int, uid: int, gid: int, mode: int) -> None:
         """shmctl, IPC_SET: sets the owner and the permission bits."""
-        self._call("nog_set", _number(pid, U32, "pid"), _identifier(segment), _number(uid, U32, "uid"),
-                   _number(gid, U32, "gid"), _number(mode, U32, "mode"))
+        self._call("nog_set", _pid(pid), _identifier(segment), _number(uid, U32, "uid"),
+                   _number(gid, U32, "gid"), _mode(mode, U16))
 
     def remove(self, pid: int, segment: int) -> None:
         """shmctl, IPC_RMID: destroys the segment, or marks it if it is attached."""
-        self._call("nog_remove", _number(pid, U32, "pid"), _identifier(segment))
+        self._call("nog_remove", _pid(pid), _identifier(segment))
 
     def lock(self, pid: int, segment: int) -> None:
         """shmctl, SHM_LOCK: keeps the pages of the segment in memory."""
-        self._call("nog_lock", _number(pid, U32, "pid"), _identifier(segment))
+        self._call("nog_lock", _pid(pid), _identifier(segment))
 
     def unlock(self, pid: int, segment: int) -> None:
         """shmctl, SHM_UNLOCK: lets the pages of the segment leave memory."""
-        self._call("nog_unlock", _number(pid, U32, "pid"), _identifier(segment))
+        self._call("nog_unlock", _pid(pid), _identifier(segment))
 
     def load(self, pid: int, addr: int, length: int) -> bytes:
         """Reads 1 to 64 bytes in one step."""
-        room = (c_uint8 * max(1, min(64, _number(length, U64, "length"))))()
-        self._call("nog_load", _number(pid, U32, "pid"), _number(addr, U64, "addr"), room, length)
+        room = (c_uint8 * _number(length, MOST_BYTES, "length", 1))()
+        self._call("nog_load", _pid(pid), _number(addr, U64, "addr"), room, length)
         return bytes(room)
 
     def store(self, pid: int, addr: int, data: Buffer) -> None:
         """Writes 1 to 64 bytes in one step."""
-        room, length = _room(data)
-        self._call("nog_store", _number(pid, U32, "pid"), _number(addr, U64, "addr"), room, length)
+        room, length = _room(data, most=MOST_BYTES)
+        self._call("nog_store", _pid(pid), _number(addr, U64, "addr"), room, length)
 
     def add(self, pid: int, addr: int, number: int) -> int:
         """Adds to an eight-byte little-endian number, modulo 2^64, in one step. Returns the number before the addition."""
         before = c_uint64()
-        self._call("nog_add", _number(pid, U32, "pid"), _number(addr, U64, "addr"), _number(number, U64, "number"), byref(before))
+        self._call("nog_add", _pid(pid), _number(addr, U64, "addr"), _number(number, U64, "number"), byref(before))
         return before.value
 
     def exchange(self, pid: int, addr: int, data: Buffer) -> bytes:
         """Replaces 1 to 64 bytes in one step (a guest's locked exchange). Returns the bytes that were there before."""
-        before = (c_uint8 * max(1, len(bytes(data))))()
-        room, length = _room(data)
-        self._call("nog_exchange", _number(pid, U32, "pid"), _number(addr, U64, "addr"), room, length, before, length)
+        room, length = _room(data, most=MOST_BYTES)
+        before = (c_uint8 * length)()
+        self._call("nog_exchange", _pid(pid), _number(addr, U64, "addr"), room, length, before, length)
         return bytes(before)
 
     def compare_exchange(self, pid: int, addr: int, expected: Buffer, data: Buffer) -> bytes:
         """Like `exchange`, but replaces the bytes only if they are the expected ones. Returns the bytes that were there before: they
         were replaced exactly when they are equal to the expected ones."""
-        before = (c_uint8 * max(1, len(bytes(data))))()
-        room, length = _room(data)
-        wanted, size = _room(expected)
-        self._call("nog_compare_exchange", _number(pid, U32, "pid"), _number(addr, U64, "addr"), wanted, size, room, length,
+        room, length = _room(data, most=MOST_BYTES)
+        wanted, size = _room(expected, "expected", MOST_BYTES)
+        if size != length:
+            raise OutOfRange(OUT_OF_RANGE, f"the length of expected {size} is not that of data, {length}", "nogcuvema")
+        before = (c_uint8 * length)()
+        self._call("nog_compare_exchange", _pid(pid), _number(addr, U64, "addr"), wanted, size, room, length,
                    before, length)
         return bytes(before)
 
     def fork(self, pid: int, new: int) -> None:
         """fork: a declared child is born with the caller's user, group and attachments."""
-        self._call("nog_fork", _number(pid, U32, "pid"), _number(new, U32, "child"))
+        self._call("nog_fork", _pid(pid), _pid(new, "new"))
 
     def exec(self, pid: int) -> None:
         """execve: every attachment of the caller is detached."""
-        self._call("nog_exec", _number(pid, U32, "pid"))
+        self._call("nog_exec", _pid(pid))
 
     def exit(self, pid: int) -> None:
         """exit: the process ends. Its pid may be admitted again."""
-        self._call("nog_exit", _number(pid, U32, "pid"))
+        self._call("nog_exit", _pid(pid))
 
     def swapoff(self, pid: int, area: int) -> None:
         """swapoff: moves the pages of an area elsewhere and takes the area away."""
-        self._call("nog_swapoff", _number(pid, U32, "pid"), _number(area, U32, "area"))
+        self._call("nog_swapoff", _pid(pid), _number(area, U32, "area"))
 
     # ---- other changes of a process: they are not calls and are not counted ----
 
     def admit(self, process: Process) -> None:
         """Adds a process that was not declared. It replaces an ended process that has its pid."""
-        struct = low.ProcessStruct(_number(process.pid, U32, "pid"), int(process.is_born), _number(process.uid, U32, "uid"),
-                                   _number(process.gid, U32, "gid"))
-        self._call("nog_admit", byref(struct))
+        if not isinstance(process, Process):
+            raise _wrong_type("process", "a Process", process)
+        struct = _process(process)
+        code = self._library.functions.nog_admit(byref(self._machine), byref(struct))
+        if code:
+            told = {ADMIT_BAD_PID: out_of("pid", process.pid, 1, I32), ADMIT_TAKEN: f"pid {process.pid}"}.get(code, "")
+            told = f"there are {len(self.processes())} already" if code == ADMIT_MANY else told
+            raise self._library.error(code, "nog_admit", told)  # type: ignore[misc]
 
     def dismiss(self, pid: int) -> None:
         """Removes an ended process, or a child that is not born. Its pid may be admitted again."""
-        self._call("nog_dismiss", _number(pid, U32, "pid"))
+        self._call("nog_dismiss", _pid(pid))
 
     def set_user(self, pid: int, uid: int, gid: int) -> None:
         """Sets the effective user and group of a live process, as setuid(2) and setgid(2) do. Its pieces stay."""
-        self._call("nog_set_user", _number(pid, U32, "pid"), _number(uid, U32, "uid"), _number(gid, U32, "gid"))
+        self._call("nog_set_user", _pid(pid), _number(uid, U32, "uid"), _number(gid, U32, "gid"))
 
     def set_time(self, time: int) -> None:
         """From now on, calls set this number as the time. Before the first `set_time`, the time of a call is its place."""
@@ -387,13 +524,13 @@ class Machine:
 
     def unmap(self, pid: int, addr: int, length: int) -> None:
         """munmap: unmaps a range of a process, rounded up to whole pages. Pieces that extend beyond it are cut."""
-        self._call("nog_unmap", _number(pid, U32, "pid"), _number(addr, U64, "addr"), _number(length, U64, "length"))
+        self._call("nog_unmap", _pid(pid), _number(addr, U64, "addr"), _number(length, U64, "length"))
 
     def protect(self, pid: int, addr: int, length: int, is_writable: bool) -> None:
         """mprotect: makes a range of a process, rounded up to whole pages, writable or read-only. If it is refused with
         ENOMEM or EACCES, pages below the refused one may have changed, as on Linux. Raises `Spent` after 2^64 - 1 calls."""
-        self._call("nog_protect", _number(pid, U32, "pid"), _number(addr, U64, "addr"), _number(length, U64, "length"),
-                   int(bool(is_writable)))
+        self._call("nog_protect", _pid(pid), _number(addr, U64, "addr"), _number(length, U64, "length"),
+                   _truth(is_writable, "is_writable"))
 
     def snapshot(self) -> "Machine":
         """A second machine with the same state, memory and swap areas. The two are independent from then on."""
@@ -412,13 +549,18 @@ class Machine:
 
     def read(self, pid: int, addr: int, length: int) -> bytes:
         """Reads bytes by one load for each page. Raises `Incomplete` if a load after the first is refused."""
-        data = bytearray(_number(length, U64, "length"))
+        data = bytearray(_number(length, sys.maxsize, "length"))
         self.read_into(pid, addr, data)
         return bytes(data)
 
     def read_into(self, pid: int, addr: int, buffer: Union[bytearray, memoryview]) -> int:
         """Fills a writable buffer by one load for each page. Returns its length in bytes."""
-        view = memoryview(buffer).cast("B")
+        try:
+            view = memoryview(buffer).cast("B")
+        except TypeError:
+            raise _wrong_type("buffer", "a bytes-like object in one piece", buffer) from None
+        if view.readonly:
+            raise _wrong_type("buffer", "a bytes-like object that can be written", buffer)
         room = (c_uint8 * len(view)).from_buffer(view) if len(view) else (c_uint8 * 1)()
         return self._access("nog_read", pid, addr, room, len(view))
 
@@ -433,7 +575,7 @@ class Machine:
         `Incomplete` if some bytes were copied before it was refused."""
         done = c_uint64()
         try:
-            self._call("nog_copy", _number(pid, U32, "pid"), _number(addr, U64, "addr"), _number(to, U32, "to"),
+            self._call("nog_copy", _pid(pid), _number(addr, U64, "addr"), _pid(to, "to"),
                        _number(to_addr, U64, "to_addr"), _number(length, U64, "length"), byref(done))
         except Exception as error:
             if not done.value:
@@ -444,7 +586,7 @@ class Machine:
     def _access(self, name: str, pid: int, addr: int, room: Any, length: int) -> int:
         done = c_uint64()
         try:
-            self._call(name, _number(pid, U32, "pid"), _number(addr, U64, "addr"), room, length, byref(done))
+            self._call(name, _pid(pid), _number(addr, U64, "addr"), room, length, byref(done))
         except Exception as error:
             if not done.value:
                 raise
@@ -478,7 +620,7 @@ class Machine:
     def stat_at(self, pid: int, index: int) -> Segment:
         """shmctl, SHM_STAT: the segment at an index of the table, if the process may read it."""
         struct = low.SegmentStruct()
-        self._call("nog_stat_at", _number(pid, U32, "pid"), _number(index, U32, "index"), byref(struct))
+        self._call("nog_stat_at", _pid(pid), _number(index, U32, "index"), byref(struct))
         return _segment(struct)
 
     def info(self) -> Usage:
@@ -489,7 +631,7 @@ class Machine:
 
     def pieces(self, pid: int) -> List[Piece]:
         """The pieces of a live process in the order of their addresses, as /proc/PID/maps lists mappings."""
-        pid, found, struct = _number(pid, U32, "pid"), [], low.PieceStruct()
+        pid, found, struct = _pid(pid), [], low.PieceStruct()
         while self._has("nog_piece_at", pid, len(found), byref(struct)):
             found.append(Piece(struct.base, struct.segment, struct.first_page, struct.pages, bool(struct.is_writable),
                                bool(struct.may_write)))
@@ -506,14 +648,14 @@ class Machine:
         """The address of the first byte at which an access of these bytes would get SIGSEGV: it is not attached, or not for
         writing. None if each byte is attached as the access needs."""
         at = c_uint64()
-        operands = (_number(pid, U32, "pid"), _number(addr, U64, "addr"), _number(length, U64, "length"), int(bool(is_write)))
+        operands = (_pid(pid), _number(addr, U64, "addr"), _number(length, U64, "length"), _truth(is_write, "is_write"))
         return at.value if self._has("nog_failed_at", *operands, byref(at)) else None
 
     def absent_at(self, pid: int, addr: int, length: int) -> Optional[int]:
         """Call it right after a `BusError`: the address of the access's first byte whose page is in no frame, if each byte before it
         is attached. None if there is no such byte."""
         at = c_uint64()
-        operands = (_number(pid, U32, "pid"), _number(addr, U64, "addr"), _number(length, U64, "length"))
+        operands = (_pid(pid), _number(addr, U64, "addr"), _number(length, U64, "length"))
         return at.value if self._has("nog_absent_at", *operands, byref(at)) else None
 
     def _has(self, name: str, *operands: Any) -> bool:
@@ -532,4 +674,4 @@ class Machine:
 
 
 def _identifier(value: Any) -> int:
-    return _number(value, I32, "identifier", -I32 - 1)
+    return _number(value, I32, "segment", -I32 - 1)

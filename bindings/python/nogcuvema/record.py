@@ -7,6 +7,8 @@ import re
 import sys
 from typing import Any, Dict, Iterable, Iterator, List
 
+from ._ending import run_command
+
 SEGMENT = re.compile(r"(0x[0-9a-f]{8}) +(\d+) +(\d+) +([0-7]{3}) +(\d+) +(\d+) +(\S+)")
 USAGE = re.compile(r"usage (?:events (\d+) segments (\d+) reserved (\d+) locked (\d+)|frames (\d+)/(\d+) dirty (\d+) slots (\d+)/(\d+)"
                    r"|in (\d+) out (\d+) failures (\d+))")
@@ -85,6 +87,9 @@ def steps(lines: Iterable[str]) -> Iterator[Dict[str, Any]]:
 
 
 def main() -> int:
+    if sys.argv[1:]:
+        print(f"record: no such word: {sys.argv[1]}; usage: python3 -m nogcuvema.record < RECORD", file=sys.stderr)
+        return 2
     try:
         for step in steps(sys.stdin):
             print(json.dumps(step))
@@ -95,4 +100,4 @@ def main() -> int:
 
 
 if __name__ == "__main__":
-    sys.exit(main())
+    sys.exit(run_command("record", main))

@@ -323,6 +323,8 @@ def read_script(text: Union[str, bytes]) -> Script:
 
 def areas_of(swap: Union[str, Sequence[str]]) -> List[Area]:
     """The swap areas that words name: ram:N, sparse:N, mirror:N, fuse:N:rK or fuse:N:wK."""
+    if not isinstance(swap, (str, list, tuple)) or not all(isinstance(word, str) for word in swap):
+        raise TypeError(f"swap: a text or a list of texts is wanted, not {type(swap).__name__}")
     words = swap.split() if isinstance(swap, str) else list(swap)
     areas = []
     for word in words:

@@ -155,6 +155,62 @@ class Calls(unittest.TestCase):
         self.assertRaises(TypeError, self.machine.get, 1.5, 0, 1)
         self.assertEqual(self.machine.calls(), before)
 
+    def test_a_number_is_named_with_its_range(self):
+        at = self.machine.attach(1, self.machine.get(1, PRIVATE, PAGE))
+        it = self.machine
+        for call, operands, told in (
+                (it.get, (1, 0, 1, 0o1000), "mode 0o1000 is not from 0o0 to 0o777"), (it.get, (1, 0, 1, 0o600, 65536), "flags 65536 is not from 0 to 65535"),
+                (it.get, (1, -1, 1), "key -1 is not from 0 to 4294967295"), (it.get, (1, 0, 2 ** 64), "size 18446744073709551616 is not from 0 to 18446744073709551615"),
+                (it.get, (-1, 0, 1), "pid -1 is not from 1 to 2147483647"),
+                (it.attach, (1, 2 ** 31), "segment 2147483648 is not from -2147483648 to 2147483647"),
+                (it.attach, (1, 0, -1), "addr -1 is not from 0 to 18446744073709551615"), (it.attach, (1, 0, 0, 65536), "flags 65536 is not from 0 to 65535"),
+                (it.set, (1, 0, 0, 0, 65536), "mode 0o200000 is not from 0o0 to 0o177777"), (it.set, (1, 0, 0, 2 ** 32, 0), "gid 4294967296 is not from 0 to 4294967295"),
+                (it.load, (1, at, 0), "length 0 is not from 1 to 64"), (it.load, (1, at, 65), "length 65 is not from 1 to 64"),
+                (it.store, (1, at, b""), "the length of data 0 is not from 1 to 64"), (it.store, (1, at, bytes(65)), "the length of data 65 is not from 1 to 64"),
+                (it.exchange, (1, at, bytes(65)), "the length of data 65 is not from 1 to 64"),
+                (it.compare_exchange, (1, at, b"ab", b"abc"), "the length of expected 2 is not that of data, 3"),
+                (it.add, (1, at, -1), "number -1 is not from 0 to 18446744073709551615"), (it.fork, (1, -2), "new -2 is not from 1 to 2147483647"),
+                (it.swapoff, (1, -1), "area -1 is not from 0 to 4294967295"), (it.copy, (1, at, -1, at, 1), "to -1 is not from 1 to 2147483647"),
+                (it.flush, (-1,), "pages -1 is not from 0 to 18446744073709551615"), (it.set_time, (-1,), "time -1 is not from 0 to 18446744073709551615"),
+                (it.read, (1, at, 2 ** 63), "length 9223372036854775808 is not from 0 to 9223372036854775807")):
+            with self.assertRaises(OutOfRange, msg=told) as caught:
+                call(*operands)
+            self.assertEqual(str(caught.exception), "nogcuvema: " + told)
+        for process, told in ((Process(0), "admission refused: a pid out of range: pid 0 is not from 1 to 2147483647"),
+                              (Process(1), "admission refused: a pid that is taken: pid 1")):
+            with self.assertRaises(NotAdmitted) as caught:
+                it.admit(process)
+            self.assertEqual(str(caught.exception), "nog_admit: " + told)
+
+    def test_too_many_processes_are_counted(self):
+        with machine(processes=[Process(n + 1) for n in range(64)]) as it, self.assertRaises(NotAdmitted) as caught:
+            it.admit(Process(65))
+        self.assertEqual(str(caught.exception), "nog_admit: admission refused: too many processes: there are 64 already")
+
+    def test_wrong_types_are_named(self):
+        at = self.machine.attach(1, self.machine.get(1, PRIVATE, PAGE))
+        before, it = self.machine.calls(), self.machine
+        for call, operands, told in (
+                (it.get, ("1", 0, 1), "pid: a whole number is wanted, not str"), (it.get, (1.5, 0, 1), "pid: a whole number is wanted, not float"),
+                (it.get, (1, None, 1), "key: a whole number is wanted, not NoneType"), (it.get, (1, 0, 1, "600"), "mode: a whole number is wanted, not str"),
+                (it.attach, (1, "s"), "segment: a whole number is wanted, not str"), (it.attach, (1, 0, ""), "addr: a whole number is wanted, not str"),
+                (it.attach, (1, 0, 0, "rnd"), "flags: a whole number is wanted, not str"), (it.detach, (1, None), "addr: a whole number is wanted, not NoneType"),
+                (it.load, (1, at, "4"), "length: a whole number is wanted, not str"), (it.store, (1, at, 5), "data: a bytes-like object is wanted, not int"),
+                (it.store, (1, at, "ab"), "data: a bytes-like object is wanted, not str"), (it.store, (1, at, [1, 2]), "data: a bytes-like object is wanted, not list"),
+                (it.exchange, (1, at, 5), "data: a bytes-like object is wanted, not int"),
+                (it.compare_exchange, (1, at, 2, b"ab"), "expected: a bytes-like object is wanted, not int"),
+                (it.write, (1, at, 5), "data: a bytes-like object is wanted, not int"), (it.read, (1, at, None), "length: a whole number is wanted, not NoneType"),
+                (it.read_into, (1, at, "ab"), "buffer: a bytes-like object in one piece is wanted, not str"),
+                (it.read_into, (1, at, b"ab"), "buffer: a bytes-like object that can be written is wanted, not bytes"),
+                (it.protect, (1, at, PAGE, "no"), "is_writable: True or False is wanted, not str"), (it.failed_at, (1, at, 1, "no"), "is_write: True or False is wanted, not str"),
+                (it.fork, (1, "2"), "new: a whole number is wanted, not str"), (it.admit, (7,), "process: a Process is wanted, not int"),
+                (it.set_user, (1, "root", 0), "uid: a whole number is wanted, not str"), (it.swapoff, (1, "0"), "area: a whole number is wanted, not str"),
+                (it.stat_at, (1, "0"), "index: a whole number is wanted, not str"), (it.set_time, (1.0,), "time: a whole number is wanted, not float")):
+            with self.assertRaises(TypeError, msg=told) as caught:
+                call(*operands)
+            self.assertEqual(str(caught.exception), told)
+        self.assertEqual(it.calls(), before)
+
     def test_counts(self):
         at = self.machine.attach(1, self.machine.get(1, PRIVATE, 2 * PAGE))
         self.machine.store(1, at, b"x")
@@ -434,6 +490,71 @@ class Opening(unittest.TestCase):
         self.assertRaises(OutOfRange, machine, limits=Limits(rules=2 ** 64))
         # with rules too, a machine without the last three sizes has those of the profile
         self.assertRaises(BadOpening, machine, limits=Limits(shmmax=2 ** 24 + 1, rules=Rules.LINUX))
+
+    def test_what_is_wrong_with_an_opening_is_named_with_its_range(self):
+        larger = {"most_pieces": 1, "most_processes": 2, "most_slots": 3}
+        for limits, areas, processes, told in (
+                ({"shmmax": 0}, 1, 1, "bad limits: SHMMAX: shmmax 0 is not from 1 to 16777216"),
+                ({"shmmax": 2 ** 24 + 1}, 1, 1, "shmmax 16777217 is not from 1 to 16777216"),
+                ({"shmmax": 2 ** 40 + 1, **larger}, 1, 1, "shmmax 1099511627777 is not from 1 to 1099511627776"),
+                ({"shmmni": 4097}, 1, 1, "shmmni 4097 is not from 1 to 4096"),
+                ({"shmmni": 32769, **larger}, 1, 1, "shmmni 32769 is not from 1 to 32768"),
+                ({"shmall": 65537}, 1, 1, "shmall 65537 is not from 1 to 65536"),
+                ({"shmall": 2 ** 28 + 1, **larger}, 1, 1, "shmall 268435457 is not from 1 to 268435456"),
+                ({"frames": 1}, 1, 1, "frames 1 is not from 2 to 4096"), ({"frames": 4097}, 1, 1, "frames 4097 is not from 2 to 4096"),
+                ({"frames": 2 ** 24 + 1, **larger}, 1, 1, "frames 16777217 is not from 2 to 16777216"),
+                ({"frames": 7, "memlock": 6}, 1, 1, "memlock 6 is not from 0 to 5"),
+                ({**larger, "most_pieces": 65531}, 1, 1, "most_pieces 65531 is not from 1 to 65530"),
+                ({**larger, "most_processes": 0}, 1, 1, "most_processes 0 is not from 1 to 32768"),
+                ({**larger, "most_slots": 2 ** 28 + 1}, 1, 1, "most_slots 268435457 is not from 1 to 268435456"),
+                ({"rules": 2048}, 1, 1, "rules 2048 is not from 0 to 2047"),
+                ({}, 0, 1, "the number of areas 0 is not from 1 to 8"), ({}, 9, 1, "the number of areas 9 is not from 1 to 8"),
+                ({}, [Area.ram(1), Area.ram(0)], 1, "areas[1]: slots 0 is not from 1 to 65536"),
+                ({}, [Area.ram(65537)], 1, "areas[0]: slots 65537 is not from 1 to 65536"),
+                (larger, [Area.ram(4)], 1, "areas[0]: slots 4 is not from 1 to 3"),
+                ({}, 1, 65, "the number of processes 65 is not from 0 to 64"), (larger, 1, 3, "the number of processes 3 is not from 0 to 2"),
+                ({}, 1, [Process(7), Process(0)], "pid 0 is not from 1 to 2147483647"),
+                ({}, 1, [Process(2 ** 31)], "pid 2147483648 is not from 1 to 2147483647"),
+                ({}, 1, [Process(7), child(8), Process(8)], "pid 8 is given twice")):
+            areas = [Area.ram(1)] * areas if isinstance(areas, int) else areas
+            processes = [Process(n + 1) for n in range(processes)] if isinstance(processes, int) else processes
+            with self.assertRaises(BadOpening, msg=told) as caught:
+                Machine(Limits(**limits), areas, processes)
+            self.assertTrue(str(caught.exception).startswith("nog_open: "), told)
+            self.assertTrue(str(caught.exception).endswith(": " + told.rpartition(": ")[2]) and told in str(caught.exception), str(caught.exception))
+        for given, told in (
+                ({"limits": Limits(shmmax=-1)}, "shmmax -1 is not from 1 to 16777216"),
+                ({"limits": Limits(memlock=2 ** 64, frames=4)}, "memlock 18446744073709551616 is not from 0 to 2"),
+                ({"areas": [Area(9, 1)]}, "areas[0]: kind 9 is not from 1 to 3"),
+                ({"areas": [Area.ram(-1)]}, "areas[0]: slots -1 is not from 1 to 65536"),
+                ({"areas": [Area.ram(1, [Failure(1), Failure(0)])]}, "areas[0]: failures[1]: call 0 is not from 1 to 18446744073709551615"),
+                ({"areas": [Area.ram(1, [Failure(1, side=1)])]}, "areas[0]: failures[0]: side 1 is not from 0 to 0"),
+                ({"areas": [Area.ram(1), Area.mirror(1, [Failure(1, side=2)])]}, "areas[1]: failures[0]: side 2 is not from 0 to 1"),
+                ({"processes": [Process(-1)]}, "pid -1 is not from 1 to 2147483647"),
+                ({"processes": [Process(1, uid=2 ** 32)]}, "uid 4294967296 is not from 0 to 4294967295")):
+            with self.assertRaises(OutOfRange, msg=told) as caught:
+                Machine(**given)
+            self.assertEqual(str(caught.exception), "nogcuvema: " + told)
+
+    def test_wrong_types_of_an_opening(self):
+        for given, told in (
+                ({"limits": 5}, "limits: a Limits is wanted, not int"), ({"areas": 5}, "areas: a list of Area is wanted, not int"),
+                ({"areas": "ram:64"}, "areas[0]: an Area is wanted, not str"), ({"areas": Area.ram(1)}, "areas: a list of Area is wanted, not Area"),
+                ({"areas": [Area.ram(1, [1])]}, "areas[0]: failures[0]: a Failure is wanted, not int"),
+                ({"areas": [Area.ram("1")]}, "areas[0]: slots: a whole number is wanted, not str"),
+                ({"processes": [1]}, "processes[0]: a Process is wanted, not int"),
+                ({"processes": [Process("1")]}, "pid: a whole number is wanted, not str"),
+                ({"processes": [Process(1, is_born="no")]}, "is_born: True or False is wanted, not str"),
+                ({"limits": Limits(frames="4")}, "frames: a whole number is wanted, not str"),
+                ({"limits": Limits(shmmni=4.0)}, "shmmni: a whole number is wanted, not float")):
+            with self.assertRaises(TypeError, msg=told) as caught:
+                Machine(**given)
+            self.assertEqual(str(caught.exception), told)
+        for text, swap, told in ((5, "ram:64", "text: a script's text is wanted, not int"),
+                                 ("limits 4096 1 1 2 0\n", 64, "swap: a text or a list of texts is wanted, not int")):
+            with self.assertRaises(TypeError) as caught:
+                Machine.from_script(text, swap)
+            self.assertEqual(str(caught.exception), told)
 
     def test_a_machine_without_processes(self):
         with machine(processes=[]) as it:

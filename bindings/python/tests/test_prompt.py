@@ -1,10 +1,12 @@
 """The prompt: what it answers to lines, what it saves, and that its help names the refusals that the header names."""
 import os
 import re
+import shutil
 import subprocess
 import sys
 import tempfile
 import unittest
+import unittest.mock
 
 import nogcuvema
 from nogcuvema import read_script
@@ -45,7 +47,7 @@ class Prompts(unittest.TestCase):
         self.say_all()
         before = list(self.prompt.taken)
         told = self.prompt.answer("1 laod a 1")
-        self.assertEqual((told[0], told[-1]), (f"line {len(before) + 1}, column 3: bad line", "    nearest form: load"))
+        self.assertEqual((told[0], told[-1]), (f"line {len(LINES) + 1}, column 3: bad line", "    nearest form: load"))
         self.assertIn("above the first command", self.prompt.answer("process 4 0 0")[-1])
         self.assertEqual(self.prompt.taken, before)
         self.assertEqual(self.prompt.answer("1 load a 1"), ["8 1 load 0x40000000 1 = 00"])
@@ -55,6 +57,38 @@ class Prompts(unittest.TestCase):
             self.assertEqual(self.prompt.answer(line), [])
         self.assertEqual(self.prompt.answer("7 shmget private 4096 600"), ["1 7 shmget 0x00000000 4096 600 = 0"])
         self.assertEqual(self.prompt.answer("7 shmget private 4096 600"), ["2 7 shmget 0x00000000 4096 600 = ENOSPC"])
+
+    def test_lines_are_counted_as_they_were_typed(self):
+        """Comments, faults, and the prompt's own words count; the limits and processes that the prompt adds do not."""
+        for number, (line, told) in enumerate((
+                ("1 laod a 1", "line 1, column 3: bad line"), ("1 exec", "1 1 exec = ok"), ("1 laod a 1", "line 3, column 3: bad line"),
+                ("# a comment", None), ("help", None), ("undo", "undone: 1 exec"), ("", None), ("1 stat 4294967296", "line 8, column 8: bad number"),
+                ("1 stat s", "warning: line 9: variable s of process 1 is used before it is set"),
+                ("1 load t 1", "warning: line 10: variable t of process 1 is used before it is set"), ("1 nosuch", "line 11, column 3: bad line")), 1):
+            answer = self.prompt.answer(line)
+            self.assertTrue(told is None or answer[0].startswith(told), (number, line, answer))
+
+    def test_show_says_how_it_finds_the_viewer(self):
+        self.say_all()
+        with unittest.mock.patch("nogcuvema.__main__.viewer_program", return_value=""):
+            told = self.prompt.answer("show")[-1]
+        for text in (told, " ".join(self.prompt.answer("help")[0].split())):
+            for word in ("./shmview", "./shmview --unproved", "./install"):
+                self.assertIn(word, text)
+
+    def test_the_viewer_is_found_where_the_help_says(self):
+        with tempfile.TemporaryDirectory() as top:
+            package = os.path.join(top, "bindings", "python", "nogcuvema")
+            shutil.copytree(os.path.dirname(nogcuvema.__file__), package, ignore=shutil.ignore_patterns("*.so", "__pycache__"))
+            program = "import nogcuvema.__main__ as it\nprint(it.viewer_program())"
+            env = {**os.environ, "PYTHONPATH": os.path.dirname(package), "PATH": "/nowhere"}
+            for place in ("", "build/unproved/shmview", "crates/shmview/out/shmview"):
+                path = os.path.join(top, place) if place else ""
+                if path:
+                    os.makedirs(os.path.dirname(path))
+                    shutil.copy(sys.executable, path)
+                done = subprocess.run([sys.executable, "-B", "-c", program], capture_output=True, text=True, env=env, check=False)
+                self.assertEqual((done.stdout, done.stderr), (path + "\n", ""))
 
     def test_a_warning(self):
         warned, answer = self.prompt.answer("1 stat s")
@@ -182,7 +216,8 @@ class Prompts(unittest.TestCase):
     def test_as_a_program(self):
         package = os.path.dirname(os.path.dirname(nogcuvema.__file__))
         env = {**os.environ, "PYTHONPATH": package}
-        for words, given, wanted in (([], "1 exec\nquit\n1 exec\n", (0, "1 1 exec = ok\n")), (["ram:0"], "", (2, ""))):
+        for words, given, wanted in (([], "1 exec\nquit\n1 exec\n", (0, "1 1 exec = ok\n")),
+                                    ([], "1 exec\nexit\n1 exec\n", (0, "1 1 exec = ok\n")), (["ram:0"], "", (2, ""))):
             done = subprocess.run([sys.executable, "-B", "-m", "nogcuvema", *words], input=given, capture_output=True, text=True,
                                   check=False, env=env)
             self.assertEqual((done.returncode, done.stdout), wanted, done.stderr)

@@ -17,9 +17,14 @@ pub mod raw;
 
 use std::fmt;
 use std::marker::PhantomData;
+use std::ops::Deref;
 use std::ptr::null_mut;
 
 pub use raw::{Flushed, Segment, Tally, Usage};
+
+const MOST_FLAGS: u64 = 65535;
+const MOST_BYTES: u64 = 64;
+const MIRROR: u32 = 3;
 
 /// `IPC_PRIVATE`: [`Machine::get`] always makes a segment.
 pub const PRIVATE: u32 = 0;
@@ -162,6 +167,82 @@ impl fmt::Debug for Errno {
 
 impl std::error::Error for Errno {}
 
+/// A number that can't be taken, with the range that it must have.
+#[derive(Clone, Debug, PartialEq, Eq)]
+pub struct BadNumber {
+    /// What it is, for example `shmmax`, `flags` or `areas[1]: slots`.
+    pub name: String,
+    /// The number.
+    pub value: u64,
+    /// The least number that can be taken.
+    pub least: u64,
+    /// The most.
+    pub most: u64,
+}
+
+impl BadNumber {
+    fn of(name: impl Into<String>, value: u64, least: u64, most: u64) -> BadNumber {
+        BadNumber {
+            name: name.into(),
+            value,
+            least,
+            most,
+        }
+    }
+}
+
+impl fmt::Display for BadNumber {
+    fn fmt(&self, out: &mut fmt::Formatter<'_>) -> fmt::Result {
+        let BadNumber { name, value, least, most } = self;
+        if name == "mode" {
+            return write!(out, "mode 0o{value:o} is not from 0o{least:o} to 0o{most:o}");
+        }
+        write!(out, "{name} {value} is not from {least} to {most}")
+    }
+}
+
+impl std::error::Error for BadNumber {}
+
+/// Why a machine was not opened: the code, and the number that is wrong, with its range. It can be used as an [`Errno`].
+#[derive(Clone, Debug, PartialEq, Eq)]
+pub struct Unopened {
+    /// The code of the C header: 2011 to 2019, 2021 to 2024, [`Errno::OUT_OF_RANGE`] or [`Errno::NO_MEMORY`].
+    pub errno: Errno,
+    /// The number that is wrong; none if a pid is given twice, or memory was refused.
+    pub number: Option<BadNumber>,
+}
+
+impl fmt::Display for Unopened {
+    fn fmt(&self, out: &mut fmt::Formatter<'_>) -> fmt::Result {
+        match &self.number {
+            Some(number) => write!(out, "{}: {number}", self.errno),
+            None => write!(out, "{}", self.errno),
+        }
+    }
+}
+
+impl std::error::Error for Unopened {}
+
+impl From<Unopened> for Errno {
+    fn from(unopened: Unopened) -> Errno {
+        unopened.errno
+    }
+}
+
+impl Deref for Unopened {
+    type Target = Errno;
+
+    fn deref(&self) -> &Errno {
+        &self.errno
+    }
+}
+
+impl PartialEq<Errno> for Unopened {
+    fn eq(&self, other: &Errno) -> bool {
+        self.errno == *other
+    }
+}
+
 /// An answer, or why there is none.
 pub type Answer<T> = Result<T, Errno>;
 
@@ -210,6 +291,31 @@ impl Default for Limits {
             most_slots: 0,
             rules: 0,
         }
+    }
+}
+
+impl Limits {
+    /// Whether one of the last three sizes is given: then the machine is not one of the profile.
+    fn is_larger(&self) -> bool {
+        self.most_pieces != 0 || self.most_processes != 0 || self.most_slots != 0
+    }
+
+    /// A limit by the last digit of its code, with its range.
+    fn named(&self, code: u32) -> Option<BadNumber> {
+        let larger = |most: u64, profile: u64| if self.is_larger() { most } else { profile };
+        let (name, value, least, most) = match code {
+            2011 => ("shmmax", self.shmmax, 1, larger(1 << 40, 1 << 24)),
+            2012 => ("shmmni", self.shmmni, 1, larger(32768, 4096)),
+            2013 => ("shmall", self.shmall, 1, larger(1 << 28, 65536)),
+            2014 => ("frames", self.frames, 2, larger(1 << 24, 4096)),
+            2015 => ("memlock", self.memlock, 0, self.frames.saturating_sub(2)),
+            2016 => ("most_pieces", self.most_pieces, 1, 65530),
+            2017 => ("most_processes", self.most_processes, 1, 32768),
+            2018 => ("most_slots", self.most_slots, 1, 1 << 28),
+            2019 => ("rules", self.rules, 0, rules::LINUX),
+            _ => return None,
+        };
+        Some(BadNumber::of(name, value, least, most))
     }
 }
 
@@ -351,6 +457,7 @@ pub struct Machine {
     handle: raw::Handle,
     // the handle's memory is this machine's own
     owns: PhantomData<Box<[u8]>>,
+    bad: Option<BadNumber>,
 }
 
 // SAFETY: the library has no state but its machines, and a machine is used by one thread at a time.
@@ -360,6 +467,39 @@ impl Drop for Machine {
     fn drop(&mut self) {
         // SAFETY: the handle is open, and is not used again.
         unsafe { raw::nog_close(&mut self.handle) };
+    }
+}
+
+// The number for which a machine was not opened: the first that the code is about.
+fn bad_opening(code: u32, limits: &Limits, areas: &[Area], processes: &[Process]) -> Option<BadNumber> {
+    let larger = |most: u64, profile: u64| if limits.is_larger() { most } else { profile };
+    let slots = larger(limits.most_slots, 65536);
+    match code {
+        2003 => areas.iter().enumerate().find_map(|(place, area)| {
+            let side = u32::from(area.kind == MIRROR);
+            area.failures.iter().enumerate().find_map(|(number, it)| {
+                let of = |name, value, least, most| {
+                    (value < least || value > most)
+                        .then(|| BadNumber::of(format!("areas[{place}]: failures[{number}]: {name}"), value, least, most))
+                };
+                of("call", it.call, 1, u64::MAX).or_else(|| of("side", it.side.into(), 0, side.into()))
+            })
+        }),
+        2021 => Some(BadNumber::of("the number of areas", areas.len() as u64, 1, 8)),
+        2022 => areas
+            .iter()
+            .enumerate()
+            .find(|(_, area)| area.slots == 0 || u64::from(area.slots) > slots)
+            .map(|(place, area)| BadNumber::of(format!("areas[{place}]: slots"), area.slots.into(), 1, slots)),
+        2023 => {
+            let most = larger(limits.most_processes, 64);
+            Some(BadNumber::of("the number of processes", processes.len() as u64, 0, most))
+        }
+        2024 => processes
+            .iter()
+            .find(|it| it.pid == 0 || it.pid > i32::MAX as u32)
+            .map(|it| BadNumber::of("pid", it.pid.into(), 1, i32::MAX as u64)),
+        _ => limits.named(code),
     }
 }
 
@@ -377,8 +517,17 @@ impl Machine {
     ///
     /// # Errors
     /// 2011 to 2019 for the first limit that is out of its range; [`Errno::OUT_OF_RANGE`] for a failure of a side that the area
-    /// does not have, or of call 0; 2021 to 2024 for areas and processes, as the C header says; [`Errno::NO_MEMORY`].
-    pub fn open(limits: &Limits, areas: &[Area], processes: &[Process]) -> Answer<Machine> {
+    /// does not have, or of call 0; 2021 to 2024 for areas and processes, as the C header says; [`Errno::NO_MEMORY`]. The error
+    /// names the number and its range.
+    pub fn open(limits: &Limits, areas: &[Area], processes: &[Process]) -> Result<Machine, Unopened> {
+        let told = |errno: Errno| Unopened {
+            errno,
+            number: bad_opening(errno.0, limits, areas, processes),
+        };
+        Machine::open_raw(limits, areas, processes).map_err(told)
+    }
+
+    fn open_raw(limits: &Limits, areas: &[Area], processes: &[Process]) -> Answer<Machine> {
         let limits = raw::Limits {
             shmmax: limits.shmmax,
             shmmni: limits.shmmni,
@@ -429,14 +578,31 @@ impl Machine {
         Ok(Machine {
             handle,
             owns: PhantomData,
+            bad: None,
         })
+    }
+
+    // Refuses a number that is out of its range, before the call.
+    fn within(&mut self, name: &str, value: u64, least: u64, most: u64) -> Answer<()> {
+        if (least..=most).contains(&value) {
+            return Ok(());
+        }
+        self.bad = Some(BadNumber::of(name, value, least, most));
+        Err(Errno::OUT_OF_RANGE)
+    }
+
+    /// The number for which the last call that was refused with [`Errno::OUT_OF_RANGE`] was refused, with its range.
+    pub fn bad_number(&self) -> Option<&BadNumber> {
+        self.bad.as_ref()
     }
 
     /// shmget(2): the identifier of the segment with this key, or of a new one.
     ///
     /// # Errors
-    /// EEXIST, EINVAL, EACCES, ENOENT, ENOSPC, ENOMEM, ESRCH, and EPERM under [`rules::HUGE_IS_REFUSED`].
+    /// OUT_OF_RANGE for a mode above 0777 or flags above 65535; [`Machine::bad_number`] names it. EEXIST, EINVAL, EACCES, ENOENT, ENOSPC, ENOMEM, ESRCH, and EPERM under [`rules::HUGE_IS_REFUSED`].
     pub fn get(&mut self, pid: u32, key: u32, size: u64, mode: u32, flags: u32) -> Answer<i32> {
+        self.within("mode", mode.into(), 0, 0o777)?;
+        self.within("flags", flags.into(), 0, MOST_FLAGS)?;
         let mut id = 0;
         done(unsafe { raw::nog_get(&mut self.handle, pid, key, size, mode, flags, &mut id) })?;
         Ok(id)
@@ -447,6 +613,7 @@ impl Machine {
     /// # Errors
     /// EINVAL, EIDRM, EACCES, ENOMEM, EMFILE, ESRCH, and EPERM under [`rules::LOW_IS_EPERM`].
     pub fn attach(&mut self, pid: u32, id: i32, addr: u64, flags: u32) -> Answer<u64> {
+        self.within("flags", flags.into(), 0, MOST_FLAGS)?;
         let mut at = 0;
         done(unsafe { raw::nog_attach(&mut self.handle, pid, id, addr, flags, &mut at) })?;
         Ok(at)
@@ -475,6 +642,7 @@ impl Machine {
     /// # Errors
     /// EINVAL, EIDRM, EPERM, ESRCH.
     pub fn set(&mut self, pid: u32, id: i32, uid: u32, gid: u32, mode: u32) -> Answer<()> {
+        self.within("mode", mode.into(), 0, MOST_FLAGS)?;
         done(unsafe { raw::nog_set(&mut self.handle, pid, id, uid, gid, mode) })
     }
 
@@ -507,6 +675,7 @@ impl Machine {
     /// # Errors
     /// SIGSEGV, SIGBUS, ESRCH, and OUT_OF_RANGE for another length.
     pub fn load(&mut self, pid: u32, addr: u64, bytes: &mut [u8]) -> Answer<()> {
+        self.within("length", bytes.len() as u64, 1, MOST_BYTES)?;
         done(unsafe { raw::nog_load(&mut self.handle, pid, addr, bytes.as_mut_ptr(), bytes.len()) })
     }
 
@@ -515,6 +684,7 @@ impl Machine {
     /// # Errors
     /// SIGSEGV, SIGBUS, ESRCH, and OUT_OF_RANGE for another length.
     pub fn store(&mut self, pid: u32, addr: u64, bytes: &[u8]) -> Answer<()> {
+        self.within("length", bytes.len() as u64, 1, MOST_BYTES)?;
         done(unsafe { raw::nog_store(&mut self.handle, pid, addr, bytes.as_ptr(), bytes.len()) })
     }
 
@@ -533,6 +703,8 @@ impl Machine {
     /// # Errors
     /// SIGSEGV, SIGBUS, ESRCH, and OUT_OF_RANGE for another length.
     pub fn exchange(&mut self, pid: u32, addr: u64, bytes: &[u8], before: &mut [u8]) -> Answer<()> {
+        self.within("length", bytes.len() as u64, 1, MOST_BYTES)?;
+        self.within("length of before", before.len() as u64, bytes.len() as u64, bytes.len() as u64)?;
         done(unsafe {
             raw::nog_exchange(&mut self.handle, pid, addr, bytes.as_ptr(), bytes.len(), before.as_mut_ptr(), before.len())
         })
@@ -544,6 +716,10 @@ impl Machine {
     /// # Errors
     /// SIGSEGV, SIGBUS, ESRCH, and OUT_OF_RANGE for another length.
     pub fn compare_exchange(&mut self, pid: u32, addr: u64, expected: &[u8], bytes: &[u8], before: &mut [u8]) -> Answer<()> {
+        let wanted = bytes.len() as u64;
+        self.within("length", wanted, 1, MOST_BYTES)?;
+        self.within("length of expected", expected.len() as u64, wanted, wanted)?;
+        self.within("length of before", before.len() as u64, wanted, wanted)?;
         done(unsafe {
             raw::nog_compare_exchange(
                 &mut self.handle,
@@ -651,6 +827,7 @@ impl Machine {
         Ok(Machine {
             handle,
             owns: PhantomData,
+            bad: None,
         })
     }
 

@@ -433,3 +433,90 @@ fn a_fork_and_a_cut_attach_anew() {
         assert_eq!(machine.stat(1, id).unwrap().atime, by(holds, 6, 2));
     }
 }
+
+#[test]
+fn a_number_of_an_opening_is_named_with_its_range() {
+    let usual = Limits::default();
+    let larger = Limits { most_pieces: 1, most_processes: 2, most_slots: 3, ..usual };
+    let area = [Area::ram(1)];
+    let told = |limits: &Limits, areas: &[Area], processes: &[Process]| Machine::open(limits, areas, processes).err().map(|it| it.to_string());
+    let limits = [
+        (Limits { shmmax: 0, ..usual }, "bad limits: SHMMAX: shmmax 0 is not from 1 to 16777216"),
+        (Limits { shmmax: (1 << 40) + 1, ..larger }, "bad limits: SHMMAX: shmmax 1099511627777 is not from 1 to 1099511627776"),
+        (Limits { shmmni: 4097, ..usual }, "bad limits: SHMMNI: shmmni 4097 is not from 1 to 4096"),
+        (Limits { shmmni: 32769, ..larger }, "bad limits: SHMMNI: shmmni 32769 is not from 1 to 32768"),
+        (Limits { shmall: 65537, ..usual }, "bad limits: SHMALL: shmall 65537 is not from 1 to 65536"),
+        (Limits { shmall: (1 << 28) + 1, ..larger }, "bad limits: SHMALL: shmall 268435457 is not from 1 to 268435456"),
+        (Limits { frames: 1, ..usual }, "bad limits: frames: frames 1 is not from 2 to 4096"),
+        (Limits { frames: (1 << 24) + 1, ..larger }, "bad limits: frames: frames 16777217 is not from 2 to 16777216"),
+        (Limits { frames: 7, memlock: 6, ..usual }, "bad limits: MEMLOCK: memlock 6 is not from 0 to 5"),
+        (Limits { most_pieces: 65531, ..larger }, "bad limits: the most pieces of a process: most_pieces 65531 is not from 1 to 65530"),
+        (Limits { most_processes: 0, ..larger }, "bad limits: the most processes: most_processes 0 is not from 1 to 32768"),
+        (Limits { most_slots: (1 << 28) + 1, ..larger }, "bad limits: the most slots of a swap area: most_slots 268435457 is not from 1 to 268435456"),
+        (Limits { rules: 2048, ..usual }, "bad limits: the rules: rules 2048 is not from 0 to 2047"),
+    ];
+    for (limits, wanted) in limits {
+        assert_eq!(told(&limits, &area, &[]).as_deref(), Some(wanted));
+    }
+    let read = |call, side| Failure { call, is_write: false, side };
+    let areas: [(&Limits, Vec<Area>, &str); 8] = [
+        (&usual, vec![], "start refused: not 1 to 8 swap areas: the number of areas 0 is not from 1 to 8"),
+        (&usual, vec![Area::ram(1); 9], "start refused: not 1 to 8 swap areas: the number of areas 9 is not from 1 to 8"),
+        (&usual, vec![Area::ram(1), Area::ram(0)], "start refused: a swap area without slots, or with too many: areas[1]: slots 0 is not from 1 to 65536"),
+        (&usual, vec![Area::ram(65537)], "start refused: a swap area without slots, or with too many: areas[0]: slots 65537 is not from 1 to 65536"),
+        (&larger, vec![Area::ram(4)], "start refused: a swap area without slots, or with too many: areas[0]: slots 4 is not from 1 to 3"),
+        (&usual, vec![Area::ram(1).failing(read(1, 0)).failing(read(0, 0))],
+         "a number that no call can carry: areas[0]: failures[1]: call 0 is not from 1 to 18446744073709551615"),
+        (&usual, vec![Area::ram(1).failing(read(1, 1))], "a number that no call can carry: areas[0]: failures[0]: side 1 is not from 0 to 0"),
+        (&usual, vec![Area::ram(1), Area::mirror(1).failing(read(1, 2))],
+         "a number that no call can carry: areas[1]: failures[0]: side 2 is not from 0 to 1"),
+    ];
+    for (limits, areas, wanted) in areas {
+        assert_eq!(told(limits, &areas, &[]).as_deref(), Some(wanted));
+    }
+    let many: Vec<Process> = (1..=65).map(|pid| Process::live(pid, 0, 0)).collect();
+    let processes: [(&Limits, &[Process], &str); 5] = [
+        (&usual, &many, "start refused: too many processes: the number of processes 65 is not from 0 to 64"),
+        (&larger, &many[..3], "start refused: too many processes: the number of processes 3 is not from 0 to 2"),
+        (&usual, &[Process::child(0)], "start refused: a pid out of range, or twice: pid 0 is not from 1 to 2147483647"),
+        (&usual, &[Process::live(1 << 31, 0, 0)], "start refused: a pid out of range, or twice: pid 2147483648 is not from 1 to 2147483647"),
+        (&usual, &[Process::child(7), Process::live(7, 0, 0)], "start refused: a pid out of range, or twice"),
+    ];
+    for (limits, processes, wanted) in processes {
+        assert_eq!(told(limits, &area, processes).as_deref(), Some(wanted));
+    }
+    // the error of an opening can be used as that of a call
+    let as_call = || -> Result<Machine, Errno> { Ok(Machine::open(&Limits { frames: 1, ..usual }, &area, &[])?) };
+    assert_eq!(as_call().err(), Some(Errno(2014)));
+}
+
+#[test]
+fn a_number_of_a_call_is_named_with_its_range() {
+    let mut machine = machine();
+    let id = machine.get(1, PRIVATE, 4096, 0o600, 0).unwrap();
+    let at = machine.attach(1, id, 0, 0).unwrap();
+    let before = machine.calls();
+    assert_eq!(machine.bad_number(), None);
+    type Call = fn(&mut Machine, u64) -> Result<(), Errno>;
+    let calls: [(Call, &str); 11] = [
+        (|m, _| m.get(1, PRIVATE, 1, 0o1000, 0).map(drop), "mode 0o1000 is not from 0o0 to 0o777"),
+        (|m, _| m.get(1, PRIVATE, 1, 0o600, 65536).map(drop), "flags 65536 is not from 0 to 65535"),
+        (|m, _| m.attach(1, 0, 0, 65536).map(drop), "flags 65536 is not from 0 to 65535"),
+        (|m, _| m.set(1, 0, 0, 0, 65536), "mode 0o200000 is not from 0o0 to 0o177777"),
+        (|m, at| m.load(1, at, &mut []), "length 0 is not from 1 to 64"),
+        (|m, at| m.load(1, at, &mut [0; 65]), "length 65 is not from 1 to 64"),
+        (|m, at| m.store(1, at, &[0; 65]), "length 65 is not from 1 to 64"),
+        (|m, at| m.exchange(1, at, &[], &mut []), "length 0 is not from 1 to 64"),
+        (|m, at| m.exchange(1, at, b"abc", &mut [0; 2]), "length of before 2 is not from 3 to 3"),
+        (|m, at| m.compare_exchange(1, at, b"ab", b"abc", &mut [0; 3]), "length of expected 2 is not from 3 to 3"),
+        (|m, at| m.compare_exchange(1, at, b"abc", b"abc", &mut [0; 4]), "length of before 4 is not from 3 to 3"),
+    ];
+    for (call, wanted) in calls {
+        assert_eq!(call(&mut machine, at), Err(Errno::OUT_OF_RANGE), "{wanted}");
+        assert_eq!(machine.bad_number().map(|it| it.to_string()).as_deref(), Some(wanted));
+    }
+    assert_eq!(machine.calls(), before);
+    // the largest that are taken
+    assert!(machine.get(1, PRIVATE, 1, 0o777, 65535 & !HUGETLB).is_ok());
+    assert!(machine.store(1, at, &[0; 64]).is_ok());
+}
