@@ -52,12 +52,15 @@ static bool is_refused_first(struct attach *a) {
     return nog_attach(&machine, a->space->pid, a->id, END_OF_ADDRESSES, a->flags & (NOG_RDONLY | NOG_EXEC), &at) == NOG_EACCES;
 }
 
-/* A remap can't be undone, so the machine is asked first whether it would refuse: for the range, or for too many pieces. */
-static bool is_remap_refused(const struct attach *a) {
+static bool is_outside(const struct attach *a) {
+    return a->asked != 0 && (a->address < LOWEST_ADDRESS || a->address > END_OF_ADDRESSES - a->length);
+}
+
+/* A remap can't be undone, so the machine is asked first if it may refuse for too many pieces. */
+static bool has_many_pieces(const struct guest *space) {
     nog_piece piece;
-    uint64_t most = options.limits.most_pieces;
-    if (a->address < LOWEST_ADDRESS || a->address > END_OF_ADDRESSES - a->length) return true;
-    return nog_piece_at(&machine, a->space->pid, (uint32_t)most - (most > 2 ? 2 : 1), &piece) == NOG_DONE;
+    enum { CUT = 2 };
+    return nog_piece_at(&machine, space->pid, (uint32_t)options.limits.most_pieces - CUT, &piece) == NOG_DONE;
 }
 
 static int64_t map_in(struct call *call, const struct attach *a) {
@@ -74,23 +77,19 @@ static int64_t map_in(struct call *call, const struct attach *a) {
     return at;
 }
 
-/* Linux looks for other memory in the range before it looks at the range itself. */
+/* Linux looks for other memory in the range before it looks at the range itself, unless the address is rounded to 0. */
 static bool meets_other_memory(const struct call *call, const struct attach *a) {
     char path[64], line[512];
     unsigned long begin, end;
     bool is_met = false;
+    if (a->address == 0 || a->flags & NOG_REMAP) return false;
     snprintf(path, sizeof path, "/proc/%d/maps", call->task->tid);
     FILE *maps = fopen(path, "r");
     while (maps && !is_met && fgets(line, sizeof line, maps))
-        is_met = sscanf(line, "%lx-%lx", &begin, &end) == 2 && begin < a->address + a->length && a->address < end;
+        is_met = sscanf(line, "%lx-%lx", &begin, &end) == 2 && begin < END_OF_ADDRESSES &&
+                 (begin < a->address ? a->address < end : begin - a->address < a->length);
     if (maps) fclose(maps);
     return is_met;
-}
-
-static int64_t error_of_map(const struct call *call, const struct attach *a, int64_t error) {
-    bool has_free_range = a->asked != 0 && !(a->flags & NOG_REMAP);
-    if (error == -EEXIST || (has_free_range && meets_other_memory(call, a))) return -EINVAL;
-    return error;
 }
 
 /* The mapping is there: now the machine is told its address. */
@@ -108,20 +107,22 @@ static int64_t enter_attach(struct call *call, const struct attach *a, uint64_t 
     return reply_of(code);
 }
 
-static int64_t attach(struct call *call, struct attach *a) {
+/* The machine's own refusal. */
+static int64_t refuse(const struct attach *a) {
     uint64_t at;
-    bool is_refused = is_refused_first(a);
-    a->length = is_refused ? 0 : (a->segment.size + PAGE - 1) / PAGE * PAGE;
-    if (is_refused || (a->flags & NOG_REMAP && is_remap_refused(a))) {
-        int64_t reply = reply_of(nog_attach(&machine, a->space->pid, a->id, a->asked, a->flags, &at));
-        if (reply < 0) return reply;
-        nog_unmap(&machine, a->space->pid, at, a->length);  /* a remap near the most pieces: the kernel isn't asked */
-        return -ENOMEM;
-    }
-    if (a->asked != 0 && !(a->flags & NOG_REMAP) && a->address > UINT64_MAX - a->length) return -EINVAL;
+    uint32_t code = nog_attach(&machine, a->space->pid, a->id, a->asked, a->flags, &at);
+    if (code == NOG_DONE) stop(CANNOT_START, "the machine attached segment %d at %lx, which shmrun expected it to refuse", a->id, at);
+    return reply_of(code);
+}
+
+static int64_t attach(struct call *call, struct attach *a) {
+    if (is_refused_first(a)) return refuse(a);
+    a->length = (a->segment.size + PAGE - 1) / PAGE * PAGE;
+    if (is_outside(a)) return meets_other_memory(call, a) ? -EINVAL : refuse(a);
+    if (a->flags & NOG_REMAP && has_many_pieces(a->space)) return -ENOMEM;
     int64_t mapped = map_in(call, a);
-    if (mapped < 0 && mapped > -PAGE) return error_of_map(call, a, mapped);
-    return enter_attach(call, a, (uint64_t)mapped);
+    if (mapped >= 0 || mapped <= -PAGE) return enter_attach(call, a, (uint64_t)mapped);
+    return mapped == -EEXIST || (a->asked != 0 && meets_other_memory(call, a)) ? -EINVAL : mapped;
 }
 
 void do_attach(struct call *call) {

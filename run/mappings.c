@@ -84,7 +84,7 @@ static void protect_pieces(struct guest *space, uint64_t begin, uint64_t end, ui
     }
 }
 
-/* If the range has other memory too, the kernel's answer comes first: it may refuse. */
+/* If the range has other memory too, the kernel's answer comes first. If it refuses, it has changed what lies below. */
 void do_protect(struct call *call) {
     uint64_t begin = call->args[0], length = page_end(call->args[1]), hole;
     uint32_t is_writable = (call->args[2] & PROT_WRITE) != 0;
@@ -92,7 +92,7 @@ void do_protect(struct call *call) {
     if (!space) return let_pass(call);
     bool is_whole = nog_failed_at(&machine, space->pid, begin, length, 0, &hole) == NOG_OUT_OF_RANGE;
     int64_t result = is_whole ? 0 : run_as_made(call);
-    if (result == 0) protect_pieces(space, begin, begin + length, is_writable);
+    protect_pieces(space, begin, result == 0 ? begin + length : hole, is_writable);
     if (is_whole) let_pass(call);
     else answer(call, result);
 }

@@ -43,6 +43,7 @@ static void run_to_stop(struct call *call) {
         if (found == -1 && errno == EINTR) continue;
         if (found == -1 || !WIFSTOPPED(status)) break;
         if (WSTOPSIG(status) == SYSCALL_STOP) return;
+        if (status >> 16 == PTRACE_EVENT_SECCOMP) continue;  /* our own call is one that the filter selects */
         if (WSTOPSIG(status) == SIGSTOP || status >> 16 == PTRACE_EVENT_STOP) call->has_missed_stop |= WSTOPSIG(status) != SIGTRAP;
         else stop(CANNOT_START, "process %d stopped in the middle of a call by signal %d", tid, WSTOPSIG(status));
     }

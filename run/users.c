@@ -96,7 +96,7 @@ uint32_t piece_above(const struct guest *guest, uint64_t address) {
 }
 
 bool find_piece(const struct guest *guest, uint64_t begin, uint64_t end, nog_piece *piece) {
-    if (!has_pieces(guest)) return false;
+    if (begin >= end || !has_pieces(guest)) return false;
     return nog_piece_at(&machine, guest->pid, piece_above(guest, begin), piece) == NOG_DONE && piece->base < end;
 }
 
