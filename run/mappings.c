@@ -88,6 +88,7 @@ static void protect_pieces(struct guest *space, uint64_t begin, uint64_t end, ui
 void do_protect(struct call *call) {
     uint64_t begin = call->args[0], length = page_end(call->args[1]), hole;
     uint32_t is_writable = (call->args[2] & PROT_WRITE) != 0;
+    if (begin < END_OF_ADDRESSES && length <= UINT64_MAX - begin) length = least(length, END_OF_ADDRESSES - begin);
     struct guest *space = space_with(call, begin, length);
     if (!space) return let_pass(call);
     bool is_whole = nog_failed_at(&machine, space->pid, begin, length, 0, &hole) == NOG_OUT_OF_RANGE;

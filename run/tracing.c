@@ -105,6 +105,13 @@ static void note_birth(struct task *maker, int event) {
     child->is_stopped = false;
 }
 
+static void detach_all(const struct guest *guest) {
+    note_segments(guest);
+    reply_of(nog_exec(&machine, guest->pid));
+    record_exec(guest);
+    drop_destroyed();
+}
+
 /* after an exec the thread has its process's number, and no other thread is left */
 static void note_exec(struct task *task) {
     unsigned long former = 0;
@@ -113,11 +120,7 @@ static void note_exec(struct task *task) {
     if ((pid_t)former != task->tid) forget_task((pid_t)former);
     task->is_user_known = false;
     if (process->space == process->self && process->self->uses == 2) {
-        if (!process->self->is_admitted) return;
-        note_segments(process->self);
-        reply_of(nog_exec(&machine, process->self->pid));
-        record_exec(process->self);
-        drop_destroyed();
+        if (has_pieces(process->self)) detach_all(process->self);
         return;
     }
     /* others have the old memory: this process gets a new one */
