@@ -3,6 +3,7 @@
 #include <errno.h>
 #include <fcntl.h>
 #include <stdio.h>
+#include <string.h>
 #include <sys/mman.h>
 #include <sys/shm.h>
 #include <sys/syscall.h>
@@ -161,8 +162,15 @@ void do_detach(struct call *call) {
 /* ---- shmctl ---- */
 
 static struct shmid_ds shown(const nog_segment *s) {
-    struct shmid_ds d = {.shm_segsz = s->size, .shm_atime = (time_t)s->atime, .shm_dtime = (time_t)s->dtime,
-        .shm_ctime = (time_t)s->ctime, .shm_cpid = (pid_t)s->cpid, .shm_lpid = (pid_t)s->lpid, .shm_nattch = s->nattch};
+    struct shmid_ds d;
+    memset(&d, 0, sizeof d);
+    d.shm_segsz = s->size;
+    d.shm_atime = (time_t)s->atime;
+    d.shm_dtime = (time_t)s->dtime;
+    d.shm_ctime = (time_t)s->ctime;
+    d.shm_cpid = (pid_t)s->cpid;
+    d.shm_lpid = (pid_t)s->lpid;
+    d.shm_nattch = s->nattch;
     d.shm_perm.__key = (key_t)s->key;
     d.shm_perm.uid = s->uid;
     d.shm_perm.gid = s->gid;

@@ -87,9 +87,9 @@ int64_t run_in(struct call *call, long number, uint64_t a, uint64_t b, uint64_t 
     return result_of(call);
 }
 
-static bool has_ended(pid_t tid) {
+static bool has_stopped(pid_t tid) {
     siginfo_t info = {0};
-    return waitid(P_PID, (id_t)tid, &info, WEXITED | WNOHANG | WNOWAIT | __WALL) == -1 || info.si_pid == tid;
+    return waitid(P_PID, (id_t)tid, &info, WEXITED | WSTOPPED | WNOHANG | WNOWAIT | __WALL) == -1 || info.si_pid == tid;
 }
 
 /* The thread asks the listener for a file: the file becomes the result of its call. */
@@ -98,7 +98,7 @@ static void serve_listener(struct call *call, int file, uint32_t flags) {
     struct seccomp_notif request;
     int ready;
     while ((ready = poll(&asked, 1, WAITED_MS)) <= 0)
-        if (ready == 0 && has_ended(call->task->tid)) return;
+        if (ready == 0 && has_stopped(call->task->tid)) return;
     memset(&request, 0, sizeof request);
     if (ioctl(listener, SECCOMP_IOCTL_NOTIF_RECV, &request) == -1) return;
     struct seccomp_notif_addfd added = {.id = request.id, .flags = SECCOMP_ADDFD_FLAG_SEND, .srcfd = (uint32_t)file,
@@ -108,7 +108,7 @@ static void serve_listener(struct call *call, int file, uint32_t flags) {
     ioctl(listener, SECCOMP_IOCTL_NOTIF_SEND, &refused);
 }
 
-int64_t give_file(struct call *call, int file, uint32_t flags) {
+static int64_t ask_for_file(struct call *call, int file, uint32_t flags) {
     const uint64_t args[6] = {secret};
     pid_t tid = call->task->tid;
     if (call->where != GONE) set_call(call, SYS_getpid, args);
@@ -121,6 +121,15 @@ int64_t give_file(struct call *call, int file, uint32_t flags) {
         note_end(tid, status);
     }
     return result_of(call);
+}
+
+/* A signal would interrupt the wait for the file: only SIGSTOP still can, and then the thread asks again. */
+int64_t give_file(struct call *call, int file, uint32_t flags) {
+    enum { INTERRUPTED = 512 };
+    int64_t result;
+    block_signals(call);
+    while ((result = ask_for_file(call, file, flags)) == -INTERRUPTED) continue;
+    return result;
 }
 
 /* ---- its end ---- */
