@@ -14,17 +14,16 @@ enum { NINE_BITS = 0777, SEQUENCE = 32768 };
 enum { GET_FLAGS = NOG_CREAT | NOG_EXCL | NOG_HUGETLB | NOG_NORESERVE, ATTACH_FLAGS = NOG_RDONLY | NOG_RND | NOG_REMAP | NOG_EXEC };
 _Static_assert(sizeof(struct shmid_ds) == 112, "struct shmid_ds is the kernel's");
 
-static void enter_caller(struct call *call, bool is_about_addresses) {
-    struct process *process = call->task->process;
+static void enter_as(struct call *call, struct guest *guest) {
     nog_set_time(&machine, (uint64_t)time(NULL));
-    enter(call->task, is_about_addresses ? process->space : process->self);
+    enter(call->task, guest);
 }
 
 /* ---- shmget ---- */
 
 void do_get(struct call *call) {
-    enter_caller(call, false);
-    struct guest *self = call->task->process->self;
+    struct guest *self = call->self;
+    enter_as(call, self);
     uint32_t key = (uint32_t)call->args[0], mode = call->args[2] & NINE_BITS, flags = call->args[2] & GET_FLAGS;
     int32_t id;
     uint32_t code = nog_get(&machine, self->pid, key, call->args[1], mode, flags, &id);
@@ -84,7 +83,7 @@ static bool meets_other_memory(const struct call *call, const struct attach *a) 
     unsigned long begin, end;
     bool is_met = false;
     if (a->address == 0 || a->flags & NOG_REMAP) return false;
-    snprintf(path, sizeof path, "/proc/%d/maps", call->task->tid);
+    snprintf(path, sizeof path, "/proc/%d/maps", call->tid);
     FILE *maps = fopen(path, "r");
     while (maps && !is_met && fgets(line, sizeof line, maps))
         is_met = sscanf(line, "%lx-%lx", &begin, &end) == 2 && begin < END_OF_ADDRESSES &&
@@ -127,8 +126,8 @@ static int64_t attach(struct call *call, struct attach *a) {
 }
 
 void do_attach(struct call *call) {
-    enter_caller(call, true);
-    struct attach a = {.space = call->task->process->space, .id = (int32_t)call->args[0], .asked = call->args[1],
+    enter_as(call, call->space);
+    struct attach a = {.space = call->space, .id = (int32_t)call->args[0], .asked = call->args[1],
                        .flags = call->args[2] & ATTACH_FLAGS};
     a.address = a.flags & NOG_RND ? a.asked / PAGE * PAGE : a.asked;
     int64_t result = attach(call, &a);
@@ -143,16 +142,16 @@ static bool is_of_origin(const nog_piece *piece, uint64_t origin) {
 }
 
 void do_detach(struct call *call) {
-    enter_caller(call, true);
-    struct guest *space = call->task->process->space;
+    struct guest *space = call->space;
     uint64_t origin = call->args[0];
     nog_piece piece, lowest = {0};
-    note_segments(space);
+    enter_as(call, space);
     for (uint32_t i = piece_above(space, origin); nog_piece_at(&machine, space->pid, i, &piece) == NOG_DONE; i++) {
         if (!is_of_origin(&piece, origin)) continue;
         if (!lowest.pages) lowest = piece;
         if (piece.segment == lowest.segment) run_in(call, SYS_munmap, piece.base, (uint64_t)piece.pages * PAGE, 0, 0, 0, 0);
     }
+    note_segments(space);
     int64_t result = reply_of(nog_detach(&machine, space->pid, origin));
     record_detach(space, origin, result);
     drop_destroyed();
@@ -250,8 +249,8 @@ static int64_t control(struct call *call, const struct guest *self) {
 }
 
 void do_control(struct call *call) {
-    enter_caller(call, false);
-    answer(call, control(call, call->task->process->self));
+    enter_as(call, call->self);
+    answer(call, control(call, call->self));
 }
 
 /* ---- which call it is ---- */
@@ -276,27 +275,38 @@ static const char *name_of_command(int command) {
     }
 }
 
+static void dispatch(struct call *call) {
+    switch (call->number) {
+    case SYS_shmget: if (!is_failed(call, "shmget")) do_get(call); break;
+    case SYS_shmat: if (!is_failed(call, "shmat")) do_attach(call); break;
+    case SYS_shmdt: if (!is_failed(call, "shmdt")) do_detach(call); break;
+    case SYS_shmctl:
+        if (!is_failed(call, "shmctl") && !is_failed(call, name_of_command((int)call->args[1]))) do_control(call);
+        break;
+    case SYS_munmap: do_unmap(call); break;
+    case SYS_mmap: do_map_fixed(call); break;
+    case SYS_mremap: do_move(call); break;
+    case SYS_mprotect:
+    case SYS_pkey_mprotect: do_protect(call); break;
+    case SYS_madvise: do_advise(call); break;
+    case SYS_open:
+    case SYS_openat:
+    case SYS_openat2: do_open(call); break;
+    default:  /* the user of the thread changes */
+        call->task->is_user_known = false;
+        let_pass(call);
+    }
+}
+
+/* The process may end in the middle of the call: its guests stay until the call is done. */
 void handle_call(struct task *task) {
     struct call call;
     begin_call(&call, task);
-    switch (call.number) {
-    case SYS_shmget: if (!is_failed(&call, "shmget")) do_get(&call); break;
-    case SYS_shmat: if (!is_failed(&call, "shmat")) do_attach(&call); break;
-    case SYS_shmdt: if (!is_failed(&call, "shmdt")) do_detach(&call); break;
-    case SYS_shmctl:
-        if (!is_failed(&call, "shmctl") && !is_failed(&call, name_of_command((int)call.args[1]))) do_control(&call);
-        break;
-    case SYS_munmap: do_unmap(&call); break;
-    case SYS_mmap: do_map_fixed(&call); break;
-    case SYS_mremap: do_move(&call); break;
-    case SYS_mprotect:
-    case SYS_pkey_mprotect: do_protect(&call); break;
-    case SYS_madvise: do_advise(&call); break;
-    case SYS_open:
-    case SYS_openat:
-    case SYS_openat2: do_open(&call); break;
-    default:  /* the user of the thread changes */
-        task->is_user_known = false;
-        let_pass(&call);
-    }
+    call.self = task->process->self;
+    call.space = task->process->space;
+    call.self->uses++;
+    call.space->uses++;
+    dispatch(&call);
+    release_guest(call.space);
+    release_guest(call.self);
 }

@@ -14,7 +14,7 @@ static uint64_t most(uint64_t a, uint64_t b) { return a > b ? a : b; }
 
 /* The caller's attachments, if it has one in a page-aligned range; null if the call does not matter to the machine. */
 static struct guest *space_with(struct call *call, uint64_t begin, uint64_t length) {
-    struct guest *space = call->task->process->space;
+    struct guest *space = call->space;
     nog_piece piece;
     bool is_range = begin % PAGE == 0 && length <= END_OF_ADDRESSES && begin <= END_OF_ADDRESSES - length;
     if (!is_range || !find_piece(space, begin, begin + length, &piece)) return NULL;

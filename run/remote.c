@@ -8,6 +8,7 @@
 #include <fcntl.h>
 #include <linux/seccomp.h>
 #include <poll.h>
+#include <sched.h>
 #include <signal.h>
 #include <string.h>
 #include <sys/ioctl.h>
@@ -23,7 +24,7 @@ int listener = -1;
 uint64_t secret;
 
 void begin_call(struct call *call, struct task *task) {
-    *call = (struct call){.task = task};
+    *call = (struct call){.task = task, .tid = task->tid, .tgid = task->process->tgid, .has_threads = task->process->threads > 1};
     if (ptrace(PTRACE_GETREGS, task->tid, 0, &call->regs) == -1) call->where = GONE;
     const struct user_regs_struct *r = &call->regs;
     call->number = (long)r->orig_rax;
@@ -33,29 +34,51 @@ void begin_call(struct call *call, struct task *task) {
 
 /* ---- system calls that the thread makes ---- */
 
+/* Waits for one thread. If its process is killed, or another thread makes an exec, a leader's end is shown only after those of
+   the other threads were taken. */
+static bool wait_for(const struct call *call, int *status) {
+    enum { SOON = 200, PAUSE_US = 50 };
+    for (int i = 0;; i++) {
+        pid_t found = waitpid(call->tid, status, __WALL | (call->has_threads ? WNOHANG : 0));
+        if (found == call->tid) return true;
+        if (found == -1 && errno != EINTR) return false;
+        if (found == 0 && i < SOON) {
+            sched_yield();
+        } else if (found == 0) {
+            take_ends(call->tgid);
+            usleep(PAUSE_US);
+        }
+    }
+}
+
+/* The thread's end, or its stop in the middle of an exec of another thread, ends the call. */
+static void leave_call(struct call *call, bool is_known, int status) {
+    call->where = GONE;
+    if (is_known) handle_status(call->tid, status);
+}
+
 /* Lets the thread run to its next stop at a system call. */
 static void run_to_stop(struct call *call) {
-    pid_t tid = call->task->tid;
-    int status;
+    int status = 0;
     for (;;) {
-        if (ptrace(PTRACE_SYSCALL, tid, 0, 0) == -1 && errno != ESRCH) stop(CANNOT_START, "process %d: %s", tid, strerror(errno));
-        pid_t found = waitpid(tid, &status, __WALL);
-        if (found == -1 && errno == EINTR) continue;
-        if (found == -1 || !WIFSTOPPED(status)) break;
-        if (WSTOPSIG(status) == SYSCALL_STOP) return;
-        if (status >> 16 == PTRACE_EVENT_SECCOMP) continue;  /* our own call is one that the filter selects */
-        if (WSTOPSIG(status) == SIGSTOP || status >> 16 == PTRACE_EVENT_STOP) call->has_missed_stop |= WSTOPSIG(status) != SIGTRAP;
-        else stop(CANNOT_START, "process %d stopped in the middle of a call by signal %d", tid, WSTOPSIG(status));
+        if (ptrace(PTRACE_SYSCALL, call->tid, 0, 0) == -1 && errno != ESRCH)
+            stop(CANNOT_START, "process %d: %s", call->tid, strerror(errno));
+        bool is_known = wait_for(call, &status);
+        int event = status >> 16, signal = WSTOPSIG(status);
+        if (!is_known || !WIFSTOPPED(status) || event == PTRACE_EVENT_EXEC) return leave_call(call, is_known, status);
+        if (signal == SYSCALL_STOP) return;
+        if (event == PTRACE_EVENT_SECCOMP) continue;  /* our own call is one that the filter selects */
+        if (signal != SIGSTOP && event != PTRACE_EVENT_STOP)
+            stop(CANNOT_START, "process %d stopped in the middle of a call by signal %d", call->tid, signal);
+        call->has_missed_stop |= signal != SIGTRAP;
     }
-    call->where = GONE;
-    note_end(tid, status);
 }
 
 static void block_signals(struct call *call) {
     const uint64_t all = ~UINT64_C(0);
     if (call->is_masked) return;
-    call->is_masked = ptrace(PTRACE_GETSIGMASK, call->task->tid, sizeof all, &call->old_mask) != -1;
-    if (call->is_masked) ptrace(PTRACE_SETSIGMASK, call->task->tid, sizeof all, &all);
+    call->is_masked = ptrace(PTRACE_GETSIGMASK, call->tid, sizeof all, &call->old_mask) != -1;
+    if (call->is_masked) ptrace(PTRACE_SETSIGMASK, call->tid, sizeof all, &all);
 }
 
 /* Puts the thread at the entry of a system call. */
@@ -66,16 +89,16 @@ static void set_call(struct call *call, long number, const uint64_t *args) {
     if (call->where == AT_EXIT) {
         block_signals(call);
         r.rip -= SYSCALL_BYTES;
-        ptrace(PTRACE_SETREGS, call->task->tid, 0, &r);
+        ptrace(PTRACE_SETREGS, call->tid, 0, &r);
         run_to_stop(call);
     } else {
-        ptrace(PTRACE_SETREGS, call->task->tid, 0, &r);
+        ptrace(PTRACE_SETREGS, call->tid, 0, &r);
     }
 }
 
 static int64_t result_of(struct call *call) {
     struct user_regs_struct r;
-    if (call->where == GONE || ptrace(PTRACE_GETREGS, call->task->tid, 0, &r) == -1) return -ESRCH;
+    if (call->where == GONE || ptrace(PTRACE_GETREGS, call->tid, 0, &r) == -1) return -ESRCH;
     call->where = AT_EXIT;
     return (int64_t)r.rax;
 }
@@ -97,8 +120,10 @@ static void serve_listener(struct call *call, int file, uint32_t flags) {
     struct pollfd asked = {.fd = listener, .events = POLLIN};
     struct seccomp_notif request;
     int ready;
-    while ((ready = poll(&asked, 1, WAITED_MS)) <= 0)
-        if (ready == 0 && has_stopped(call->task->tid)) return;
+    while ((ready = poll(&asked, 1, WAITED_MS)) <= 0) {
+        if (ready == 0) take_ends(call->tgid);
+        if (ready == 0 && has_stopped(call->tid)) return;
+    }
     memset(&request, 0, sizeof request);
     if (ioctl(listener, SECCOMP_IOCTL_NOTIF_RECV, &request) == -1) return;
     struct seccomp_notif_addfd added = {.id = request.id, .flags = SECCOMP_ADDFD_FLAG_SEND, .srcfd = (uint32_t)file,
@@ -110,16 +135,12 @@ static void serve_listener(struct call *call, int file, uint32_t flags) {
 
 static int64_t ask_for_file(struct call *call, int file, uint32_t flags) {
     const uint64_t args[6] = {secret};
-    pid_t tid = call->task->tid;
+    int status = 0;
     if (call->where != GONE) set_call(call, SYS_getpid, args);
-    if (call->where == GONE || ptrace(PTRACE_SYSCALL, tid, 0, 0) == -1) return -ESRCH;
+    if (call->where == GONE || ptrace(PTRACE_SYSCALL, call->tid, 0, 0) == -1) return -ESRCH;
     serve_listener(call, file, flags);
-    int status;
-    while (waitpid(tid, &status, __WALL) == -1 && errno == EINTR) continue;
-    if (!WIFSTOPPED(status)) {
-        call->where = GONE;
-        note_end(tid, status);
-    }
+    bool is_known = wait_for(call, &status);
+    if (!is_known || !WIFSTOPPED(status) || status >> 16 == PTRACE_EVENT_EXEC) leave_call(call, is_known, status);
     return result_of(call);
 }
 
@@ -135,10 +156,9 @@ int64_t give_file(struct call *call, int file, uint32_t flags) {
 /* ---- its end ---- */
 
 static void release(struct call *call) {
-    const struct task *task = call->task;
-    if (call->is_masked) ptrace(PTRACE_SETSIGMASK, task->tid, sizeof call->old_mask, &call->old_mask);
-    if (call->has_missed_stop) syscall(SYS_tgkill, task->process->tgid, task->tid, SIGSTOP);
-    resume(task->tid, PTRACE_CONT, 0);
+    if (call->is_masked) ptrace(PTRACE_SETSIGMASK, call->tid, sizeof call->old_mask, &call->old_mask);
+    if (call->has_missed_stop) syscall(SYS_tgkill, call->tgid, call->tid, SIGSTOP);
+    resume(call->tid, PTRACE_CONT, 0);
 }
 
 void answer(struct call *call, int64_t result) {
@@ -146,7 +166,7 @@ void answer(struct call *call, int64_t result) {
     if (call->where == GONE) return;
     r.rax = (unsigned long long)result;
     r.orig_rax = ~0ull;  /* no call is made, and none is begun again */
-    ptrace(PTRACE_SETREGS, call->task->tid, 0, &r);
+    ptrace(PTRACE_SETREGS, call->tid, 0, &r);
     release(call);
 }
 
@@ -158,12 +178,12 @@ void let_pass(struct call *call) {
 
 bool read_memory(const struct call *call, uint64_t from, void *to, size_t size) {
     struct iovec here = {to, size}, there = {(void *)(uintptr_t)from, size};
-    return process_vm_readv(call->task->tid, &here, 1, &there, 1, 0) == (ssize_t)size;
+    return process_vm_readv(call->tid, &here, 1, &there, 1, 0) == (ssize_t)size;
 }
 
 bool write_memory(const struct call *call, uint64_t to, const void *from, size_t size) {
     struct iovec here = {(void *)(uintptr_t)from, size}, there = {(void *)(uintptr_t)to, size};
-    return process_vm_writev(call->task->tid, &here, 1, &there, 1, 0) == (ssize_t)size;
+    return process_vm_writev(call->tid, &here, 1, &there, 1, 0) == (ssize_t)size;
 }
 
 bool read_text(const struct call *call, uint64_t from, char *to, size_t size) {

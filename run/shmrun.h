@@ -23,6 +23,7 @@
 #include <stdbool.h>
 #include <stddef.h>
 #include <stdint.h>
+#include <sys/ptrace.h>
 #include <sys/types.h>
 #include <sys/user.h>
 
@@ -101,13 +102,15 @@ int install_filter(uint64_t secret);
 /* ---- remote.c: a thread at the entry of a system call ---- */
 
 struct call {
-    struct task *task;
+    struct task *task;             /* not after the thread is gone */
+    pid_t tid, tgid;
+    struct guest *self, *space;
     struct user_regs_struct regs;  /* as the program has them */
     long number;
     uint64_t args[6];
     uint64_t old_mask;
     enum { AT_ENTRY, AT_EXIT, GONE } where;
-    bool is_masked, has_missed_stop;
+    bool has_threads, is_masked, has_missed_stop;
 };
 
 void begin_call(struct call *call, struct task *task);
@@ -130,9 +133,11 @@ extern uint64_t secret;
 
 /* Runs until the last process has ended; the answer is the wait status of `first`. */
 int trace_all(pid_t first);
-void resume(pid_t tid, int request, int signal);
-/* A thread ended, as waitpid showed. */
-void note_end(pid_t tid, int status);
+void resume(pid_t tid, enum __ptrace_request request, int signal);
+/* What waitpid showed of a thread: a stop or its end. */
+void handle_status(pid_t tid, int status);
+/* Handles the ends of a process's threads that can be seen now. */
+void take_ends(pid_t tgid);
 
 /* ---- calls.c, mappings.c, views.c ---- */
 

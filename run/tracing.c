@@ -43,7 +43,7 @@ static void forget_task(pid_t tid) {
     free(task);
 }
 
-void resume(pid_t tid, int request, int signal) {
+void resume(pid_t tid, enum __ptrace_request request, int signal) {
     /* ESRCH: it was killed; its end is seen next */
     if (ptrace(request, tid, 0, signal) == -1 && errno != ESRCH) complain("process %d does not go on (errno %d)", tid, errno);
 }
@@ -67,7 +67,7 @@ static void end_process(struct process *process) {
 }
 
 /* the last thread of a process that ends is its leader */
-void note_end(pid_t tid, int status) {
+static void note_end(pid_t tid, int status) {
     struct task *task = *place_of(tid);
     if (tid == first_process) first_status = status;
     if (!task) return;
@@ -167,6 +167,27 @@ static void handle_stop(pid_t tid, int status) {
     else resume(tid, PTRACE_CONT, WSTOPSIG(status));
 }
 
+void handle_status(pid_t tid, int status) {
+    if (WIFSTOPPED(status)) handle_stop(tid, status);
+    else note_end(tid, status);
+}
+
+static void take_end(pid_t tid) {
+    siginfo_t found = {0};
+    int status;
+    if (waitid(P_PID, (id_t)tid, &found, WEXITED | WNOHANG | WNOWAIT | __WALL) == -1 || found.si_pid != tid) return;
+    bool is_stop = found.si_code == CLD_TRAPPED || found.si_code == CLD_STOPPED;  /* shown too, whatever the options */
+    if (!is_stop && waitpid(tid, &status, __WALL | WNOHANG) == tid) note_end(tid, status);
+}
+
+void take_ends(pid_t tgid) {
+    for (int row = 0; row < ROWS; row++)
+        for (struct task *task = tasks[row], *next; task; task = next) {
+            next = task->next;
+            if (task->process && task->process->tgid == tgid) take_end(task->tid);
+        }
+}
+
 int trace_all(pid_t first) {
     int status;
     first_process = first;
@@ -177,7 +198,6 @@ int trace_all(pid_t first) {
         pid_t tid = waitpid(-1, &status, __WALL);
         if (tid == -1 && errno == EINTR) continue;
         if (tid == -1) return first_status;
-        if (WIFSTOPPED(status)) handle_stop(tid, status);
-        else note_end(tid, status);
+        handle_status(tid, status);
     }
 }

@@ -42,8 +42,8 @@ static bool leads_to(const struct call *call, int folder, const char *path, cons
     char whole[2 * MOST_OF_PATH];
     struct stat there, here;
     if (strcmp(strrchr(view, '/') + 1, strrchr(path, '/') ? strrchr(path, '/') + 1 : path) != 0) return false;
-    if (folder == AT_FDCWD) snprintf(whole, sizeof whole, "/proc/%d/cwd/%s", call->task->tid, path);
-    else snprintf(whole, sizeof whole, "/proc/%d/fd/%d/%s", call->task->tid, folder, path);
+    if (folder == AT_FDCWD) snprintf(whole, sizeof whole, "/proc/%d/cwd/%s", call->tid, path);
+    else snprintf(whole, sizeof whole, "/proc/%d/fd/%d/%s", call->tid, folder, path);
     return stat(whole, &there) == 0 && stat(view, &here) == 0 && there.st_dev == here.st_dev && there.st_ino == here.st_ino;
 }
 
