@@ -54,12 +54,13 @@ int64_t reply_of(uint32_t code) {
     stop(CANNOT_START, "the library answered %u, %s, which ends all programs", code, (char *)text);
 }
 
-/* Bytes are in files, so the frames stay empty. They bound only the locked pages of all users. */
+/* Bytes are in files, so the frames stay empty. They bound only the locked pages of all users, which are at most SHMALL. */
 void open_machine(void) {
     nog_limits *l = &options.limits;
     nog_area area = {NOG_SPARSE, (uint32_t)l->shmall};
     l->most_slots = l->shmall;
-    l->frames = l->memlock + 2 > MOST_FRAMES ? l->memlock + 2 : MOST_FRAMES;
+    l->frames = l->shmall + 2 < MOST_FRAMES ? l->shmall + 2 : MOST_FRAMES;
+    if (l->frames < l->memlock + 2) l->frames = l->memlock + 2;
     uint32_t code;
     while ((code = nog_open(&machine, l, &area, 1, NULL, 0, NULL, 0)) == NOG_NO_MEMORY && l->frames / 2 >= l->memlock + 2) l->frames /= 2;
     if (code == NOG_NO_MEMORY)
