@@ -21,14 +21,16 @@ static void enter_as(struct call *call, struct guest *guest) {
 
 /* ---- shmget ---- */
 
-void do_get(struct call *call) {
+static void do_get(struct call *call) {
     struct guest *self = call->self;
     enter_as(call, self);
     uint32_t key = (uint32_t)call->args[0], mode = call->args[2] & NINE_BITS, flags = call->args[2] & GET_FLAGS;
     int32_t id;
     uint32_t code = nog_get(&machine, self->pid, key, call->args[1], mode, flags, &id);
     int64_t result = code ? reply_of(code) : id;
-    record_get(self, key, call->args[1], mode, flags, result);
+    if (flags & NOG_HUGETLB) note_left_out("the flag SHM_HUGETLB of a shmget");
+    record((struct event){.kind = GET, .pid = self->pid, .key = key, .size = call->args[1], .mode = mode,
+                          .flags = flags & (NOG_CREAT | NOG_EXCL), .result = result});
     answer(call, result);
 }
 
@@ -117,43 +119,42 @@ static int64_t refuse(const struct attach *a) {
 
 static int64_t attach(struct call *call, struct attach *a) {
     if (is_refused_first(a)) return refuse(a);
-    a->length = (a->segment.size + PAGE - 1) / PAGE * PAGE;
+    a->length = pages_of(a->segment.size);
     if (is_outside(a)) return meets_other_memory(call, a) ? -EINVAL : refuse(a);
     if (a->flags & NOG_REMAP && has_many_pieces(a->space)) return -ENOMEM;
     int64_t mapped = map_in(call, a);
-    if (mapped >= 0 || mapped <= -PAGE) return enter_attach(call, a, (uint64_t)mapped);
+    if (!is_error(mapped)) return enter_attach(call, a, (uint64_t)mapped);
     return mapped == -EEXIST || (a->asked != 0 && meets_other_memory(call, a)) ? -EINVAL : mapped;
 }
 
-void do_attach(struct call *call) {
+static void do_attach(struct call *call) {
     enter_as(call, call->space);
     struct attach a = {.space = call->space, .id = (int32_t)call->args[0], .asked = call->args[1],
                        .flags = call->args[2] & ATTACH_FLAGS};
     a.address = a.flags & NOG_RND ? a.asked / PAGE * PAGE : a.asked;
     int64_t result = attach(call, &a);
-    record_attach(a.space, a.id, a.asked, a.flags, result);
+    if (a.flags & NOG_EXEC) note_left_out("the flag SHM_EXEC of a shmat");
+    /* an address that the kernel chose is written as if the program had */
+    record((struct event){.kind = ATTACH, .pid = a.space->pid, .id = a.id, .address = a.asked == 0 && result > 0 ? (uint64_t)result : a.asked,
+                          .flags = a.flags & ~(uint32_t)NOG_EXEC, .result = result});
     answer(call, result);
 }
 
 /* ---- shmdt ---- */
 
-static bool is_of_origin(const nog_piece *piece, uint64_t origin) {
-    return piece->base - (uint64_t)piece->first_page * PAGE == origin;
-}
-
-void do_detach(struct call *call) {
+static void do_detach(struct call *call) {
     struct guest *space = call->space;
     uint64_t origin = call->args[0];
     nog_piece piece, lowest = {0};
     enter_as(call, space);
     for (uint32_t i = piece_above(space, origin); nog_piece_at(&machine, space->pid, i, &piece) == NOG_DONE; i++) {
-        if (!is_of_origin(&piece, origin)) continue;
+        if (origin_of(&piece) != origin) continue;
         if (!lowest.pages) lowest = piece;
         if (piece.segment == lowest.segment) run_in(call, SYS_munmap, piece.base, (uint64_t)piece.pages * PAGE, 0, 0, 0, 0);
     }
     note_segments(space);
     int64_t result = reply_of(nog_detach(&machine, space->pid, origin));
-    record_detach(space, origin, result);
+    record((struct event){.kind = DETACH, .pid = space->pid, .address = origin, .result = result});
     drop_destroyed();
     answer(call, result);
 }
@@ -209,16 +210,24 @@ static int64_t set(struct call *call, const struct guest *self, int32_t id) {
     if (!read_memory(call, call->args[2], &d, sizeof d)) return -EFAULT;
     uint32_t uid = d.shm_perm.uid, gid = d.shm_perm.gid, mode = d.shm_perm.mode & NINE_BITS;
     int64_t result = reply_of(nog_set(&machine, self->pid, id, uid, gid, mode));
-    record_set(self, id, uid, gid, mode, result);
+    record((struct event){.kind = SET, .pid = self->pid, .id = id, .uid = uid, .gid = gid, .mode = mode, .result = result});
     return result;
 }
 
-static int64_t change(const struct guest *self, int command, int32_t id) {
-    uint32_t code = command == IPC_RMID ? nog_remove(&machine, self->pid, id) :
-                    command == SHM_LOCK ? nog_lock(&machine, self->pid, id) : nog_unlock(&machine, self->pid, id);
-    record_control(self, command, id, reply_of(code));
-    if (command == IPC_RMID) drop_if_destroyed(id);
+static int64_t change(const struct guest *self, enum kind kind, int32_t id) {
+    uint32_t code = kind == REMOVE ? nog_remove(&machine, self->pid, id) :
+                    kind == LOCK ? nog_lock(&machine, self->pid, id) : nog_unlock(&machine, self->pid, id);
+    record((struct event){.kind = kind, .pid = self->pid, .id = id, .result = reply_of(code)});
+    drop_if_destroyed(id);
     return reply_of(code);
+}
+
+static int64_t stat(struct call *call, const struct guest *self, int32_t id) {
+    struct event event = {.kind = STAT, .pid = self->pid, .id = id};
+    uint32_t code = nog_stat(&machine, self->pid, id, &event.segment);
+    event.result = code ? reply_of(code) : 0;
+    record(event);
+    return show(call, code, &event.segment, 0);
 }
 
 static int64_t control(struct call *call, const struct guest *self) {
@@ -227,6 +236,8 @@ static int64_t control(struct call *call, const struct guest *self) {
     nog_segment segment;
     uint32_t code;
     if (id < 0 || command < 0) return -EINVAL;
+    if (command == IPC_INFO || command == SHM_INFO || command == SHM_STAT || command == SHM_STAT_ANY)
+        note_left_out("IPC_INFO, SHM_INFO, SHM_STAT and SHM_STAT_ANY");
     switch (command) {
     case IPC_INFO: return show_limits(call);
     case SHM_INFO: return show_usage(call);
@@ -236,19 +247,16 @@ static int64_t control(struct call *call, const struct guest *self) {
     case SHM_STAT_ANY:
         code = nog_segment_at(&machine, (uint32_t)id, &segment);
         return show(call, code ? NOG_EINVAL : NOG_DONE, &segment, segment.id);
-    case IPC_STAT:
-        code = nog_stat(&machine, self->pid, id, &segment);
-        record_stat(self, id, code ? reply_of(code) : 0, &segment);
-        return show(call, code, &segment, 0);
+    case IPC_STAT: return stat(call, self, id);
     case IPC_SET: return set(call, self, id);
-    case IPC_RMID:
-    case SHM_LOCK:
-    case SHM_UNLOCK: return change(self, command, id);
+    case IPC_RMID: return change(self, REMOVE, id);
+    case SHM_LOCK: return change(self, LOCK, id);
+    case SHM_UNLOCK: return change(self, UNLOCK, id);
     default: return -EINVAL;
     }
 }
 
-void do_control(struct call *call) {
+static void do_control(struct call *call) {
     enter_as(call, call->self);
     answer(call, control(call, call->self));
 }
@@ -259,7 +267,7 @@ void do_control(struct call *call) {
 static bool is_failed(struct call *call, const char *name) {
     int error = failure_of(name);
     if (!error) return false;
-    record_left_out("a call that --fail let fail");
+    note_left_out("a call that --fail let fail");
     answer(call, -error);
     return true;
 }

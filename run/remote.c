@@ -110,6 +110,11 @@ int64_t run_in(struct call *call, long number, uint64_t a, uint64_t b, uint64_t 
     return result_of(call);
 }
 
+int64_t run_as_made(struct call *call) {
+    const uint64_t *a = call->args;
+    return run_in(call, call->number, a[0], a[1], a[2], a[3], a[4], a[5]);
+}
+
 static bool has_stopped(pid_t tid) {
     siginfo_t info = {0};
     return waitid(P_PID, (id_t)tid, &info, WEXITED | WSTOPPED | WNOHANG | WNOWAIT | __WALL) == -1 || info.si_pid == tid;

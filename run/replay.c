@@ -5,11 +5,12 @@
 #include <stdlib.h>
 #include <string.h>
 
+enum { SCRIPT_SHMMAX = 1 << 24, SCRIPT_SHMMNI = 4096, SCRIPT_SHMALL = 65536 };
 static nog_machine again = NOG_MACHINE_INITIALIZER;
 
 /* ---- sizes ---- */
 
-static uint64_t *sizes;  /* each size that the record has, by rising size */
+static uint64_t *sizes;  /* each size that a shmget had, by rising size */
 static size_t size_count;
 
 static int compare_sizes(const void *a, const void *b) {
@@ -18,12 +19,11 @@ static int compare_sizes(const void *a, const void *b) {
 }
 
 static void collect_sizes(void) {
-    free(sizes);
-    sizes = calloc(record.count + 1, sizeof *sizes);
-    if (!sizes) stop(CANNOT_START, "out of memory for the record");
     size_t all = 0;
-    for (size_t i = 0; i < record.count; i++)
-        if (record.events[i].kind == GET && record.events[i].size > 0) sizes[all++] = record.events[i].size;
+    free(sizes);
+    sizes = allocate((recorded.count + 1) * sizeof *sizes);
+    for (size_t i = 0; i < recorded.count; i++)
+        if (recorded.events[i].kind == GET && recorded.events[i].size > 0) sizes[all++] = recorded.events[i].size;
     qsort(sizes, all, sizeof *sizes, compare_sizes);
     size_count = 0;
     for (size_t i = 0; i < all; i++)
@@ -31,21 +31,17 @@ static void collect_sizes(void) {
 }
 
 /* A rank is how many of the sizes are at most this one. */
-static uint64_t rank_of(uint64_t size) {
+uint64_t size_in_script(uint64_t size) {
     uint64_t rank = 0;
     while (rank < size_count && sizes[rank] <= size) rank++;
-    return rank;
+    return recorded.has_ranks ? rank : size;
 }
-
-uint64_t size_in_script(uint64_t size) { return record.has_ranks ? rank_of(size) : size; }
-
-static uint64_t least(uint64_t a, uint64_t b) { return a < b ? a : b; }
 
 nog_limits limits_of_script(void) {
     const nog_limits *l = &options.limits;
-    uint64_t shmmax = size_in_script(l->shmmax), shmall = record.has_ranks ? SCRIPT_SHMALL : l->shmall;
+    uint64_t shmmax = size_in_script(l->shmmax), shmall = recorded.has_ranks ? SCRIPT_SHMALL : l->shmall;
     return (nog_limits){.shmmax = shmmax ? least(shmmax, SCRIPT_SHMMAX) : 1, .shmmni = least(l->shmmni, SCRIPT_SHMMNI),
-                        .shmall = least(shmall, SCRIPT_SHMALL), .frames = SCRIPT_FRAMES, .memlock = least(l->memlock, SLOTS),
+                        .shmall = least(shmall, SCRIPT_SHMALL), .frames = SLOTS + 2, .memlock = least(l->memlock, SLOTS),
                         .rules = l->rules ? NOG_LINUX : 0};
 }
 
@@ -55,20 +51,19 @@ static void open_again(void) {
     nog_limits limits = limits_of_script();
     nog_area area = {NOG_SPARSE, SLOTS};
     nog_process processes[MOST_PROCESSES];
-    for (size_t i = 0; i < record.process_count; i++) {
-        const struct declared *p = &record.processes[i];
-        processes[i] = (nog_process){.pid = p->pid, .is_born = !p->is_child, .uid = p->uid, .gid = p->gid};
-    }
-    uint32_t code = nog_open(&again, &limits, &area, 1, NULL, 0, processes, record.process_count);
+    for (size_t i = 0; i < recorded.process_count; i++)
+        processes[i] = (nog_process){recorded.processes[i].pid, !recorded.processes[i].is_child, recorded.processes[i].uid,
+                                     recorded.processes[i].gid};
+    uint32_t code = nog_open(&again, &limits, &area, 1, NULL, 0, processes, recorded.process_count);
     if (code != NOG_DONE) stop(CANNOT_START, "the record's machine was not opened: %u", code);
 }
 
-static int64_t make(struct event *e, nog_segment *segment) {
+static int64_t make(const struct event *e, nog_segment *segment) {
     int32_t id = 0;
     uint64_t at = 0;
     uint32_t code = 0;
     switch (e->kind) {
-    case GET: code = nog_get(&again, e->pid, e->key, size_in_script(e->size), e->mode, e->flags, &id); at = (uint64_t)id; break;
+    case GET: code = nog_get(&again, e->pid, e->key, size_in_script(e->size), e->mode, e->flags, &id); break;
     case ATTACH: code = nog_attach(&again, e->pid, e->id, e->address, e->flags, &at); break;
     case DETACH: code = nog_detach(&again, e->pid, e->address); break;
     case STAT: code = nog_stat(&again, e->pid, e->id, segment); break;
@@ -80,14 +75,18 @@ static int64_t make(struct event *e, nog_segment *segment) {
     case EXEC: code = nog_exec(&again, e->pid); break;
     case EXIT: code = nog_exit(&again, e->pid); break;
     }
-    return code ? -(int64_t)code : (int64_t)at;
+    return code ? -(int64_t)code : (int64_t)at + id;
+}
+
+static nog_segment as_logged(const nog_segment *segment, uint64_t size) {
+    nog_segment s = *segment;
+    s.size = size;
+    s.atime = s.atime > 0, s.dtime = s.dtime > 0, s.ctime = s.ctime > 0;
+    return s;
 }
 
 static bool is_alike(const nog_segment *run, const nog_segment *script) {
-    nog_segment a = *run, b = *script;
-    a.size = size_in_script(a.size);
-    a.atime = a.atime > 0, a.dtime = a.dtime > 0, a.ctime = a.ctime > 0;
-    b.atime = b.atime > 0, b.dtime = b.dtime > 0, b.ctime = b.ctime > 0;
+    nog_segment a = as_logged(run, size_in_script(run->size)), b = as_logged(script, script->size);
     return memcmp(&a, &b, sizeof a) == 0;
 }
 
@@ -108,8 +107,8 @@ size_t replay_record(void) {
     size_t done = 0;
     collect_sizes();
     open_again();
-    while (done < record.count && replay(&record.events[done], &before)) done++;
-    if (done < record.count && !record.end) record.end = "the next reply needs more than a script has: larger segments, or more at a time";
+    while (done < recorded.count && replay(&recorded.events[done], &before)) done++;
+    if (done < recorded.count && !recorded.end) recorded.end = "the next call needs larger segments than a script has, or more at a time";
     nog_close(&again);
     nog_close(&before);
     return done;

@@ -23,7 +23,7 @@ static int make_file(const nog_segment *segment) {
     snprintf(name, sizeof name, "/SYSV%08x", segment->key);
     int file = memfd_create(name, MFD_CLOEXEC | MFD_ALLOW_SEALING);
     if (file == -1) return -1;
-    if (ftruncate(file, (off_t)((segment->size + PAGE - 1) / PAGE * PAGE)) == -1 ||
+    if (ftruncate(file, (off_t)pages_of(segment->size)) == -1 ||
         fcntl(file, F_ADD_SEALS, F_SEAL_SHRINK | F_SEAL_GROW | F_SEAL_SEAL) == -1) {
         close(file);
         return -1;

@@ -43,6 +43,12 @@ void stop(int status, const char *format, ...) {
     exit(status);
 }
 
+void *allocate(size_t size) {
+    void *made = calloc(1, size);
+    if (!made) stop(CANNOT_START, "out of memory");
+    return made;
+}
+
 /* ---- the machine ---- */
 
 int64_t reply_of(uint32_t code) {
@@ -55,7 +61,7 @@ int64_t reply_of(uint32_t code) {
 }
 
 /* Bytes are in files, so the frames stay empty. They bound only the locked pages of all users, which are at most SHMALL. */
-void open_machine(void) {
+static void open_machine(void) {
     nog_limits *l = &options.limits;
     nog_area area = {NOG_SPARSE, (uint32_t)l->shmall};
     l->most_slots = l->shmall;

@@ -20,12 +20,6 @@ static struct task **place_of(pid_t tid) {
     return at;
 }
 
-static void *allocate(size_t size) {
-    void *made = calloc(1, size);
-    if (!made) stop(CANNOT_START, "out of memory");
-    return made;
-}
-
 static struct task *task_of(pid_t tid) {
     struct task **at = place_of(tid);
     if (!*at) {
@@ -88,6 +82,7 @@ static void note_birth(struct task *maker, int event) {
     unsigned long number = 0;
     ptrace(PTRACE_GETEVENTMSG, maker->tid, 0, &number);
     if (kill((pid_t)number, 0) == -1 && errno == ESRCH) return;  /* it was killed, and its end was seen first */
+    bool has_stopped = *place_of((pid_t)number) != NULL;
     struct task *child = task_of((pid_t)number);
     child->uid = maker->uid;
     child->gid = maker->gid;
@@ -101,14 +96,13 @@ static void note_birth(struct task *maker, int event) {
         if (!is_shared) inherit(maker, space, child->process->self);
     }
     child->process->threads++;
-    if (child->is_stopped) resume(child->tid, PTRACE_CONT, 0);
-    child->is_stopped = false;
+    if (has_stopped) resume(child->tid, PTRACE_CONT, 0);
 }
 
 static void detach_all(const struct guest *guest) {
     note_segments(guest);
     reply_of(nog_exec(&machine, guest->pid));
-    record_exec(guest);
+    record((struct event){.kind = EXEC, .pid = guest->pid});
     drop_destroyed();
 }
 
@@ -162,8 +156,8 @@ static void handle_event(struct task *task, int event, int signal) {
 static void handle_stop(pid_t tid, int status) {
     struct task *task = task_of(tid);
     int event = status >> 16;
-    if (!task->process) task->is_stopped = true;
-    else if (event) handle_event(task, event, WSTOPSIG(status));
+    if (!task->process) return;  /* it waits for its maker's stop */
+    if (event) handle_event(task, event, WSTOPSIG(status));
     else resume(tid, PTRACE_CONT, WSTOPSIG(status));
 }
 

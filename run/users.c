@@ -3,13 +3,11 @@
 #include "shmrun.h"
 #include <stdio.h>
 #include <stdlib.h>
-#include <string.h>
 
 enum { FIRST_SPARE_PID = 1 << 30 };  /* above every pid of Linux */
 
 struct guest *new_guest(uint32_t pid) {
-    struct guest *guest = calloc(1, sizeof *guest);
-    if (!guest) stop(CANNOT_START, "out of memory");
+    struct guest *guest = allocate(sizeof *guest);
     guest->pid = pid;
     return guest;
 }
@@ -17,7 +15,7 @@ struct guest *new_guest(uint32_t pid) {
 static void leave(struct guest *guest) {
     note_segments(guest);
     reply_of(nog_exit(&machine, guest->pid));
-    record_exit(guest);
+    record((struct event){.kind = EXIT, .pid = guest->pid});
     reply_of(nog_dismiss(&machine, guest->pid));
     drop_destroyed();
 }
@@ -52,9 +50,10 @@ static void admit(struct guest *guest, bool is_born) {
         guest->pid = process.pid = spare++;
         code = nog_admit(&machine, &process);
     }
-    if (code != NOG_DONE) stop(CANNOT_START, "process %u does not fit into the machine, which has at most %llu processes", guest->pid,
-                               (unsigned long long)options.limits.most_processes);
+    if (code != NOG_DONE)
+        stop(CANNOT_START, "process %u does not fit into the machine, which has at most %lu", guest->pid, options.limits.most_processes);
     guest->is_admitted = true;
+    record_process(guest, !is_born);
 }
 
 void enter(struct task *task, struct guest *guest) {
@@ -62,13 +61,10 @@ void enter(struct task *task, struct guest *guest) {
     bool is_same = guest->uid == task->uid && guest->gid == task->gid;
     guest->uid = task->uid;
     guest->gid = task->gid;
-    if (!guest->is_admitted) {
-        admit(guest, true);
-        record_entry(guest);
-    } else if (!is_same) {
-        reply_of(nog_set_user(&machine, guest->pid, guest->uid, guest->gid));
-        record_user(guest);
-    }
+    if (!guest->is_admitted) return admit(guest, true);
+    if (is_same) return;
+    reply_of(nog_set_user(&machine, guest->pid, guest->uid, guest->gid));
+    end_record("a process changes its user after its first call");
 }
 
 /* ---- attachments ---- */
@@ -78,19 +74,17 @@ bool has_pieces(const struct guest *guest) {
     return guest->is_admitted && nog_piece_at(&machine, guest->pid, 0, &piece) == NOG_DONE;
 }
 
-static bool is_above(const struct guest *guest, uint32_t place, uint64_t address, nog_piece *piece) {
-    uint32_t code = nog_piece_at(&machine, guest->pid, place, piece);
-    return code != NOG_DONE || piece->base + (uint64_t)piece->pages * PAGE > address;
+static bool is_above(const struct guest *guest, uint32_t place, uint64_t address) {
+    nog_piece piece;
+    return nog_piece_at(&machine, guest->pid, place, &piece) != NOG_DONE || end_of(&piece) > address;
 }
 
 uint32_t piece_above(const struct guest *guest, uint64_t address) {
-    nog_piece piece;
     uint32_t low = 0, step = 1;
-    while (!is_above(guest, low + step - 1, address, &piece)) step *= 2;
-    /* the place is low to low + step - 1 */
-    while (step > 1) {
+    while (!is_above(guest, low + step - 1, address)) step *= 2;
+    while (step > 1) {  /* the place is low to low + step - 1 */
         step /= 2;
-        if (!is_above(guest, low + step - 1, address, &piece)) low += step;
+        if (!is_above(guest, low + step - 1, address)) low += step;
     }
     return low;
 }
@@ -107,9 +101,7 @@ void inherit(struct task *maker, struct guest *parent, struct guest *child) {
     child->gid = parent->gid;
     admit(child, false);
     reply_of(nog_fork(&machine, parent->pid, child->pid));
-    record_fork(parent, child);
-    note_segments(child);
+    record((struct event){.kind = FORK, .pid = parent->pid, .child = child->pid});
     for (int i = 0; i < parent->range_count; i++)
         forget_range(child, parent->not_inherited[i].begin, parent->not_inherited[i].end);
-    drop_destroyed();
 }
