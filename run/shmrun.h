@@ -46,6 +46,7 @@ void read_options(int argc, char **argv);
 __attribute__((noreturn, format(printf, 2, 3))) void stop(int status, const char *format, ...);
 __attribute__((format(printf, 1, 2))) void complain(const char *format, ...);
 void *allocate(size_t size);
+void check_command(pid_t pid);
 extern nog_machine machine;
 /* 0 or the negative number of an error, as a system call answers. A code that is no errno ends shmrun. */
 int64_t reply_of(uint32_t code);

@@ -76,37 +76,21 @@ static void open_machine(void) {
 
 /* ---- what can't run ---- */
 
-static bool is_file(const char *path) {
-    struct stat found;
-    return stat(path, &found) == 0 && S_ISREG(found.st_mode) && access(path, X_OK) == 0;
-}
-
-/* The file that execvp will run; false: it will find none, and says why. */
-static bool find_command(const char *name, char *path, size_t size) {
-    const char *folder = getenv("PATH");
-    snprintf(path, size, "%s", name);
-    if (strchr(name, '/')) return is_file(path);
-    for (folder = folder ? folder : "/bin:/usr/bin"; folder; folder = strchr(folder, ':') ? strchr(folder, ':') + 1 : NULL) {
-        int length = (int)strcspn(folder, ":");
-        snprintf(path, size, "%.*s%s%s", length, folder, length ? "/" : "", name);
-        if (is_file(path)) return true;
-    }
-    return false;
-}
-
-static void check_command(const char *name) {
-    char path[4096];
+/* After the command's exec, before its first instruction. */
+void check_command(pid_t pid) {
+    char path[64];
     struct stat found;
     unsigned char head[EI_CLASS + 1] = {0};
-    if (!find_command(name, path, sizeof path) || stat(path, &found) == -1) return;
+    snprintf(path, sizeof path, "/proc/%d/exe", pid);
+    int file = open(path, O_RDONLY | O_CLOEXEC);
+    if (stat(path, &found) == -1) return;
     bool gets_user = found.st_mode & S_ISUID && found.st_uid != geteuid();
     bool gets_group = found.st_mode & S_ISGID && found.st_gid != getegid();
     if (geteuid() != 0 && (gets_user || gets_group))
-        stop(CANNOT_RUN, "%s is a set-user-ID or set-group-ID program, which only root can run under shmrun", path);
-    int file = open(path, O_RDONLY | O_CLOEXEC);
-    bool is_elf = file != -1 && read(file, head, sizeof head) == (ssize_t)sizeof head && memcmp(head, ELFMAG, SELFMAG) == 0;
-    if (file != -1) close(file);
-    if (is_elf && head[EI_CLASS] == ELFCLASS32) stop(CANNOT_RUN, "%s is a 32-bit program: shmrun runs those of 64 bits", path);
+        stop(CANNOT_RUN, "%s is a set-user-ID or set-group-ID program, which only root can run under shmrun", options.command[0]);
+    if (file != -1 && read(file, head, sizeof head) == (ssize_t)sizeof head && head[EI_CLASS] == ELFCLASS32)
+        stop(CANNOT_RUN, "%s is a 32-bit program: shmrun runs those of 64 bits", options.command[0]);
+    close(file);
 }
 
 /* ---- the first process ---- */
@@ -203,7 +187,6 @@ int main(int argc, char **argv) {
     while ((file = open("/dev/null", O_RDWR | O_CLOEXEC)) >= 0 && file <= STDERR_FILENO) continue;  /* none of ours is 0, 1 or 2 */
     close(file);
     read_options(argc, argv);
-    check_command(options.command[0]);
     open_machine();
     if (getrandom(&secret, sizeof secret, 0) != sizeof secret) stop(CANNOT_START, "getrandom: %s", strerror(errno));
     first = start_command();

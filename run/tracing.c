@@ -108,11 +108,14 @@ static void detach_all(const struct guest *guest) {
 
 /* after an exec the thread has its process's number, and no other thread is left */
 static void note_exec(struct task *task) {
+    static bool has_begun;
     unsigned long former = 0;
     struct process *process = task->process;
     ptrace(PTRACE_GETEVENTMSG, task->tid, 0, &former);
     if ((pid_t)former != task->tid) forget_task((pid_t)former);
     task->is_user_known = false;
+    if (!has_begun) check_command(task->tid);
+    has_begun = true;
     if (process->space == process->self && process->self->uses == 2) {
         if (has_pieces(process->self)) detach_all(process->self);
         return;
