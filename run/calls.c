@@ -1,0 +1,320 @@
+/* shmget, shmat, shmdt and shmctl, in Linux's order of errors. */
+#include "shmrun.h"
+#include <errno.h>
+#include <fcntl.h>
+#include <stdio.h>
+#include <string.h>
+#include <sys/mman.h>
+#include <sys/shm.h>
+#include <sys/syscall.h>
+#include <time.h>
+#include <unistd.h>
+
+enum { NINE_BITS = 0777, SEQUENCE = 32768 };
+enum { GET_FLAGS = NOG_CREAT | NOG_EXCL | NOG_HUGETLB | NOG_NORESERVE, ATTACH_FLAGS = NOG_RDONLY | NOG_RND | NOG_REMAP | NOG_EXEC };
+_Static_assert(sizeof(struct shmid_ds) == 112, "struct shmid_ds is the kernel's");
+
+static void enter_as(struct call *call, struct guest *guest) {
+    nog_set_time(&machine, (uint64_t)time(NULL));
+    enter(call->task, guest);
+}
+
+/* ---- shmget ---- */
+
+static void do_get(struct call *call) {
+    struct guest *self = call->self;
+    enter_as(call, self);
+    uint32_t key = (uint32_t)call->args[0], mode = call->args[2] & NINE_BITS, flags = call->args[2] & GET_FLAGS;
+    int32_t id;
+    uint32_t code = nog_get(&machine, self->pid, key, call->args[1], mode, flags, &id);
+    int64_t result = code ? reply_of(code) : id;
+    if (flags & NOG_HUGETLB) note_left_out("the flag SHM_HUGETLB of a shmget");
+    record((struct event){.kind = GET, .pid = self->pid, .key = key, .size = call->args[1], .mode = mode,
+                          .flags = flags & (NOG_CREAT | NOG_EXCL), .result = result});
+    answer(call, result);
+}
+
+/* ---- shmat ---- */
+
+struct attach {
+    struct guest *space;
+    nog_segment segment;
+    int32_t id;
+    uint64_t asked, address, length;  /* the address that the program gave, and without what SHM_RND takes away */
+    uint32_t flags;
+};
+
+/* Whether the machine refuses before it looks at the range. An attach beyond all addresses is always refused: with EACCES only
+   if a permission is missing. So nothing is mapped that the process may not see. */
+static bool is_refused_first(struct attach *a) {
+    uint64_t at;
+    bool is_wrong = a->asked == 0 ? a->flags & NOG_REMAP : !(a->flags & NOG_RND) && a->asked % PAGE;
+    bool is_null_remap = a->asked != 0 && a->address == 0 && a->flags & NOG_REMAP;
+    if (is_wrong || is_null_remap || !segment_of(a->id, &a->segment)) return true;
+    return nog_attach(&machine, a->space->pid, a->id, END_OF_ADDRESSES, a->flags & (NOG_RDONLY | NOG_EXEC), &at) == NOG_EACCES;
+}
+
+static bool is_outside(const struct attach *a) {
+    return a->asked != 0 && (a->address < LOWEST_ADDRESS || a->address > END_OF_ADDRESSES - a->length);
+}
+
+/* A remap can't be undone, so the machine is asked first if it may refuse for too many pieces. */
+static bool has_many_pieces(const struct guest *space) {
+    nog_piece piece;
+    enum { CUT = 2 };
+    return nog_piece_at(&machine, space->pid, (uint32_t)options.limits.most_pieces - CUT, &piece) == NOG_DONE;
+}
+
+static int64_t map_in(struct call *call, const struct attach *a) {
+    bool is_readonly = a->flags & NOG_RDONLY;
+    int file = is_readonly ? file_for_reading(&a->segment) : file_of(&a->segment);
+    if (file == -1) return errno == EMFILE ? -ENFILE : -errno;
+    int64_t there = give_file(call, file, O_CLOEXEC);
+    if (is_readonly) close(file);
+    if (there < 0) return there == -EMFILE ? -ENOMEM : there;
+    uint64_t rights = PROT_READ | (is_readonly ? 0u : PROT_WRITE) | (a->flags & NOG_EXEC ? PROT_EXEC : 0u);
+    uint64_t kind = MAP_SHARED | (a->flags & NOG_REMAP ? MAP_FIXED : a->asked ? MAP_FIXED_NOREPLACE : 0);
+    int64_t at = run_in(call, SYS_mmap, a->address, a->length, rights, kind, (uint64_t)there, 0);
+    run_in(call, SYS_close, (uint64_t)there, 0, 0, 0, 0, 0);
+    return at;
+}
+
+/* Linux looks for other memory in the range before it looks at the range itself, unless the address is rounded to 0. */
+static bool meets_other_memory(const struct call *call, const struct attach *a) {
+    char path[64], line[512];
+    unsigned long begin, end;
+    bool is_met = false;
+    if (a->address == 0 || a->flags & NOG_REMAP) return false;
+    snprintf(path, sizeof path, "/proc/%d/maps", call->tid);
+    FILE *maps = fopen(path, "r");
+    while (maps && !is_met && fgets(line, sizeof line, maps))
+        is_met = sscanf(line, "%lx-%lx", &begin, &end) == 2 && begin < END_OF_ADDRESSES &&
+                 (begin < a->address ? a->address < end : begin - a->address < a->length);
+    if (maps) fclose(maps);
+    return is_met;
+}
+
+/* The mapping is there: now the machine is told its address. */
+static int64_t enter_attach(struct call *call, const struct attach *a, uint64_t address) {
+    uint64_t at;
+    note_segments(a->space);
+    uint32_t code = nog_attach(&machine, a->space->pid, a->id, address, a->flags & ~(uint32_t)NOG_RND, &at);
+    drop_destroyed();
+    if (code == NOG_DONE) {
+        forget_advice(a->space, at, at + a->length);
+        return (int64_t)at;
+    }
+    run_in(call, SYS_munmap, address, a->length, 0, 0, 0, 0);
+    if (a->flags & NOG_REMAP) forget_range(a->space, address, address + a->length);
+    return reply_of(code);
+}
+
+/* The machine's own refusal. */
+static int64_t refuse(const struct attach *a) {
+    uint64_t at;
+    uint32_t code = nog_attach(&machine, a->space->pid, a->id, a->asked, a->flags, &at);
+    if (code == NOG_DONE) stop(CANNOT_START, "the machine attached segment %d at %lx, which shmrun expected it to refuse", a->id, at);
+    return reply_of(code);
+}
+
+static int64_t attach(struct call *call, struct attach *a) {
+    if (is_refused_first(a)) return refuse(a);
+    a->length = pages_of(a->segment.size);
+    if (is_outside(a)) return meets_other_memory(call, a) ? -EINVAL : refuse(a);
+    if (a->flags & NOG_REMAP && has_many_pieces(a->space)) return -ENOMEM;
+    int64_t mapped = map_in(call, a);
+    if (!is_error(mapped)) return enter_attach(call, a, (uint64_t)mapped);
+    return mapped == -EEXIST || (a->asked != 0 && meets_other_memory(call, a)) ? -EINVAL : mapped;
+}
+
+static void do_attach(struct call *call) {
+    enter_as(call, call->space);
+    struct attach a = {.space = call->space, .id = (int32_t)call->args[0], .asked = call->args[1],
+                       .flags = call->args[2] & ATTACH_FLAGS};
+    a.address = a.flags & NOG_RND ? a.asked / PAGE * PAGE : a.asked;
+    int64_t result = attach(call, &a);
+    if (a.flags & NOG_EXEC) note_left_out("the flag SHM_EXEC of a shmat");
+    /* an address that the kernel chose is written as if the program had */
+    record((struct event){.kind = ATTACH, .pid = a.space->pid, .id = a.id, .address = a.asked == 0 && result > 0 ? (uint64_t)result : a.asked,
+                          .flags = a.flags & ~(uint32_t)NOG_EXEC, .result = result});
+    answer(call, result);
+}
+
+/* ---- shmdt ---- */
+
+static void do_detach(struct call *call) {
+    struct guest *space = call->space;
+    uint64_t origin = call->args[0];
+    nog_piece piece, lowest = {0};
+    enter_as(call, space);
+    for (uint32_t i = piece_above(space, origin); nog_piece_at(&machine, space->pid, i, &piece) == NOG_DONE; i++) {
+        if (origin_of(&piece) != origin) continue;
+        if (!lowest.pages) lowest = piece;
+        if (piece.segment == lowest.segment) run_in(call, SYS_munmap, piece.base, (uint64_t)piece.pages * PAGE, 0, 0, 0, 0);
+    }
+    note_segments(space);
+    int64_t result = reply_of(nog_detach(&machine, space->pid, origin));
+    record((struct event){.kind = DETACH, .pid = space->pid, .address = origin, .result = result});
+    drop_destroyed();
+    answer(call, result);
+}
+
+/* ---- shmctl ---- */
+
+static struct shmid_ds shown(const nog_segment *s) {
+    struct shmid_ds d;
+    memset(&d, 0, sizeof d);
+    d.shm_segsz = s->size;
+    d.shm_atime = (time_t)s->atime;
+    d.shm_dtime = (time_t)s->dtime;
+    d.shm_ctime = (time_t)s->ctime;
+    d.shm_cpid = (pid_t)s->cpid;
+    d.shm_lpid = (pid_t)s->lpid;
+    d.shm_nattch = s->nattch;
+    d.shm_perm.__key = (key_t)s->key;
+    d.shm_perm.uid = s->uid;
+    d.shm_perm.gid = s->gid;
+    d.shm_perm.cuid = s->cuid;
+    d.shm_perm.cgid = s->cgid;
+    d.shm_perm.mode = (unsigned short)(s->mode | s->status);
+    d.shm_perm.__seq = (unsigned short)(s->id / SEQUENCE);
+    return d;
+}
+
+static int64_t show(struct call *call, uint32_t code, const nog_segment *segment, int64_t result) {
+    if (code) return reply_of(code);
+    struct shmid_ds d = shown(segment);
+    return write_memory(call, call->args[2], &d, sizeof d) ? result : -EFAULT;
+}
+
+static int64_t show_limits(struct call *call) {
+    nog_usage usage = {0};
+    const nog_limits *l = &options.limits;
+    reply_of(nog_info(&machine, &usage));
+    struct shminfo info = {.shmmax = l->shmmax, .shmmin = 1, .shmmni = l->shmmni, .shmseg = l->shmmni, .shmall = l->shmall};
+    return write_memory(call, call->args[2], &info, sizeof info) ? (int64_t)usage.highest : -EFAULT;
+}
+
+static int64_t show_usage(struct call *call) {
+    nog_usage usage = {0};
+    nog_segment segment;
+    reply_of(nog_info(&machine, &usage));
+    struct shm_info info = {.used_ids = (int)usage.used_ids, .shm_tot = usage.pages};
+    for (uint32_t i = 0; i <= usage.highest; i++)
+        if (nog_segment_at(&machine, i, &segment) == NOG_DONE) info.shm_rss += pages_in_memory(segment.id);
+    return write_memory(call, call->args[2], &info, sizeof info) ? (int64_t)usage.highest : -EFAULT;
+}
+
+static int64_t set(struct call *call, const struct guest *self, int32_t id) {
+    struct shmid_ds d;
+    if (!read_memory(call, call->args[2], &d, sizeof d)) return -EFAULT;
+    uint32_t uid = d.shm_perm.uid, gid = d.shm_perm.gid, mode = d.shm_perm.mode & NINE_BITS;
+    int64_t result = reply_of(nog_set(&machine, self->pid, id, uid, gid, mode));
+    record((struct event){.kind = SET, .pid = self->pid, .id = id, .uid = uid, .gid = gid, .mode = mode, .result = result});
+    return result;
+}
+
+static int64_t change(const struct guest *self, enum kind kind, int32_t id) {
+    uint32_t code = kind == REMOVE ? nog_remove(&machine, self->pid, id) :
+                    kind == LOCK ? nog_lock(&machine, self->pid, id) : nog_unlock(&machine, self->pid, id);
+    record((struct event){.kind = kind, .pid = self->pid, .id = id, .result = reply_of(code)});
+    drop_if_destroyed(id);
+    return reply_of(code);
+}
+
+static int64_t stat(struct call *call, const struct guest *self, int32_t id) {
+    struct event event = {.kind = STAT, .pid = self->pid, .id = id};
+    uint32_t code = nog_stat(&machine, self->pid, id, &event.segment);
+    event.result = code ? reply_of(code) : 0;
+    record(event);
+    return show(call, code, &event.segment, 0);
+}
+
+static int64_t control(struct call *call, const struct guest *self) {
+    int32_t id = (int32_t)call->args[0];
+    int command = (int)call->args[1];
+    nog_segment segment;
+    uint32_t code;
+    if (id < 0 || command < 0) return -EINVAL;
+    if (command == IPC_INFO || command == SHM_INFO || command == SHM_STAT || command == SHM_STAT_ANY)
+        note_left_out("IPC_INFO, SHM_INFO, SHM_STAT and SHM_STAT_ANY");
+    switch (command) {
+    case IPC_INFO: return show_limits(call);
+    case SHM_INFO: return show_usage(call);
+    case SHM_STAT:
+        code = nog_stat_at(&machine, self->pid, (uint32_t)id, &segment);
+        return show(call, code, &segment, segment.id);
+    case SHM_STAT_ANY:
+        code = nog_segment_at(&machine, (uint32_t)id, &segment);
+        return show(call, code ? NOG_EINVAL : NOG_DONE, &segment, segment.id);
+    case IPC_STAT: return stat(call, self, id);
+    case IPC_SET: return set(call, self, id);
+    case IPC_RMID: return change(self, REMOVE, id);
+    case SHM_LOCK: return change(self, LOCK, id);
+    case SHM_UNLOCK: return change(self, UNLOCK, id);
+    default: return -EINVAL;
+    }
+}
+
+static void do_control(struct call *call) {
+    enter_as(call, call->self);
+    answer(call, control(call, call->self));
+}
+
+/* ---- which call it is ---- */
+
+/* The calls on demand fail before the machine sees them. */
+static bool is_failed(struct call *call, const char *name) {
+    int error = failure_of(name);
+    if (!error) return false;
+    note_left_out("a call that --fail let fail");
+    answer(call, -error);
+    return true;
+}
+
+static const char *name_of_command(int command) {
+    switch (command) {
+    case IPC_STAT: return "stat";
+    case IPC_SET: return "set";
+    case IPC_RMID: return "rmid";
+    case SHM_LOCK: return "lock";
+    case SHM_UNLOCK: return "unlock";
+    default: return "info";
+    }
+}
+
+static void dispatch(struct call *call) {
+    switch (call->number) {
+    case SYS_shmget: if (!is_failed(call, "shmget")) do_get(call); break;
+    case SYS_shmat: if (!is_failed(call, "shmat")) do_attach(call); break;
+    case SYS_shmdt: if (!is_failed(call, "shmdt")) do_detach(call); break;
+    case SYS_shmctl:
+        if (!is_failed(call, "shmctl") && !is_failed(call, name_of_command((int)call->args[1]))) do_control(call);
+        break;
+    case SYS_munmap: do_unmap(call); break;
+    case SYS_mmap: do_map_fixed(call); break;
+    case SYS_mremap: do_move(call); break;
+    case SYS_mprotect:
+    case SYS_pkey_mprotect: do_protect(call); break;
+    case SYS_madvise: do_advise(call); break;
+    case SYS_open:
+    case SYS_openat:
+    case SYS_openat2: do_open(call); break;
+    default:  /* the user of the thread changes */
+        call->task->is_user_known = false;
+        let_pass(call);
+    }
+}
+
+/* The process may end in the middle of the call: its guests stay until the call is done. */
+void handle_call(struct task *task) {
+    struct call call;
+    begin_call(&call, task);
+    call.self = task->process->self;
+    call.space = task->process->space;
+    call.self->uses++;
+    call.space->uses++;
+    dispatch(&call);
+    release_guest(call.space);
+    release_guest(call.self);
+}

@@ -1,0 +1,156 @@
+/* munmap, mremap, mprotect, mmap and madvise of attached memory. Most of these calls are about other memory of the program, and
+   pass at once. */
+#include "shmrun.h"
+#include <errno.h>
+#include <stdlib.h>
+#include <sys/mman.h>
+#include <time.h>
+
+/* The caller's attachments, if it has one in a page-aligned range; null if the call does not matter to the machine. */
+static struct guest *space_with(struct call *call, uint64_t begin, uint64_t length) {
+    nog_piece piece;
+    bool is_range = begin % PAGE == 0 && length <= END_OF_ADDRESSES && begin <= END_OF_ADDRESSES - length;
+    if (!is_range || !find_piece(call->space, begin, begin + length, &piece)) return NULL;
+    nog_set_time(&machine, (uint64_t)time(NULL));
+    return call->space;
+}
+
+/* ---- munmap, and what takes its effect ---- */
+
+/* whether a part of the piece's attach is left */
+static bool is_left(const struct guest *guest, const nog_piece *piece) {
+    nog_piece other;
+    for (uint32_t i = piece_above(guest, origin_of(piece)); nog_piece_at(&machine, guest->pid, i, &other) == NOG_DONE; i++) {
+        if (origin_of(&other) == origin_of(piece) && other.segment == piece->segment) return true;
+        if (other.base > piece->base) break;
+    }
+    return false;
+}
+
+void forget_range(struct guest *guest, uint64_t begin, uint64_t end) {
+    nog_piece piece;
+    note_segments(guest);
+    while (find_piece(guest, begin, end, &piece)) {
+        uint64_t from = most(begin, piece.base), to = least(end, end_of(&piece));
+        if (nog_unmap(&machine, guest->pid, from, to - from) != NOG_DONE) break;
+        if (is_left(guest, &piece)) note_left_out("a part of an attachment that was unmapped");
+        else record((struct event){.kind = DETACH, .pid = guest->pid, .address = origin_of(&piece)});
+        begin = to;
+    }
+    drop_destroyed();
+}
+
+void do_unmap(struct call *call) {
+    uint64_t begin = call->args[0], length = pages_of(call->args[1]);
+    struct guest *space = space_with(call, begin, length);
+    if (space) forget_range(space, begin, begin + length);
+    let_pass(call);
+}
+
+/* The kernel's answer comes first, because it may refuse. */
+static void replace_range(struct call *call, uint64_t begin, uint64_t length) {
+    struct guest *space = space_with(call, begin, length);
+    if (!space) return let_pass(call);
+    int64_t result = run_as_made(call);
+    if (!is_error(result)) forget_range(space, begin, begin + length);
+    answer(call, result);
+}
+
+void do_map_fixed(struct call *call) { replace_range(call, call->args[0], pages_of(call->args[1])); }
+
+/* ---- mprotect ---- */
+
+static void protect_pieces(struct guest *space, uint64_t begin, uint64_t end, uint32_t is_writable) {
+    nog_piece piece;
+    while (find_piece(space, begin, end, &piece)) {
+        uint64_t from = most(begin, piece.base), to = least(end, end_of(&piece));
+        if (nog_protect(&machine, space->pid, from, to - from, is_writable) != NOG_DONE) return;
+        if (piece.is_writable != is_writable && (from != piece.base || to != end_of(&piece)))
+            note_left_out("a part of an attachment that was protected");
+        begin = to;
+    }
+}
+
+/* If the range has other memory too, the kernel's answer comes first. If it refuses, it has changed what lies below. */
+void do_protect(struct call *call) {
+    uint64_t begin = call->args[0], length = pages_of(call->args[1]), hole;
+    uint32_t is_writable = (call->args[2] & PROT_WRITE) != 0;
+    if (begin < END_OF_ADDRESSES && length <= UINT64_MAX - begin) length = least(length, END_OF_ADDRESSES - begin);
+    struct guest *space = space_with(call, begin, length);
+    if (!space) return let_pass(call);
+    bool is_whole = nog_failed_at(&machine, space->pid, begin, length, 0, &hole) == NOG_OUT_OF_RANGE;
+    int64_t result = is_whole ? 0 : run_as_made(call);
+    protect_pieces(space, begin, result == 0 ? begin + length : hole, is_writable);
+    if (is_whole) let_pass(call);
+    else answer(call, result);
+}
+
+/* ---- madvise: what a child does not inherit ---- */
+
+static void add_range(struct guest *guest, uint64_t begin, uint64_t end) {
+    struct range *ranges = realloc(guest->not_inherited, ((size_t)guest->range_count + 1) * sizeof *ranges);
+    if (!ranges) stop(CANNOT_START, "out of memory");
+    guest->not_inherited = ranges;
+    ranges[guest->range_count++] = (struct range){begin, end};
+}
+
+void forget_advice(struct guest *guest, uint64_t begin, uint64_t end) {
+    for (int i = guest->range_count; i-- > 0;) {
+        struct range old = guest->not_inherited[i];
+        if (old.end <= begin || end <= old.begin) continue;
+        guest->not_inherited[i] = guest->not_inherited[--guest->range_count];
+        if (old.begin < begin) add_range(guest, old.begin, begin);
+        if (end < old.end) add_range(guest, end, old.end);
+    }
+}
+
+void do_advise(struct call *call) {
+    uint64_t begin = call->args[0], length = pages_of(call->args[1]);
+    struct guest *space = space_with(call, begin, length);
+    if (space) forget_advice(space, begin, begin + length);
+    if (space && call->args[2] == MADV_DONTFORK) add_range(space, begin, begin + length);
+    let_pass(call);
+}
+
+/* ---- mremap ---- */
+
+/* The right to attach was asked for when the first attach was made, so it is not asked for again. */
+static void enter_moved(const struct guest *space, const nog_piece *piece, uint64_t to) {
+    uint64_t at;
+    uint32_t flags = piece->may_write ? 0 : NOG_RDONLY;
+    nog_set_user(&machine, space->pid, 0, 0);
+    uint32_t code = nog_attach(&machine, space->pid, (int32_t)piece->segment, to, flags, &at);
+    nog_set_user(&machine, space->pid, space->uid, space->gid);
+    if (code != NOG_DONE) stop(CANNOT_START, "the machine does not attach segment %u again at %lx", piece->segment, to);
+    record((struct event){.kind = ATTACH, .pid = space->pid, .id = (int32_t)piece->segment, .address = to, .flags = flags, .result = (int64_t)at});
+    if (!piece->is_writable) nog_protect(&machine, space->pid, to, (uint64_t)piece->pages * PAGE, 0);
+}
+
+/* Only a whole attachment moves or is doubled, and none becomes larger: the machine has attaches of whole segments. */
+static int64_t move(struct call *call, const nog_piece *piece, const nog_segment *segment) {
+    uint64_t from = call->args[0], old_length = pages_of(call->args[1]), new_length = pages_of(call->args[2]), flags = call->args[3];
+    bool is_whole = from == piece->base && piece->first_page == 0 && pages_of(segment->size) == new_length && end_of(piece) == from + new_length;
+    bool is_moved = flags & (MREMAP_FIXED | MREMAP_DONTUNMAP) || old_length == 0;
+    if (from + old_length > end_of(piece)) return -EFAULT;
+    if (is_moved ? !is_whole || (old_length && old_length != new_length) : new_length > old_length) return -ENOMEM;
+    int64_t result = run_as_made(call);
+    if (is_error(result)) return result;
+    if (!is_moved) {
+        forget_range(call->space, from + new_length, from + old_length);
+        return result;
+    }
+    forget_range(call->space, (uint64_t)result, (uint64_t)result + new_length);
+    enter_moved(call->space, piece, (uint64_t)result);
+    if (old_length && !(flags & MREMAP_DONTUNMAP)) forget_range(call->space, from, from + old_length);
+    return result;
+}
+
+void do_move(struct call *call) {
+    nog_piece piece;
+    nog_segment segment;
+    uint64_t from = call->args[0], length = most(pages_of(call->args[1]), PAGE);
+    if (space_with(call, from, length) && find_piece(call->space, from, from + PAGE, &piece) && segment_of((int32_t)piece.segment, &segment))
+        answer(call, move(call, &piece, &segment));
+    else if (call->args[3] & MREMAP_FIXED) replace_range(call, call->args[4], pages_of(call->args[2]));
+    else let_pass(call);
+}

@@ -1,0 +1,200 @@
+/* Registers and memory of a stopped thread, and system calls that it makes for us.
+
+   A thread stops at the entry of a system call that the filter selects. There the call can be replaced by another one,
+   whose exit is a second stop. From an exit the thread can be sent through the same instruction again, for a third call.
+   Before that its signals are blocked: they would come in between. SIGSTOP can't be blocked, so it is repeated later. */
+#include "shmrun.h"
+#include <errno.h>
+#include <fcntl.h>
+#include <linux/seccomp.h>
+#include <poll.h>
+#include <sched.h>
+#include <signal.h>
+#include <string.h>
+#include <sys/ioctl.h>
+#include <sys/ptrace.h>
+#include <sys/syscall.h>
+#include <sys/uio.h>
+#include <sys/wait.h>
+#include <unistd.h>
+
+enum { SYSCALL_BYTES = 2, SYSCALL_STOP = SIGTRAP | 0x80, WAITED_MS = 20 };
+
+int listener = -1;
+uint64_t secret;
+
+void begin_call(struct call *call, struct task *task) {
+    *call = (struct call){.task = task, .tid = task->tid, .tgid = task->process->tgid, .has_threads = task->process->threads > 1};
+    if (ptrace(PTRACE_GETREGS, task->tid, 0, &call->regs) == -1) call->where = GONE;
+    const struct user_regs_struct *r = &call->regs;
+    call->number = (long)r->orig_rax;
+    const uint64_t args[6] = {r->rdi, r->rsi, r->rdx, r->r10, r->r8, r->r9};
+    memcpy(call->args, args, sizeof args);
+}
+
+/* ---- system calls that the thread makes ---- */
+
+/* Waits for one thread. If its process is killed, or another thread makes an exec, a leader's end is shown only after those of
+   the other threads were taken. */
+static bool wait_for(const struct call *call, int *status) {
+    enum { SOON = 200, PAUSE_US = 50 };
+    for (int i = 0;; i++) {
+        pid_t found = waitpid(call->tid, status, __WALL | (call->has_threads ? WNOHANG : 0));
+        if (found == call->tid) return true;
+        if (found == -1 && errno != EINTR) return false;
+        if (found == 0 && i < SOON) {
+            sched_yield();
+        } else if (found == 0) {
+            take_ends(call->tgid);
+            usleep(PAUSE_US);
+        }
+    }
+}
+
+/* The thread's end, or its stop in the middle of an exec of another thread, ends the call. */
+static void leave_call(struct call *call, bool is_known, int status) {
+    call->where = GONE;
+    if (is_known) handle_status(call->tid, status);
+}
+
+/* Lets the thread run to its next stop at a system call. */
+static void run_to_stop(struct call *call) {
+    int status = 0;
+    for (;;) {
+        if (ptrace(PTRACE_SYSCALL, call->tid, 0, 0) == -1 && errno != ESRCH)
+            stop(CANNOT_START, "process %d: %s", call->tid, strerror(errno));
+        bool is_known = wait_for(call, &status);
+        int event = status >> 16, signal = WSTOPSIG(status);
+        if (!is_known || !WIFSTOPPED(status) || event == PTRACE_EVENT_EXEC) return leave_call(call, is_known, status);
+        if (signal == SYSCALL_STOP) return;
+        if (event == PTRACE_EVENT_SECCOMP) continue;  /* our own call is one that the filter selects */
+        if (signal != SIGSTOP && event != PTRACE_EVENT_STOP)
+            stop(CANNOT_START, "process %d stopped in the middle of a call by signal %d", call->tid, signal);
+        call->has_missed_stop |= signal != SIGTRAP;
+    }
+}
+
+static void block_signals(struct call *call) {
+    const uint64_t all = ~UINT64_C(0);
+    if (call->is_masked) return;
+    call->is_masked = ptrace(PTRACE_GETSIGMASK, call->tid, sizeof all, &call->old_mask) != -1;
+    if (call->is_masked) ptrace(PTRACE_SETSIGMASK, call->tid, sizeof all, &all);
+}
+
+/* Puts the thread at the entry of a system call. */
+static void set_call(struct call *call, long number, const uint64_t *args) {
+    struct user_regs_struct r = call->regs;
+    r.orig_rax = r.rax = (unsigned long long)number;
+    r.rdi = args[0], r.rsi = args[1], r.rdx = args[2], r.r10 = args[3], r.r8 = args[4], r.r9 = args[5];
+    if (call->where == AT_EXIT) {
+        block_signals(call);
+        r.rip -= SYSCALL_BYTES;
+        ptrace(PTRACE_SETREGS, call->tid, 0, &r);
+        run_to_stop(call);
+    } else {
+        ptrace(PTRACE_SETREGS, call->tid, 0, &r);
+    }
+}
+
+static int64_t result_of(struct call *call) {
+    struct user_regs_struct r;
+    if (call->where == GONE || ptrace(PTRACE_GETREGS, call->tid, 0, &r) == -1) return -ESRCH;
+    call->where = AT_EXIT;
+    return (int64_t)r.rax;
+}
+
+int64_t run_in(struct call *call, long number, uint64_t a, uint64_t b, uint64_t c, uint64_t d, uint64_t e, uint64_t f) {
+    const uint64_t args[6] = {a, b, c, d, e, f};
+    if (call->where != GONE) set_call(call, number, args);
+    if (call->where != GONE) run_to_stop(call);
+    return result_of(call);
+}
+
+int64_t run_as_made(struct call *call) {
+    const uint64_t *a = call->args;
+    return run_in(call, call->number, a[0], a[1], a[2], a[3], a[4], a[5]);
+}
+
+static bool has_stopped(pid_t tid) {
+    siginfo_t info = {0};
+    return waitid(P_PID, (id_t)tid, &info, WEXITED | WSTOPPED | WNOHANG | WNOWAIT | __WALL) == -1 || info.si_pid == tid;
+}
+
+/* The thread asks the listener for a file: the file becomes the result of its call. */
+static void serve_listener(struct call *call, int file, uint32_t flags) {
+    struct pollfd asked = {.fd = listener, .events = POLLIN};
+    struct seccomp_notif request;
+    int ready;
+    while ((ready = poll(&asked, 1, WAITED_MS)) <= 0) {
+        if (ready == 0) take_ends(call->tgid);
+        if (ready == 0 && has_stopped(call->tid)) return;
+    }
+    memset(&request, 0, sizeof request);
+    if (ioctl(listener, SECCOMP_IOCTL_NOTIF_RECV, &request) == -1) return;
+    struct seccomp_notif_addfd added = {.id = request.id, .flags = SECCOMP_ADDFD_FLAG_SEND, .srcfd = (uint32_t)file,
+                                        .newfd_flags = flags};
+    if (ioctl(listener, SECCOMP_IOCTL_NOTIF_ADDFD, &added) >= 0 || errno == ENOENT) return;
+    struct seccomp_notif_resp refused = {.id = request.id, .error = -errno};
+    ioctl(listener, SECCOMP_IOCTL_NOTIF_SEND, &refused);
+}
+
+static int64_t ask_for_file(struct call *call, int file, uint32_t flags) {
+    const uint64_t args[6] = {secret};
+    int status = 0;
+    if (call->where != GONE) set_call(call, SYS_getpid, args);
+    if (call->where == GONE || ptrace(PTRACE_SYSCALL, call->tid, 0, 0) == -1) return -ESRCH;
+    serve_listener(call, file, flags);
+    bool is_known = wait_for(call, &status);
+    if (!is_known || !WIFSTOPPED(status) || status >> 16 == PTRACE_EVENT_EXEC) leave_call(call, is_known, status);
+    return result_of(call);
+}
+
+/* A signal would interrupt the wait for the file: only SIGSTOP still can, and then the thread asks again. */
+int64_t give_file(struct call *call, int file, uint32_t flags) {
+    enum { INTERRUPTED = 512 };
+    int64_t result;
+    block_signals(call);
+    while ((result = ask_for_file(call, file, flags)) == -INTERRUPTED) continue;
+    return result;
+}
+
+/* ---- its end ---- */
+
+static void release(struct call *call) {
+    if (call->is_masked) ptrace(PTRACE_SETSIGMASK, call->tid, sizeof call->old_mask, &call->old_mask);
+    if (call->has_missed_stop) syscall(SYS_tgkill, call->tgid, call->tid, SIGSTOP);
+    resume(call->tid, PTRACE_CONT, 0);
+}
+
+void answer(struct call *call, int64_t result) {
+    struct user_regs_struct r = call->regs;
+    if (call->where == GONE) return;
+    r.rax = (unsigned long long)result;
+    r.orig_rax = ~0ull;  /* no call is made, and none is begun again */
+    ptrace(PTRACE_SETREGS, call->tid, 0, &r);
+    release(call);
+}
+
+void let_pass(struct call *call) {
+    if (call->where != GONE) release(call);
+}
+
+/* ---- its memory ---- */
+
+bool read_memory(const struct call *call, uint64_t from, void *to, size_t size) {
+    struct iovec here = {to, size}, there = {(void *)(uintptr_t)from, size};
+    return process_vm_readv(call->tid, &here, 1, &there, 1, 0) == (ssize_t)size;
+}
+
+bool write_memory(const struct call *call, uint64_t to, const void *from, size_t size) {
+    struct iovec here = {(void *)(uintptr_t)from, size}, there = {(void *)(uintptr_t)to, size};
+    return process_vm_writev(call->tid, &here, 1, &there, 1, 0) == (ssize_t)size;
+}
+
+bool read_text(const struct call *call, uint64_t from, char *to, size_t size) {
+    size_t in_page = PAGE - from % PAGE, first = size < in_page ? size : in_page;
+    bool is_read = read_memory(call, from, to, first);
+    if (is_read && first < size && !memchr(to, 0, first)) is_read = read_memory(call, from + first, to + first, size - first);
+    to[size - 1] = 0;
+    return is_read;
+}

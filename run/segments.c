@@ -1,0 +1,86 @@
+/* The bytes of segments. Each segment that was ever attached has a file in memory, which the programs map. The file is sealed,
+   so no program can cut it. It has no name anywhere; /proc/PID/maps shows it as /memfd:/SYSV and its key. */
+#include "shmrun.h"
+#include <errno.h>
+#include <fcntl.h>
+#include <stdio.h>
+#include <stdlib.h>
+#include <sys/mman.h>
+#include <sys/stat.h>
+#include <unistd.h>
+
+enum { INDEXES = 32768, BYTES_OF_BLOCK = 512 };
+static struct { int32_t id; int file; } files[INDEXES];  /* by index; file is 0, or a descriptor above 2 */
+static int32_t *noted;
+static size_t noted_count, noted_room;
+
+bool segment_of(int32_t id, nog_segment *segment) {
+    return id >= 0 && nog_segment_at(&machine, (uint32_t)id % INDEXES, segment) == NOG_DONE && segment->id == id;
+}
+
+static int make_file(const nog_segment *segment) {
+    char name[32];
+    snprintf(name, sizeof name, "/SYSV%08x", segment->key);
+    int file = memfd_create(name, MFD_CLOEXEC | MFD_ALLOW_SEALING);
+    if (file == -1) return -1;
+    if (ftruncate(file, (off_t)pages_of(segment->size)) == -1 ||
+        fcntl(file, F_ADD_SEALS, F_SEAL_SHRINK | F_SEAL_GROW | F_SEAL_SEAL) == -1) {
+        close(file);
+        return -1;
+    }
+    return file;
+}
+
+int file_of(const nog_segment *segment) {
+    uint32_t index = segment->index;
+    if (files[index].file && files[index].id == segment->id) return files[index].file;
+    int file = make_file(segment);
+    if (file == -1) return -1;
+    files[index].id = segment->id;
+    files[index].file = file;
+    return file;
+}
+
+int file_for_reading(const nog_segment *segment) {
+    char path[64];
+    int file = file_of(segment);
+    if (file == -1) return -1;
+    snprintf(path, sizeof path, "/proc/self/fd/%d", file);
+    return open(path, O_RDONLY | O_CLOEXEC);
+}
+
+uint64_t pages_in_memory(int32_t id) {
+    uint32_t index = (uint32_t)id % INDEXES;
+    struct stat found;
+    if (!files[index].file || files[index].id != id || fstat(files[index].file, &found) == -1) return 0;
+    return (uint64_t)found.st_blocks * BYTES_OF_BLOCK / PAGE;
+}
+
+/* ---- destroyed segments ---- */
+
+void drop_if_destroyed(int32_t id) {
+    nog_segment segment;
+    uint32_t index = (uint32_t)id % INDEXES;
+    if (!files[index].file || files[index].id != id || segment_of(id, &segment)) return;
+    close(files[index].file);
+    files[index].file = 0;
+}
+
+static void note(int32_t id) {
+    if (noted_count > 0 && noted[noted_count - 1] == id) return;
+    if (noted_count == noted_room) {
+        noted_room = noted_room ? 2 * noted_room : 64;
+        noted = realloc(noted, noted_room * sizeof *noted);
+        if (!noted) stop(CANNOT_START, "out of memory");
+    }
+    noted[noted_count++] = id;
+}
+
+void note_segments(const struct guest *guest) {
+    nog_piece piece;
+    for (uint32_t i = 0; nog_piece_at(&machine, guest->pid, i, &piece) == NOG_DONE; i++) note((int32_t)piece.segment);
+}
+
+void drop_destroyed(void) {
+    while (noted_count > 0) drop_if_destroyed(noted[--noted_count]);
+}

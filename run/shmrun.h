@@ -1,0 +1,174 @@
+/* shmrun: programs of Linux whose System V shared memory is a machine of the library.
+
+   start.c     the first process, signals, the exit status          segments.c  the bytes: a file in memory for each segment
+   options.c   the words of the command line                        views.c     the files of /proc that show segments and limits
+   filter.c    the seccomp filter: which system calls stop          users.c     the processes of the machine, and their users
+   tracing.c   threads and processes: fork, exec, exit, signals     failures.c  calls that fail on demand
+   remote.c    what a stopped thread does and has                   record.c, replay.c, script.c
+   calls.c     shmget, shmat, shmdt and shmctl                                  what was called, as a script and a log
+   mappings.c  munmap, mremap, mprotect, mmap and madvise
+
+   One thread, the tracer, handles one stop at a time, so each call is one step of the machine. An attach is made in the program
+   first and then in the machine, and a detach in the machine first. So whatever the machine has attached is mapped, also while
+   other threads of the program run. */
+#ifndef SHMRUN_H
+#define SHMRUN_H
+
+#include <nogcuvema.h>
+#include <stdbool.h>
+#include <stddef.h>
+#include <stdint.h>
+#include <sys/ptrace.h>
+#include <sys/types.h>
+#include <sys/user.h>
+
+enum { PAGE = 4096, CANNOT_START = 125, CANNOT_RUN = 126, NOT_FOUND = 127 };
+#define END_OF_ADDRESSES UINT64_C(0x7ffffffff000)
+#define LOWEST_ADDRESS UINT64_C(0x10000)
+
+static inline uint64_t least(uint64_t a, uint64_t b) { return a < b ? a : b; }
+static inline uint64_t most(uint64_t a, uint64_t b) { return a > b ? a : b; }
+/* a length in whole pages */
+static inline uint64_t pages_of(uint64_t length) { return length / PAGE * PAGE + (length % PAGE ? PAGE : 0); }
+static inline uint64_t end_of(const nog_piece *piece) { return piece->base + (uint64_t)piece->pages * PAGE; }
+/* where the piece's attach would begin */
+static inline uint64_t origin_of(const nog_piece *piece) { return piece->base - (uint64_t)piece->first_page * PAGE; }
+
+extern struct options {
+    nog_limits limits;
+    const char *record;  /* the beginning of the names of the record's files, or null */
+    uint64_t seed;       /* of failures by chance */
+    char **command;
+} options;
+void read_options(int argc, char **argv);
+
+/* start.c: stop ends shmrun, and with it each program that it traces */
+__attribute__((noreturn, format(printf, 2, 3))) void stop(int status, const char *format, ...);
+__attribute__((format(printf, 1, 2))) void complain(const char *format, ...);
+void *allocate(size_t size);
+void check_command(pid_t pid);
+extern nog_machine machine;
+/* 0 or the negative number of an error, as a system call answers. A code that is no errno ends shmrun. */
+int64_t reply_of(uint32_t code);
+
+/* A process of the machine: whose calls they are, or whose attachments. */
+struct guest {
+    uint32_t pid;
+    bool is_admitted;      /* the machine has it: from its first call on, or from the fork that gave it attachments */
+    int uses;              /* processes that are it, those whose address space is its, and the call that is made */
+    uint32_t uid, gid;     /* as the machine has them */
+    struct range { uint64_t begin, end; } *not_inherited;  /* MADV_DONTFORK */
+    int range_count;
+};
+struct process {
+    pid_t tgid;
+    struct guest *self;    /* who calls */
+    struct guest *space;   /* who has the attachments: another process's after vfork and clone with CLONE_VM */
+    int threads;
+};
+struct task {
+    pid_t tid;
+    struct process *process;  /* null: it stopped before its maker's stop was seen */
+    bool is_user_known;       /* false: uid and gid, the effective ones, must be read anew */
+    uint32_t uid, gid;
+    struct task *next;
+};
+
+/* users.c */
+struct guest *new_guest(uint32_t pid);
+void release_guest(struct guest *guest);
+/* The machine has the guest from now on, with the thread's user. */
+void enter(struct task *task, struct guest *guest);
+/* A child that a fork made is in the machine with its parent's attachments, if there are any. */
+void inherit(struct task *maker, struct guest *parent, struct guest *child);
+bool has_pieces(const struct guest *guest);
+/* The place of the first piece that ends above an address, and the first piece in a range. */
+uint32_t piece_above(const struct guest *guest, uint64_t address);
+bool find_piece(const struct guest *guest, uint64_t begin, uint64_t end, nog_piece *piece);
+
+/* filter.c: in the first process; the answer is the descriptor of the filter's listener */
+int install_filter(uint64_t secret);
+
+/* remote.c: a thread at the entry of a system call */
+struct call {
+    struct task *task;             /* not after the thread is gone */
+    pid_t tid, tgid;
+    struct guest *self, *space;
+    struct user_regs_struct regs;  /* as the program has them */
+    long number;
+    uint64_t args[6], old_mask;
+    enum { AT_ENTRY, AT_EXIT, GONE } where;
+    bool has_threads, is_masked, has_missed_stop;
+};
+extern int listener;
+extern uint64_t secret;
+void begin_call(struct call *call, struct task *task);
+/* Makes a system call in the program; a negative number is its error. */
+int64_t run_in(struct call *call, long number, uint64_t a, uint64_t b, uint64_t c, uint64_t d, uint64_t e, uint64_t f);
+int64_t run_as_made(struct call *call);
+static inline bool is_error(int64_t result) { return result < 0 && result > -PAGE; }
+/* Puts a file into the program; the answer is its descriptor there, which is closed at an exec if `flags` is O_CLOEXEC. */
+int64_t give_file(struct call *call, int file, uint32_t flags);
+/* Lets the program go on: with a result, or with the call that it made. */
+void answer(struct call *call, int64_t result);
+void let_pass(struct call *call);
+bool read_memory(const struct call *call, uint64_t from, void *to, size_t size);
+bool write_memory(const struct call *call, uint64_t to, const void *from, size_t size);
+/* A text of the program, ended by a zero and cut to `size` - 1 bytes. */
+bool read_text(const struct call *call, uint64_t from, char *to, size_t size);
+
+/* tracing.c */
+/* Runs until the last process has ended; the answer is the wait status of `first`. */
+int trace_all(pid_t first);
+void resume(pid_t tid, enum __ptrace_request request, int signal);
+/* What waitpid showed of a thread: a stop or its end. */
+void handle_status(pid_t tid, int status);
+/* Handles the ends of a process's threads that can be seen now. */
+void take_ends(pid_t tgid);
+
+/* calls.c, mappings.c, views.c */
+void handle_call(struct task *task);
+void do_unmap(struct call *call);
+void do_map_fixed(struct call *call);
+void do_move(struct call *call);
+void do_protect(struct call *call);
+void do_advise(struct call *call);
+void do_open(struct call *call);
+/* Takes a range out of the machine's attachments, or out of what children do not inherit. */
+void forget_range(struct guest *guest, uint64_t begin, uint64_t end);
+void forget_advice(struct guest *guest, uint64_t begin, uint64_t end);
+
+/* segments.c */
+bool segment_of(int32_t id, nog_segment *segment);
+/* A descriptor of the segment's bytes; -1 and errno: there is none. The caller closes a file for reading only. */
+int file_of(const nog_segment *segment);
+int file_for_reading(const nog_segment *segment);
+uint64_t pages_in_memory(int32_t id);
+/* Closes the files of segments that the machine has no more: of those that a guest had attached, or of one. */
+void note_segments(const struct guest *guest);
+void drop_destroyed(void);
+void drop_if_destroyed(int32_t id);
+
+/* failures.c: adds a rule such as shmat:3=ENOMEM; the answer is what is wrong with it, or null */
+const char *add_failure(const char *rule);
+/* The error that a call is to fail with, or 0. */
+int failure_of(const char *call);
+
+/* record.c */
+struct event {
+    enum kind { GET, ATTACH, DETACH, STAT, SET, REMOVE, LOCK, UNLOCK, FORK, EXEC, EXIT } kind;
+    uint32_t pid, key, mode, flags, uid, gid, child;
+    int32_t id;
+    uint64_t size, address;
+    int64_t result;           /* as the program got it, or the negative number of an error */
+    nog_segment segment;      /* of stat */
+    bool is_dropped;          /* refused for a reason that a script does not have */
+    bool is_unclear;          /* stat shows what a script does not have */
+};
+void record(struct event event);
+void record_process(const struct guest *guest, bool is_child);
+void end_record(const char *why);
+void note_left_out(const char *what);
+void write_record(void);
+
+#endif

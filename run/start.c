@@ -1,0 +1,198 @@
+/* The first process, the signals that shmrun gets, and the exit status. */
+#include "shmrun.h"
+#include <elf.h>
+#include <errno.h>
+#include <fcntl.h>
+#include <signal.h>
+#include <stdarg.h>
+#include <stdio.h>
+#include <stdlib.h>
+#include <string.h>
+#include <sys/ptrace.h>
+#include <sys/random.h>
+#include <sys/resource.h>
+#include <sys/stat.h>
+#include <sys/syscall.h>
+#include <sys/wait.h>
+#include <unistd.h>
+
+enum { MOST_FRAMES = 1 << 20 };
+nog_machine machine = NOG_MACHINE_INITIALIZER;
+static volatile sig_atomic_t first;
+
+/* ---- messages ---- */
+
+static void say(const char *format, va_list rest) {
+    char line[1024];
+    int length = vsnprintf(line, sizeof line, format, rest);
+    fprintf(stderr, "shmrun: %s%s\n", line, length >= (int)sizeof line ? ".." : "");
+}
+
+void complain(const char *format, ...) {
+    va_list rest;
+    va_start(rest, format);
+    say(format, rest);
+    va_end(rest);
+}
+
+void stop(int status, const char *format, ...) {
+    va_list rest;
+    va_start(rest, format);
+    say(format, rest);
+    va_end(rest);
+    exit(status);
+}
+
+void *allocate(size_t size) {
+    void *made = calloc(1, size);
+    if (!made) stop(CANNOT_START, "out of memory");
+    return made;
+}
+
+/* ---- the machine ---- */
+
+int64_t reply_of(uint32_t code) {
+    uint8_t text[64] = {0};
+    size_t length;
+    if (code <= NOG_EIDRM) return -(int64_t)code;
+    if (code == NOG_NO_MEMORY) return -ENOMEM;
+    nog_text(code, text, sizeof text, &length);
+    stop(CANNOT_START, "the library answered %u, %s, which ends all programs", code, (char *)text);
+}
+
+/* Bytes are in files, so the frames stay empty. They bound only the locked pages of all users, which are at most SHMALL. */
+static void open_machine(void) {
+    nog_limits *l = &options.limits;
+    nog_area area = {NOG_SPARSE, (uint32_t)l->shmall};
+    l->most_slots = l->shmall;
+    l->frames = l->shmall + 2 < MOST_FRAMES ? l->shmall + 2 : MOST_FRAMES;
+    if (l->frames < l->memlock + 2) l->frames = l->memlock + 2;
+    uint32_t code;
+    while ((code = nog_open(&machine, l, &area, 1, NULL, 0, NULL, 0)) == NOG_NO_MEMORY && l->frames / 2 >= l->memlock + 2) l->frames /= 2;
+    if (code == NOG_NO_MEMORY)
+        stop(CANNOT_START, "there is not enough memory to reserve for SHMALL %lu and MEMLOCK %lu: choose smaller ones by --limits", l->shmall, l->memlock);
+    reply_of(code);
+}
+
+/* ---- what can't run ---- */
+
+/* After the command's exec, before its first instruction. */
+void check_command(pid_t pid) {
+    char path[64];
+    struct stat found;
+    unsigned char head[EI_CLASS + 1] = {0};
+    snprintf(path, sizeof path, "/proc/%d/exe", pid);
+    int file = open(path, O_RDONLY | O_CLOEXEC);
+    if (stat(path, &found) == -1) return;
+    bool gets_user = found.st_mode & S_ISUID && found.st_uid != geteuid();
+    bool gets_group = found.st_mode & S_ISGID && found.st_gid != getegid();
+    if (geteuid() != 0 && (gets_user || gets_group))
+        stop(CANNOT_RUN, "%s is a set-user-ID or set-group-ID program, which only root can run under shmrun", options.command[0]);
+    if (file != -1 && read(file, head, sizeof head) == (ssize_t)sizeof head && head[EI_CLASS] == ELFCLASS32)
+        stop(CANNOT_RUN, "%s is a 32-bit program: shmrun runs those of 64 bits", options.command[0]);
+    close(file);
+}
+
+/* ---- the first process ---- */
+
+struct news { int listener, error; };
+
+/* In the child: it waits until it is traced, installs the filter, and waits until we have the listener. */
+__attribute__((noreturn)) static void become_command(int in, int out) {
+    struct news news = {0};
+    char go;
+    if (read(in, &go, 1) != 1) _exit(CANNOT_START);
+    news.listener = install_filter(secret);
+    news.error = news.listener < 0 ? errno : 0;
+    if (write(out, &news, sizeof news) != sizeof news || read(in, &go, 1) != 1) _exit(CANNOT_START);
+    close(news.listener);
+    execvp(options.command[0], options.command);
+    int status = errno == ENOENT ? NOT_FOUND : CANNOT_RUN;
+    fprintf(stderr, "shmrun: %s: %s\n", options.command[0], strerror(errno));
+    _exit(status);
+}
+
+static int take_listener(pid_t child, int number) {
+    int pid_file = (int)syscall(SYS_pidfd_open, child, 0);
+    int made = (int)syscall(SYS_pidfd_getfd, pid_file, number, 0);
+    if (made == -1) stop(CANNOT_START, "the filter's listener can't be reached: %s", strerror(errno));
+    close(pid_file);
+    return made;
+}
+
+static pid_t start_command(void) {
+    enum { OPTIONS = PTRACE_O_TRACESYSGOOD | PTRACE_O_TRACEFORK | PTRACE_O_TRACEVFORK | PTRACE_O_TRACECLONE | PTRACE_O_TRACEEXEC |
+                     PTRACE_O_TRACESECCOMP | PTRACE_O_EXITKILL };
+    int to[2], from[2];
+    struct news news = {0, EPIPE};
+    if (pipe2(to, O_CLOEXEC) || pipe2(from, O_CLOEXEC)) stop(CANNOT_START, "pipe: %s", strerror(errno));
+    pid_t child = fork();
+    if (child == -1) stop(CANNOT_START, "fork: %s", strerror(errno));
+    if (child == 0) {
+        close(to[1]);
+        become_command(to[0], from[1]);
+    }
+    close(from[1]);
+    if (ptrace(PTRACE_SEIZE, child, 0, OPTIONS) == -1)
+        stop(CANNOT_START, "the command can't be traced: %s; see /proc/sys/kernel/yama/ptrace_scope", strerror(errno));
+    if (write(to[1], "t", 1) != 1 || read(from[0], &news, sizeof news) != sizeof news || news.error)
+        stop(CANNOT_START, "the filter can't be installed: %s; Linux 5.14 or later is needed", strerror(news.error));
+    listener = take_listener(child, news.listener);
+    if (write(to[1], "g", 1) != 1) stop(CANNOT_START, "the command has ended before its start");
+    close(to[0]), close(to[1]), close(from[0]);
+    return child;
+}
+
+/* ---- signals ---- */
+
+/* The terminal's signals reach the command too. What a process sends is sent on. */
+static void send_on(int signal, siginfo_t *info, void *ignored) {
+    (void)ignored;
+    int before = errno;
+    if (info->si_code <= 0 && first > 0) kill(first, signal);
+    errno = before;
+}
+
+static void prepare_signals(void) {
+    static const int sent_on[] = {SIGINT, SIGQUIT, SIGTERM, SIGHUP, SIGUSR1, SIGUSR2}, ignored[] = {SIGTSTP, SIGTTIN, SIGTTOU, SIGPIPE};
+    struct sigaction action = {.sa_sigaction = send_on, .sa_flags = SA_SIGINFO | SA_RESTART};
+    for (size_t i = 0; i < sizeof sent_on / sizeof *sent_on; i++) sigaction(sent_on[i], &action, NULL);
+    for (size_t i = 0; i < sizeof ignored / sizeof *ignored; i++) signal(ignored[i], SIG_IGN);
+}
+
+/* ---- the end ---- */
+
+/* A signal that ended the command ends shmrun too, so that a shell sees it. */
+static int status_of(int status) {
+    if (WIFEXITED(status)) return WEXITSTATUS(status);
+    int number = WTERMSIG(status);
+    struct rlimit none = {0, 0};
+    setrlimit(RLIMIT_CORE, &none);
+    signal(number, SIG_DFL);
+    fflush(NULL);
+    raise(number);
+    return 128 + number;
+}
+
+/* Each segment may need a file of its own. */
+static void raise_file_limit(void) {
+    struct rlimit limit;
+    if (getrlimit(RLIMIT_NOFILE, &limit) == -1) return;
+    limit.rlim_cur = limit.rlim_max;
+    setrlimit(RLIMIT_NOFILE, &limit);
+}
+
+int main(int argc, char **argv) {
+    int file;
+    while ((file = open("/dev/null", O_RDWR | O_CLOEXEC)) >= 0 && file <= STDERR_FILENO) continue;  /* none of ours is 0, 1 or 2 */
+    close(file);
+    read_options(argc, argv);
+    open_machine();
+    if (getrandom(&secret, sizeof secret, 0) != sizeof secret) stop(CANNOT_START, "getrandom: %s", strerror(errno));
+    first = start_command();
+    prepare_signals();
+    raise_file_limit();
+    int status = trace_all(first);
+    write_record();
+    return status_of(status);
+}
