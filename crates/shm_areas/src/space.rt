@@ -136,9 +136,7 @@ impl Space {
     pub fn place(&self, addr: u64) -> Option<Place>
         ensures { result ≡ access.place (bare_all self.now.pieces) addr }
     {
-        let Some(piece) = self.piece_at(addr) else {
-            return None;
-        };
+        let piece = self.piece_at(addr)?;
         Some(Place {
             seg: piece.seg,
             at: piece.byte_at(addr),

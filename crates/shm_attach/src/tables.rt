@@ -97,10 +97,7 @@ impl Tables {
     pub(crate) fn frame(&self, key: usize, page: usize) -> Option<FrameNo>
         ensures { result ≡ frame_in (get self.now.slab key) page }
     {
-        match self.slab.get(key) {
-            Some(table) => table.frame(page),
-            None => None,
-        }
+        self.slab.get(key)?.frame(page)
     }
 
     // Extends a table to this many pages of its segment.
