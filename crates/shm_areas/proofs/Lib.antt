@@ -5,6 +5,5 @@ pub mod Edits
 pub mod Cuts
 pub mod Origins
 pub mod Leaving
-pub mod Reaching
 pub mod Passing
 pub mod Filled

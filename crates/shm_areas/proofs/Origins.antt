@@ -27,32 +27,32 @@ seg_of_origin addr ps = rw (← stored_origin addr ps) (same (find (λ (p : Piec
     same None = refl
     same (Some p) = refl
 
--- IF NO PIECE HAS A HIGHER FIRST PAGE
+-- IF NO PIECE HAS A HIGHER PAGE
 
 other-below : (addr : ℕ) (p : Piece) → p.base < addr → has_origin addr (bare p) ≡ false
 other-below addr p lt = ne_eqb p.base (addr + 4096 * p.first_page) (λ same. absurd (omega (arith, same, lt)))
 
-other-above : (addr reach : ℕ) (p : Piece) → p.first_page ≤ reach → addr + 4096 * reach < p.base → has_origin addr (bare p) ≡ false
+other-above : (addr reach : ℕ) (p : Piece) → p.first_page + p.pages ≤ reach → addr + 4096 * reach < p.base → has_origin addr (bare p) ≡ false
 other-above addr reach p le lt = ne_eqb p.base (addr + 4096 * p.first_page) (λ same. absurd (omega (arith, same, le, lt)))
 
-Within : ℕ → Piece → Type 0
-Within reach p = p.first_page ≤ reach
+Within : ℕ → flat.Piece → Type 0
+Within reach p = p.first_page + p.pages ≤ reach
 
 -- no piece farther above has the origin
-none-further : (addr reach : ℕ) (ps : List Piece) → AreWithin reach ps → ((k : ℕ) (d : Piece) → k < length ps → addr + 4096 * reach < (get_or ps k d).base)
+none-further : (addr reach : ℕ) (ps : List Piece) → AreWithin reach (bare_all ps) → ((k : ℕ) (d : Piece) → k < length ps → addr + 4096 * reach < (get_or ps k d).base)
     → find (λ (p : Piece). has_origin addr (bare p)) ps ≡ None
 unfolding Within
 none-further addr reach [] within above = refl
 none-further addr reach (p ∷ ps) within above =
-    rw (other-above addr reach p (All-head (Within reach) p ps within) (above 0 p (omega arith)))
-    (none-further addr reach ps (All-tail (Within reach) p ps within) (λ k d l. above (suc k) d (omega arith)))
+    rw (other-above addr reach p (All-head (Within reach) (bare p) (bare_all ps) within) (above 0 p (omega arith)))
+    (none-further addr reach ps (All-tail (Within reach) (bare p) (bare_all ps) within) (λ k d l. above (suc k) d (omega arith)))
 
-without-further : (addr seg reach : ℕ) (ps : List Piece) → AreWithin reach ps → ((k : ℕ) (d : Piece) → k < length ps → addr + 4096 * reach < (get_or ps k d).base) → stored_without addr seg ps ≡ ps
+without-further : (addr seg reach : ℕ) (ps : List Piece) → AreWithin reach (bare_all ps) → ((k : ℕ) (d : Piece) → k < length ps → addr + 4096 * reach < (get_or ps k d).base) → stored_without addr seg ps ≡ ps
 unfolding Within
 without-further addr seg reach [] within above = refl
 without-further addr seg reach (p ∷ ps) within above =
-    rw (other-above addr reach p (All-head (Within reach) p ps within) (above 0 p (omega arith)))
-    (ap (λ (xs : List Piece). p ∷ xs) (without-further addr seg reach ps (All-tail (Within reach) p ps within) (λ k d l. above (suc k) d (omega arith))))
+    rw (other-above addr reach p (All-head (Within reach) (bare p) (bare_all ps) within) (above 0 p (omega arith)))
+    (ap (λ (xs : List Piece). p ∷ xs) (without-further addr seg reach ps (All-tail (Within reach) (bare p) (bare_all ps) within) (λ k d l. above (suc k) d (omega arith))))
 
 rest_range : {addr reach first last f l : ℕ} {p : Piece} {ps : List Piece} → IsOriginRange addr reach (p ∷ ps) first last → f ≡ first - 1 → l ≡ last - 1 → 0 < last → IsOriginRange addr reach ps f l
 rest_range r fewer shorter some =
@@ -65,20 +65,20 @@ rest_range r fewer shorter some =
       above = λ k d g l. r.above (suc k) d (omega arith) (omega arith);
     }
 
-find-first : (addr reach last : ℕ) (ps : List Piece) → AreWithin reach ps → IsOriginRange addr reach ps 0 last
+find-first : (addr reach last : ℕ) (ps : List Piece) → AreWithin reach (bare_all ps) → IsOriginRange addr reach ps 0 last
     → find (λ (p : Piece). has_origin addr (bare p)) (take last ps) ≡ find (λ (p : Piece). has_origin addr (bare p)) ps
 unfolding Within
 find-first addr reach zero ps within r = sym (none-further addr reach ps within (λ k d l. r.above k d (omega arith) l))
 find-first addr reach (suc last) [] within r = refl
 find-first addr reach (suc last) (p ∷ ps) within r =
-    let rest = find-first addr reach last ps (All-tail (Within reach) p ps within) (rest_range r (omega arith) (omega arith) (omega arith)) in
+    let rest = find-first addr reach last ps (All-tail (Within reach) (bare p) (bare_all ps) within) (rest_range r (omega arith) (omega arith) (omega arith)) in
     elim (cases_Bool (has_origin addr (bare p))) [
       | inl h ↦ rw h refl
       | inr h ↦ rw h rest
     ]
 
 -- the run has the lowest piece with the origin
-pub find-run : (addr reach first last : ℕ) (ps : List Piece) → AreWithin reach ps → IsOriginRange addr reach ps first last
+pub find-run : (addr reach first last : ℕ) (ps : List Piece) → AreWithin reach (bare_all ps) → IsOriginRange addr reach ps first last
     → find (λ (p : Piece). has_origin addr (bare p)) (slice_range ps first last) ≡ find (λ (p : Piece). has_origin addr (bare p)) ps
 unfolding Within
 find-run addr reach zero last ps within r = let whole : last - 0 ≡ last = omega arith in rw whole (find-first addr reach last ps within r)
@@ -87,21 +87,21 @@ find-run addr reach (suc first) (suc last) [] within r = absurd (omega (arith, r
 find-run addr reach (suc first) (suc last) (p ∷ ps) within r =
     let shifted : suc last - suc first ≡ last - first = omega arith in
     rw (shifted, other-below addr p (r.below 0 p (omega arith)))
-    (find-run addr reach first last ps (All-tail (Within reach) p ps within) (rest_range r (omega arith) (omega arith) (omega arith)))
+    (find-run addr reach first last ps (All-tail (Within reach) (bare p) (bare_all ps) within) (rest_range r (omega arith) (omega arith) (omega arith)))
 
-taken-first : (addr seg reach last : ℕ) (ps : List Piece) → AreWithin reach ps → IsOriginRange addr reach ps 0 last → stored_without addr seg (take last ps) ++ drop last ps ≡ stored_without addr seg ps
+taken-first : (addr seg reach last : ℕ) (ps : List Piece) → AreWithin reach (bare_all ps) → IsOriginRange addr reach ps 0 last → stored_without addr seg (take last ps) ++ drop last ps ≡ stored_without addr seg ps
 unfolding Within
 taken-first addr seg reach zero ps within r = sym (without-further addr seg reach ps within (λ k d l. r.above k d (omega arith) l))
 taken-first addr seg reach (suc last) [] within r = absurd (omega (arith, r.bound))
 taken-first addr seg reach (suc last) (p ∷ ps) within r =
-    let rest = taken-first addr seg reach last ps (All-tail (Within reach) p ps within) (rest_range r (omega arith) (omega arith) (omega arith)) in
+    let rest = taken-first addr seg reach last ps (All-tail (Within reach) (bare p) (bare_all ps) within) (rest_range r (omega arith) (omega arith) (omega arith)) in
     elim (cases_Bool (stored_named addr seg p)) [
       | inl h ↦ rw h rest
       | inr h ↦ rw h (ap (λ (xs : List Piece). p ∷ xs) rest)
     ]
 
 -- taking the named pieces out of the run takes out all of them
-pub taken-run : (addr seg reach first last : ℕ) (ps : List Piece) → AreWithin reach ps → IsOriginRange addr reach ps first last → taken_between addr seg ps first last ≡ stored_without addr seg ps
+pub taken-run : (addr seg reach first last : ℕ) (ps : List Piece) → AreWithin reach (bare_all ps) → IsOriginRange addr reach ps first last → taken_between addr seg ps first last ≡ stored_without addr seg ps
 unfolding Within
 taken-run addr seg reach zero last ps within r = let whole : last - 0 ≡ last = omega arith in rw whole (taken-first addr seg reach last ps within r)
 taken-run addr seg reach (suc first) zero ps within r = absurd (omega (arith, r.order))
@@ -109,7 +109,7 @@ taken-run addr seg reach (suc first) (suc last) [] within r = absurd (omega (ari
 taken-run addr seg reach (suc first) (suc last) (p ∷ ps) within r =
     let shifted : suc last - suc first ≡ last - first = omega arith in
     rw (shifted, other-below addr p (r.below 0 p (omega arith)))
-    (ap (λ (xs : List Piece). p ∷ xs) (taken-run addr seg reach first last ps (All-tail (Within reach) p ps within) (rest_range r (omega arith) (omega arith) (omega arith))))
+    (ap (λ (xs : List Piece). p ∷ xs) (taken-run addr seg reach first last ps (All-tail (Within reach) (bare p) (bare_all ps) within) (rest_range r (omega arith) (omega arith) (omega arith))))
 
 -- ONE BY ONE
 

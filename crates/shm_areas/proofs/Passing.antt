@@ -1,5 +1,5 @@
 -- A property of all pieces that each part of a piece inherits holds after a cut and an insertion.
-use Rattle.shm_areas.proofs.Names.{ℕ, nat_lt, List, [], ◌∷◌, inl, inr, cases_Bool, cut, inserted, parts}
+use Rattle.shm_areas.proofs.Names.{ℕ, nat_lt, List, [], ◌∷◌, inl, inr, cases_Bool, cut, inserted, parts, ◌+◌, ◌≤◌, arith, common_steps}
 use Rattle.std.specs.Prelude.{All}
 use Rattle.std.proofs.lemmas.List.Concat.{flat_map-cons}
 use Rattle.std.proofs.lemmas.List.Elements.{All-append, All-cons, All-head, All-nil, All-tail}
@@ -17,3 +17,7 @@ all-inserted P p (q ∷ qs) own all = elim (cases_Bool (nat_lt p.base q.base)) [
   | inl h ↦ rw h (All-cons P p (q ∷ qs) own all)
   | inr h ↦ rw h (All-cons P q (inserted p qs) (All-head P q qs all) (all-inserted P p qs own (All-tail P q qs all)))
 ]
+
+-- no part of a piece has a higher page than the piece
+pub within-parts : (reach from to : ℕ) (p : Piece) → p.first_page + p.pages ≤ reach → All (λ (q : Piece). q.first_page + q.pages ≤ reach) (parts from to p)
+within-parts reach from to p le = grind (arith, common_steps, le)

@@ -29,9 +29,9 @@ pub record IsFit (p : flat.Piece) : Type 0 where
   pub few : p.first_page + p.pages ≤ MOST_SHMALL
   pub within : end_of p ≤ end_address
 
--- no piece has a first page above `reach`
-abbrev pub AreWithin : ℕ → List Piece → Type 0
-AreWithin reach ps = All (λ (p : Piece). p.first_page ≤ reach) ps
+-- no piece has the page `reach` or a higher one
+abbrev pub AreWithin : ℕ → List flat.Piece → Type 0
+AreWithin reach ps = All (λ (p : flat.Piece). p.first_page + p.pages ≤ reach) ps
 
 -- fit pieces in order of their bases, none below `low`, that do not overlap
 abbrev pub Arranged : ℕ → List flat.Piece → Type 0

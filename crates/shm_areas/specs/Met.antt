@@ -24,7 +24,7 @@ pub record IsPieceRange (from to : ℕ) (ps : List Piece) (first last : ℕ) : T
   pub below : (k : ℕ) (d : Piece) → k < last → (get_or ps k d).base < to
   pub above : (k : ℕ) (d : Piece) → last ≤ k → k < length ps → to ≤ (get_or ps k d).base
 
--- pieces at other indexes have another origin, if no piece has a first page above `reach`
+-- pieces at other indexes have another origin, if no piece has the page `reach` or a higher one
 pub record IsOriginRange (addr reach : ℕ) (ps : List Piece) (first last : ℕ) : Type 0 where
   pub order : first ≤ last
   pub bound : last ≤ length ps

@@ -3,7 +3,7 @@ ghost use Rattle.std.specs.Prelude.{◌≡◌, ◌+◌, ◌<◌, ◌≤◌, leng
 ghost use Rattle.std.specs.List.{insert as inserted_at, splice};
 ghost use Rattle.shm_base.specs.Access as access;
 ghost use Rattle.shm_base.specs.Space as flat;
-ghost use Rattle.shm_areas.specs.Arranged.{bare, bare_all, Arranged, AreWithin, IsFit};
+ghost use Rattle.shm_areas.specs.Arranged.{bare, bare_all, Arranged, IsFit};
 ghost use Rattle.shm_areas.specs.Edit.{stored_below, stored_above, stored_cut, IsCut, left_by};
 ghost use Rattle.shm_base.specs.declared.bounds.TheConstants.{MOST_PIECES};
 
@@ -19,28 +19,6 @@ pub(crate) struct Cut {
     pub(crate) last: usize,
     pub(crate) below: Option<Piece>,
     pub(crate) above: Option<Piece>,
-}
-
-fn first_page_of(part: Option<Piece>) -> u32
-    ensures { AreWithin result (option_to_list part) }
-{
-    match part {
-        Some(piece) => piece.first_page,
-        None => 0,
-    }
-}
-
-impl Cut {
-    ghost use Rattle.std.specs.Prelude.{option_to_list};
-    ghost use Rattle.shm_areas.specs.Arranged.{AreWithin};
-
-    /// The highest first page of the parts, or a higher number.
-    pub(crate) fn reach(&self) -> u32
-        ensures below { AreWithin result (option_to_list self.now.below) }
-        ensures above { AreWithin result (option_to_list self.now.above) }
-    {
-        first_page_of(self.below).max(first_page_of(self.above))
-    }
 }
 
 /// The part of a piece below a range.

@@ -64,7 +64,7 @@ pub(crate) fn run_in(pieces: &[Piece], from: u64, to: u64) -> PieceRange
     PieceRange { first: count, last }
 }
 
-/// The pieces that may have this origin, if no piece has a first page above `reach`.
+/// The pieces that may have this origin, if no piece has the page `reach` or a higher one.
 pub(crate) fn run_of_origin(pieces: &[Piece], addr: u64, reach: u32) -> PieceRange
     requires { Arranged flat.lowest_address (bare_all pieces.now) }
     ensures { IsOriginRange addr reach pieces.now result.first result.last }

@@ -26,8 +26,8 @@ use std::marker::Model;
 pub struct Space {
     pieces: Vec<Piece>,
     most: u32,
-    // No piece has a higher first page, so no piece is farther above the address where its segment would
-    // begin.
+    // No piece has the page with this number or a higher one, so none is this many pages or more above the
+    // address where its segment would begin.
     reach: u32,
     // Each address from 0x40000000 up to this one is in a piece, so no gap begins below.
     filled: u64,
@@ -46,7 +46,7 @@ impl Drop for Space {
 
 impl Model for Space {
     ghost use Rattle.std.specs.Prelude.{◌≤◌, vec_capacity};
-    ghost use Rattle.shm_areas.specs.Arranged.{SpaceView, IsSpace, AreWithin};
+    ghost use Rattle.shm_areas.specs.Arranged.{SpaceView, IsSpace, AreWithin, bare_all};
     ghost use Rattle.shm_areas.specs.Gap.{IsFilled};
 
     ghost Value = { SpaceView };
@@ -54,7 +54,7 @@ impl Model for Space {
     ghost view = { λ s. record { pieces = s.pieces.items; most = s.most } };
 
     ghost invariant = { λ s. IsSpace (record { pieces = s.pieces.items; most = s.most })
-        × (s.most ≤ vec_capacity s.pieces) × AreWithin s.reach s.pieces.items
+        × (s.most ≤ vec_capacity s.pieces) × AreWithin s.reach (bare_all s.pieces.items)
         × IsFilled s.filled s.pieces.items };
 }
 
@@ -136,9 +136,7 @@ impl Space {
     pub fn place(&self, addr: u64) -> Option<Place>
         ensures { result ≡ access.place (bare_all self.now.pieces) addr }
     {
-        let Some(piece) = self.piece_at(addr) else {
-            return None;
-        };
+        let piece = self.piece_at(addr)?;
         Some(Place {
             seg: piece.seg,
             at: piece.byte_at(addr),
@@ -214,7 +212,7 @@ impl Space {
         ensures flat { bare_all self.new.pieces ≡ flat.inserted (bare piece) (bare_all self.old.pieces) }
     {
         let at = count_to(&self.pieces, piece.base);
-        self.reach = self.reach.max(piece.first_page);
+        self.reach = self.reach.max(piece.first_page + piece.pages);
         self.filled = raised(self.filled, &piece);
         put_at(&mut self.pieces, at, piece);
     }
@@ -230,7 +228,6 @@ impl Space {
         ensures flat { bare_all self.new.pieces ≡ flat.cut from to (bare_all self.old.pieces) }
     {
         let cut = cut_of(&self.pieces, from, to);
-        self.reach = self.reach.max(cut.reach());
         self.filled = lowered(self.filled, from);
         replace(&mut self.pieces, cut);
     }

@@ -1,5 +1,5 @@
 -- No other segment with a segment's index is attached, if no piece names one.
-use Rattle.shm_attach.proofs.Names.{◌≡◌, ◌≢◌, ℕ, ◌%◌, List, [], ◌∷◌, refl, sym, ap, ◌∙◌, arith, ne_eqb, All, All-head, All-tail, pieces_of, some_if, sum_by-cons}
+use Rattle.shm_attach.proofs.Names.{◌≡◌, ◌≢◌, ℕ, ◌%◌, List, [], ◌∷◌, refl, sym, ap, ◌∙◌, arith, ne_eqb, All, All-head, All-tail, pieces_of, attach_count, some_if, sum_by-cons}
 use Rattle.shm_base.specs.State as flat
 use Rattle.shm_attach.specs.Spaces.{IsOnlyAt}
 use Rattle.shm_attach.proofs.Processes.{one_more}
@@ -12,7 +12,7 @@ module _ (P : flat.Piece → Type 0) (seg : ℕ) (one : (p : flat.Piece) → P p
       let none : some_if id p.seg 1 ≡ 0 = rw (ne_eqb p.seg id apart) refl in
       omega (arith, one_more id p ps, none, unnamed id ps same ne (All-tail P p ps all))
 
-  pub only-at : (rs : List flat.Runner) → All (λ (r : flat.Runner). All P r.pieces) rs → IsOnlyAt seg rs
+  pub only-at : (rs : List flat.Runner) → All (λ (r : flat.Runner). All P r.pieces) rs → IsOnlyAt seg (attach_count rs)
   only-at [] all id same ne = refl
   only-at (r ∷ rs) all id same ne =
       let here = unnamed id r.pieces same ne (All-head (λ (r : flat.Runner). All P r.pieces) r rs all) in

@@ -1,16 +1,9 @@
 -- The keys of tables by segment index, through the changes of their list.
-use Rattle.shm_attach.proofs.Names.{◌≡◌, ◌≢◌, ℕ, zero, suc, ◌%◌, ◌<◌, ◌≤◌, if◌then◌else◌, nat_eq, List, [], ◌∷◌, ◌++◌, length, Option, Some, None, inl, inr, cases_eq, cases_lt, refl, sym, ap, ◌∙◌, arith, set, eq-eqb, ne_eqb, none-some, true≢false}
+use Rattle.shm_attach.proofs.Names.{◌≡◌, ◌≢◌, ℕ, zero, suc, ◌%◌, ◌<◌, ◌≤◌, if◌then◌else◌, nat_eq, List, [], ◌∷◌, length, Option, Some, None, inl, inr, cases_eq, cases_lt, refl, sym, ap, ◌∙◌, arith, set, eq-eqb, ne_eqb, none-some, true≢false}
 use Rattle.std.specs.Prelude.{IsSome}
 use Rattle.std.proofs.lemmas.List.{get_or-set_same, get_or-set_other}
 use Rattle.shm_attach.specs.Keys.{AreInPlace, IsAt, entry_at, key_at, key_for}
 use Rattle.shm_attach.specs.declared.keys.Keyed.{Keyed}
-
--- a list without keys at its end has the same ones
-pub entry-more : (es : List (Option Keyed)) (i : ℕ) → entry_at (es ++ None ∷ []) i ≡ entry_at es i
-entry-more [] zero = refl
-entry-more [] (suc i) = refl
-entry-more (e ∷ es) zero = refl
-entry-more (e ∷ es) (suc i) = entry-more es i
 
 beyond : (es : List (Option Keyed)) (i : ℕ) → length es ≤ i → entry_at es i ≡ None
 beyond [] i le = refl

@@ -1,7 +1,6 @@
 -- The processes with their pieces, as contracts see them, and the frames in their tables.
 use Rattle.std.specs.Prelude.{◌≡◌, ◌≢◌, ◌%◌, ℕ, List, [], Option, Some, None, slice_get, All}
 use Rattle.shm_base.specs.State.{Piece, Life, Unborn, Runner}
-use Rattle.shm_base.specs.Segments.{attach_count}
 use Rattle.shm_base.specs.declared.bounds.TheConstants.{INDEXES}
 use Rattle.shm_base.specs.Step.{Caller as FlatCaller, caller_from}
 use Rattle.shm_fault.specs.Store.{StoreView, frame_of}
@@ -52,6 +51,6 @@ caller_seen c rs = record { index = c.index; pid = c.pid; cred = c.cred; pieces 
 abbrev pub IsCaller : Caller → List Runner → Type 0
 IsCaller c rs = caller_from 0 c.pid rs ≡ Some (caller_seen c rs)
 
--- no other segment with a segment's index is attached
-abbrev pub IsOnlyAt : ℕ → List Runner → Type 0
-IsOnlyAt seg rs = (id : ℕ) → id % INDEXES ≡ seg % INDEXES → id ≢ seg → attach_count rs id ≡ 0
+-- no other segment with a segment's index has pieces, of which there are these many of each segment
+abbrev pub IsOnlyAt : ℕ → (ℕ → ℕ) → Type 0
+IsOnlyAt seg count = (id : ℕ) → id % INDEXES ≡ seg % INDEXES → id ≢ seg → count id ≡ 0

@@ -1,11 +1,10 @@
 -- How the tables of the attached segments match the pieces.
-use Rattle.std.specs.Prelude.{◌≡◌, ◌≢◌, ℕ, ◌+◌, ◌%◌, ◌<◌, ◌≤◌, List, [], slice_get, Option, Some, None, All}
+use Rattle.std.specs.Prelude.{◌≡◌, ℕ, ◌+◌, ◌<◌, ◌≤◌, List, [], slice_get, Option, Some, None, All}
 use Rattle.slab.specs.Slab.{Slab, get}
 use Rattle.shm_base.specs.declared.paging.PageRef.{PageRef}
 use Rattle.shm_areas.specs.declared.piece.Piece.{Piece}
 use Rattle.shm_attach.specs.declared.process.Runner.{Runner}
 use Rattle.shm_attach.specs.declared.tables.Tables.{Tables}
-use Rattle.shm_base.specs.declared.bounds.TheConstants.{INDEXES}
 use Rattle.shm_attach.specs.Keys.{key_at}
 use Rattle.shm_attach.specs.Table.{AllTrue, TableView, seg_in, count_in, size_in, with_frame}
 
@@ -31,10 +30,6 @@ pub record OneTableEach (t : Tables) : Type 0 where
   pub keyed : (id key : ℕ) → key_of t id ≡ Some key → seg_in (get t.slab key) ≡ Some id
   pub named : (id key : ℕ) → seg_in (get t.slab key) ≡ Some id → key_of t id ≡ Some key
   pub some : (id : ℕ) → counted t id ≡ 0 → key_of t id ≡ None
-
--- no other segment with a segment's index has pieces
-abbrev pub IsOnlyAt : Tables → ℕ → Type 0
-IsOnlyAt t seg = (id : ℕ) → id % INDEXES ≡ seg % INDEXES → id ≢ seg → counted t id ≡ 0
 
 -- the piece's key finds a table of its segment, and the table has its pages
 pub record HasTable (t : Slab TableView) (p : Piece) : Type 0 where

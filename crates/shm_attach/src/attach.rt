@@ -1,5 +1,6 @@
 //! Attaches the pages of a segment.
 ghost use Rattle.std.specs.Prelude.{◌≡◌, ◌+◌, ◌*◌, ◌≤◌, length, OnOk, OnErr};
+ghost use Rattle.shm_base.specs.Segments.{attach_count};
 ghost use Rattle.shm_base.specs.Space.{cut_segments};
 ghost use Rattle.shm_attach.specs.Mapping.{own_pieces, left_beside, attached};
 ghost use Rattle.shm_attach.specs.Spaces.{IsCaller, IsOnlyAt, AreTrue};
@@ -33,7 +34,7 @@ impl Spaces {
         requires live { IsCaller caller.now self.old.runners }
         requires pages { (1 ≤ pages) × (pages ≤ MOST_SHMALL) }
         requires range { IsRange pages base }
-        requires only { IsOnlyAt seg self.old.runners }
+        requires only { IsOnlyAt seg (attach_count self.old.runners) }
         requires room { length (left_beside self.old caller.now base pages) + 1 ≤ self.old.most }
         ensures lost { OnOk result (self.new.lost
             ≡ cut_segments base (base + PAGE_SIZE * pages) (own_pieces self.old caller.now)) }

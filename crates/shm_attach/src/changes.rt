@@ -82,7 +82,8 @@ pub(crate) fn take_range(
 )
     requires there { index < length processes.old.entries }
     requires range { IsPageRange from to }
-    requires room { let es = processes.old.entries in length (cut from to (held es index)) ≤ most_at es index }
+    requires room { let es = processes.old.entries in
+        length (cut from to (held es index)) ≤ most_at es index }
     requires reservations { HasReservations processes.old.entries tables.old }
     ensures { let kept = KeepCounted tables.old tables.new in
         let es = processes.old.entries in

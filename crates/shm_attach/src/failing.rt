@@ -77,9 +77,7 @@ impl Spaces {
         ensures { (m : StoreView) → AreTrue self.now.translations m
             → result ≡ first_absent (frame_of m) (pieces_by pid self.now.runners) addr len }
     {
-        let Some(caller) = self.caller(pid) else {
-            return None;
-        };
+        let caller = self.caller(pid)?;
         let space = space_at(&self.processes, caller.index);
         absent_in(space, &self.tables, addr, len)
     }

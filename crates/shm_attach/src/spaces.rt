@@ -196,7 +196,7 @@ impl Spaces {
     /// Whether no other segment with this segment's index is attached. Of the segments that exist at the same
     /// time, no two have one index.
     pub fn is_only_at(&self, seg: u32) -> bool
-        ensures { (result ≡ true) ↔ IsOnlyAt seg self.now.runners }
+        ensures { (result ≡ true) ↔ IsOnlyAt seg (attach_count self.now.runners) }
     {
         self.tables.is_only_at(seg)
     }

@@ -70,13 +70,6 @@ impl Table {
         }
     }
 
-    /// The segment.
-    pub(crate) fn seg(&self) -> u32
-        ensures { result ≡ self.now.seg }
-    {
-        self.seg
-    }
-
     /// The number of pieces.
     pub(crate) fn count(&self) -> u32
         ensures { result ≡ self.now.count }

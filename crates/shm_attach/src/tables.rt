@@ -5,9 +5,10 @@ ghost use Rattle.std.specs.Prelude.{◌≡◌, ◌↔◌, ℕ, ◌+◌, ◌^◌,
 ghost use Rattle.slab.specs.Slab.{get};
 ghost use Rattle.shm_fault.specs.Steps.{moved};
 ghost use Rattle.shm_fault.specs.Store.{frame_of};
+ghost use Rattle.shm_attach.specs.Spaces.{IsOnlyAt};
 ghost use Rattle.shm_attach.specs.Views.{some_if};
 ghost use Rattle.shm_attach.specs.Table.{frame_in, seg_in, size_in, AllTrue};
-ghost use Rattle.shm_attach.specs.Tables.{counted, key_of, AreSameTables, IsOnlyAt, OneTableEach};
+ghost use Rattle.shm_attach.specs.Tables.{counted, key_of, AreSameTables, OneTableEach};
 ghost use Rattle.shm_attach.specs.Tables.{KeepCounts, KeepCounted, KeepTables, KeepFrames, Notes};
 
 use crate::keys::Keys;
@@ -73,7 +74,7 @@ impl Tables {
     /// Whether no other segment with a segment's index has pieces.
     pub(crate) fn is_only_at(&self, seg: u32) -> bool
         requires { OneTableEach self.now }
-        ensures { (result ≡ true) ↔ IsOnlyAt self.now seg }
+        ensures { (result ≡ true) ↔ IsOnlyAt seg (counted self.now) }
     {
         self.keys.is_only_at(seg)
     }
@@ -96,10 +97,7 @@ impl Tables {
     pub(crate) fn frame(&self, key: usize, page: usize) -> Option<FrameNo>
         ensures { result ≡ frame_in (get self.now.slab key) page }
     {
-        match self.slab.get(key) {
-            Some(table) => table.frame(page),
-            None => None,
-        }
+        self.slab.get(key)?.frame(page)
     }
 
     // Extends a table to this many pages of its segment.
@@ -135,7 +133,7 @@ impl Tables {
         pages: u32,
     ) -> Result<usize, HostMemory>
         requires fits { counted self.old seg + 1 < 2 ^ 32 }
-        requires only { IsOnlyAt self.old seg }
+        requires only { IsOnlyAt seg (counted self.old) }
         requires tied { OneTableEach self.old }
         ensures counts { let more = λ (id : ℕ). some_if id seg 1 in
             OnOk result ((id : ℕ) → counted self.new id ≡ counted self.old id + more id) }

@@ -1,8 +1,9 @@
-use Rattle.shm_areas.proofs.Names.{ap, ◌≡◌, ◌≤◌, ◌∙◌, length, List, arith, common_steps, length-map, cut, Piece, bare, bare_all, stored_cut, left_by}
+use Rattle.shm_areas.proofs.Names.{ap, ◌+◌, ◌≡◌, ◌≤◌, ◌∙◌, length, List, arith, common_steps, length-map, cut, Piece, bare, bare_all, stored_cut, left_by}
+use Rattle.shm_base.specs.State as flat
 use Rattle.shm_areas.specs.Arranged.{SpaceView}
 use Rattle.shm_areas.proofs.Edits.{bare_cut, arranged_cut}
 use Rattle.shm_areas.proofs.Filled.{filled-cut}
-use Rattle.shm_areas.proofs.Reaching.{within-left}
+use Rattle.shm_areas.proofs.Passing.{all-cut, within-parts}
 use Rattle.shm_areas.proofs.space.Space.cut.Goals.{After-cut_of-cut}
 use Rattle.shm_areas.proofs.space.Space.cut.Goals as goal
 
@@ -27,9 +28,8 @@ pub invariant_of-self : goal.invariant_of-self
 invariant_of-self c = (
   grind (arith, common_steps, arranged_cut, returns-clause-flat, returns-clause-kept, few),
   grind (arith, common_steps),
-  rw c.replace.ensures.items
-      (within-left c.self.inside.reach c.reach.result c.max-self-inside.result c.self.inside.pieces.items c.cut_of-cut.result (omega (arith, c.max-self-inside.ensures)) (omega (arith, c.max-self-inside.ensures))
-      c.self.invariant.2 c.reach.ensures.below c.reach.ensures.above),
+  rw (c.replace.ensures.items, left (goal.at.invariant_of-self c).After-cut_of-cut, ← c.self.view_is, bare_cut c.args.from c.args.to c.self.inside.pieces.items)
+      (all-cut (λ (p : flat.Piece). p.first_page + p.pages ≤ c.self.inside.reach) c.args.from c.args.to (within-parts c.self.inside.reach c.args.from c.args.to) (bare_all c.self.inside.pieces.items) c.self.invariant.2),
   rw (c.replace.ensures.items, left (goal.at.invariant_of-self c).After-cut_of-cut, c.lowered-self-inside.ensures, ← c.self.view_is)
       (filled-cut c.self.inside.filled c.args.from c.args.to c.self.inside.pieces.items c.self.invariant.0.arranged c.requires.from c.self.invariant.3),
 )

@@ -1,8 +1,9 @@
-use Rattle.shm_areas.proofs.Names.{ap, ◌≡◌, ◌≤◌, ◌∙◌, find, has_origin, length, List, arith, not, option_map, origin_of, sym, lowest_address, Piece, bare, bare_all, stored_named, stored_without}
+use Rattle.shm_areas.proofs.Names.{ap, ◌+◌, ◌≡◌, ◌≤◌, ◌∙◌, find, has_origin, length, List, arith, not, option_map, origin_of, sym, lowest_address, Piece, bare, bare_all, stored_named, stored_without}
 use Rattle.std.specs.Prelude.{slice_range}
 use Rattle.std.proofs.lemmas.List.Elements.{All-filter}
 use Rattle.std.proofs.lemmas.List.Sums.{length-filter, count_by-le-length}
 use Rattle.shm_base.specs.State as flat
+use Rattle.shm_base.specs.Space.{is_named}
 use Rattle.shm_areas.specs.Arranged.{SpaceView}
 use Rattle.shm_areas.proofs.Edits.{arranged_filter, bare_filter}
 use Rattle.shm_areas.proofs.Filled.{filled-without}
@@ -58,6 +59,6 @@ invariant_of-self c =
         bound = c.self.invariant.0.bound;
       },
       omega (arith, c.take_named.ensures.capacity, c.self.invariant.1),
-      All-filter stays (λ (p : Piece). p.first_page ≤ c.self.inside.reach) ps c.self.invariant.2,
+      rw (bare_filter c.args.addr seg ps) (All-filter (λ (p : flat.Piece). not (is_named c.args.addr seg p)) (λ (p : flat.Piece). p.first_page + p.pages ≤ c.self.inside.reach) (bare_all ps) c.self.invariant.2),
       rw c.lowered-self-inside.ensures (filled-without c.self.inside.filled c.args.addr seg ps c.self.invariant.3),
     )

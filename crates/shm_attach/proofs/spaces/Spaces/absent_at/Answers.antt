@@ -4,7 +4,7 @@ use Rattle.shm_attach.proofs.Translations.{all-true}
 use Rattle.shm_attach.proofs.spaces.Spaces.absent_at.Goals as goal
 
 pub space_at-space-requires : goal.space_at-space-requires
-space_at-space-requires c = caller_within c.in-Some.caller c.self.inside.processes.entries (rw (← c.self.view_is) at c.in-Some.ensures.live)
+space_at-space-requires c = caller_within c.in_ok-caller.caller c.self.inside.processes.entries (rw (← c.self.view_is) at c.in_ok-caller.ensures.live)
 
 pub returns : goal.returns
 returns c = λ m old.
