@@ -2,6 +2,7 @@
 
 A fault has the kind that the programs print. It also has the word, its column, and what is allowed there.
 """
+import collections.abc
 import re
 from dataclasses import dataclass
 from typing import Any, Callable, Dict, Iterator, List, NamedTuple, Optional, Sequence, Tuple, Union
@@ -323,7 +324,7 @@ def read_script(text: Union[str, bytes]) -> Script:
 
 def areas_of(swap: Union[str, Sequence[str]]) -> List[Area]:
     """The swap areas that words name: ram:N, sparse:N, mirror:N, fuse:N:rK or fuse:N:wK."""
-    if not isinstance(swap, (str, list, tuple)) or not all(isinstance(word, str) for word in swap):
+    if not isinstance(swap, collections.abc.Sequence) or not all(isinstance(word, str) for word in swap):
         raise TypeError(f"swap: a text or a list of texts is wanted, not {type(swap).__name__}")
     words = swap.split() if isinstance(swap, str) else list(swap)
     areas = []

@@ -203,7 +203,7 @@ impl fmt::Display for BadNumber {
 
 impl std::error::Error for BadNumber {}
 
-/// Why a machine was not opened: the code, and the number that is wrong, with its range. It can be used as an [`Errno`].
+/// Why [`Machine::open_explained`] opened no machine: the code, and the number that is wrong, with its range. It can be used as an [`Errno`].
 #[derive(Clone, Debug, PartialEq, Eq)]
 pub struct Unopened {
     /// The code of the C header: 2011 to 2019, 2021 to 2024, [`Errno::OUT_OF_RANGE`] or [`Errno::NO_MEMORY`].
@@ -517,17 +517,9 @@ impl Machine {
     ///
     /// # Errors
     /// 2011 to 2019 for the first limit that is out of its range; [`Errno::OUT_OF_RANGE`] for a failure of a side that the area
-    /// does not have, or of call 0; 2021 to 2024 for areas and processes, as the C header says; [`Errno::NO_MEMORY`]. The error
-    /// names the number and its range.
-    pub fn open(limits: &Limits, areas: &[Area], processes: &[Process]) -> Result<Machine, Unopened> {
-        let told = |errno: Errno| Unopened {
-            errno,
-            number: bad_opening(errno.0, limits, areas, processes),
-        };
-        Machine::open_raw(limits, areas, processes).map_err(told)
-    }
-
-    fn open_raw(limits: &Limits, areas: &[Area], processes: &[Process]) -> Answer<Machine> {
+    /// does not have, or of call 0; 2021 to 2024 for areas and processes, as the C header says; [`Errno::NO_MEMORY`].
+    /// [`Machine::open_explained`] also names the number that is wrong, and its range.
+    pub fn open(limits: &Limits, areas: &[Area], processes: &[Process]) -> Answer<Machine> {
         let limits = raw::Limits {
             shmmax: limits.shmmax,
             shmmni: limits.shmmni,
@@ -579,6 +571,17 @@ impl Machine {
             handle,
             owns: PhantomData,
             bad: None,
+        })
+    }
+
+    /// The same as [`Machine::open`], with an error that names the number that is wrong, and its range.
+    ///
+    /// # Errors
+    /// As [`Machine::open`].
+    pub fn open_explained(limits: &Limits, areas: &[Area], processes: &[Process]) -> Result<Machine, Unopened> {
+        Machine::open(limits, areas, processes).map_err(|errno| Unopened {
+            errno,
+            number: bad_opening(errno.0, limits, areas, processes),
         })
     }
 

@@ -439,7 +439,12 @@ fn a_number_of_an_opening_is_named_with_its_range() {
     let usual = Limits::default();
     let larger = Limits { most_pieces: 1, most_processes: 2, most_slots: 3, ..usual };
     let area = [Area::ram(1)];
-    let told = |limits: &Limits, areas: &[Area], processes: &[Process]| Machine::open(limits, areas, processes).err().map(|it| it.to_string());
+    let told = |limits: &Limits, areas: &[Area], processes: &[Process]| {
+        // the code is that of the plain opening
+        let (plain, named) = (Machine::open(limits, areas, processes).err(), Machine::open_explained(limits, areas, processes).err());
+        assert_eq!(plain, named.as_ref().map(|it| it.errno));
+        named.map(|it| it.to_string())
+    };
     let limits = [
         (Limits { shmmax: 0, ..usual }, "bad limits: SHMMAX: shmmax 0 is not from 1 to 16777216"),
         (Limits { shmmax: (1 << 40) + 1, ..larger }, "bad limits: SHMMAX: shmmax 1099511627777 is not from 1 to 1099511627776"),
@@ -486,7 +491,7 @@ fn a_number_of_an_opening_is_named_with_its_range() {
         assert_eq!(told(limits, &area, processes).as_deref(), Some(wanted));
     }
     // the error of an opening can be used as that of a call
-    let as_call = || -> Result<Machine, Errno> { Ok(Machine::open(&Limits { frames: 1, ..usual }, &area, &[])?) };
+    let as_call = || -> Result<Machine, Errno> { Ok(Machine::open_explained(&Limits { frames: 1, ..usual }, &area, &[])?) };
     assert_eq!(as_call().err(), Some(Errno(2014)));
 }
 
