@@ -9,7 +9,7 @@ enum {
     OWNER = 12,       /* of a slot: a flag, a segment and a page */
     RETURNED = 4,     /* of a slot: its number, once it is given back */
     FRAME = 16,       /* an owner, its referenced bit and its dirty bit, up to the next multiple of 4 */
-    MARK = 1,         /* of a block of 64 frames: whether one of them may be dirty, or whether the clock's hand skips it */
+    MARK = 1,         /* of a block of 64 frames: whether the clock's hand skips it */
     PAGE_PLACE = 20,  /* of a page of a segment: a flag and a frame; a flag, an area and a slot */
     TRANSLATION = 8,  /* of an attached page: a flag and a frame */
     PIECE = 32,       /* an address and a key of 8 bytes, a segment, its first page, its pages, and whether it is writable */
@@ -57,7 +57,7 @@ static void openings(void) {
     static const uint64_t a_slot[] = {PAGE + OWNER, ROOM + OWNER, 2 * PAGE + GOOD + OWNER};
     nog_limits frames = small;
     frames.frames = 4096;
-    TEST(opening(frames, ram) - opening(small, ram) == 4094 * (uint64_t)(PAGE + FRAME) + 4096 / 64 * 2 * MARK);
+    TEST(opening(frames, ram) - opening(small, ram) == 4094 * (uint64_t)(PAGE + FRAME) + 4096 / 64 * MARK);
     /* a list for one number has room for four */
     for (int i = 0; i < 3; i++)
         TEST(opening(small, all_slots[i]) - opening(small, one_slot[i]) == 65535 * a_slot[i] + 65532 * (uint64_t)RETURNED);
