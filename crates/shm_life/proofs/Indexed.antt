@@ -31,7 +31,7 @@ one-live : (o : Option Entry) (id seg : ℕ) → id % INDEXES ≡ seg % INDEXES 
 one-live None id seg same a b = cc
 one-live (Some e) id seg same a b = grind (arith, nat_tests, same)
 
-pub only-at : (table : List Entry) (rs : List Runner) (seg : ℕ) → IsLive table seg → PiecesFit table rs → IsOnlyAt seg rs
+pub only-at : (table : List Entry) (rs : List Runner) (seg : ℕ) → IsLive table seg → PiecesFit table rs → IsOnlyAt seg (attach_count rs)
 only-at table rs seg lives fit = λ id same ne. elim (cases_Bool (is_some (live table id))) [
   | inl t ↦ absurd (ne (one-live (slice_get table (id % INDEXES)) id seg same t (rw same lives)))
   | inr f ↦ none-attached table id f rs fit

@@ -1,6 +1,6 @@
 //! Long runs of calls. Each call is made of the paged store and of plain lists. After each, every byte of
 //! every segment is the same in both, whichever pagers failed.
-ghost use Rattle.std.specs.Prelude.{◌≡◌, ◌+◌, ◌<◌, ◌==◌, ◌||◌, length, map, filter, not, IfOk, IfSome, OnOk};
+ghost use Rattle.std.specs.Prelude.{ℕ, ◌≡◌, ◌+◌, ◌%◌, ◌<◌, ◌≤◌, ◌==◌, ◌||◌, false, None, length, map, filter, not, IfOk, IfSome, OnOk};
 ghost use Rattle.shm_fault.specs.Held.{FitsPage, is_held};
 ghost use Rattle.shm_fault.specs.Allowed.{IsAccess};
 ghost use Rattle.shm_fault.specs.Store.{held};
