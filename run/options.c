@@ -1,5 +1,6 @@
 /* The words of the command line. */
 #include "shmrun.h"
+#include <errno.h>
 #include <stdio.h>
 #include <stdlib.h>
 #include <string.h>
@@ -63,12 +64,22 @@ static void read_seed(const char *text) {
     if (*end || text[0] < '0' || text[0] > '9') stop(CANNOT_START, "--seed: %s is not a number", text);
 }
 
+/* The record is written at the end, but what can't be written is said at once. */
+static void read_record(const char *name) {
+    char path[4096];
+    snprintf(path, sizeof path, "%s.shm", name);
+    FILE *file = fopen(path, "w");
+    if (!file) stop(CANNOT_START, "--record: %s: %s", path, strerror(errno));
+    fclose(file);
+    options.record = name;
+}
+
 static void read_option(const char *name, const char *value) {
     const char *wrong = NULL;
     if (strcmp(name, "--limits") == 0) read_limits(value);
     else if (strcmp(name, "--rules") == 0) read_rules(value);
     else if (strcmp(name, "--seed") == 0) read_seed(value);
-    else if (strcmp(name, "--record") == 0) options.record = value;
+    else if (strcmp(name, "--record") == 0) read_record(value);
     else if (strcmp(name, "--fail") == 0) wrong = add_failure(value);
     else stop(CANNOT_START, "no such option: %s; %s", name, usage);
     if (wrong) stop(CANNOT_START, "--fail: %s: %s", value, wrong);
