@@ -34,6 +34,7 @@ int file_of(const nog_segment *segment) {
     if (files[index].file && files[index].id == segment->id) return files[index].file;
     int file = make_file(segment);
     if (file == -1) return -1;
+    if (files[index].file) close(files[index].file);
     files[index].id = segment->id;
     files[index].file = file;
     return file;
