@@ -405,15 +405,16 @@ static void test_thousand(void) {
 
 /* as root: another user */
 static void test_users(void) {
-    int id = make(PAGE), open_id = shmget(IPC_PRIVATE, PAGE, 0604), status;
+    int id = make(PAGE), open_id = shmget(IPC_PRIVATE, PAGE, 0604), own, status;
     if (fork() == 0) {
         say("setgid and setuid", setgid(65534) || setuid(65534));
         say_attach("shmat of another's", attach(id, NULL, 0), NULL);
+        say_attach("over the stack", attach(id, (void *)((uintptr_t)&own / PAGE * PAGE), 0), NULL);
         say_attach("shmat for reading and writing", attach(open_id, NULL, 0), NULL);
         say("shmat for reading", attach(open_id, NULL, SHM_RDONLY) != (void *)-1);
         say_ok("stat of another's", shmctl(id, IPC_STAT, &(struct shmid_ds){0}));
         say_ok("rmid of another's", shmctl(id, IPC_RMID, NULL));
-        int own = make(PAGE);
+        own = make(PAGE);
         say_stat("its own", own);
         remove_it(own);
         exit(0);
