@@ -88,6 +88,18 @@ static void test_addresses(void) {
     remove_it(id);
 }
 
+/* a segment that reaches from the stack beyond the end of the addresses: the stack is met first */
+static void test_end(void) {
+    int id = shmget(IPC_PRIVATE, (size_t)1 << 37, 0600 | SHM_NORESERVE);
+    uintptr_t stack_page = (uintptr_t)&id / PAGE * PAGE;
+    say_ok("a segment of 128 GiB", id);
+    say_attach("over the stack and beyond the end", attach(id, (void *)stack_page, 0), NULL);
+    say_attach("beyond the end", attach(id, (void *)0x7fffffffe000, 0), NULL);
+    say_attach("below the stack and beyond the end", attach(id, (void *)(stack_page - ((uintptr_t)1 << 33)), 0), NULL);
+    say_stat("it left no trace", id);
+    remove_it(id);
+}
+
 static void test_limits(void) {
     int id = make(1 << 20);
     struct rlimit low = {64 << 20, 64 << 20};
@@ -429,7 +441,7 @@ static void test_users(void) {
 }
 
 static const struct { const char *name; void (*run)(void); } subjects[] = {
-    {"addresses", test_addresses}, {"limits", test_limits}, {"control", test_control}, {"get", test_get},
+    {"addresses", test_addresses}, {"end", test_end}, {"limits", test_limits}, {"control", test_control}, {"get", test_get},
     {"mappings", test_mappings}, {"moves", test_moves}, {"advice", test_advice}, {"processes", test_processes},
     {"same_memory", test_shared_memory_of_processes}, {"threads", test_threads}, {"mutex", test_mutex}, {"signals", test_signals},
     {"thousand", test_thousand}, {"users", test_users},
