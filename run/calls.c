@@ -7,23 +7,17 @@
 #include <sys/mman.h>
 #include <sys/shm.h>
 #include <sys/syscall.h>
-#include <time.h>
 #include <unistd.h>
 
 enum { NINE_BITS = 0777, SEQUENCE = 32768 };
 enum { GET_FLAGS = NOG_CREAT | NOG_EXCL | NOG_HUGETLB | NOG_NORESERVE, ATTACH_FLAGS = NOG_RDONLY | NOG_RND | NOG_REMAP | NOG_EXEC };
 _Static_assert(sizeof(struct shmid_ds) == 112, "struct shmid_ds is the kernel's");
 
-static void enter_as(struct call *call, struct guest *guest) {
-    nog_set_time(&machine, (uint64_t)time(NULL));
-    enter(call->task, guest);
-}
-
 /* ---- shmget ---- */
 
 static void do_get(struct call *call) {
     struct guest *self = call->self;
-    enter_as(call, self);
+    enter(call->task, self);
     uint32_t key = (uint32_t)call->args[0], mode = call->args[2] & NINE_BITS, flags = call->args[2] & GET_FLAGS;
     int32_t id;
     uint32_t code = nog_get(&machine, self->pid, key, call->args[1], mode, flags, &id);
@@ -97,9 +91,7 @@ static bool meets_other_memory(const struct call *call, const struct attach *a) 
 /* The mapping is there: now the machine is told its address. */
 static int64_t enter_attach(struct call *call, const struct attach *a, uint64_t address) {
     uint64_t at;
-    note_segments(a->space);
     uint32_t code = nog_attach(&machine, a->space->pid, a->id, address, a->flags & ~(uint32_t)NOG_RND, &at);
-    drop_destroyed();
     if (code == NOG_DONE) {
         forget_advice(a->space, at, at + a->length);
         return (int64_t)at;
@@ -128,7 +120,7 @@ static int64_t attach(struct call *call, struct attach *a) {
 }
 
 static void do_attach(struct call *call) {
-    enter_as(call, call->space);
+    enter(call->task, call->space);
     struct attach a = {.space = call->space, .id = (int32_t)call->args[0], .asked = call->args[1],
                        .flags = call->args[2] & ATTACH_FLAGS};
     a.address = a.flags & NOG_RND ? a.asked / PAGE * PAGE : a.asked;
@@ -146,16 +138,14 @@ static void do_detach(struct call *call) {
     struct guest *space = call->space;
     uint64_t origin = call->args[0];
     nog_piece piece, lowest = {0};
-    enter_as(call, space);
+    enter(call->task, space);
     for (uint32_t i = piece_above(space, origin); nog_piece_at(&machine, space->pid, i, &piece) == NOG_DONE; i++) {
         if (origin_of(&piece) != origin) continue;
         if (!lowest.pages) lowest = piece;
         if (piece.segment == lowest.segment) run_in(call, SYS_munmap, piece.base, (uint64_t)piece.pages * PAGE, 0, 0, 0, 0);
     }
-    note_segments(space);
     int64_t result = reply_of(nog_detach(&machine, space->pid, origin));
     record((struct event){.kind = DETACH, .pid = space->pid, .address = origin, .result = result});
-    drop_destroyed();
     answer(call, result);
 }
 
@@ -218,7 +208,6 @@ static int64_t change(const struct guest *self, enum kind kind, int32_t id) {
     uint32_t code = kind == REMOVE ? nog_remove(&machine, self->pid, id) :
                     kind == LOCK ? nog_lock(&machine, self->pid, id) : nog_unlock(&machine, self->pid, id);
     record((struct event){.kind = kind, .pid = self->pid, .id = id, .result = reply_of(code)});
-    drop_if_destroyed(id);
     return reply_of(code);
 }
 
@@ -257,7 +246,7 @@ static int64_t control(struct call *call, const struct guest *self) {
 }
 
 static void do_control(struct call *call) {
-    enter_as(call, call->self);
+    enter(call->task, call->self);
     answer(call, control(call, call->self));
 }
 

@@ -4,15 +4,12 @@
 #include <errno.h>
 #include <stdlib.h>
 #include <sys/mman.h>
-#include <time.h>
 
 /* The caller's attachments, if it has one in a page-aligned range; null if the call does not matter to the machine. */
 static struct guest *space_with(struct call *call, uint64_t begin, uint64_t length) {
     nog_piece piece;
     bool is_range = begin % PAGE == 0 && length <= END_OF_ADDRESSES && begin <= END_OF_ADDRESSES - length;
-    if (!is_range || !find_piece(call->space, begin, begin + length, &piece)) return NULL;
-    nog_set_time(&machine, (uint64_t)time(NULL));
-    return call->space;
+    return is_range && find_piece(call->space, begin, begin + length, &piece) ? call->space : NULL;
 }
 
 /* ---- munmap, and what takes its effect ---- */
@@ -29,7 +26,6 @@ static bool is_left(const struct guest *guest, const nog_piece *piece) {
 
 void forget_range(struct guest *guest, uint64_t begin, uint64_t end) {
     nog_piece piece;
-    note_segments(guest);
     while (find_piece(guest, begin, end, &piece)) {
         uint64_t from = most(begin, piece.base), to = least(end, end_of(&piece));
         if (nog_unmap(&machine, guest->pid, from, to - from) != NOG_DONE) break;
@@ -37,7 +33,6 @@ void forget_range(struct guest *guest, uint64_t begin, uint64_t end) {
         else record((struct event){.kind = DETACH, .pid = guest->pid, .address = origin_of(&piece)});
         begin = to;
     }
-    drop_destroyed();
 }
 
 void do_unmap(struct call *call) {

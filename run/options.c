@@ -1,5 +1,6 @@
 /* The words of the command line. */
 #include "shmrun.h"
+#include <errno.h>
 #include <stdio.h>
 #include <stdlib.h>
 #include <string.h>
@@ -12,14 +13,11 @@ struct options options = {
     .seed = 1,
 };
 
-static const struct { const char *name; uint64_t rules; } rule_names[] = {
-    {"linux", NOG_LINUX}, {"profile", 0}, {"removed_is_invalid", NOG_REMOVED_IS_INVALID},
-    {"execute_is_asked", NOG_EXECUTE_IS_ASKED}, {"fork_marks", NOG_FORK_MARKS}, {"rest_is_attached", NOG_REST_IS_ATTACHED},
-    {"end_is_enomem", NOG_END_IS_ENOMEM}, {"low_is_eperm", NOG_LOW_IS_EPERM}, {"no_last_user", NOG_NO_LAST_USER},
-    {"pieces_are_enomem", NOG_PIECES_ARE_ENOMEM}, {"locks_by_user", NOG_LOCKS_BY_USER}, {"exec_is_asked", NOG_EXEC_IS_ASKED},
-    {"huge_is_refused", NOG_HUGE_IS_REFUSED},
-};
-enum { RULES = sizeof rule_names / sizeof *rule_names };
+/* the rules in the order of their bits in NOG_LINUX, and two sets of them */
+static const char *const rule_names[] = {"removed_is_invalid", "execute_is_asked", "fork_marks", "rest_is_attached", "end_is_enomem",
+    "low_is_eperm", "no_last_user", "pieces_are_enomem", "locks_by_user", "exec_is_asked", "huge_is_refused", "linux", "profile"};
+enum { LINUX = 11, PROFILE, RULES };
+_Static_assert(NOG_LINUX == (1 << LINUX) - 1 && NOG_HUGE_IS_REFUSED == 1 << (LINUX - 1), "a rule has no name");
 
 /* As what --help of the start script shows; the program itself says only this. */
 static const char usage[] = "usage: shmrun [--limits SHMMAX,SHMMNI,SHMALL,MEMLOCK] [--rules NAME,..] [--fail CALL:N=ERRNO].. "
@@ -27,17 +25,14 @@ static const char usage[] = "usage: shmrun [--limits SHMMAX,SHMMNI,SHMALL,MEMLOC
 
 static void read_rules(const char *text) {
     options.limits.rules = 0;
-    while (*text) {
-        size_t length = strcspn(text, ",");
+    for (size_t length; *text; text += length + (text[length] == ',')) {
+        length = strcspn(text, ",");
         int i = 0;
-        while (i < RULES && (strlen(rule_names[i].name) != length || strncasecmp(rule_names[i].name, text, length) != 0)) i++;
-        if (i == RULES) {
-            complain("--rules: no such rule: %.*s; there are:", (int)length, text);
-            for (i = 0; i < RULES; i++) complain("  %s", rule_names[i].name);
-            exit(CANNOT_START);
-        }
-        options.limits.rules |= rule_names[i].rules;
-        text += length + (text[length] == ',');
+        while (i < RULES && (strlen(rule_names[i]) != length || strncasecmp(rule_names[i], text, length) != 0)) i++;
+        if (i == RULES) complain("--rules: no such rule: %.*s; there are:", (int)length, text);
+        for (int k = 0; i == RULES && k < RULES; k++) complain("  %s", rule_names[k]);
+        if (i == RULES) exit(CANNOT_START);
+        options.limits.rules |= i == LINUX ? NOG_LINUX : i == PROFILE ? 0 : UINT64_C(1) << i;
     }
 }
 
@@ -69,12 +64,22 @@ static void read_seed(const char *text) {
     if (*end || text[0] < '0' || text[0] > '9') stop(CANNOT_START, "--seed: %s is not a number", text);
 }
 
+/* The record is written at the end, but what can't be written is said at once. */
+static void read_record(const char *name) {
+    char path[4096];
+    snprintf(path, sizeof path, "%s.shm", name);
+    FILE *file = fopen(path, "w");
+    if (!file) stop(CANNOT_START, "--record: %s: %s", path, strerror(errno));
+    fclose(file);
+    options.record = name;
+}
+
 static void read_option(const char *name, const char *value) {
     const char *wrong = NULL;
     if (strcmp(name, "--limits") == 0) read_limits(value);
     else if (strcmp(name, "--rules") == 0) read_rules(value);
     else if (strcmp(name, "--seed") == 0) read_seed(value);
-    else if (strcmp(name, "--record") == 0) options.record = value;
+    else if (strcmp(name, "--record") == 0) read_record(value);
     else if (strcmp(name, "--fail") == 0) wrong = add_failure(value);
     else stop(CANNOT_START, "no such option: %s; %s", name, usage);
     if (wrong) stop(CANNOT_START, "--fail: %s: %s", value, wrong);

@@ -1,8 +1,9 @@
 /* Registers and memory of a stopped thread, and system calls that it makes for us.
 
    A thread stops at the entry of a system call that the filter selects. There the call can be replaced by another one,
-   whose exit is a second stop. From an exit the thread can be sent through the same instruction again, for a third call.
-   Before that its signals are blocked: they would come in between. SIGSTOP can't be blocked, so it is repeated later. */
+   whose exit is a second stop. From there the thread can be sent through the same instruction again, by a single step, for
+   more calls. Before that its signals are blocked: they would come in between. SIGSTOP can't be blocked, so it is repeated
+   later. SIGTRAP is not, because the step's own one would then change what the program does at it. */
 #include "shmrun.h"
 #include <errno.h>
 #include <fcntl.h>
@@ -51,34 +52,42 @@ static bool wait_for(const struct call *call, int *status) {
     }
 }
 
-/* The thread's end, or its stop in the middle of an exec of another thread, ends the call. */
-static void leave_call(struct call *call, bool is_known, int status) {
-    call->where = GONE;
-    if (is_known) handle_status(call->tid, status);
+static bool go_on(const struct call *call) {
+    bool is_gone = ptrace(call->where == AT_EXIT ? PTRACE_SINGLESTEP : PTRACE_SYSCALL, call->tid, 0, 0) == -1;
+    if (is_gone && errno != ESRCH) stop(CANNOT_START, "process %d: %s", call->tid, strerror(errno));
+    return !is_gone;
 }
 
-/* Lets the thread run to its next stop at a system call. */
-static void run_to_stop(struct call *call) {
+/* not sent by a process */
+static bool is_of_step(pid_t tid) {
+    siginfo_t info = {0};
+    return ptrace(PTRACE_GETSIGINFO, tid, 0, &info) == 0 && info.si_code > 0;
+}
+
+/* Waits for the thread's next stop. Whether it is the exit of its system call; the thread's end, or an exec of another thread,
+   ends the call. */
+static bool reach_exit(struct call *call) {
     int status = 0;
-    for (;;) {
-        if (ptrace(PTRACE_SYSCALL, call->tid, 0, 0) == -1 && errno != ESRCH)
-            stop(CANNOT_START, "process %d: %s", call->tid, strerror(errno));
-        bool is_known = wait_for(call, &status);
-        int event = status >> 16, signal = WSTOPSIG(status);
-        if (!is_known || !WIFSTOPPED(status) || event == PTRACE_EVENT_EXEC) return leave_call(call, is_known, status);
-        if (signal == SYSCALL_STOP) return;
-        if (event == PTRACE_EVENT_SECCOMP) continue;  /* our own call is one that the filter selects */
-        if (signal != SIGSTOP && event != PTRACE_EVENT_STOP)
-            stop(CANNOT_START, "process %d stopped in the middle of a call by signal %d", call->tid, signal);
-        call->has_missed_stop |= signal != SIGTRAP;
+    bool is_known = wait_for(call, &status);
+    int event = status >> 16, signal = WSTOPSIG(status);
+    if (!is_known || !WIFSTOPPED(status) || event == PTRACE_EVENT_EXEC) {
+        call->where = GONE;
+        if (is_known) handle_status(call->tid, status);
+        return true;
     }
+    if (signal == SYSCALL_STOP || (signal == SIGTRAP && !event && is_of_step(call->tid))) return true;
+    if (event == PTRACE_EVENT_SECCOMP || signal == SIGTRAP) return false;  /* our own call is one that the filter selects */
+    if (signal != SIGSTOP && event != PTRACE_EVENT_STOP)
+        stop(CANNOT_START, "process %d stopped in the middle of a call by signal %d", call->tid, signal);
+    call->has_missed_stop = true;
+    return false;
 }
 
 static void block_signals(struct call *call) {
-    const uint64_t all = ~UINT64_C(0);
+    const uint64_t all_but_trap = ~(UINT64_C(1) << (SIGTRAP - 1));
     if (call->is_masked) return;
-    call->is_masked = ptrace(PTRACE_GETSIGMASK, call->tid, sizeof all, &call->old_mask) != -1;
-    if (call->is_masked) ptrace(PTRACE_SETSIGMASK, call->tid, sizeof all, &all);
+    call->is_masked = ptrace(PTRACE_GETSIGMASK, call->tid, sizeof call->old_mask, &call->old_mask) != -1;
+    if (call->is_masked) ptrace(PTRACE_SETSIGMASK, call->tid, sizeof all_but_trap, &all_but_trap);
 }
 
 /* Puts the thread at the entry of a system call. */
@@ -89,11 +98,8 @@ static void set_call(struct call *call, long number, const uint64_t *args) {
     if (call->where == AT_EXIT) {
         block_signals(call);
         r.rip -= SYSCALL_BYTES;
-        ptrace(PTRACE_SETREGS, call->tid, 0, &r);
-        run_to_stop(call);
-    } else {
-        ptrace(PTRACE_SETREGS, call->tid, 0, &r);
     }
+    ptrace(PTRACE_SETREGS, call->tid, 0, &r);
 }
 
 static int64_t result_of(struct call *call) {
@@ -106,7 +112,7 @@ static int64_t result_of(struct call *call) {
 int64_t run_in(struct call *call, long number, uint64_t a, uint64_t b, uint64_t c, uint64_t d, uint64_t e, uint64_t f) {
     const uint64_t args[6] = {a, b, c, d, e, f};
     if (call->where != GONE) set_call(call, number, args);
-    if (call->where != GONE) run_to_stop(call);
+    while (call->where != GONE && go_on(call) && !reach_exit(call)) continue;
     return result_of(call);
 }
 
@@ -138,23 +144,18 @@ static void serve_listener(struct call *call, int file, uint32_t flags) {
     ioctl(listener, SECCOMP_IOCTL_NOTIF_SEND, &refused);
 }
 
-static int64_t ask_for_file(struct call *call, int file, uint32_t flags) {
-    const uint64_t args[6] = {secret};
-    int status = 0;
-    if (call->where != GONE) set_call(call, SYS_getpid, args);
-    if (call->where == GONE || ptrace(PTRACE_SYSCALL, call->tid, 0, 0) == -1) return -ESRCH;
-    serve_listener(call, file, flags);
-    bool is_known = wait_for(call, &status);
-    if (!is_known || !WIFSTOPPED(status) || status >> 16 == PTRACE_EVENT_EXEC) leave_call(call, is_known, status);
-    return result_of(call);
-}
-
 /* A signal would interrupt the wait for the file: only SIGSTOP still can, and then the thread asks again. */
 int64_t give_file(struct call *call, int file, uint32_t flags) {
     enum { INTERRUPTED = 512 };
-    int64_t result;
-    block_signals(call);
-    while ((result = ask_for_file(call, file, flags)) == -INTERRUPTED) continue;
+    const uint64_t args[6] = {secret};
+    int64_t result = -INTERRUPTED;
+    if (call->where != GONE) block_signals(call);
+    while (result == -INTERRUPTED && call->where != GONE) {
+        set_call(call, SYS_getpid, args);
+        if (!go_on(call)) return -ESRCH;
+        serve_listener(call, file, flags);
+        if (reach_exit(call)) result = result_of(call);
+    }
     return result;
 }
 

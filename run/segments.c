@@ -11,8 +11,6 @@
 
 enum { INDEXES = 32768, BYTES_OF_BLOCK = 512 };
 static struct { int32_t id; int file; } files[INDEXES];  /* by index; file is 0, or a descriptor above 2 */
-static int32_t *noted;
-static size_t noted_count, noted_room;
 
 bool segment_of(int32_t id, nog_segment *segment) {
     return id >= 0 && nog_segment_at(&machine, (uint32_t)id % INDEXES, segment) == NOG_DONE && segment->id == id;
@@ -36,6 +34,7 @@ int file_of(const nog_segment *segment) {
     if (files[index].file && files[index].id == segment->id) return files[index].file;
     int file = make_file(segment);
     if (file == -1) return -1;
+    if (files[index].file) close(files[index].file);
     files[index].id = segment->id;
     files[index].file = file;
     return file;
@@ -56,31 +55,18 @@ uint64_t pages_in_memory(int32_t id) {
     return (uint64_t)found.st_blocks * BYTES_OF_BLOCK / PAGE;
 }
 
-/* ---- destroyed segments ---- */
-
-void drop_if_destroyed(int32_t id) {
+/* The files are looked through only if the machine has fewer segments than at the last time. */
+void close_destroyed(void) {
+    static uint64_t before;
+    nog_tally tally;
     nog_segment segment;
-    uint32_t index = (uint32_t)id % INDEXES;
-    if (!files[index].file || files[index].id != id || segment_of(id, &segment)) return;
-    close(files[index].file);
-    files[index].file = 0;
-}
-
-static void note(int32_t id) {
-    if (noted_count > 0 && noted[noted_count - 1] == id) return;
-    if (noted_count == noted_room) {
-        noted_room = noted_room ? 2 * noted_room : 64;
-        noted = realloc(noted, noted_room * sizeof *noted);
-        if (!noted) stop(CANNOT_START, "out of memory");
+    uint32_t count = 0;
+    reply_of(nog_tally_of(&machine, &tally));
+    if (tally.segments < before) reply_of(nog_indexes(&machine, &count));
+    for (uint32_t i = 0; i < count; i++) {
+        if (!files[i].file || segment_of(files[i].id, &segment)) continue;
+        close(files[i].file);
+        files[i].file = 0;
     }
-    noted[noted_count++] = id;
-}
-
-void note_segments(const struct guest *guest) {
-    nog_piece piece;
-    for (uint32_t i = 0; nog_piece_at(&machine, guest->pid, i, &piece) == NOG_DONE; i++) note((int32_t)piece.segment);
-}
-
-void drop_destroyed(void) {
-    while (noted_count > 0) drop_if_destroyed(noted[--noted_count]);
+    before = tally.segments;
 }

@@ -144,10 +144,8 @@ bool segment_of(int32_t id, nog_segment *segment);
 int file_of(const nog_segment *segment);
 int file_for_reading(const nog_segment *segment);
 uint64_t pages_in_memory(int32_t id);
-/* Closes the files of segments that the machine has no more: of those that a guest had attached, or of one. */
-void note_segments(const struct guest *guest);
-void drop_destroyed(void);
-void drop_if_destroyed(int32_t id);
+/* Closes the files of segments that the machine has no more. */
+void close_destroyed(void);
 
 /* failures.c: adds a rule such as shmat:3=ENOMEM; the answer is what is wrong with it, or null */
 const char *add_failure(const char *rule);

@@ -134,7 +134,7 @@ static pid_t start_command(void) {
     }
     close(from[1]);
     if (ptrace(PTRACE_SEIZE, child, 0, OPTIONS) == -1)
-        stop(CANNOT_START, "the command can't be traced: %s; see /proc/sys/kernel/yama/ptrace_scope", strerror(errno));
+        stop(CANNOT_START, "the command can't be traced: %s; another program traces it, or kernel.yama.ptrace_scope forbids it", strerror(errno));
     if (write(to[1], "t", 1) != 1 || read(from[0], &news, sizeof news) != sizeof news || news.error)
         stop(CANNOT_START, "the filter can't be installed: %s; Linux 5.14 or later is needed", strerror(news.error));
     listener = take_listener(child, news.listener);

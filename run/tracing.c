@@ -7,6 +7,7 @@
 #include <sys/ptrace.h>
 #include <sys/syscall.h>
 #include <sys/wait.h>
+#include <time.h>
 #include <unistd.h>
 
 enum { ROWS = 4096 };
@@ -100,10 +101,8 @@ static void note_birth(struct task *maker, int event) {
 }
 
 static void detach_all(const struct guest *guest) {
-    note_segments(guest);
     reply_of(nog_exec(&machine, guest->pid));
     record((struct event){.kind = EXEC, .pid = guest->pid});
-    drop_destroyed();
 }
 
 /* after an exec the thread has its process's number, and no other thread is left */
@@ -195,6 +194,8 @@ int trace_all(pid_t first) {
         pid_t tid = waitpid(-1, &status, __WALL);
         if (tid == -1 && errno == EINTR) continue;
         if (tid == -1) return first_status;
+        nog_set_time(&machine, (uint64_t)time(NULL));
         handle_status(tid, status);
+        close_destroyed();
     }
 }

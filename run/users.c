@@ -13,11 +13,9 @@ struct guest *new_guest(uint32_t pid) {
 }
 
 static void leave(struct guest *guest) {
-    note_segments(guest);
     reply_of(nog_exit(&machine, guest->pid));
     record((struct event){.kind = EXIT, .pid = guest->pid});
     reply_of(nog_dismiss(&machine, guest->pid));
-    drop_destroyed();
 }
 
 void release_guest(struct guest *guest) {

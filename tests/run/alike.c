@@ -88,6 +88,18 @@ static void test_addresses(void) {
     remove_it(id);
 }
 
+/* a segment that reaches from the stack beyond the end of the addresses: the stack is met first */
+static void test_end(void) {
+    int id = shmget(IPC_PRIVATE, (size_t)1 << 37, 0600 | SHM_NORESERVE);
+    uintptr_t stack_page = (uintptr_t)&id / PAGE * PAGE;
+    say_ok("a segment of 128 GiB", id);
+    say_attach("over the stack and beyond the end", attach(id, (void *)stack_page, 0), NULL);
+    say_attach("beyond the end", attach(id, (void *)0x7fffffffe000, 0), NULL);
+    say_attach("below the stack and beyond the end", attach(id, (void *)(stack_page - ((uintptr_t)1 << 33)), 0), NULL);
+    say_stat("it left no trace", id);
+    remove_it(id);
+}
+
 static void test_limits(void) {
     int id = make(1 << 20);
     struct rlimit low = {64 << 20, 64 << 20};
@@ -405,15 +417,16 @@ static void test_thousand(void) {
 
 /* as root: another user */
 static void test_users(void) {
-    int id = make(PAGE), open_id = shmget(IPC_PRIVATE, PAGE, 0604), status;
+    int id = make(PAGE), open_id = shmget(IPC_PRIVATE, PAGE, 0604), own, status;
     if (fork() == 0) {
         say("setgid and setuid", setgid(65534) || setuid(65534));
         say_attach("shmat of another's", attach(id, NULL, 0), NULL);
+        say_attach("over the stack", attach(id, (void *)((uintptr_t)&own / PAGE * PAGE), 0), NULL);
         say_attach("shmat for reading and writing", attach(open_id, NULL, 0), NULL);
         say("shmat for reading", attach(open_id, NULL, SHM_RDONLY) != (void *)-1);
         say_ok("stat of another's", shmctl(id, IPC_STAT, &(struct shmid_ds){0}));
         say_ok("rmid of another's", shmctl(id, IPC_RMID, NULL));
-        int own = make(PAGE);
+        own = make(PAGE);
         say_stat("its own", own);
         remove_it(own);
         exit(0);
@@ -428,7 +441,7 @@ static void test_users(void) {
 }
 
 static const struct { const char *name; void (*run)(void); } subjects[] = {
-    {"addresses", test_addresses}, {"limits", test_limits}, {"control", test_control}, {"get", test_get},
+    {"addresses", test_addresses}, {"end", test_end}, {"limits", test_limits}, {"control", test_control}, {"get", test_get},
     {"mappings", test_mappings}, {"moves", test_moves}, {"advice", test_advice}, {"processes", test_processes},
     {"same_memory", test_shared_memory_of_processes}, {"threads", test_threads}, {"mutex", test_mutex}, {"signals", test_signals},
     {"thousand", test_thousand}, {"users", test_users},
