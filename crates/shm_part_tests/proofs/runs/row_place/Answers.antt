@@ -10,7 +10,7 @@ returns-then-seg-index-clause-place c = λ r is.
     let within : n < length all = omega (arith, c.loop-place-test.true, c.len-place-end.ensures) in
     let seg : c.behind-rows.inside.seg ≡ c.index.result.now.seg = ap (λ (row : Row). row.seg) c.behind-rows.view_is in
     inserted-at row_id r all n (omega (arith, within)) (λ k d l. rw is (c.loop-place.invariant k d l))
-    (λ d l. rw (is, get_or_read all n c.index.result.now within c.index.ensures d) (rw seg at c.if-seg-index.true))
+    (λ d l. rw (is, ← get_or_read all n c.index.result.now within c.index.ensures d) (rw seg at c.if-seg-index.true))
 
 pub returns-clause-place : goal.returns-clause-place
 returns-clause-place c = λ r is.

@@ -10,7 +10,7 @@ returns-then-seg-id-clause-place c = λ g is.
     let n = c.loop-place.place in
     let within : n < length all = omega (arith, c.loop-place-test.true, c.len-place-end.ensures) in
     inserted-at held_id g all n (omega (arith, within)) (λ k d l. rw is (c.loop-place.invariant k d l))
-    (λ d l. rw (is, get_or_read all n c.index.result.now within c.index.ensures d) (rw c.id.ensures at c.if-seg-id.true))
+    (λ d l. rw (is, ← get_or_read all n c.index.result.now within c.index.ensures d) (rw c.id.ensures at c.if-seg-id.true))
 
 pub returns-clause-place : goal.returns-clause-place
 returns-clause-place c = λ g is.
