@@ -1,5 +1,5 @@
 -- What the rows of a run say about the segments of the store.
-use Rattle.shm_part_tests.proofs.Names.{replicate, None, IsIndexFree, held_id, inserted, map-inserted, apart-zeros, row_id, ◌≡◌, ℕ, ◌+◌, ◌/◌, ◌≤◌, ◌==◌, Bool, true, false, not, List, [], ◌∷◌, ◌++◌, length, map, filter, take, drop, get_or, Option, Some, is_some, option_map, refl, sym, ap, ◌∙◌, inl, inr, arith, All, sum_by, eqb_tells, common_steps, length-replicate, length-map, sum_by-cons, All-head, All-tail, All-get_or, All-map, Span, Held, find_held, held_bytes, bytes_of, is_held, held_pages, pages_in_store, with_zeros, without, with_lock, FitsPage, pasted, written, AreHeldApart, apart-without, apart-lock, apart-pasted, fits-pasted, length-paste, StoreView, held, frame_of, page_of, Row, row_of, row_pages, row_with_lock, pages_all, frame_named, AreAlike, IsAccess, NameFrames}
+use Rattle.shm_part_tests.proofs.Names.{replicate, None, IsIndexFree, held_id, inserted, map-inserted, apart-zeros, row_id, ◌≡◌, ℕ, ◌+◌, ◌/◌, ◌≤◌, ◌==◌, Bool, true, false, not, List, [], ◌∷◌, length, map, filter, take, drop, get_or, Option, Some, is_some, option_map, refl, sym, ap, ◌∙◌, inl, inr, arith, All, sum_by, eqb_tells, common_steps, length-replicate, length-map, sum_by-cons, All-head, All-tail, All-get_or, All-map, Span, Held, find_held, held_bytes, bytes_of, is_held, held_pages, pages_in_store, with_zeros, without, with_lock, FitsPage, pasted, written, AreHeldApart, apart-without, apart-lock, apart-pasted, fits-pasted, length-paste, StoreView, held, frame_of, page_of, Row, row_of, row_pages, row_with_lock, pages_all, frame_named, AreAlike, IsAccess, NameFrames}
 use Rattle.std.proofs.Common.{◌*◌, ◌%◌}
 use Rattle.shm_base.specs.declared.bounds.TheConstants.{INDEXES}
 

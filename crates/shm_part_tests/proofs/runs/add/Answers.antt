@@ -1,4 +1,4 @@
-use Rattle.shm_part_tests.proofs.Names.{◌≡◌, false, refl, sym, ◌∙◌, IsIndexFree, is_held, held, inserted, row_id}
+use Rattle.shm_part_tests.proofs.Names.{◌≡◌, false, refl, sym, ◌∙◌, is_held, held, inserted, row_id}
 use Rattle.shm_part_tests.proofs.Rows.{index-free, alike-added}
 use Rattle.shm_part_tests.proofs.runs.add.Goals as goal
 
