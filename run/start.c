@@ -158,7 +158,6 @@ static void prepare_signals(void) {
     struct sigaction action = {.sa_sigaction = send_on, .sa_flags = SA_SIGINFO | SA_RESTART};
     for (size_t i = 0; i < sizeof sent_on / sizeof *sent_on; i++) sigaction(sent_on[i], &action, NULL);
     for (size_t i = 0; i < sizeof ignored / sizeof *ignored; i++) signal(ignored[i], SIG_IGN);
-    signal(SIGCHLD, SIG_DFL);  /* if it were ignored, ends of processes would not be seen */
 }
 
 /* ---- the end ---- */
