@@ -105,7 +105,7 @@ static int64_t enter_attach(struct call *call, const struct attach *a, uint64_t 
 static int64_t refuse(const struct attach *a) {
     uint64_t at;
     uint32_t code = nog_attach(&machine, a->space->pid, a->id, a->asked, a->flags, &at);
-    if (code == NOG_DONE) stop(CANNOT_START, "the machine attached segment %d at %lx, which shmrun expected it to refuse", a->id, at);
+    if (code == NOG_DONE) stop(CANNOT_START, "the machine attached segment %d at %lx, which it should refuse", a->id, at);
     return reply_of(code);
 }
 
@@ -127,8 +127,8 @@ static void do_attach(struct call *call) {
     int64_t result = attach(call, &a);
     if (a.flags & NOG_EXEC) note_left_out("the flag SHM_EXEC of a shmat");
     /* an address that the kernel chose is written as if the program had */
-    record((struct event){.kind = ATTACH, .pid = a.space->pid, .id = a.id, .address = a.asked == 0 && result > 0 ? (uint64_t)result : a.asked,
-                          .flags = a.flags & ~(uint32_t)NOG_EXEC, .result = result});
+    record((struct event){.kind = ATTACH, .pid = a.space->pid, .id = a.id, .flags = a.flags & ~(uint32_t)NOG_EXEC,
+                          .address = a.asked == 0 && result > 0 ? (uint64_t)result : a.asked, .result = result});
     answer(call, result);
 }
 

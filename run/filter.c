@@ -90,7 +90,8 @@ static void build(uint64_t number) {
 static long install(void) {
     const struct sock_fprog filter = {length, program};
     /* SPEC_ALLOW: some kernels make all of a program with a filter slower otherwise */
-    return syscall(SYS_seccomp, SECCOMP_SET_MODE_FILTER, SECCOMP_FILTER_FLAG_NEW_LISTENER | SECCOMP_FILTER_FLAG_SPEC_ALLOW, &filter);
+    unsigned flags = SECCOMP_FILTER_FLAG_NEW_LISTENER | SECCOMP_FILTER_FLAG_SPEC_ALLOW;
+    return syscall(SYS_seccomp, SECCOMP_SET_MODE_FILTER, flags, &filter);
 }
 
 /* Without privileges a filter needs no_new_privs, and set-user-ID programs then run without theirs. */

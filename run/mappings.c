@@ -117,14 +117,16 @@ static void enter_moved(const struct guest *space, const nog_piece *piece, uint6
     uint32_t code = nog_attach(&machine, space->pid, (int32_t)piece->segment, to, flags, &at);
     nog_set_user(&machine, space->pid, space->uid, space->gid);
     if (code != NOG_DONE) stop(CANNOT_START, "the machine does not attach segment %u again at %lx", piece->segment, to);
-    record((struct event){.kind = ATTACH, .pid = space->pid, .id = (int32_t)piece->segment, .address = to, .flags = flags, .result = (int64_t)at});
+    record((struct event){.kind = ATTACH, .pid = space->pid, .id = (int32_t)piece->segment, .address = to, .flags = flags,
+                          .result = (int64_t)at});
     if (!piece->is_writable) nog_protect(&machine, space->pid, to, (uint64_t)piece->pages * PAGE, 0);
 }
 
 /* Only a whole attachment moves or is doubled, and none becomes larger: the machine has attaches of whole segments. */
 static int64_t move(struct call *call, const nog_piece *piece, const nog_segment *segment) {
-    uint64_t from = call->args[0], old_length = pages_of(call->args[1]), new_length = pages_of(call->args[2]), flags = call->args[3];
-    bool is_whole = from == piece->base && piece->first_page == 0 && pages_of(segment->size) == new_length && end_of(piece) == from + new_length;
+    uint64_t from = call->args[0], old_length = pages_of(call->args[1]), new_length = pages_of(call->args[2]);
+    uint64_t flags = call->args[3], size = pages_of(segment->size);
+    bool is_whole = from == piece->base && from == origin_of(piece) && end_of(piece) == from + size && new_length == size;
     bool is_moved = flags & (MREMAP_FIXED | MREMAP_DONTUNMAP) || old_length == 0;
     if (from + old_length > end_of(piece)) return -EFAULT;
     if (is_moved ? !is_whole || (old_length && old_length != new_length) : new_length > old_length) return -ENOMEM;
@@ -144,7 +146,8 @@ void do_move(struct call *call) {
     nog_piece piece;
     nog_segment segment;
     uint64_t from = call->args[0], length = most(pages_of(call->args[1]), PAGE);
-    if (space_with(call, from, length) && find_piece(call->space, from, from + PAGE, &piece) && segment_of((int32_t)piece.segment, &segment))
+    bool is_attached = space_with(call, from, length) && find_piece(call->space, from, from + PAGE, &piece);
+    if (is_attached && segment_of((int32_t)piece.segment, &segment))
         answer(call, move(call, &piece, &segment));
     else if (call->args[3] & MREMAP_FIXED) replace_range(call, call->args[4], pages_of(call->args[2]));
     else let_pass(call);

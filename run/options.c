@@ -14,8 +14,9 @@ struct options options = {
 };
 
 /* the rules in the order of their bits in NOG_LINUX, and two sets of them */
-static const char *const rule_names[] = {"removed_is_invalid", "execute_is_asked", "fork_marks", "rest_is_attached", "end_is_enomem",
-    "low_is_eperm", "no_last_user", "pieces_are_enomem", "locks_by_user", "exec_is_asked", "huge_is_refused", "linux", "profile"};
+static const char *const rule_names[] = {"removed_is_invalid", "execute_is_asked", "fork_marks", "rest_is_attached",
+    "end_is_enomem", "low_is_eperm", "no_last_user", "pieces_are_enomem", "locks_by_user", "exec_is_asked", "huge_is_refused",
+    "linux", "profile"};
 enum { LINUX = 11, PROFILE, RULES };
 _Static_assert(NOG_LINUX == (1 << LINUX) - 1 && NOG_HUGE_IS_REFUSED == 1 << (LINUX - 1), "a rule has no name");
 
@@ -41,7 +42,8 @@ static uint64_t read_number(const char *what, const char **text, uint64_t least,
     uint64_t number = strtoull(*text, &end, 0);
     bool is_number = **text >= '0' && **text <= '9' && (*end == ',' || *end == 0);
     if (!is_number || number < least || number > most)
-        stop(CANNOT_START, "--limits: %s is %.*s; it is a number from %lu to %lu", what, (int)strcspn(*text, ","), *text, least, most);
+        stop(CANNOT_START, "--limits: %s is %.*s; it is a number from %lu to %lu", what, (int)strcspn(*text, ","), *text,
+             least, most);
     *text = *end ? end + 1 : end;
     return number;
 }
@@ -52,6 +54,7 @@ static void read_limits(const char *text) {
     int count = 0;
     while ((commas = strchr(commas, ','))) commas++, count++;
     if (count != 3) stop(CANNOT_START, "--limits: %s is not SHMMAX,SHMMNI,SHMALL,MEMLOCK: bytes, segments, pages, pages", text);
+    options.has_limits = true;
     l->shmmax = read_number("SHMMAX", &text, 1, UINT64_C(1) << 40);
     l->shmmni = read_number("SHMMNI", &text, 1, 32768);
     l->shmall = read_number("SHMALL", &text, 1, 1 << 28);
@@ -88,7 +91,7 @@ static void read_option(const char *name, const char *value) {
 /* As many locked pages as the caller may have. */
 static void read_memlock(void) {
     struct rlimit limit;
-    uint64_t most = (1 << 24) - 2, pages = most;
+    uint64_t most = (1 << 20) - 2, pages = most;
     if (getrlimit(RLIMIT_MEMLOCK, &limit) == 0 && limit.rlim_cur != RLIM_INFINITY) pages = limit.rlim_cur / PAGE;
     options.limits.memlock = pages < most ? pages : most;
 }

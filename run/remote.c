@@ -13,7 +13,6 @@
 #include <signal.h>
 #include <string.h>
 #include <sys/ioctl.h>
-#include <sys/ptrace.h>
 #include <sys/syscall.h>
 #include <sys/uio.h>
 #include <sys/wait.h>
@@ -64,21 +63,20 @@ static bool is_of_step(pid_t tid) {
     return ptrace(PTRACE_GETSIGINFO, tid, 0, &info) == 0 && info.si_code > 0;
 }
 
-/* Waits for the thread's next stop. Whether it is the exit of its system call; the thread's end, or an exec of another thread,
-   ends the call. */
+/* Waits for the thread's next stop. Whether it is the exit of its system call; the thread's end, an exec of another thread, or a
+   fault of the thread ends the call. */
 static bool reach_exit(struct call *call) {
     int status = 0;
     bool is_known = wait_for(call, &status);
     int event = status >> 16, signal = WSTOPSIG(status);
-    if (!is_known || !WIFSTOPPED(status) || event == PTRACE_EVENT_EXEC) {
+    bool is_stop = signal == SIGSTOP || event == PTRACE_EVENT_STOP, is_trap = signal == SYSCALL_STOP || signal == SIGTRAP;
+    if (!is_known || !WIFSTOPPED(status) || event == PTRACE_EVENT_EXEC || !(is_stop || is_trap)) {
         call->where = GONE;
         if (is_known) handle_status(call->tid, status);
         return true;
     }
     if (signal == SYSCALL_STOP || (signal == SIGTRAP && !event && is_of_step(call->tid))) return true;
     if (event == PTRACE_EVENT_SECCOMP || signal == SIGTRAP) return false;  /* our own call is one that the filter selects */
-    if (signal != SIGSTOP && event != PTRACE_EVENT_STOP)
-        stop(CANNOT_START, "process %d stopped in the middle of a call by signal %d", call->tid, signal);
     call->has_missed_stop = true;
     return false;
 }

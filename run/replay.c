@@ -108,7 +108,8 @@ size_t replay_record(void) {
     collect_sizes();
     open_again();
     while (done < recorded.count && replay(&recorded.events[done], &before)) done++;
-    if (done < recorded.count && !recorded.end) recorded.end = "the next call needs larger segments than a script has, or more at a time";
+    if (done < recorded.count && !recorded.end)
+        recorded.end = "the next call needs larger segments than a script has, or more at a time";
     nog_close(&again);
     nog_close(&before);
     return done;

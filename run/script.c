@@ -87,7 +87,7 @@ static void print_head(FILE *to, const char *name) {
     for (int i = 0; i < NOTES && recorded.notes[i].what; i++)
         comment(to, true, "left out: %s: %lu", recorded.notes[i].what, recorded.notes[i].count);
     if (recorded.has_ranks)
-        comment(to, true, "sizes are written as their ranks, from 1 for the smallest: a script has at most %d pages at a time", SLOTS);
+        comment(to, true, "sizes are written as their ranks, from 1 for the smallest: a script has at most %d pages", SLOTS);
     fprintf(to, "limits %lu %lu %lu %lu %lu\n", l.shmmax, l.shmmni, l.shmall, l.frames, l.memlock);
     for (size_t i = 0; i < recorded.process_count; i++) {
         comment(to, false, "%u is %s", recorded.processes[i].pid, recorded.processes[i].name);
@@ -128,7 +128,8 @@ void write_script(const char *name) {
     }
     print_head(script, name);
     size_t written = print_events(script, log);
-    if (ftell(script) > MOST_BYTES) complain("record: the script has more than %d bytes, which shmsim and shmcheck refuse", MOST_BYTES);
+    if (ftell(script) > MOST_BYTES)
+        complain("record: the script has more than %d bytes, which shmsim and shmcheck refuse", MOST_BYTES);
     if (fclose(script) || fclose(log)) complain("the record can't be written: %s", strerror(errno));
     complain("record: %zu calls of %zu processes in %s.shm and %s.log", written, recorded.process_count, name, name);
 }

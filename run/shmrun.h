@@ -36,6 +36,7 @@ static inline uint64_t origin_of(const nog_piece *piece) { return piece->base - 
 
 extern struct options {
     nog_limits limits;
+    bool has_limits;     /* they were given */
     const char *record;  /* the beginning of the names of the record's files, or null */
     uint64_t seed;       /* of failures by chance */
     char **command;

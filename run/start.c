@@ -8,7 +8,6 @@
 #include <stdio.h>
 #include <stdlib.h>
 #include <string.h>
-#include <sys/ptrace.h>
 #include <sys/random.h>
 #include <sys/resource.h>
 #include <sys/stat.h>
@@ -16,7 +15,7 @@
 #include <sys/wait.h>
 #include <unistd.h>
 
-enum { MOST_FRAMES = 1 << 20 };
+enum { MOST_FRAMES = 1 << 20, FEWEST_FRAMES = 1 << 12 };
 nog_machine machine = NOG_MACHINE_INITIALIZER;
 static volatile sig_atomic_t first;
 
@@ -68,9 +67,14 @@ static void open_machine(void) {
     l->frames = l->shmall + 2 < MOST_FRAMES ? l->shmall + 2 : MOST_FRAMES;
     if (l->frames < l->memlock + 2) l->frames = l->memlock + 2;
     uint32_t code;
-    while ((code = nog_open(&machine, l, &area, 1, NULL, 0, NULL, 0)) == NOG_NO_MEMORY && l->frames / 2 >= l->memlock + 2) l->frames /= 2;
+    while ((code = nog_open(&machine, l, &area, 1, NULL, 0, NULL, 0)) == NOG_NO_MEMORY && l->frames > FEWEST_FRAMES) {
+        l->frames /= 2;
+        if (l->memlock + 2 > l->frames && options.has_limits) break;
+        l->memlock = least(l->memlock, l->frames - 2);
+    }
     if (code == NOG_NO_MEMORY)
-        stop(CANNOT_START, "there is not enough memory to reserve for SHMALL %lu and MEMLOCK %lu: choose smaller ones by --limits", l->shmall, l->memlock);
+        stop(CANNOT_START, "there is not enough memory to reserve for SHMALL %lu and MEMLOCK %lu: --limits may give fewer",
+             l->shmall, l->memlock);
     reply_of(code);
 }
 
@@ -134,7 +138,8 @@ static pid_t start_command(void) {
     }
     close(from[1]);
     if (ptrace(PTRACE_SEIZE, child, 0, OPTIONS) == -1)
-        stop(CANNOT_START, "the command can't be traced: %s; another program traces it, or kernel.yama.ptrace_scope forbids it", strerror(errno));
+        stop(CANNOT_START, "the command can't be traced: %s; another program traces it, or kernel.yama.ptrace_scope forbids it",
+             strerror(errno));
     if (write(to[1], "t", 1) != 1 || read(from[0], &news, sizeof news) != sizeof news || news.error)
         stop(CANNOT_START, "the filter can't be installed: %s; Linux 5.14 or later is needed", strerror(news.error));
     listener = take_listener(child, news.listener);
@@ -154,7 +159,8 @@ static void send_on(int signal, siginfo_t *info, void *ignored) {
 }
 
 static void prepare_signals(void) {
-    static const int sent_on[] = {SIGINT, SIGQUIT, SIGTERM, SIGHUP, SIGUSR1, SIGUSR2}, ignored[] = {SIGTSTP, SIGTTIN, SIGTTOU, SIGPIPE};
+    static const int sent_on[] = {SIGINT, SIGQUIT, SIGTERM, SIGHUP, SIGUSR1, SIGUSR2};
+    static const int ignored[] = {SIGTSTP, SIGTTIN, SIGTTOU, SIGPIPE};
     struct sigaction action = {.sa_sigaction = send_on, .sa_flags = SA_SIGINFO | SA_RESTART};
     for (size_t i = 0; i < sizeof sent_on / sizeof *sent_on; i++) sigaction(sent_on[i], &action, NULL);
     for (size_t i = 0; i < sizeof ignored / sizeof *ignored; i++) signal(ignored[i], SIG_IGN);
