@@ -6,6 +6,7 @@ use Rattle.std.specs.List.{insert}
 use Rattle.shm_base.specs.declared.bounds.TheConstants.{INDEXES}
 use Rattle.shm_fault.specs.Ordered.{inserted}
 use Rattle.shm_fault.specs.Held.{Held, held_id, with_zeros}
+use Rattle.shm_part_tests.specs.Trial.{IsPlace}
 
 -- all before the place have no higher index, and the next one has
 pub inserted-at : {T : Type 0} (id : T → ℕ) (x : T) (xs : List T) (n : ℕ) → n ≤ length xs → ((k : ℕ) (d : T) → k < n → id (get_or xs k d) % INDEXES ≤ id x % INDEXES)
@@ -20,6 +21,6 @@ inserted-at id x (y ∷ ys) (suc n) within below next =
     (ap (λ zs. y ∷ zs) (inserted-at id x ys n (omega (arith, within)) (λ k d l. below (suc k) d (omega (arith, l))) (λ d l. next d (omega (arith, l)))))
 
 -- a segment of zeros at the place for it
-pub zeros-inserted : (hs : List Held) (g : Held) (id pages n : ℕ) → g ≡ record { id = id; locked = false; bytes = replicate (4096 * pages) 0 } → ((h : Held) → h.id ≡ id → inserted held_id h hs ≡ insert hs n h)
+pub zeros-inserted : (hs : List Held) (g : Held) (id pages n : ℕ) → g ≡ record { id = id; locked = false; bytes = replicate (4096 * pages) 0 } → IsPlace held_id id hs n
     → insert hs n g ≡ with_zeros hs id pages
 zeros-inserted hs g id pages n is place = sym (place g (ap (λ (h : Held). h.id) is)) ∙ ap (λ h. inserted held_id h hs) is

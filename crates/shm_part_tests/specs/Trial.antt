@@ -4,6 +4,8 @@ use Rattle.shm_base.specs.declared.paging.Span.{Span}
 use Rattle.shm_fault.specs.Held.{Held, held_pages}
 use Rattle.shm_fault.specs.Apart.{AreHeldApart}
 use Rattle.shm_fault.specs.Store.{StoreView, held, frame_of, page_of}
+use Rattle.shm_fault.specs.Ordered.{inserted}
+use Rattle.std.specs.List.{insert}
 
 -- what a run of calls itself knows of a segment
 pub record Row : Type 0 where
@@ -13,6 +15,10 @@ pub record Row : Type 0 where
 
 abbrev pub row_id : Row → ℕ
 row_id r = r.seg
+
+-- an element with this identifier is inserted at this place
+abbrev pub IsPlace : {T : Type 0} → (T → ℕ) → ℕ → List T → ℕ → Type 0
+IsPlace {T} id seg xs place = (x : T) → id x ≡ seg → inserted id x xs ≡ insert xs place x
 
 abbrev pub row_of : Held → Row
 row_of g = record { seg = g.id; locked = g.locked; pages = held_pages g }

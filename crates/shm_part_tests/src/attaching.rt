@@ -80,7 +80,8 @@ fn is_range(base: u64, pages: u32) -> bool
         && base <= END_ADDRESS - PAGE_SIZE * pages as u64
 }
 
-/// Attaches pages of a segment to process 1, if there is room for one more piece and the segment's index is its own.
+/// Attaches pages of a segment to process 1, if there is room for one more piece and no other attached segment
+/// has its index.
 fn attach(
     spaces: &mut Spaces,
     store: &PageStore<RamPager>,

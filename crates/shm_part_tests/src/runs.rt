@@ -4,10 +4,8 @@ ghost use Rattle.std.specs.Prelude.{ℕ, ◌≡◌, ◌+◌, ◌%◌, ◌<◌, �
 ghost use Rattle.shm_fault.specs.Held.{FitsPage, is_held};
 ghost use Rattle.shm_fault.specs.Allowed.{IsAccess};
 ghost use Rattle.shm_fault.specs.Store.{held};
-ghost use Rattle.std.specs.List.{insert};
 ghost use Rattle.shm_base.specs.declared.bounds.TheConstants.{INDEXES};
-ghost use Rattle.shm_fault.specs.Ordered.{inserted};
-ghost use Rattle.shm_part_tests.specs.Trial.{Row as Told, row_id, row_pages, row_with_lock, pages_all, pages_pinned, frame_named, AreAlike};
+ghost use Rattle.shm_part_tests.specs.Trial.{Row as Told, row_id, row_pages, row_with_lock, pages_all, pages_pinned, frame_named, AreAlike, IsPlace};
 
 use crate::pagers::{fuse, mirror};
 use crate::paging::{add_segment, is_area};
@@ -150,7 +148,7 @@ fn is_index_used(rows: &Vec<Row>, seg: u32) -> bool
 // Where a row is inserted: before the first one with a higher index.
 fn row_place(rows: &Vec<Row>, seg: u32) -> usize
     ensures within { result ≤ length rows.now.items }
-    ensures place { (r : Told) → r.seg ≡ seg → inserted row_id r rows.now.items ≡ insert rows.now.items result r }
+    ensures place { IsPlace row_id seg rows.now.items result }
 {
     for place in 0..rows.len() {
         if seg % INDEXES < rows[place].seg % INDEXES {

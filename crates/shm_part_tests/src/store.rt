@@ -1,8 +1,7 @@
 //! The store: its segments, in the order of their indexes.
 ghost use Rattle.std.specs.Prelude.{◌≡◌, ◌+◌, ◌<◌, ◌≤◌, [], length, map, slice_get, false, true, OnOk, OnErr};
 ghost use Rattle.shm_fault.specs.Apart.{AreHeldApart};
-ghost use Rattle.std.specs.List.{insert};
-ghost use Rattle.shm_fault.specs.Ordered.{inserted};
+ghost use Rattle.shm_part_tests.specs.Trial.{IsPlace};
 ghost use Rattle.shm_fault.specs.Held.{Held, held_id, find_held, is_held, pasted, with_zeros, without, with_lock, FitsPage, span_bytes, read_from, written};
 ghost use Rattle.shm_fault.specs.Allowed.{IsAccess};
 
@@ -72,8 +71,7 @@ fn paste_at(segments: &mut Vec<Segment>, span: &Span, new: &[u8])
 // Where a segment is inserted: before the first one with a higher index.
 fn place_for(segments: &Vec<Segment>, seg: u32) -> usize
     ensures within { result ≤ length segments.now.items }
-    ensures place { (g : Held) → g.id ≡ seg
-        → inserted held_id g segments.now.items ≡ insert segments.now.items result g }
+    ensures place { IsPlace held_id seg segments.now.items result }
 {
     for place in 0..segments.len() {
         if seg % INDEXES < segments[place].id() % INDEXES {
