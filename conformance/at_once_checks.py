@@ -1,5 +1,7 @@
 """What conformance/check tests of ./conform at-once: the peer's output, the judge's answers, and the explanations."""
 
+import contextlib
+import io
 import os
 import re
 import subprocess
@@ -70,6 +72,13 @@ class Told:
         return [log_of(self.lines)]
 
 
+class TellsBoth(Told):
+    """A peer that prints the same lines in this order and in the opposite one."""
+
+    def run(self, _text):
+        return [log_of(self.lines), log_of(self.lines[::-1])]
+
+
 class Knows(Judge):
     """A judge for whom only these logs are legal."""
 
@@ -98,6 +107,7 @@ def check_explanations(count):
             ([OWN, STAT.format("-", 1), ATTACH.replace("2", "1", 1)], [OWN, STAT.format("-", 0), ATTACH.replace("2", "1", 1)], nobody),
             ([GONE.format("EIDRM"), REMOVE], [GONE.format("EINVAL"), REMOVE], "removed between two steps of a call"),
             ([GONE.format("EIDRM"), ATTACH], [GONE.format("EINVAL"), ATTACH], nobody),
+            ([GONE.format("EIDRM"), "1 rmid s = ok"], [GONE.format("EINVAL"), "1 rmid s = ok"], nobody),
             ([GONE.format("EACCES"), REMOVE], [GONE.format("EINVAL"), REMOVE], nobody),
             ([STAT.format("dest", 1), ATTACH], ["1 stat s = ?", ATTACH], "marked while an attach is under way"),
             ([STAT.format("-", 1), ATTACH], ["1 stat s = ?", ATTACH], nobody),
@@ -142,6 +152,21 @@ def check_verdicts(count):
         except Stopped as error:
             found = None if f"the judge ended with status {status}: " in str(error) else str(error)
         count.take(found == wanted, f"a judge that ends with {status} and says {said!r}: {found} where {wanted} is wanted")
+
+
+def check_judged(count):
+    """The judge is asked under Linux's rules; and a run is judged unless each process had the same replies in the same order."""
+    script = '[ "$1 $3 $4 $5 $6" = "judge --rules linux --at-most 40" ] && exit 5'
+    word = "not asked so"
+    with contextlib.suppress(Stopped):
+        word = Judge(["sh", "-c", script, "sh"]).verdict(TWO, ONE_WINS, 40)[0]
+    count.take(word == "undecided", f"the words for the judge: {word}")
+    own = ["1 load 0x50000000 1 = 00", "1 load 0x50000000 1 = 01"]
+    for lines, wanted in ((own, {"legal": 1, "ILLEGAL": 1}), (ONE_WINS, {"legal": 1})):
+        tally = Tally()
+        with contextlib.redirect_stdout(io.StringIO()):
+            judge_script(tally, TellsBoth(lines), Knows(lines), "both orders", "")
+        count.take(tally.logs == wanted and sum(tally.judged.values()) == 2, f"{lines} in both orders: {tally.logs}, {tally.judged}")
 
 
 def check_real_judge(count):
@@ -222,6 +247,7 @@ def check_kit(count, folder, conform):
     check_explanations(count)
     check_orders(count)
     check_verdicts(count)
+    check_judged(count)
     check_words(count, folder, conform)
     check_scripts(count)
     check_real_judge(count)

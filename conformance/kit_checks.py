@@ -13,6 +13,7 @@ from dataclasses import replace
 
 import near_misses
 import running
+from compare import Result
 from generator import make_script
 from results import Outcome, Results, junit_of
 from running import HERE, TOP
@@ -214,6 +215,7 @@ def check_odd_text(count, folder, conform):
     results.began -= 5
     with contextlib.redirect_stdout(io.StringIO()):
         results.take(outcome)
+        results.take(Outcome("soon", "agree", ""))
     try:
         suite = xml.fromstring(junit_of(results.outcomes).partition("\n")[2]).find("testsuite")
     except xml.ParseError as error:
@@ -221,8 +223,9 @@ def check_odd_text(count, folder, conform):
         return
     message = suite.find("testcase/error").get("message")
     count.take(message == "odd: STOPPED: half a line: ? <&>", f"--junit: {message!r}")
-    times = [float(it.get("time")) for it in (suite, suite.find("testcase"))]
-    count.take(all(5 <= it < 3600 for it in times), f"--junit: a case of 5 seconds took {times}")
+    times = [float(it.get("time")) for it in (suite, *suite.findall("testcase"))]
+    is_right = len(times) == 3 and 5 <= times[1] < 3600 and times[2] < 5 and abs(times[0] - times[1] - times[2]) < 0.01
+    count.take(is_right, f"--junit: cases of 5 seconds and of none took {times[1:]}, and all of them {times[0]}")
 
 
 def check_own_program(count, folder):
@@ -247,6 +250,15 @@ def check_own_program(count, folder):
             count.take((ran, said) == (wanted, told), f"the first start of {words}: ran {ran!r}, said {said!r}")
     finally:
         running.TOP = top
+
+
+def check_word(count):
+    """The word for a case: a difference is DIFFER, whatever else the rules of the profile explain."""
+    for agree, by_rule, different, wanted in (
+            (0, {}, [], "skipped"), (1, {}, [], "agree"), (0, {"a rule": 1}, [], "profile"), (1, {"a rule": 1}, [], "profile"),
+            (1, {}, ["a reply"], "DIFFER"), (1, {"a rule": 1}, ["a reply"], "DIFFER")):
+        found = Result(agree=agree, by_rule=by_rule, different=different).word
+        count.take(found == wanted, f"a case with {agree}, {by_rule}, {different} is {found} where {wanted} is wanted")
 
 
 # words of which one would be ignored, or that are wrong, with the only line that is printed
@@ -349,6 +361,7 @@ def check_no_peer_here(count, folder):
 
 def check_kit(count, folder, conform):
     check_malformed(count)
+    check_word(count)
     check_odd_replies(count)
     folder = os.path.join(folder, "kit")
     check_results(count, folder, conform)
@@ -454,6 +467,13 @@ def check_said_once(count, folder, conform):
             "conform: the peer was not started: no such command: /nosuch/peer\n" if text is None else f"conform: {text}\n"
         is_right = status == wanted and sorted(said.splitlines()) == sorted(told.splitlines())
         count.take(is_right, f"a missing {name}: status {status}, {said!r}")
+    file = os.path.join(folder, "stopped.xml")
+    status, said = conform("--junit", file, *words[:2], *paths, "--peer", "/nosuch/peer")
+    try:
+        suite = xml.parse(file).getroot().find("testsuite")
+    except (OSError, xml.ParseError) as error:
+        suite = {"tests": error}
+    count.take((status, suite.get("tests")) == (3, "0"), f"--junit of a run that stops: status {status}, {suite.get('tests')} tests")
 
 
 def check_list(count, folder, conform):

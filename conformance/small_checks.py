@@ -112,6 +112,20 @@ process 1 100 110
 FULL_SAID = ["0", "skipped: more segments than SEGMENTS", "0x40000000", "0x40001000", "skipped: more pieces than PIECES"]
 # the second pipe that a script makes is refused, and no other
 NO_SECOND_PIPE = "#define _GNU_SOURCE\n#include <unistd.h>\nstatic int pipes_made = 0;\n#define pipe(ends) (pipes_made++ == 1 ? -1 : pipe(ends))\n"
+# a system that gives at most 5 bytes of a pipe at a time
+FEW_BYTES = "#define _GNU_SOURCE\n#include <unistd.h>\n#define read(fd, to, count) read(fd, to, (count) > 5 ? 5 : (count))\n"
+# a process that the peer made can make no process itself
+NO_FORK = """#define _GNU_SOURCE
+#include <errno.h>
+#include <unistd.h>
+static int forks = 0;
+static int fork_twice(void) {
+    errno = EAGAIN;
+    return ++forks > 2 ? -1 : (int)fork();
+}
+#define fork fork_twice
+"""
+NOBODY_BORN = "limits 65536 16 64 16 4\nprocess 1 100 110\nchild 2\n1 s = shmget private 1 600\n1 fork 2\n2 stat s\n1 exit\n"
 TWO = "limits 65536 16 64 16 4\nprocess 1 100 110\nprocess 2 100 110\n2 s = shmget private 1 600\n1 stat 0\n"
 DATA = """/* made by tools/small_peer from scripts */
 static const struct declared processes_0[] = {
@@ -352,6 +366,20 @@ def check_room(count, folder):
         count.take(got == wanted and not said, f"the small peer with {name}: {got}, {said}")
 
 
+def check_odd_system(count, folder):
+    """A pipe that gives few bytes at a time changes nothing; and the child of a refused fork is no process."""
+    limits = [16777216, 16, 64, 0, 4]
+    path = write_file(os.path.join(folder, "ordinary.shm"), FORMS.format(100, 110))
+    few = write_file(os.path.join(folder, "few_bytes.h"), FEW_BYTES)
+    found, said = run_small(os.path.join(folder, "few_bytes"), [path], limits, False, ["-include", few])
+    count.take(found.get("ordinary") == FORMS_SAID.format(100, 110).splitlines() and not said, f"pipes of few bytes: {found}, {said}")
+    path = write_file(os.path.join(folder, "born.shm"), NOBODY_BORN)
+    none = write_file(os.path.join(folder, "no_fork.h"), NO_FORK)
+    found, said = run_small(os.path.join(folder, "no_fork"), [path], limits, False, ["-include", none])
+    got = [line.partition(" = ")[2] for line in found.get("born", [])]
+    count.take(got == ["0", "EAGAIN", "skipped: no process makes this call", "ok"] and not said, f"a refused fork: {got}, {said}")
+
+
 def check_tool(count, folder):
     """What tools/small_peer makes of a script, of a console's record, and of wrong words."""
     path = write_file(os.path.join(folder, "data.shm"), DATA_SCRIPT)
@@ -410,6 +438,7 @@ def check_small_peer(count, peer, folder, conform):
         return
     check_forms(count, folder)
     check_room(count, folder)
+    check_odd_system(count, folder)
     # the cases take longest, and show nothing more about a peer that is already wrong
     if count.failed == failed:
         check_same_replies(count, peer, folder, conform)
