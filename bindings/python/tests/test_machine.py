@@ -412,6 +412,14 @@ class Mappings(unittest.TestCase):
         with self.assertRaises(SegmentationFault):
             self.machine.copy(1, self.at + 8 * PAGE, 1, self.at, 1)
 
+    def test_copies_from_one_process_to_another(self):
+        self.machine.write(1, self.at, b"abcdefgh")
+        other = self.machine.attach(4, self.machine.get(4, PRIVATE, PAGE), 0x50000000)
+        self.assertEqual(self.machine.copy(1, self.at, 4, other, 6), 6)
+        self.assertEqual(self.machine.load(4, other, 8), b"abcdef\0\0")
+        self.assertEqual(self.machine.copy(4, other + 3, 1, self.at, 2), 2)
+        self.assertEqual(self.machine.load(1, self.at, 8), b"decdefgh")
+
     def test_numbers_that_nothing_carries(self):
         for call, operands in ((self.machine.unmap, (1, -1, 1)), (self.machine.unmap, (1, 0, 2 ** 64)), (self.machine.protect, (2 ** 32, 0, 1, True)),
                                (self.machine.stat_at, (1, 2 ** 32)), (self.machine.pieces, (-1,)), (self.machine.failed_at, (1, 2 ** 64, 1))):
@@ -460,6 +468,11 @@ class Opening(unittest.TestCase):
         it.close()
         for call, operands in ((it.get, (1, 0, 1)), (it.tally, ()), (it.segments, ()), (it.read, (1, FIRST, 1))):
             self.assertRaises(ClosedMachine, call, *operands)
+
+    def test_an_error_in_a_with_block_leaves_it(self):
+        with self.assertRaises(KeyError), machine() as it:
+            raise KeyError("in the block")
+        self.assertFalse(it.is_open)
 
     def test_machines_that_can_not_be_opened(self):
         area, person = Area.ram(1), Process(1)

@@ -265,6 +265,80 @@ fn bytes_are_exchanged_and_copied() {
 }
 
 #[test]
+fn bytes_are_copied_from_one_process_to_another() {
+    let (mut machine, _, at) = attached();
+    assert_eq!(machine.store(1, at, b"abcdefgh"), Ok(()));
+    let id = machine.get(2, PRIVATE, PAGE, 0o600, 0).unwrap();
+    let other = machine.attach(2, id, 0x5000_0000, 0).unwrap();
+    let mut found = [0; 8];
+    assert_eq!(machine.copy(1, at, 2, other, 6), Ok(()));
+    assert_eq!(machine.load(2, other, &mut found), Ok(()));
+    assert_eq!(&found, b"abcdef\0\0");
+    assert_eq!(machine.copy(2, other + 3, 1, at, 2), Ok(()));
+    assert_eq!(machine.load(1, at, &mut found), Ok(()));
+    assert_eq!(&found, b"decdefgh");
+}
+
+// The numbers are those of Linux on x86-64, in asm-generic/errno-base.h and errno.h.
+#[test]
+fn each_errno_has_linuxs_number() {
+    let numbers = [
+        (Errno::EPERM, 1, "EPERM"),
+        (Errno::ENOENT, 2, "ENOENT"),
+        (Errno::ESRCH, 3, "ESRCH"),
+        (Errno::EIO, 5, "EIO"),
+        (Errno::EAGAIN, 11, "EAGAIN"),
+        (Errno::ENOMEM, 12, "ENOMEM"),
+        (Errno::EACCES, 13, "EACCES"),
+        (Errno::EEXIST, 17, "EEXIST"),
+        (Errno::EINVAL, 22, "EINVAL"),
+        (Errno::EMFILE, 24, "EMFILE"),
+        (Errno::ENOSPC, 28, "ENOSPC"),
+        (Errno::EIDRM, 43, "EIDRM"),
+    ];
+    for (errno, number, name) in numbers {
+        assert_eq!((errno.0, errno.text().as_str()), (number, name));
+    }
+}
+
+#[test]
+fn the_second_area_fails_where_it_was_told_to() {
+    let failing = Area::ram(16).failing(Failure {
+        call: 1,
+        is_write: true,
+        side: 0,
+    });
+    let mut machine = Machine::open(&Limits::default(), &[Area::ram(1), failing], &[Process::live(1, 0, 0)]).unwrap();
+    let id = machine.get(1, PRIVATE, 3 * 4096, 0o600, 0).unwrap();
+    let at = machine.attach(1, id, 0, 0).unwrap();
+    for page in 0..3 {
+        machine.store(1, at + page * 4096, &[1]).unwrap();
+    }
+    // the only slot of the first area takes one page; the second area fails at its first write
+    let counts = [machine.flush(1), machine.flush(1), machine.flush(2)].map(|it| (it.written, it.failed));
+    assert_eq!(counts, [(1, 0), (0, 1), (2, 0)]);
+}
+
+// Resident memory of this process in bytes: the second number of /proc/self/statm, in pages.
+fn resident() -> usize {
+    let said = std::fs::read_to_string("/proc/self/statm").expect("Linux has this file");
+    4096 * said.split(' ').nth(1).and_then(|word| word.parse::<usize>().ok()).expect("a number")
+}
+
+#[test]
+fn a_machine_that_is_dropped_leaves_no_memory() {
+    let open = || Machine::open(&Limits::default(), &[Area::ram(512)], &[Process::live(1, 0, 0)]).expect("such a machine opens");
+    drop(open());
+    let before = resident();
+    // each has an area of 2 MB
+    for _ in 0..500 {
+        drop(open());
+    }
+    let after = resident();
+    assert!(after < before + 200_000_000, "{before} bytes before, {after} after");
+}
+
+#[test]
 fn a_range_is_protected() {
     let (mut machine, id, at) = attached();
     assert_eq!(machine.protect(1, at + PAGE, PAGE, false), Ok(()));
