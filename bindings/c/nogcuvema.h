@@ -14,14 +14,17 @@
    may have changed before.
    NOG_SIGBUS and NOG_EIO name a swap area's failure: no byte of a segment changed, and no process, segment or
    attachment. But pages may have come into frames or left them, and the counts of the memory may have risen.
-   A code from 2001 on: nothing at all, except what nog_read, nog_write and nog_copy did before NOG_SPENT.
+   A code from 2001 on: nothing at all.
+   nog_read, nog_write and nog_copy make several calls: the above is true of the call that was refused, and those before
+   it stay made.
 
    Each function that takes a machine answers NOG_CLOSED if it is closed, except nog_open, which opens it. Each call of
    a process, nog_get to nog_swapoff, answers NOG_SPENT if 2^64 - 1 calls were answered before it. Otherwise it
    answers NOG_ESRCH if no live process has the pid: it is unborn, has ended, or was neither declared nor admitted.
-   Below, each function lists its other codes in the order in which they are tested. NOG_OUT_OF_RANGE comes before every
-   other code, those three included. Then come those of errno(3), of which the first that applies is
-   answered. NOG_NO_MEMORY is last: it comes in place of 0.
+   Below, each function lists its other codes in the order in which they are tested. Of a call of a process
+   NOG_OUT_OF_RANGE comes before every other code, those three included; of any other function it comes after NOG_CLOSED,
+   where it is listed. Of the codes of errno(3) the first that applies is answered. NOG_NO_MEMORY is last: it comes in
+   place of 0.
 
    POINTERS point to as much memory as their types, and the counts or lengths next to them, say. A pointer may be null
    if its count or length is 0, and only then. No two pointers of a call overlap. The library keeps no pointer: arrays,
@@ -138,7 +141,7 @@ typedef struct nog_area {
 } nog_area;
 
 /* One read or write of a swap area that fails: the one numbered `call`, counted from 1. The two sides of a mirror count
-   separately. If a write fails, the page is not written: the slot keeps its bytes, and the frame keeps the page. */
+   separately. If a write fails, the frame keeps the page, and nothing is known of the bytes in the slot. */
 typedef struct nog_failure {
     uint32_t area;      /* the area's place among the areas, from 0 */
     uint32_t side;      /* 0: the area, or a mirror's left side; 1: a mirror's right side */
@@ -192,8 +195,8 @@ typedef struct nog_tally {
     uint64_t dirty;     /* frames whose page must be written to a slot before it leaves */
     uint64_t slots;     /* slots of the areas that were not taken away */
     uint64_t used;      /* slots that belong to a page */
-    uint64_t ins;       /* pages read from areas */
-    uint64_t outs;      /* pages written to areas */
+    uint64_t ins;       /* pages that came from areas into frames */
+    uint64_t outs;      /* pages written from frames to areas, by evictions and flush rounds; not those of nog_swapoff */
     uint64_t failures;  /* reads and writes of areas that failed; of a mirror, those in which no side succeeded */
 } nog_tally;
 
@@ -404,7 +407,7 @@ uint32_t nog_unmap(nog_machine *machine, uint32_t pid, uint64_t addr, uint64_t l
    NOG_SPENT: 2^64 - 1 calls were answered.
    NOG_ESRCH: no live process has the pid.
    NOG_EINVAL: the address is not a multiple of 4096.
-   NOG_ENOMEM: the range passes 2^64.
+   NOG_ENOMEM: the range reaches 2^64.
    Then the pages are protected from the lowest on. The first of these ends that, and what lies below has changed:
    NOG_ENOMEM: a page is not attached, or the process would have more pieces than the limits allow.
    NOG_EACCES: a piece that was attached with NOG_RDONLY would become writable. */

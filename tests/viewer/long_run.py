@@ -41,6 +41,7 @@ def check_long_run(count, session, page_of):
             took.append(session.value("performance.timing.loadEventEnd - performance.timing.navigationStart"))
         count.take(min(took) < MOST_MILLISECONDS, f"a long run: it opens in {took} ms")
         check_steps(count, session)
+        check_sheets(count, session)
 
 
 def check_steps(count, session):
@@ -62,3 +63,13 @@ def check_steps(count, session):
     count.take(len(were) == 1 and session.value(heights) == were, f"a long run: boxes are {were} high, in tenths")
     sheet = session.value("(() => { const sheet = makeSheet(2); return [...sheet.querySelectorAll('.cell')].filter((it) => !it.firstChild).length; })()")
     count.take(sheet == 0, f"a long run: a sheet has {sheet} empty boxes")
+
+
+def check_sheets(count, session):
+    """At most 200 steps are printed at once, and the last sheet says so if there are more."""
+    for words, sheets in ("1-201", 200), ("1-200", 200), ("3", 1):
+        session.value(f"document.getElementById('printed').value = '{words}'; 0")
+        seen = session.value("(() => { makeSheets(); const it = byId('sheets'); return [it.querySelectorAll('.sheet').length, "
+                             "it.lastElementChild.className === '' && it.lastElementChild.textContent.includes('choose them by --steps')]; })()")
+        count.take(seen == [sheets, words == "1-201"], f"a long run: steps {words} on paper: {seen}")
+    session.value("byId('sheets').replaceChildren(); document.getElementById('printed').value = ''; 0")

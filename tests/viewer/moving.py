@@ -122,6 +122,11 @@ def check_swipes(count, session):
         swipe(session, *words)
         seen.append(session.value(WHERE))
     count.take(seen == [4, 5, 4, 4, 4, 4], f"swipes lead to {seen}")
+    # two fingers, which make the page larger: the one goes to the left, the other to the right
+    for kind, points in (("touchStart", [(250, 500), (260, 500)]), ("touchMove", [(100, 500), (380, 500)]), ("touchEnd", [])):
+        session.ask("Input.dispatchTouchEvent", type=kind, touchPoints=[{"x": x, "y": y, "id": at} for at, (x, y) in enumerate(points)])
+    settle(session)
+    count.take(session.value(WHERE) == 4, f"two fingers lead to step {session.value(WHERE)}")
     session.ask("Emulation.setTouchEmulationEnabled", enabled=False)
 
 

@@ -147,6 +147,34 @@ def check_swap_and_link(count, session, address):
     count.take(is_there and session.value(SEEN)[1] == seen[1], f"served, by a link: {session.value(SEEN)}")
 
 
+# a slow answer to the first text, and a quick one to the second, which is typed before the first is there
+LATE_ANSWER = """(async () => {
+  const real = window.fetch;
+  let asked = 0;
+  window.fetch = async (path, how) => {
+    asked += 1;
+    const isFirst = asked === 1;
+    const answer = await real(path, { ...how, signal: undefined });
+    if (isFirst) await new Promise((done) => setTimeout(done, 1500));
+    if (how.signal?.aborted) throw new DOMException("aborted", "AbortError");
+    return answer;
+  };
+  const type = (bytes) => { byId("text").value = byId("text").value.replace(/store a \\w+/, `store a ${bytes}`); return run(); };
+  const both = [type("a1"), type("b2")];
+  await Promise.all(both);
+  window.fetch = real;
+  return [asked, byId("text").value.includes("store a b2"), steps.some((it) => it.lines.join().includes("store 0x40000000 b2")),
+    steps.some((it) => it.lines.join().includes("store 0x40000000 a1"))];
+})()"""
+
+
+def check_late(count, session):
+    """An answer that comes after the text was changed once more is not shown."""
+    choose(session, "memory_short")
+    seen = session.value(LATE_ANSWER)
+    count.take(seen == [2, True, True, False], f"served, a late answer to an older text: {seen}")
+
+
 def check_saving(count, session):
     session.value("URL.createObjectURL = (page) => { page.text().then((text) => { window.saved = text; }); return 'blob:none'; }; byId('save').click()")
     wait_for(session, "typeof window.saved === 'string'")
@@ -175,6 +203,7 @@ def check_in_browser(count, session):
         check_lesson(count, session)
         check_editing(count, session)
         check_fault(count, session)
+        check_late(count, session)
         check_swap_and_link(count, session, found[0])
         check_saving(count, session)
     with served(f"{TOP}/examples/failing_swap.shm") as found, served("ram:3", f"{TOP}/examples/failing_swap.shm") as other:
@@ -204,6 +233,46 @@ def ask(port, method, path, body=None, headers=(), length=None):
         return type(error).__name__, b""
     finally:
         connection.close()
+
+
+# what a browser is told of each answer: the page may load nothing, and ask this server alone
+HEADERS = {
+    "Content-Security-Policy": "default-src 'none'; script-src 'unsafe-inline'; style-src 'unsafe-inline'; img-src data:; connect-src 'self'; "
+                               "base-uri 'none'; form-action 'none'; frame-ancestors 'none'",
+    "X-Content-Type-Options": "nosniff", "Referrer-Policy": "no-referrer", "Cross-Origin-Resource-Policy": "same-origin", "Cache-Control": "no-store"}
+
+
+def check_headers(count):
+    """Each answer has these headers, also a refusal."""
+    with served() as (_address, port, token):
+        for path, wanted in (f"/{token}/", "text/html; charset=utf-8"), ("/", "text/plain; charset=utf-8"):
+            connection = http.client.HTTPConnection("127.0.0.1", port, timeout=60)
+            connection.request("GET", path)
+            found = dict(connection.getresponse().getheaders())
+            connection.close()
+            want = {**HEADERS, "Content-Type": wanted}
+            count.take({name: found.get(name) for name in want} == want, f"served: GET {path} has the headers {found}")
+
+
+def check_opened(count):
+    """A file that is opened: its text, with what could end the page's data, and its swap areas, also if its folder's name has a dot."""
+    text = "# </script><!-- <i>&lt; \\u003c\nlimits 1 1 1 2 0\n"
+    with tempfile.TemporaryDirectory(prefix="viewer.") as folder:
+        below = os.path.join(folder, "of.this")
+        os.mkdir(below)
+        for name, given in (("one.shm", text), ("one.swap", "ram:3 sparse:9\n")):
+            with open(os.path.join(below, name), "w", encoding="ascii") as file:
+                file.write(given)
+        for words in [os.path.join(below, "one.shm")], [os.path.relpath(os.path.join(below, "one.shm"))]:
+            with served(*words) as (_address, port, token):
+                _, body = ask(port, "GET", f"/{token}/")
+            found = re.search(r'id="choices">(.*?)</script>', body.decode(), re.DOTALL)
+            try:
+                opened = json.loads(found[1])
+                seen = (opened["script"], opened["swap"])
+            except (TypeError, ValueError, KeyError) as error:
+                seen = error
+            count.take(seen == (text, ["ram:3", "sparse:9"]), f"served, an opened file: {seen}")
 
 
 SCRIPT = {"script": "limits 4096 1 1 2 0\nprocess 1 1 1\n1 stat 0\n", "swap": ["ram:1"]}
