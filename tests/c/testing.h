@@ -30,7 +30,7 @@ static void answer(uint32_t found, uint32_t wanted, const char *file, int line, 
     test(found == wanted, file, line, what, found);
 }
 
-static uint32_t open_usual(nog_machine *machine) {
+static inline uint32_t open_usual(nog_machine *machine) {
     return nog_open(machine, &limits, &ram, 1, &none, 0, processes, 3);
 }
 
