@@ -28,3 +28,5 @@ mod runs;
 mod shared;
 #[cfg(test)]
 mod starts;
+#[cfg(test)]
+mod texts;
