@@ -1,17 +1,16 @@
 /* shmget, shmat, shmdt and shmctl, in Linux's order of errors. */
 #include "shmrun.h"
+#include <nogcuvema_linux.h>
 #include <errno.h>
 #include <fcntl.h>
 #include <stdio.h>
-#include <string.h>
 #include <sys/mman.h>
 #include <sys/shm.h>
 #include <sys/syscall.h>
 #include <unistd.h>
 
-enum { NINE_BITS = 0777, SEQUENCE = 32768 };
+enum { NINE_BITS = 0777 };
 enum { GET_FLAGS = NOG_CREAT | NOG_EXCL | NOG_HUGETLB | NOG_NORESERVE, ATTACH_FLAGS = NOG_RDONLY | NOG_RND | NOG_REMAP | NOG_EXEC };
-_Static_assert(sizeof(struct shmid_ds) == 112, "struct shmid_ds is the kernel's");
 
 /* ---- shmget ---- */
 
@@ -151,37 +150,17 @@ static void do_detach(struct call *call) {
 
 /* ---- shmctl ---- */
 
-static struct shmid_ds shown(const nog_segment *s) {
-    struct shmid_ds d;
-    memset(&d, 0, sizeof d);
-    d.shm_segsz = s->size;
-    d.shm_atime = (time_t)s->atime;
-    d.shm_dtime = (time_t)s->dtime;
-    d.shm_ctime = (time_t)s->ctime;
-    d.shm_cpid = (pid_t)s->cpid;
-    d.shm_lpid = (pid_t)s->lpid;
-    d.shm_nattch = s->nattch;
-    d.shm_perm.__key = (key_t)s->key;
-    d.shm_perm.uid = s->uid;
-    d.shm_perm.gid = s->gid;
-    d.shm_perm.cuid = s->cuid;
-    d.shm_perm.cgid = s->cgid;
-    d.shm_perm.mode = (unsigned short)(s->mode | s->status);
-    d.shm_perm.__seq = (unsigned short)(s->id / SEQUENCE);
-    return d;
-}
-
 static int64_t show(struct call *call, uint32_t code, const nog_segment *segment, int64_t result) {
     if (code) return reply_of(code);
-    struct shmid_ds d = shown(segment);
-    return write_memory(call, call->args[2], &d, sizeof d) ? result : -EFAULT;
+    nog_linux_shmid shown = nog_linux_shown(segment);
+    return write_memory(call, call->args[2], &shown, sizeof shown) ? result : -EFAULT;
 }
 
 static int64_t show_limits(struct call *call) {
     nog_usage usage = {0};
     const nog_limits *l = &options.limits;
     reply_of(nog_info(&machine, &usage));
-    struct shminfo info = {.shmmax = l->shmmax, .shmmin = 1, .shmmni = l->shmmni, .shmseg = l->shmmni, .shmall = l->shmall};
+    nog_linux_shminfo info = {.shmmax = l->shmmax, .shmmin = 1, .shmmni = l->shmmni, .shmseg = l->shmmni, .shmall = l->shmall};
     return write_memory(call, call->args[2], &info, sizeof info) ? (int64_t)usage.highest : -EFAULT;
 }
 
@@ -189,16 +168,16 @@ static int64_t show_usage(struct call *call) {
     nog_usage usage = {0};
     nog_segment segment;
     reply_of(nog_info(&machine, &usage));
-    struct shm_info info = {.used_ids = (int)usage.used_ids, .shm_tot = usage.pages};
+    nog_linux_usage info = {.used_ids = (int32_t)usage.used_ids, .shm_tot = usage.pages};
     for (uint32_t i = 0; i <= usage.highest; i++)
         if (nog_segment_at(&machine, i, &segment) == NOG_DONE) info.shm_rss += pages_in_memory(segment.id);
     return write_memory(call, call->args[2], &info, sizeof info) ? (int64_t)usage.highest : -EFAULT;
 }
 
 static int64_t set(struct call *call, const struct guest *self, int32_t id) {
-    struct shmid_ds d;
-    if (!read_memory(call, call->args[2], &d, sizeof d)) return -EFAULT;
-    uint32_t uid = d.shm_perm.uid, gid = d.shm_perm.gid, mode = d.shm_perm.mode & NINE_BITS;
+    nog_linux_shmid given;
+    if (!read_memory(call, call->args[2], &given, sizeof given)) return -EFAULT;
+    uint32_t uid = given.uid, gid = given.gid, mode = given.mode & NINE_BITS;
     int64_t result = reply_of(nog_set(&machine, self->pid, id, uid, gid, mode));
     record((struct event){.kind = SET, .pid = self->pid, .id = id, .uid = uid, .gid = gid, .mode = mode, .result = result});
     return result;
