@@ -1,5 +1,5 @@
 -- Copies of page tables, and the pages of all tables that are only in a slot.
-use Rattle.shm_fault.proofs.Names.{◌≡◌, ◌<◌, ◌≤◌, ◌+◌, ℕ, zero, suc, List, [], ◌∷◌, Option, Some, None, take, length, get_or, sum_by, sum_by-cons, count_by-le-length, refl, arith, SegRec, is_swapped, page_count}
+use Rattle.shm_fault.proofs.Names.{◌≡◌, ◌≤◌, ◌+◌, ℕ, zero, suc, List, [], ◌∷◌, Option, Some, None, take, get_or, sum_by, sum_by-cons, count_by-le-length, refl, arith, SegRec, is_swapped, page_count}
 use Rattle.shm_fault.specs.Entries.{present}
 use Rattle.shm_fault.specs.Store.{swapped_pages}
 

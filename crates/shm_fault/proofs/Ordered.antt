@@ -1,13 +1,11 @@
 -- A segment that is inserted among others in order of their indexes.
-use Rattle.shm_fault.proofs.Names.{◌≡◌, ◌≢◌, ℕ, ◌<◌, ◌≤◌, ◌+◌, ◌*◌, ◌/◌, ◌%◌, Bool, false, cond, eqb, not, List, [], ◌∷◌, map, filter, replicate, sum_by, Some, None, refl, sym, ap, ◌∙◌, inl, inr, arith, sum_by-cons, nat_tests, common_steps, cases_lt, cases_eq, eq-eqb, ne_eqb, SegRec, AreApart, find_seg, but, new_seg, with_seg, Held, find_held, is_held, with_zeros, FitsPage, is_some}
+use Rattle.shm_fault.proofs.Names.{◌≡◌, ◌≢◌, ℕ, ◌<◌, ◌≤◌, ◌+◌, ◌*◌, ◌/◌, ◌%◌, false, List, [], ◌∷◌, map, replicate, sum_by, Some, None, refl, sym, ap, ◌∙◌, inl, inr, arith, sum_by-cons, nat_tests, common_steps, cases_lt, cases_eq, eq-eqb, ne_eqb, SegRec, AreApart, find_seg, but, Held, find_held, is_held, with_zeros, FitsPage, is_some}
 use Rattle.std.proofs.lemmas.Bool.{lt-ltb, le-ltb}
 use Rattle.std.proofs.lemmas.List.{length-replicate}
-use Rattle.std.specs.Prelude.{nat_lt}
 use Rattle.shm_base.specs.declared.paging.Span.{Span}
 use Rattle.shm_base.specs.declared.bounds.TheConstants.{INDEXES}
 use Rattle.shm_fault.specs.Ordered.{inserted}
 use Rattle.shm_fault.specs.Segs.{seg_id}
-use Rattle.shm_fault.specs.Held.{held_id}
 use Rattle.shm_fault.specs.Apart.{AreHeldApart}
 
 -- a function that keeps identifiers

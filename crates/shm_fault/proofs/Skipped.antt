@@ -1,5 +1,5 @@
 -- The blocks that the hand steps over, once frames, page tables or locks have changed.
-use Rattle.shm_fault.proofs.Names.{◌≡◌, ◌≢◌, ◌⊎◌, ℕ, ◌/◌, ◌<◌, Bool, true, false, not, List, length, set, Option, Some, None, refl, sym, ap, ◌∙◌, inl, inr, arith, length-set, get_or-set_other, get_or-set_same, cases_eq, cases_lt, eq-eqb, ne_eqb, true≢false, PageRef, Frame, no_frame, frame_at, PageRec, SegRec, but, find_seg, locked_by, new_seg, with_seg, count_by_id, HasPage, with_rec, StoreView, IsStoreSound, unlocked, owner_passes, emptied, set_past, get_or_past}
+use Rattle.shm_fault.proofs.Names.{◌≡◌, ◌≢◌, ◌⊎◌, ℕ, ◌/◌, ◌<◌, Bool, true, false, not, List, length, set, Option, Some, None, refl, sym, ap, ◌∙◌, inl, inr, arith, length-set, get_or-set_other, get_or-set_same, cases_eq, cases_lt, true≢false, PageRef, Frame, no_frame, frame_at, PageRec, SegRec, but, find_seg, locked_by, new_seg, with_seg, count_by_id, HasPage, with_rec, StoreView, IsStoreSound, unlocked, owner_passes, emptied, set_past, get_or_past}
 use Rattle.shm_frames.specs.Skips.{is_skipped}
 use Rattle.shm_clock.specs.Skips.{AreSkipped}
 use Rattle.shm_fault.proofs.Pages.{locked-same, outlines-with}

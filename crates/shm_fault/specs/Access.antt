@@ -1,5 +1,5 @@
 -- What an access requires, and what it changes other than the bytes that it reads or writes.
-use Rattle.std.specs.Prelude.{ℕ, ◌≡◌, ◌≤◌, ◌+◌, ◌&&◌, Bool, true, false, List, [], ◌∷◌, Option, Some, None, Result, Ok, Err, length, is_ok, OnOk, OnErr, IsSome, All, ⊤}
+use Rattle.std.specs.Prelude.{ℕ, ◌≡◌, ◌≤◌, ◌+◌, ◌&&◌, Bool, true, false, List, [], ◌∷◌, Option, Some, Result, Ok, Err, length, is_ok, OnOk, IsSome, All, ⊤}
 use Rattle.shm_base.specs.declared.paging.PageRef.{PageRef}
 use Rattle.shm_base.specs.declared.paging.Span.{Span}
 use Rattle.shm_slots.specs.View.{sizes}
@@ -7,13 +7,11 @@ use Rattle.shm_slots.specs.Cause.{GoesOn, had_cause}
 use Rattle.shm_fault.specs.declared.access.InFrames.{InFrames}
 use Rattle.shm_fault.specs.declared.touched.Touched.{Touched}
 use Rattle.shm_fault.specs.declared.touched.PagerFailed.{PagerFailed}
-use Rattle.shm_fault.specs.Held.{Held, read_from}
 use Rattle.shm_fault.specs.Segs.{rec_by}
-use Rattle.shm_fault.specs.Store.{StoreView, held, frame_of, page_of, ref_of, is_swapped, IsResident, IsReferenced, pages_among, swapped_among}
+use Rattle.shm_fault.specs.Store.{StoreView, frame_of, page_of, ref_of, is_swapped, IsResident, IsReferenced, pages_among, swapped_among}
 use Rattle.shm_fault.specs.Steps.{MovesLead, LockedPagesStay}
 use Rattle.shm_fault.specs.Goes.{Goes, KeepsLocked, Visits, MovesOn, frame_by, referenced_at}
 use Rattle.shm_fault.specs.Counting.{raised, one_if, CountsOn}
-use Rattle.shm_fault.specs.Placing.{places, after_access, with_dirty, Stops, NoneDirtied, AreDirtied}
 use Rattle.shm_fault.specs.Sound.{IsStoreSound}
 
 -- each span names the frame of its page
@@ -89,26 +87,3 @@ pub record Accessed (ps : List Span) (s t : StoreView) (result : Result Touched 
   pub same_sizes : sizes t.swap ≡ sizes s.swap
   pub size : length t.frames ≡ length s.frames
   pub sound : IsStoreSound t
-
--- a read of spans
-pub record Reads
-    {A E : Type 0} (ps : List Span) (s t : StoreView) (out : List ℕ)
-    (result : Result A E) (answer : Result Touched PagerFailed) : Type 0 where
-  pub bytes : OnOk result (out ≡ read_from (held s) ps)
-  pub held : held t ≡ held s
-  pub access : Accessed ps s t answer
-  pub clean : NoneDirtied s.frames t.frames
-  pub stopped : OnErr result (Stops ps (places s) (places t))
-  pub places : OnOk result (places t ≡ after_access ps (places s))
-
--- the bytes of spans were replaced, so that the segments are `after`; if a pager failed, no byte changed
-pub record Writes
-    {A E : Type 0} (ps : List Span) (s t : StoreView) (after : List Held)
-    (result : Result A E) (answer : Result Touched PagerFailed) : Type 0 where
-  pub written : OnOk result (held t ≡ after)
-  pub same : OnErr result (held t ≡ held s)
-  pub access : Accessed ps s t answer
-  pub dirtied : OnOk result (AreDirtied ps s t)
-  pub clean : OnErr result (NoneDirtied s.frames t.frames)
-  pub stopped : OnErr result (Stops ps (places s) (places t))
-  pub places : OnOk result (places t ≡ with_dirty ps (after_access ps (places s)))

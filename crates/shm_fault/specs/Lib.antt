@@ -12,8 +12,7 @@ pub mod Goes
 pub mod Counting
 pub mod Placing
 pub mod Access
-pub mod Adding
 pub mod Dropping
 pub mod Moving
 pub mod Paging
-pub mod Exchanging
+pub mod Acting

@@ -2,7 +2,9 @@
 //! stays while the second comes in. Only then are bytes read or changed. `after_access` says where each page
 //! is then and which bits are set; `Stops` says it after a pager failed. A page that comes in is clean. A
 //! write makes the frames of its pages dirty, even if it writes the bytes that were there.
-ghost use Rattle.std.specs.Prelude.{◌≡◌, ℕ, ◌+◌, ◌<◌, ◌≤◌, [], ◌∷◌, length, map, set, true, Some, is_ok, IfOk, OnOk, OnErr, All, IsSome};
+ghost use Rattle.std.specs.Prelude.{◌≡◌, ℕ, ◌+◌, ◌%◌, ◌^◌, None, ◌<◌, ◌≤◌, [], ◌∷◌, length, map, set, true, Some, is_ok, IfOk, OnOk, OnErr, All, IsSome};
+ghost use Rattle.std.specs.Int.{w64, from_le_bytes, to_le_bytes};
+ghost use Rattle.shm_base.specs.Exchange.{same_bytes};
 ghost use Rattle.shm_base.specs.declared.paging.Span.{Span as SpanValue};
 ghost use Rattle.shm_base.specs.declared.paging.TheConstants.{PAGE_BYTES};
 ghost use Rattle.shm_fault.specs.Held.{FitsPage, read_from, written, pasted, paste, span_bytes};
@@ -13,9 +15,10 @@ ghost use Rattle.shm_fault.specs.Store.{held, ref_of};
 ghost use Rattle.shm_fault.specs.Sound.{IsStoreSound};
 ghost use Rattle.shm_fault.specs.Goes.{frame_by, referenced_at};
 ghost use Rattle.shm_fault.specs.Placing.{places, with_bit, with_dirty, after_access, Stops, AreDirtied};
-ghost use Rattle.shm_fault.specs.Access.{NameFrames, NamesFrame, IsUntouched, AreIn, Brings, Reads, Writes, answer_of};
-ghost use Rattle.shm_fault.specs.Adding.{number_in, added};
+ghost use Rattle.shm_fault.specs.Access.{NameFrames, NamesFrame, IsUntouched, AreIn, Brings, answer_of};
+ghost use Rattle.shm_fault.specs.Acting.{Acts, FitsRoom, HasOld, Puts, put_by, size_of};
 
+use crate::act::Act;
 use crate::store::PageStore;
 use crate::touched::{PagerFailed, Touched};
 use shm_base::{FrameNo, MOST_FRAMES, PAGE_SIZE, PageRef, Span};
@@ -72,6 +75,24 @@ fn paste_into(frames: &mut Frames, frame: FrameNo, from: usize, bytes: &[u8])
 {
     let page = frames.bytes_mut(frame);
     copy_bytes(bytes, &mut page[from..from + bytes.len()]);
+}
+
+// Whether bytes are the expected ones.
+fn are_same(bytes: &[u8], expected: &[u8]) -> bool
+    ensures { result ≡ same_bytes bytes.now expected.now }
+{
+    bytes == expected
+}
+
+// The number in eight bytes, with another added to it.
+#[inline(always)]
+fn sum_with(bytes: &[u8], more: u64) -> [u8; 8]
+    requires { length bytes.now ≡ 8 }
+    ensures { result ≡ to_le_bytes w64 ((from_le_bytes w64 bytes.now + more) % 2 ^ 64) }
+{
+    let mut number = [0; 8];
+    number.copy_from_slice(bytes);
+    u64::from_le_bytes(number).wrapping_add(more).to_le_bytes()
 }
 
 impl<P: Pager> PageStore<P> {
@@ -255,104 +276,103 @@ impl<P: Pager> PageStore<P> {
         }
     }
 
-    /// Reads the bytes of at most two spans, one after another. A page that is not resident comes in, for
-    /// which another may have to leave its frame. The first page stays while the second comes in. If the
-    /// first fails, the second is not tried. The pagers do nothing else. `touched` begins as
-    /// [`Touched::none`]; it gets the counts and the pages that moved (`Accessed`).
-    ///
-    /// PagerFault: a pager failed, whose count rose in the call or was at its maximum before; `out` is
-    /// unchanged. Precondition: each span lies in one page of a held segment and names the frame that the
-    /// page is in, and the lengths add up to that of `out`.
+    // Copies the bytes of spans out, if the place is as long as they are.
     #[inline(always)]
-    pub fn read_with(
+    fn copy_fitting(&self, spans: &[Span], here: InFrames, size: usize, out: &mut [u8])
+        requires spans { IsAccess (FitsPage (held self.now)) spans.now size }
+        requires here { AreIn self.now spans.now here }
+        ensures { HasOld (held self.now) spans.now out.old out.new }
+    {
+        if out.len() == size {
+            self.copy_spans(spans, here, out);
+        }
+    }
+
+    // Does an act at the bytes of spans, whose pages are in these frames.
+    #[inline(always)]
+    fn act(&mut self, spans: &[Span], here: InFrames, act: Act<'_>, there: &mut [u8])
+        requires spans { IsAccess (FitsPage (held self.old)) spans.now (size_of act (length there.old)) }
+        requires room { FitsRoom act (length there.old) }
+        requires here { AreIn self.old spans.now here }
+        requires sound { IsStoreSound self.old }
+        ensures there { HasOld (held self.old) spans.now there.old there.new }
+        ensures put { let put = put_by act.entry (read_from (held self.old) spans.now) in
+            Puts put spans.now self.old self.new }
+    {
+        match act {
+            Act::Nothing => self.copy_spans(spans, here, there),
+            Act::Put(bytes) => {
+                self.copy_fitting(spans, here, bytes.len(), there);
+                self.store_spans(spans, here, bytes);
+            }
+            Act::PutIfEqual { expected, bytes } => {
+                self.copy_spans(spans, here, there);
+                if are_same(there, expected) {
+                    self.store_spans(spans, here, bytes);
+                }
+            }
+            Act::Add(more) => {
+                self.copy_spans(spans, here, there);
+                self.store_spans(spans, here, &sum_with(there, more));
+            }
+        }
+    }
+
+    /// Does an act at the bytes of at most two spans, once their pages are resident. If `there` is as long as
+    /// they are, it gets the old bytes. A page that is not resident comes in, for which another may have to
+    /// leave its frame. The first page stays while the second comes in. If the first fails, the second is not
+    /// tried. The frames of bytes that are put are dirty then, and no others become dirty. The pagers do
+    /// nothing else. `touched` begins as [`Touched::none`]; it gets the counts and the pages that moved.
+    ///
+    /// PagerFault: a pager failed, whose count rose in the call or was at its maximum before; no byte of any
+    /// segment has changed, nor has `there`. Precondition: each span lies in one page of a held segment and
+    /// names the frame that the page is in, and the lengths add up to that of the act's bytes.
+    #[inline(always)]
+    pub fn access(
         &mut self,
         spans: &[Span],
-        out: &mut [u8],
+        act: Act<'_>,
+        there: &mut [u8],
         touched: &mut Touched,
     ) -> Result<(), PagerFault>
-        requires spans { IsAccess (FitsPage (held self.old)) spans.now (length out.old) }
+        requires spans { IsAccess (FitsPage (held self.old)) spans.now (size_of act (length there.old)) }
+        requires room { FitsRoom act (length there.old) }
         requires frames { NameFrames self.old spans.now }
         requires none { IsUntouched touched.old }
-        ensures reads { Reads spans.now self.old self.new out.new result (answer_of touched.new result) }
-        ensures kept { OnErr result (out.new ≡ out.old) }
+        ensures { let answer = answer_of touched.new result in
+            let put = put_by act.entry (read_from (held self.old) spans.now) in
+            Acts put spans.now there.old there.new self.old self.new result answer }
     {
         let here = self.bring_spans(spans, touched)?;
-        self.copy_spans(spans, here, out);
+        self.act(spans, here, act, there);
         Ok(())
     }
 
-    /// As [`PageStore::read_with`]; it returns the counts and the pages that moved.
+    /// Reads the bytes of at most two spans, one after another, as [`PageStore::access`] does. Returns the
+    /// counts and the pages that moved.
     pub fn read(&mut self, spans: &[Span], out: &mut [u8]) -> Result<Touched, PagerFailed>
         requires spans { IsAccess (FitsPage (held self.old)) spans.now (length out.old) }
         requires frames { NameFrames self.old spans.now }
-        ensures reads { Reads spans.now self.old self.new out.new result result }
-        ensures kept { OnErr result (out.new ≡ out.old) }
+        ensures { Acts None spans.now out.old out.new self.old self.new result result }
     {
         let mut touched = Touched::none();
-        match self.read_with(spans, out, &mut touched) {
+        match self.access(spans, Act::Nothing, out, &mut touched) {
             Ok(()) => Ok(touched),
             Err(_) => Err(PagerFailed { touched }),
         }
     }
 
-    /// Replaces the bytes of at most two spans, in their order, once all their pages are resident. Their
-    /// frames are dirty then. Pages come in as for [`PageStore::read_with`]. On an error no byte of any
-    /// segment has changed.
-    #[inline(always)]
-    pub fn write_with(
-        &mut self,
-        spans: &[Span],
-        bytes: &[u8],
-        touched: &mut Touched,
-    ) -> Result<(), PagerFault>
-        requires spans { IsAccess (FitsPage (held self.old)) spans.now (length bytes.now) }
-        requires frames { NameFrames self.old spans.now }
-        requires none { IsUntouched touched.old }
-        ensures { let after = written (held self.old) spans.now bytes.now in
-            Writes spans.now self.old self.new after result (answer_of touched.new result) }
-    {
-        let here = self.bring_spans(spans, touched)?;
-        self.store_spans(spans, here, bytes);
-        Ok(())
-    }
-
-    /// As [`PageStore::write_with`]; it returns the counts and the pages that moved.
+    /// Replaces the bytes of at most two spans, in their order, as [`PageStore::access`] does. Returns the
+    /// counts and the pages that moved.
     pub fn write(&mut self, spans: &[Span], bytes: &[u8]) -> Result<Touched, PagerFailed>
         requires spans { IsAccess (FitsPage (held self.old)) spans.now (length bytes.now) }
         requires frames { NameFrames self.old spans.now }
-        ensures { let after = written (held self.old) spans.now bytes.now in
-            Writes spans.now self.old self.new after result result }
+        ensures { Acts (Some bytes.now) spans.now [] [] self.old self.new result result }
     {
         let mut touched = Touched::none();
-        match self.write_with(spans, bytes, &mut touched) {
+        match self.access(spans, Act::Put(bytes), &mut [], &mut touched) {
             Ok(()) => Ok(touched),
             Err(_) => Err(PagerFailed { touched }),
         }
-    }
-
-    /// Adds to the eight little-endian bytes of at most two spans, modulo 2^64, once all their pages are
-    /// resident. `old` is then the number before the addition; after an error it is arbitrary. Pages come in
-    /// once, as for [`PageStore::read_with`]. On an error no byte of any segment has changed.
-    #[inline(always)]
-    pub fn add_with(
-        &mut self,
-        spans: &[Span],
-        more: u64,
-        old: &mut u64,
-        touched: &mut Touched,
-    ) -> Result<(), PagerFault>
-        requires spans { IsAccess (FitsPage (held self.old)) spans.now 8 }
-        requires frames { NameFrames self.old spans.now }
-        requires none { IsUntouched touched.old }
-        ensures number { OnOk result (old.new ≡ number_in (held self.old) spans.now) }
-        ensures stored { let after = added (held self.old) spans.now more in
-            Writes spans.now self.old self.new after result (answer_of touched.new result) }
-    {
-        let here = self.bring_spans(spans, touched)?;
-        let mut bytes = [0; 8];
-        self.copy_spans(spans, here, &mut bytes);
-        *old = u64::from_le_bytes(bytes);
-        self.store_spans(spans, here, &old.wrapping_add(more).to_le_bytes());
-        Ok(())
     }
 }

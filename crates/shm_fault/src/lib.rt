@@ -7,9 +7,9 @@
 #![tactic(auto)]
 
 mod access;
+mod act;
 mod copying;
 mod dropping;
-mod exchange;
 mod flushing;
 mod moving;
 mod page_table;
@@ -19,6 +19,7 @@ mod shown;
 mod store;
 mod touched;
 
+pub use act::Act;
 pub use page_tables::PageRec;
 pub use store::PageStore;
 pub use touched::{PageMove, PageTally, PagerFailed, Touched};

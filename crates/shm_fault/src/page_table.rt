@@ -1,15 +1,14 @@
 //! The page table of one segment: whether it is locked, and where its pages are.
 //!
-//! Room for the records of all its pages is reserved when the table is made. A record is written once its page is
-//! somewhere, together with those of the pages before it. So pages that nobody touches cost nothing, neither when the
-//! table is made nor when it goes.
+//! Room for the records of all its pages is reserved when the table is made. A record is written once its page
+//! is somewhere, together with those of the pages before it. So pages that nobody touches cost nothing, neither
+//! when the table is made nor when it goes.
 ghost use Rattle.std.specs.Prelude.{◌≡◌, ℕ, ◌+◌, ◌<◌, ◌≤◌, ◌^◌, length, count_by, set, replicate, vec_capacity, false, true, IfOk};
 ghost use Rattle.shm_base.specs.Stored.{padded};
 ghost use Rattle.shm_fault.specs.Segs.{rec_at, no_page, new_seg, is_placed};
 ghost use Rattle.shm_fault.specs.Store.{is_swapped};
 
 use crate::page_tables::PageRec;
-use shm_base::FrameNo;
 use std::alloc::{AllocError, Global};
 use std::marker::Model;
 
@@ -218,16 +217,5 @@ impl PageTable {
     {
         reach(&mut self.pages, page);
         self.pages[page as usize] = rec;
-    }
-
-    /// Notes the frame that a page is in, or that it is in none.
-    #[inline(always)]
-    pub(crate) fn set_frame(&mut self, page: u32, frame: Option<FrameNo>)
-        requires { page < length self.old.pages }
-        ensures { let rec = record (rec_at self.old.pages page) { frame = frame } in
-            self.new ≡ record self.old { pages = set self.old.pages page rec } }
-    {
-        reach(&mut self.pages, page);
-        self.pages[page as usize].frame = frame;
     }
 }

@@ -200,10 +200,8 @@ impl PageTables {
         requires { HasPage self.old page }
         ensures { self.new ≡ with_rec self.old page (record (rec_by self.old page) { frame = frame }) }
     {
-        let Some(table) = &mut self.tables[place_of(page.seg)] else {
-            unreachable!();
-        };
-        table.set_frame(page.page, frame);
+        let slot = self.page(page).slot;
+        self.set_page(page, PageRec { frame, slot });
     }
 
     /// Locks or unlocks a segment.

@@ -1,29 +1,33 @@
--- The replies to an access that succeeded, and to one at which a pager failed.
-use Rattle.shm_life.proofs.Names.{◌≡◌, ◌∙◌, ℕ, Bool, true, false, List, length, Some, refl, sym, ap, OnOk, OnErr, Entry, Span, Place, Piece, Outcome, gives, Bytes, Machine, pieces_at, wanted_in, span_places, load-wanted, store-wanted, loaded, KeepsMemory, Bounds, Runner, StoreView, sizes}
-use Rattle.std.specs.Prelude.{Option, Result, Ok, Err, IfOk, IfErr}
-use Rattle.std.specs.Result.{result_or}
+-- The replies to an access that succeeded, and to one that was refused or at which a pager failed.
+use Rattle.shm_life.proofs.Names.{◌≡◌, ◌∙◌, ℕ, ◌+◌, ◌%◌, Bool, true, false, if◌then◌else◌, List, length, Some, None, refl, sym, ap, arith, common_steps, OnOk, OnErr, Entry, Span, Place, Outcome, gives, Bytes, Machine, Piece, wanted_in, load-wanted, store-wanted, loaded, span_places, SameTable, same-refl, stored-same, KeepsMemory, Bounds, Runner, StoreView, sizes}
+use Rattle.std.specs.Borrow.{Bor}
+use Rattle.std.specs.Int.{w64, from_le_bytes, to_le_bytes}
+use Rattle.std.specs.Prelude.{◌^◌, map, Option, Result, Ok, Err, IfOk, IfErr, option_map}
+use Rattle.std.specs.Result.{result_and, result_or}
 use Rattle.std.proofs.lemmas.Result.{IfOk-weaker}
-use Rattle.shm_base.specs.Access.{stored, writable_places}
-use Rattle.shm_base.specs.Step.{xadd}
+use Rattle.shm_base.specs.Access.{places, stored, writable_places}
+use Rattle.shm_base.specs.Exchange.{compare, compares_of, exchange, exchanges_of, same_bytes}
+use Rattle.shm_base.specs.Step.{Caller, caller_of, load, step_by, store, xadd}
 use Rattle.shm_base.specs.History.{is_failure, is_refusal}
 use Rattle.shm_base.specs.declared.call.Call.TheVariants as call
 use Rattle.shm_base.specs.declared.call.Reply.{Reply}
 use Rattle.shm_base.specs.declared.call.Reply.TheVariants.{Number, Refused}
 use Rattle.shm_base.specs.declared.errno.Errno.{Errno}
 use Rattle.shm_base.specs.declared.errno.Errno.TheVariants.{Sigbus}
-use Rattle.shm_attach.specs.declared.process.Caller.{Caller}
+use Rattle.shm_attach.specs.Spaces.{IsCaller, caller_seen}
+use Rattle.shm_attach.specs.Spans.{unmarked}
+use Rattle.shm_attach.specs.declared.process.Caller.{Caller as Called}
 use Rattle.shm_attach.proofs.FlatSteps.{are_asked, loaded-unmarked, stored-unmarked}
-use Rattle.shm_segments.specs.Table.{loaded_number, added_at}
-use Rattle.shm_life.specs.Accessing.{LeavesOrFails}
-use Rattle.shm_attach.specs.Spaces.{caller_seen}
 use Rattle.shm_fault.specs.Access.{Accessed, answer_of}
-use Rattle.shm_fault.specs.Exchanging.{replaces}
+use Rattle.shm_fault.specs.Acting.{bytes_in, put_by, size_of}
+use Rattle.shm_fault.specs.declared.act.Act.{Act}
+use Rattle.shm_fault.specs.declared.act.Act.TheVariants.{Nothing, Put, PutIfEqual, Add}
 use Rattle.shm_fault.specs.declared.touched.Touched.{Touched}
-use Rattle.shm_segments.specs.Exchanged.{left_by}
-use Rattle.shm_life.specs.Exchanged.{IsExchange, swaps_of}
-use Rattle.shm_life.specs.MachineView.{Answered, MachineView, Served, done, names_failure, replied, reply_in}
-use Rattle.shm_life.proofs.Exchanging.{swap-wanted}
-use Rattle.shm_life.proofs.Running.{failing, granted}
+use Rattle.shm_segments.specs.Table.{table_with}
+use Rattle.shm_life.specs.Accessing.{Does, DoesAt, DoesBy, LeavesOrFails}
+use Rattle.shm_life.specs.Exchanged.{IsExchange}
+use Rattle.shm_life.specs.MachineView.{Answered, AnsweredTo, MachineView, done, names_failure, replied, reply_in}
+use Rattle.shm_life.proofs.Running.{answered_as, failing, granted}
 
 -- a reply that refuses nothing and names no failure
 abbrev IsGrant : (Reply → Bool) → Reply → Type 0
@@ -56,42 +60,132 @@ pub or-err : {A E : Type 0} (P Q : Type 0) (r : Result A E) (other : Errno) → 
 or-err P Q (Ok a) other to p = tt
 or-err P Q (Err e) other to p = (refl, to p)
 
-add-wanted : (s : Machine) (ps : List Piece) (addr add : ℕ) (wanted : List Place) → wanted_in true ps addr 8 ≡ Some wanted
-    → xadd s add (writable_places ps addr 8) ≡ gives (record s { table = added_at s.table wanted add }) (Number (loaded_number s.table wanted))
-add-wanted s ps addr add wanted is =
-    let a = are_asked (writable_places ps addr 8) wanted is in
-    let bytes : loaded s.table a.ps ≡ loaded s.table wanted = sym (loaded-unmarked s.table a.ps) ∙ ap (loaded s.table) a.same in
-    let kept : (bs : List ℕ) → stored s.table a.ps bs ≡ stored s.table wanted bs = λ bs. sym (stored-unmarked s.table a.ps bs) ∙ ap (λ qs. stored s.table qs bs) a.same in
-    rw (a.there, bytes, kept) refl
+-- a table in which bytes were put, or none were, has the same pages
+pub noted : (put : Option (List ℕ)) (ps : List Place) (t : List Entry) → SameTable t (table_with t ps put)
+noted None ps t = same-refl t
+noted (Some bytes) ps t = stored-same ps bytes t
 
-module _ (s t : MachineView) (n : ℕ) (c : Caller) (addr : ℕ) (ps : List Span) where
-  abbrev own : List Piece
-  own = pieces_at s.flat.runners c.index
+-- an act at spans, as one at their places
+pub did : {E : Type 0} (act : Act) (ps : List Span) (before after : List ℕ) (s t : MachineView) → bytes_in ps ≡ size_of act (length before) → (r : Result (Unit {0}) E)
+    → OnOk r (bytes_in ps ≡ length before → after ≡ loaded s.flat.table (span_places false ps)) → OnErr r (after ≡ before)
+    → LeavesOrFails (table_with s.flat.table (span_places false ps) (put_by act (loaded s.flat.table (span_places false ps)))) s (result_or r (Err Sigbus)) t
+    → Does act (span_places false ps) before after s (result_or r (Err Sigbus)) t
+did act ps before after s t sum (Ok a) there kept leaves = record { there = λ long. there (sum ∙ long); kept = tt; leaves = leaves }
+did act ps before after s t sum (Err e) there kept leaves = record { there = tt; kept = kept; leaves = leaves }
 
-  abbrev asked : List Place
-  asked = span_places false ps
+-- a caller's act is that of its process
+pub by-caller : (act : Act) (addr pid : ℕ) (c : Called) (before after : List ℕ) (s t : MachineView) (r : Result (Unit {0}) Errno) → c.pid ≡ pid → IsCaller c s.flat.runners
+    → DoesBy act addr (Some (caller_seen c s.flat.runners)) before after s r t → DoesBy act addr (caller_of s.flat pid) before after s r t
+by-caller act addr pid c before after s t r same is d = rw (← same, is) d
 
-  pub loads : (len : ℕ) (out : List ℕ) (r : Result (Unit {0}) Errno) → wanted_in false own addr len ≡ Some asked → OnOk r (out ≡ loaded s.flat.table asked) → LeavesOrFails s.flat.table s r t
-      → Served s n c (call.Load addr len) (reply_in (Bytes out) r) t
-  loads len out r wanted bytes leaves =
-      let step = load-wanted s.flat own addr len asked wanted in
-      accessed _ s.flat.table (is_failure (call.Load addr len)) (λ _. Bytes out) s t r refl (rw step refl) (λ _. (refl, refl)) (IfOk-weaker r _ _ (λ _ is. rw is step) bytes) leaves
+-- WHAT THE FLAT MACHINE DOES AT THE PLACES OF AN ACCESS, AND WITHOUT ANY
 
-  pub stores : (bytes : List ℕ) (r : Result (Unit {0}) Errno) → wanted_in true own addr (length bytes) ≡ Some asked → LeavesOrFails (stored s.flat.table asked bytes) s r t
-      → Served s n c (call.Store bytes addr) (replied done r) t
-  stores bytes r wanted leaves =
-      let step = store-wanted s.flat own addr bytes asked wanted in
-      accessed _ _ (is_failure (call.Store bytes addr)) done s t r refl (rw step refl) (λ _. (refl, refl)) (IfOk-weaker r _ _ (λ _ _. step) leaves.written) leaves
+none-asked : (o : Option (List Place)) → option_map (map unmarked) o ≡ None → o ≡ None
+none-asked None is = refl
+none-asked (Some ps) is = cc
 
-  pub adds : (add : ℕ) (r : Result ℕ Errno) → wanted_in true own addr 8 ≡ Some asked → IfOk r (λ x. x ≡ loaded_number s.flat.table asked) → LeavesOrFails (added_at s.flat.table asked add) s r t
-      → Served s n c (call.Xadd addr add) (replied Number r) t
-  adds add r wanted number leaves =
-      let step = add-wanted s.flat own addr add asked wanted in
-      accessed _ _ (is_failure (call.Xadd addr add)) Number s t r refl (rw step refl) (λ _. (refl, refl)) (IfOk-weaker r _ _ (λ x is. rw is step) number) leaves
+module _ (s : Machine) (ps : List Piece) (addr : ℕ) where
+  add-wanted : (add : ℕ) (wanted : List Place) → wanted_in true ps addr 8 ≡ Some wanted
+      → xadd s add (writable_places ps addr 8)
+      ≡ gives (record s { table = stored s.table wanted (to_le_bytes w64 ((from_le_bytes w64 (loaded s.table wanted) + add) % 2 ^ 64)) }) (Number (from_le_bytes w64 (loaded s.table wanted)))
+  add-wanted add wanted is =
+      let a = are_asked (writable_places ps addr 8) wanted is in
+      let bytes : loaded s.table a.ps ≡ loaded s.table wanted = sym (loaded-unmarked s.table a.ps) ∙ ap (loaded s.table) a.same in
+      let kept : (bs : List ℕ) → stored s.table a.ps bs ≡ stored s.table wanted bs = λ bs. sym (stored-unmarked s.table a.ps bs) ∙ ap (λ qs. stored s.table qs bs) a.same in
+      rw (a.there, bytes, kept) refl
 
-  pub swaps : (expected : Option (List ℕ)) (bytes out : List ℕ) (r : Result (Unit {0}) Errno) → wanted_in true own addr (length bytes) ≡ Some asked → OnOk r (out ≡ loaded s.flat.table asked)
-      → LeavesOrFails (left_by (replaces (loaded s.flat.table asked) expected) s.flat.table asked bytes) s r t
-      → IsExchange (swaps_of s.flat addr expected bytes (Some (caller_seen c s.flat.runners))) (reply_in (Bytes out) r) s t
-  swaps expected bytes out r wanted there leaves =
-      let step = swap-wanted s.flat (caller_seen c s.flat.runners) addr expected bytes asked wanted in
-      accessed _ _ names_failure (λ _. Bytes out) s t r refl (rw step refl) (λ _. (refl, refl)) (IfOk-weaker r _ _ (λ _ is. rw is step) there) leaves
+  exchange-wanted : (bytes : List ℕ) (wanted : List Place) → wanted_in true ps addr (length bytes) ≡ Some wanted
+      → exchange s bytes (writable_places ps addr (length bytes)) ≡ gives (record s { table = stored s.table wanted bytes }) (Bytes (loaded s.table wanted))
+  exchange-wanted bytes wanted is = grind (arith, common_steps, are_asked, loaded-unmarked, stored-unmarked)
+
+  compare-wanted : (expected bytes : List ℕ) (wanted : List Place) → wanted_in true ps addr (length bytes) ≡ Some wanted
+      → compare s expected bytes (writable_places ps addr (length bytes))
+      ≡ gives (record s { table = table_with s.table wanted (if same_bytes (loaded s.table wanted) expected then Some bytes else None) }) (Bytes (loaded s.table wanted))
+  compare-wanted expected bytes wanted is = grind (arith, common_steps, are_asked, loaded-unmarked, stored-unmarked)
+
+-- WHAT AN ACCESS REPLIES
+
+-- a result with another value in place of its own
+and-leaves : (table : List Entry) (s t : MachineView) (x : ℕ) (r : Result (Unit {0}) Errno) → LeavesOrFails table s r t → LeavesOrFails table s (result_and r (Ok x)) t
+and-leaves table s t x (Ok a) l = record { written = l.written; same = tt; keeps = l.keeps; err = tt }
+and-leaves table s t x (Err e) l = record { written = tt; same = l.same; keeps = l.keeps; err = l.err }
+
+on-ok : {A E : Type 0} (P Q : Type 0) (r : Result A E) → (P → Q) → OnOk r P → OnOk r Q
+on-ok P Q (Ok a) f p = f p
+on-ok P Q (Err e) f p = tt
+
+and-ok : (n x : ℕ) (r : Result (Unit {0}) Errno) → OnOk r (x ≡ n) → IfOk (result_and r (Ok x)) (λ y. y ≡ n)
+and-ok n x (Ok a) is = is
+and-ok n x (Err e) is = tt
+
+-- refused before anything was done, the place for the old bytes is as it was
+pub does-kept : (act : Act) (addr : ℕ) (who : Option Caller) (before after : List ℕ) (s t : MachineView) (r : Result (Unit {0}) Errno) → DoesBy act addr who before after s r t → OnErr r (after ≡ before)
+does-kept act addr None before after s t r d = rw d.by.0 d.by.1.0
+does-kept act addr (Some c) before after s t r d = at _ d.by
+  where
+    at : (o : Option (List Place)) → DoesAt act o before after s r t → OnErr r (after ≡ before)
+    at None d = rw d.0 d.1.0
+    at (Some asked) d = d.kept
+
+module _ (s t : MachineView) (n addr : ℕ) (before after : List ℕ) (r : Result (Unit {0}) Errno) where
+  pub loads : (len : ℕ) → len ≡ length before → (who : Option Caller) → DoesBy Nothing addr who before after s r t
+      → AnsweredTo (step_by s.flat n (call.Load addr len) who) (call.Load addr len) (reply_in (Bytes after) r) s t
+  loads len size None d = rw (d.by.0, d.by.1.1) (answered_as _ _ _ s refl)
+  loads len size (Some c) d = at (wanted_in false c.pieces addr len) refl (rw (← size) at d.by)
+    where
+      at : (o : Option (List Place)) → wanted_in false c.pieces addr len ≡ o → DoesAt Nothing o before after s r t
+          → AnsweredTo (load s.flat (places c.pieces addr len)) (call.Load addr len) (reply_in (Bytes after) r) s t
+      at None is d = rw (d.0, d.1.1, none-asked (places c.pieces addr len) is) (answered_as _ _ _ s refl)
+      at (Some asked) is d =
+          let step = load-wanted s.flat c.pieces addr len asked is in
+          accessed _ _ (is_failure (call.Load addr len)) (λ _. Bytes after) s t r refl (rw step refl) (λ _. (refl, refl)) (IfOk-weaker r _ _ (λ _ same. rw same step) (on-ok _ _ r (λ f. f refl) d.there)) d.leaves
+
+  pub stores : (b : Bor (List ℕ)) (who : Option Caller) → DoesBy (Put b) addr who before after s r t → AnsweredTo (step_by s.flat n (call.Store b.now addr) who) (call.Store b.now addr) (replied done r) s t
+  stores b None d = rw (d.by.0, d.by.1.1) (answered_as _ _ _ s refl)
+  stores b (Some c) d = at (wanted_in true c.pieces addr (length b.now)) refl d.by
+    where
+      at : (o : Option (List Place)) → wanted_in true c.pieces addr (length b.now) ≡ o → DoesAt (Put b) o before after s r t
+          → AnsweredTo (store s.flat b.now (writable_places c.pieces addr (length b.now))) (call.Store b.now addr) (replied done r) s t
+      at None is d = rw (d.0, d.1.1, none-asked (writable_places c.pieces addr (length b.now)) is) (answered_as _ _ _ s refl)
+      at (Some asked) is d =
+          let step = store-wanted s.flat c.pieces addr b.now asked is in
+          accessed _ _ (is_failure (call.Store b.now addr)) done s t r refl (rw step refl) (λ _. (refl, refl)) (IfOk-weaker r _ _ (λ _ _. step) d.leaves.written) d.leaves
+
+  -- the number in the old bytes
+  abbrev number : ℕ
+  number = from_le_bytes w64 after
+
+  pub adds : (add : ℕ) (who : Option Caller) → length before ≡ 8 → DoesBy (Add add) addr who before after s r t
+      → AnsweredTo (step_by s.flat n (call.Xadd addr add) who) (call.Xadd addr add) (replied Number (result_and r (Ok number))) s t
+  adds add None eight d = rw (d.by.0, d.by.1.1) (answered_as _ _ _ s refl)
+  adds add (Some c) eight d = at (wanted_in true c.pieces addr 8) refl (rw eight at d.by)
+    where
+      at : (o : Option (List Place)) → wanted_in true c.pieces addr 8 ≡ o → DoesAt (Add add) o before after s r t
+          → AnsweredTo (xadd s.flat add (writable_places c.pieces addr 8)) (call.Xadd addr add) (replied Number (result_and r (Ok number))) s t
+      at None is d = rw (d.0, d.1.1, none-asked (writable_places c.pieces addr 8) is) (answered_as _ _ _ s refl)
+      at (Some asked) is d =
+          let step = add-wanted s.flat c.pieces addr add asked is in
+          let read = on-ok _ _ r (λ f. ap (from_le_bytes w64) (f refl)) d.there in
+          accessed _ _ (is_failure (call.Xadd addr add)) Number s t (result_and r (Ok number)) refl (rw step refl) (λ _. (refl, refl)) (IfOk-weaker (result_and r (Ok number)) _ _ (λ x same. rw same step) (and-ok _ number r read)) (and-leaves _ s t number r d.leaves)
+
+  pub exchanges : (b : Bor (List ℕ)) (who : Option Caller) → length before ≡ length b.now → DoesBy (Put b) addr who before after s r t → IsExchange (exchanges_of s.flat addr b.now who) (reply_in (Bytes after) r) s t
+  exchanges b None long d = rw (d.by.0, d.by.1.1) (answered_as _ _ _ s refl)
+  exchanges b (Some c) long d = at (wanted_in true c.pieces addr (length b.now)) refl d.by
+    where
+      at : (o : Option (List Place)) → wanted_in true c.pieces addr (length b.now) ≡ o → DoesAt (Put b) o before after s r t
+          → IsExchange (exchange s.flat b.now (writable_places c.pieces addr (length b.now))) (reply_in (Bytes after) r) s t
+      at None is d = rw (d.0, d.1.1, none-asked (writable_places c.pieces addr (length b.now)) is) (answered_as _ _ _ s refl)
+      at (Some asked) is d =
+          let step = exchange-wanted s.flat c.pieces addr b.now asked is in
+          accessed _ _ names_failure (λ _. Bytes after) s t r refl (rw step refl) (λ _. (refl, refl)) (IfOk-weaker r _ _ (λ _ same. rw same step) (on-ok _ _ r (λ f. f (sym long)) d.there)) d.leaves
+
+  pub compares : (e b : Bor (List ℕ)) (who : Option Caller) → length before ≡ length b.now → DoesBy (PutIfEqual e b) addr who before after s r t → IsExchange (compares_of s.flat addr e.now b.now who) (reply_in (Bytes after) r) s t
+  compares e b None long d = rw (d.by.0, d.by.1.1) (answered_as _ _ _ s refl)
+  compares e b (Some c) long d = at (wanted_in true c.pieces addr (length b.now)) refl (rw long at d.by)
+    where
+      at : (o : Option (List Place)) → wanted_in true c.pieces addr (length b.now) ≡ o → DoesAt (PutIfEqual e b) o before after s r t
+          → IsExchange (compare s.flat e.now b.now (writable_places c.pieces addr (length b.now))) (reply_in (Bytes after) r) s t
+      at None is d = rw (d.0, d.1.1, none-asked (writable_places c.pieces addr (length b.now)) is) (answered_as _ _ _ s refl)
+      at (Some asked) is d =
+          let step = compare-wanted s.flat c.pieces addr e.now b.now asked is in
+          accessed _ _ names_failure (λ _. Bytes after) s t r refl (rw step refl) (λ _. (refl, refl)) (IfOk-weaker r _ _ (λ _ same. rw same step) (on-ok _ _ r (λ f. f refl) d.there)) d.leaves

@@ -1,9 +1,9 @@
 -- A live segment is the only one at its index that processes have pieces of.
-use Rattle.shm_life.proofs.Names.{◌≡◌, ◌≢◌, ℕ, ◌+◌, ◌/◌, ◌%◌, Bool, true, false, List, [], ◌∷◌, Some, None, refl, sym, ap, ◌∙◌, arith, Piece, Entry, Runner, attach_count, sum_by-cons, PiecesFit, PieceFits, common_steps}
+use Rattle.shm_life.proofs.Names.{◌≡◌, ◌≢◌, ℕ, ◌%◌, true, false, List, [], ◌∷◌, Some, None, refl, sym, ◌∙◌, arith, Piece, Entry, Runner, attach_count, sum_by-cons, PiecesFit, PieceFits, common_steps}
 use Rattle.std.proofs.lemmas.Bool.{cases_Bool}
 use Rattle.std.proofs.lemmas.Bool.Decides.{nat_tests}
 use Rattle.std.proofs.lemmas.List.Elements.{All-head, All-tail}
-use Rattle.std.proofs.Common.{Option, inl, inr, eqb, is_some, slice_get, true≢false}
+use Rattle.std.proofs.Common.{Option, inl, inr, is_some, slice_get, true≢false}
 use Rattle.std.specs.Prelude.{All}
 use Rattle.shm_base.specs.Space.{pieces_of}
 use Rattle.shm_base.specs.declared.bounds.TheConstants.{INDEXES}

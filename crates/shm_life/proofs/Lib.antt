@@ -17,7 +17,6 @@ pub mod Attaching
 pub mod Reserved
 pub mod Joining
 pub mod Peopled
-pub mod Exchanging
 pub mod Pids
 pub mod Accessing
 mod Indexed

@@ -1,5 +1,5 @@
 -- What calls keep of the memory.
-use Rattle.shm_life.proofs.Names.{◌≡◌, ◌<◌, ◌+◌, ℕ, Bool, true, false, List, [], ◌∷◌, Some, length, drop, get_or, refl, sym, ◌∙◌, arith, ◌≤◌, drop-cons, is_err, OnOk, OnErr, Bounds, Entry, Runner, sizes, StoreView, frame_of, GoesOn-refl, Translation, AreTrue, KeepsMemory, IsWell, IsWellBut, IsTableSoundBut, KeepsOn, SegRec, held_by, nat_tests, OrphansAmong, Sweeps, PiecesFit, reserved, locked, lockable}
+use Rattle.shm_life.proofs.Names.{◌≡◌, ◌<◌, ◌+◌, ℕ, Bool, true, false, List, [], ◌∷◌, length, drop, get_or, refl, sym, ◌∙◌, arith, ◌≤◌, drop-cons, is_err, OnOk, OnErr, Bounds, Entry, Runner, sizes, StoreView, frame_of, GoesOn-refl, Translation, AreTrue, KeepsMemory, IsWell, IsWellBut, IsTableSoundBut, KeepsOn, SegRec, held_by, nat_tests, OrphansAmong, Sweeps, PiecesFit, reserved, locked, lockable}
 use Rattle.std.proofs.Common.{map, is_some, ap, true≢false}
 use Rattle.shm_fault.specs.Store.{held, Still}
 use Rattle.shm_fault.specs.Segs.{with_seg_lock}
@@ -12,12 +12,12 @@ use Rattle.shm_base.specs.declared.call.Reply.TheVariants.{Refused}
 use Rattle.shm_base.specs.declared.errno.Errno.{Errno}
 use Rattle.shm_life.specs.Sound.{AreProcesses}
 use Rattle.shm_life.specs.MachineView.{MachineView, Answered, IsFailed, names_failure}
-use Rattle.std.specs.Prelude.{Option, Result, Ok, Err}
+use Rattle.std.specs.Prelude.{Result, Ok, Err}
 use Rattle.shm_base.specs.Calls.{ProcessCall}
-use Rattle.shm_attach.specs.Spaces.{IsCaller, caller_seen}
+use Rattle.shm_attach.specs.Spaces.{IsCaller}
 use Rattle.shm_attach.specs.declared.process.Caller.{Caller}
 use Rattle.shm_life.specs.MachineView.{AnsweredBy, Served}
-use Rattle.shm_life.specs.Exchanged.{IsExchange, seen, swaps, swaps_of}
+use Rattle.shm_life.specs.Exchanged.{seen}
 use Rattle.shm_life.specs.SystemState.{SystemState, Replied, most_calls, time_of}
 use Rattle.shm_base.specs.History.{IsMove, is_failure}
 use Rattle.std.proofs.Common.{inl, inr}
@@ -85,11 +85,6 @@ replied_as s t pid call reply room a rest = record {
     by : (b : Bool) → is_failure call reply ≡ b → IsMove s.machine (time_of s) (record { pid = pid; call = call; reply = reply }) t.machine
     by false h = inl (a.step h)
     by true h = inr (record { failure = h; instead = (a.failed h).instead; unchanged = (a.failed h).unchanged })
-
--- an exchange of a live process is served
-pub exchanged : (s : MachineView) (pid : ℕ) (caller : Caller) (addr : ℕ) (expected : Option (List ℕ)) (bytes : List ℕ) (reply : Reply) (t : MachineView) → caller.pid ≡ pid → IsCaller caller s.flat.runners
-    → IsExchange (swaps_of s.flat addr expected bytes (Some (caller_seen caller s.flat.runners))) reply s t → IsExchange (swaps s.flat pid addr expected bytes) reply s t
-exchanged s pid caller addr expected bytes reply t same is served = rw (← same, is) served
 
 -- translations stay true where no page moves
 pub true_still : (ts : List Translation) (a b : StoreView) → ((s page : ℕ) → frame_of b s page ≡ frame_of a s page) → AreTrue ts a → AreTrue ts b

@@ -1,9 +1,15 @@
--- Accesses of spans of bytes by a known process.
-use Rattle.std.specs.Prelude.{◌≡◌, true, if◌then◌else◌, List, [], ◌∷◌, Option, Some, None, Result, is_some, IfErr, OnOk, OnErr}
+-- Accesses of bytes by a process.
+use Rattle.std.specs.Prelude.{ℕ, ◌≡◌, true, if◌then◌else◌, List, [], ◌∷◌, length, Option, Some, None, Result, Err, is_some, IfErr, OnOk, OnErr}
+use Rattle.shm_base.specs.Access.{Place, loaded}
+use Rattle.shm_base.specs.Step.{Caller}
 use Rattle.shm_base.specs.declared.errno.Errno.{Errno}
-use Rattle.shm_base.specs.declared.errno.Errno.TheVariants.{Sigbus}
+use Rattle.shm_base.specs.declared.errno.Errno.TheVariants.{Esrch, Sigbus, Sigsegv}
 use Rattle.shm_base.specs.declared.paging.Span.{Span}
 use Rattle.shm_base.specs.State.{Entry}
+use Rattle.shm_attach.specs.Spans.{wanted_in}
+use Rattle.shm_fault.specs.Acting.{put_by, size_of, writes}
+use Rattle.shm_fault.specs.declared.act.Act.{Act}
+use Rattle.shm_segments.specs.Table.{table_with}
 use Rattle.shm_slots.specs.Cause.{had_cause}
 use Rattle.shm_fault.specs.Store.{StoreView}
 use Rattle.shm_segments.specs.View.{KeepsMemory}
@@ -28,3 +34,33 @@ pub record LeavesOrFails
   pub same : OnErr r (after.flat ≡ before.flat)
   pub keeps : KeepsMemory before.memory after.memory
   pub err : IfErr r (λ e. IsBusError e before.memory after.memory)
+
+-- An act at these places was done, or a pager failed and no byte changed. If it was done and the place for the old bytes is as long
+-- as they are, it has them.
+pub record Does
+    (act : Act) (places : List Place) (before after : List ℕ) (s : MachineView) (r : Result (Unit {0}) Errno)
+    (t : MachineView) : Type 0 where
+  pub there : OnOk r (size_of act (length before) ≡ length before → after ≡ loaded s.flat.table places)
+  pub kept : OnErr r (after ≡ before)
+  pub leaves : LeavesOrFails (table_with s.flat.table places (put_by act (loaded s.flat.table places))) s r t
+
+-- nothing was done, for this reason
+abbrev pub Refuses : Errno → List ℕ → List ℕ → MachineView → Result (Unit {0}) Errno → MachineView → Type 0
+Refuses e before after s r t = (r ≡ Err e) × ((after ≡ before) × (t ≡ s))
+
+abbrev pub DoesAt :
+    Act → Option (List Place) → List ℕ → List ℕ → MachineView → Result (Unit {0}) Errno → MachineView → Type 0
+DoesAt act None before after s r t = Refuses Sigsegv before after s r t
+DoesAt act (Some places) before after s r t = Does act places before after s r t
+
+abbrev pub DoesFor :
+    Act → ℕ → Option Caller → List ℕ → List ℕ → MachineView → Result (Unit {0}) Errno → MachineView → Type 0
+DoesFor act addr None before after s r t = Refuses Esrch before after s r t
+DoesFor act addr (Some c) before after s r t =
+    DoesAt act (wanted_in (writes act) c.pieces addr (size_of act (length before))) before after s r t
+
+-- a process, if it is live, did an act at the bytes from an address on
+pub record DoesBy
+    (act : Act) (addr : ℕ) (who : Option Caller) (before after : List ℕ) (s : MachineView)
+    (r : Result (Unit {0}) Errno) (t : MachineView) : Type 0 where
+  pub by : DoesFor act addr who before after s r t

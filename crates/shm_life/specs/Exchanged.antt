@@ -1,23 +1,13 @@
 -- A system after an exchange: as after an addition, but the exchange is in no history.
-use Rattle.std.specs.Prelude.{ℕ, ◌≡◌, ◌<◌, ◌+◌, false, List, Option, Some, None}
+use Rattle.std.specs.Prelude.{◌≡◌, ◌<◌, ◌+◌, false}
 use Rattle.shm_base.specs.declared.call.Reply.{Reply}
-use Rattle.shm_base.specs.Exchange.{exchanges_of, compares_of}
-use Rattle.shm_base.specs.State.{Machine}
-use Rattle.shm_base.specs.Step.{Caller, Outcome, caller_of}
+use Rattle.shm_base.specs.Step.{Outcome}
 use Rattle.shm_life.specs.MachineView.{MachineView, Answered, names_failure}
 use Rattle.shm_life.specs.SystemState.{SystemState, most_calls}
 
 -- a system's flat machine, and its memory
 abbrev pub seen : SystemState → MachineView
 seen s = record { flat = s.machine; memory = s.memory }
-
--- an exchange; or a compare and exchange, if bytes are expected
-abbrev pub swaps_of : Machine → ℕ → Option (List ℕ) → List ℕ → Option Caller → Outcome
-swaps_of s addr None bytes c = exchanges_of s addr bytes c
-swaps_of s addr (Some expected) bytes c = compares_of s addr expected bytes c
-
-abbrev pub swaps : Machine → ℕ → ℕ → Option (List ℕ) → List ℕ → Outcome
-swaps s pid addr expected bytes = swaps_of s addr expected bytes (caller_of s pid)
 
 -- the reply and state are those of this outcome; or a pager failed, and the reply says so
 abbrev pub IsExchange : Outcome → Reply → MachineView → MachineView → Type 0

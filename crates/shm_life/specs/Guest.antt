@@ -1,5 +1,5 @@
 -- What a host does to a system between calls: it admits and dismisses processes, and sets credentials.
-use Rattle.std.specs.Prelude.{ℕ, ◌≡◌, true, false, Result, OnOk, OnErr, is_ok, is_some}
+use Rattle.std.specs.Prelude.{ℕ, ◌≡◌, true, false, Result, OnErr, is_ok, is_some}
 use Rattle.shm_base.specs.declared.call.Process.{Process}
 use Rattle.shm_base.specs.declared.errno.Errno.{Errno}
 use Rattle.shm_base.specs.declared.guest.AdmitRefusal.{AdmitRefusal}

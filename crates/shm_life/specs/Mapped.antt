@@ -1,5 +1,5 @@
 -- A system after an unmap or a protect.
-use Rattle.std.specs.Prelude.{ℕ, ◌≡◌, ◌<◌, Bool, false, Result, OnOk, OnErr}
+use Rattle.std.specs.Prelude.{ℕ, ◌≡◌, ◌<◌, Bool, Result, OnErr}
 use Rattle.shm_base.specs.declared.errno.Errno.{Errno}
 use Rattle.shm_base.specs.Guest.{left_by}
 use Rattle.shm_base.specs.Mapping.{unmaps, protects}

@@ -127,7 +127,7 @@ impl<P: Pager> Kernel<P> {
             Call::Rmid { id } => self.rmid(caller, *id),
             Call::Lock { id } => self.lock(caller, *id),
             Call::Unlock { id } => self.unlock(caller, *id),
-            Call::Load { addr, len } => self.load_reply(caller, *addr, *len, reply),
+            Call::Load { addr, len } => self.load(caller, *addr, *len, reply),
             Call::Store { addr, chunk } => self.store(caller, *addr, chunk.as_slice()),
             Call::Xadd { addr, add } => match self.xadd(caller, *addr, *add) {
                 Ok(number) => {

@@ -3,7 +3,6 @@
 
 mod access;
 mod copying;
-mod exchange;
 mod exec_exit;
 mod fixed;
 mod fork;

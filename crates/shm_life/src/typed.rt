@@ -1,56 +1,18 @@
 //! Accesses without a call's record: bytes go straight between the frames and the caller's buffer. Each is
-//! the step of the call, and is counted as one.
-ghost use Rattle.std.specs.Prelude.{◌≡◌, ◌<◌, ◌≤◌, ℕ, length, OnErr};
+//! the step of the call, and is counted as one. Exchanges are no calls of the script language.
+ghost use Rattle.std.specs.Prelude.{◌≡◌, ◌<◌, ◌≤◌, length, OnErr};
+ghost use Rattle.shm_base.specs.Exchange.{compares, exchanges};
 ghost use Rattle.shm_base.specs.declared.call.Call.TheVariants as call;
 ghost use Rattle.shm_base.specs.declared.call.Reply.TheVariants.{Bytes, Number};
 ghost use Rattle.shm_base.specs.declared.paging.TheConstants.{PAGE_SIZE};
-ghost use Rattle.shm_life.specs.MachineView.{AnsweredBy, done, replied, reply_in};
+ghost use Rattle.shm_life.specs.Exchanged.{Exchanged};
+ghost use Rattle.shm_life.specs.MachineView.{done, replied, reply_in};
 ghost use Rattle.shm_life.specs.SystemState.{Replied, most_calls};
 
-use crate::kernel::Kernel;
 use crate::system::System;
 use shm_base::Errno;
+use shm_fault::Act;
 use shm_pager::Pager;
-
-impl<P: Pager> Kernel<P> {
-    #[tactic(auto, using(crate::proofs::Running::kept_refl))]
-    #[inline(always)]
-    fn load_by(&mut self, pid: u32, addr: u64, out: &mut [u8]) -> Result<(), Errno>
-        requires size { (1 ≤ length out.old) × (length out.old ≤ PAGE_SIZE) }
-        ensures answered { let load = call.Load addr (length out.old) in
-            (n : ℕ) → AnsweredBy self.old n pid load (reply_in (Bytes out.new) result) self.new }
-        ensures kept { OnErr result (out.new ≡ out.old) }
-    {
-        let Some(caller) = self.spaces.caller_again(pid) else {
-            return Err(Errno::Esrch);
-        };
-        self.load(&caller, addr, out)
-    }
-
-    #[tactic(auto, using(crate::proofs::Running::kept_refl))]
-    #[inline(always)]
-    fn store_by(&mut self, pid: u32, addr: u64, bytes: &[u8]) -> Result<(), Errno>
-        requires size { (1 ≤ length bytes.now) × (length bytes.now ≤ PAGE_SIZE) }
-        ensures { let store = call.Store bytes.now addr in
-            (n : ℕ) → AnsweredBy self.old n pid store (replied done result) self.new }
-    {
-        let Some(caller) = self.spaces.caller_again(pid) else {
-            return Err(Errno::Esrch);
-        };
-        self.store(&caller, addr, bytes)
-    }
-
-    #[tactic(auto, using(crate::proofs::Running::kept_refl))]
-    #[inline(always)]
-    fn add_by(&mut self, pid: u32, addr: u64, add: u64) -> Result<u64, Errno>
-        ensures { (n : ℕ) → AnsweredBy self.old n pid (call.Xadd addr add) (replied Number result) self.new }
-    {
-        let Some(caller) = self.spaces.caller_again(pid) else {
-            return Err(Errno::Esrch);
-        };
-        self.xadd(&caller, addr, add)
-    }
-}
 
 impl<P: Pager> System<P> {
     /// A load of a process straight into a buffer of 1 to 4,096 bytes.
@@ -68,7 +30,7 @@ impl<P: Pager> System<P> {
             Replied self.old pid load (reply_in (Bytes out.new) result) self.new }
         ensures kept { OnErr result (out.new ≡ out.old) }
     {
-        let loaded = self.kernel.load_by(pid, addr, out);
+        let loaded = self.kernel.access_by(pid, addr, Act::Nothing, out);
         self.calls += 1;
         loaded
     }
@@ -86,7 +48,7 @@ impl<P: Pager> System<P> {
         requires size { (1 ≤ length bytes.now) × (length bytes.now ≤ PAGE_SIZE) }
         ensures { Replied self.old pid (call.Store bytes.now addr) (replied done result) self.new }
     {
-        let stored = self.kernel.store_by(pid, addr, bytes);
+        let stored = self.kernel.access_by(pid, addr, Act::Put(bytes), &mut []);
         self.calls += 1;
         stored
     }
@@ -98,8 +60,58 @@ impl<P: Pager> System<P> {
         requires room { self.old.calls < most_calls }
         ensures { Replied self.old pid (call.Xadd addr add) (replied Number result) self.new }
     {
-        let added = self.kernel.add_by(pid, addr, add);
+        let mut there = [0; 8];
+        let added = self.kernel.access_by(pid, addr, Act::Add(add), &mut there);
         self.calls += 1;
-        added
+        added.and(Ok(u64::from_le_bytes(there)))
+    }
+
+    /// Replaces 1 to 4,096 bytes in one step (xchg); `before` gets the old ones.
+    ///
+    /// - Esrch: the process is not live.
+    /// - Sigsegv: an address has no piece, or a read-only one.
+    /// - Sigbus: a pager failed.
+    ///
+    /// If it is refused, neither a byte nor `before` changed.
+    pub fn exchange(
+        &mut self,
+        pid: u32,
+        addr: u64,
+        bytes: &[u8],
+        before: &mut [u8],
+    ) -> Result<(), Errno>
+        requires room { self.old.calls < most_calls }
+        requires size { (1 ≤ length bytes.now) × (length bytes.now ≤ PAGE_SIZE) }
+        requires before { length before.old ≡ length bytes.now }
+        ensures exchanged { let reply = reply_in (Bytes before.new) result in
+            Exchanged (exchanges self.old.machine pid addr bytes.now) self.old reply self.new }
+        ensures kept { OnErr result (before.new ≡ before.old) }
+    {
+        let exchanged = self.kernel.access_by(pid, addr, Act::Put(bytes), before);
+        self.calls += 1;
+        exchanged
+    }
+
+    /// As [`System::exchange`], but replaces the bytes only if they equal the expected ones (cmpxchg).
+    /// `before` gets the old ones in both cases, so the caller knows which it was.
+    pub fn compare_exchange(
+        &mut self,
+        pid: u32,
+        addr: u64,
+        expected: &[u8],
+        bytes: &[u8],
+        before: &mut [u8],
+    ) -> Result<(), Errno>
+        requires room { self.old.calls < most_calls }
+        requires size { (1 ≤ length bytes.now) × (length bytes.now ≤ PAGE_SIZE) }
+        requires before { length before.old ≡ length bytes.now }
+        ensures compared { let reply = reply_in (Bytes before.new) result in
+            Exchanged (compares self.old.machine pid addr expected.now bytes.now) self.old reply self.new }
+        ensures kept { OnErr result (before.new ≡ before.old) }
+    {
+        let act = Act::PutIfEqual { expected, bytes };
+        let compared = self.kernel.access_by(pid, addr, act, before);
+        self.calls += 1;
+        compared
     }
 }

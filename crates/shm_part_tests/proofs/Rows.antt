@@ -1,7 +1,11 @@
 -- What the rows of a run say about the segments of the store.
 use Rattle.shm_part_tests.proofs.Names.{replicate, None, IsIndexFree, held_id, inserted, map-inserted, apart-zeros, row_id, ◌≡◌, ℕ, ◌+◌, ◌/◌, ◌≤◌, ◌==◌, Bool, true, false, not, List, [], ◌∷◌, length, map, filter, take, drop, get_or, Option, Some, is_some, option_map, refl, sym, ap, ◌∙◌, inl, inr, arith, All, sum_by, eqb_tells, common_steps, length-replicate, length-map, sum_by-cons, All-head, All-tail, All-get_or, All-map, Span, Held, find_held, held_bytes, bytes_of, is_held, held_pages, pages_in_store, with_zeros, without, with_lock, FitsPage, pasted, written, AreHeldApart, apart-without, apart-lock, apart-pasted, fits-pasted, length-paste, StoreView, held, frame_of, page_of, Row, row_of, row_pages, row_with_lock, pages_all, frame_named, AreAlike, IsAccess, NameFrames}
 use Rattle.std.proofs.Common.{◌*◌, ◌%◌}
+use Rattle.std.specs.Prelude.{Err, Ok, Result}
 use Rattle.shm_base.specs.declared.bounds.TheConstants.{INDEXES}
+use Rattle.shm_fault.specs.Acting.{Acts}
+use Rattle.shm_fault.specs.declared.touched.PagerFailed.{PagerFailed}
+use Rattle.shm_fault.specs.declared.touched.Touched.{Touched}
 
 pub row_pages-is : (hs : List Held) (id : ℕ) → row_pages (map row_of hs) id ≡ option_map held_pages (find_held hs id)
 row_pages-is [] id = refl
@@ -120,3 +124,8 @@ access-named s t ps n a same = record {
 
 pub frames-named : (s : StoreView) (ps : List Span) → NameFrames s (map (frame_named s) ps)
 frames-named s ps = All-map (λ (p : Span). p.frame ≡ frame_of s p.seg (page_of p)) (frame_named s) ps (λ k d lt. refl)
+
+-- a read changes no byte, whether it succeeds or not
+pub read-held : {A E : Type 0} (ps : List Span) (before after : List ℕ) (s t : StoreView) (r : Result A E) (answer : Result Touched PagerFailed) → Acts None ps before after s t r answer → held t ≡ held s
+read-held ps before after s t (Ok a) answer w = w.written
+read-held ps before after s t (Err e) answer w = w.same

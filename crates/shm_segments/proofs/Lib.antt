@@ -14,4 +14,4 @@ pub mod Keeping
 pub mod Making
 pub mod Spanning
 pub mod Remembered
-pub mod Exchanging
+pub mod Acting

@@ -8,7 +8,6 @@ pub use Rattle.std.proofs.lemmas.List.Elements.{filter-append}
 pub use Rattle.std.proofs.lemmas.List.Filters.{sum_by-filter_both}
 pub use Rattle.std.proofs.lemmas.List.Sums.{get_or-le-sum_by, sum_by-append, sum_by-cons, sum_by-set, sum_by-take-le, sum_by_more, sum_by_push}
 pub use Rattle.std.proofs.lemmas.Option.{get_or_from_slice_get, none-some, slice_get-get_or, slice_get_within}
-pub use Rattle.std.specs.Int.{from_le_bytes, to_le_bytes, w64}
 pub use Rattle.std.specs.Prelude.{All, OnErr, OnOk, Result, slice_index, sum_by, slice_set}
 pub use Rattle.shm_base.specs.Access.{Place, bytes_at, bytes_at_entry, entry_byte_set, loaded, set_in, stored, with_byte}
 pub use Rattle.shm_base.specs.Identifier.{with_segment}
@@ -21,7 +20,6 @@ pub use Rattle.shm_base.specs.declared.paging.Span.{Span}
 pub use Rattle.shm_fault.proofs.Ordered.{apart-zeros, but-inserted, find-zeros_other, find-zeros_same, sum-inserted}
 pub use Rattle.shm_fault.proofs.Sound.{GoesOn-refl, GoesOn-trans}
 pub use Rattle.shm_fault.proofs.Whole.{not-held, rec-added}
-pub use Rattle.shm_fault.specs.Adding.{number_in}
 pub use Rattle.shm_fault.specs.Dropping.{IsBlank}
 pub use Rattle.shm_fault.specs.Segs.{SegRec, but, find_seg, new_seg, rec_in, with_seg}
 pub use Rattle.shm_fault.specs.Sound.{IsStoreSound}
@@ -47,7 +45,7 @@ pub use Rattle.shm_slots.specs.View.{SwapView}
 pub use Rattle.shm_segments.specs.Joined.{Agree, Shape, joined_table, locked_in_row, locked_of_rows, pages_in_row, pages_of_rows, segment_of, shape_held, shape_row, whole, live_row, relocked_head, locked_by_in_row, locked_by_of_rows}
 pub use Rattle.shm_segments.specs.Sound.{AreSegmentsSound, IsWhole, SizesFit}
 pub use Rattle.shm_segments.specs.Orphan.{id_in, is_orphan, orphan, orphan_in}
-pub use Rattle.shm_segments.specs.Table.{IsFound, SpanFits, created, destroyed, live_in, look_of, made, loaded_number, next_id, pages_at, refused_look, reowned, segment_seen, relocked}
+pub use Rattle.shm_segments.specs.Table.{IsFound, SpanFits, created, destroyed, live_in, look_of, made, next_id, pages_at, refused_look, reowned, segment_seen, relocked}
 pub use Rattle.shm_segments.specs.View.{KeepsMemory, SegmentsView, ShowsTable}
 pub use Rattle.shm_segments.specs.declared.head.Found.{Found}
 pub use Rattle.shm_segments.specs.declared.head.Head.{Head}

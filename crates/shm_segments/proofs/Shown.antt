@@ -1,7 +1,5 @@
 -- Loads and stores over spans, as the flat machine's table shows them.
-use Rattle.shm_segments.proofs.Names.{◌≡◌, ℕ, zero, suc, ◌+◌, ◌%◌, ◌≤◌, Bool, true, false, List, [], ◌∷◌, ◌++◌, length, set, map, Option, Some, refl, sym, ap, ◌∙◌, arith, nat_tests, common_steps, set-get_or, w64, from_le_bytes, sum_by, All, Place, set_in, with_byte, entry_byte_set, stored, loaded, bytes_at, Span, identifier, unused, entry_at, flat_entry, at-table, run, span_places, Held, bytes_of, pasted, written, FitsPage, read_from, find_held-id, find-map, Head, segment_of, whole, joined_table, Agree, is_some, slice_index, slice_set, Entry, live_row}
-use Rattle.shm_fault.specs.Adding as store
-use Rattle.shm_segments.specs.Table as table
+use Rattle.shm_segments.proofs.Names.{◌≡◌, ℕ, zero, suc, ◌+◌, ◌%◌, ◌≤◌, Bool, true, false, List, [], ◌∷◌, ◌++◌, length, set, map, Option, Some, refl, sym, ap, ◌∙◌, arith, nat_tests, common_steps, set-get_or, sum_by, All, Place, set_in, with_byte, entry_byte_set, stored, loaded, bytes_at, Span, identifier, unused, entry_at, flat_entry, at-table, run, span_places, Held, bytes_of, pasted, written, FitsPage, read_from, find_held-id, find-map, Head, segment_of, whole, joined_table, Agree, is_some, slice_index, slice_set, Entry, live_row}
 use Rattle.shm_segments.proofs.Bytes.{put, puts, get, bytes_of-put_same, bytes_of-put_other, Each, each, written-keeps, len_of, written-same, get-spans}
 use Rattle.shm_segments.proofs.Joins.{live-at, joined-same, set-joined, same-held}
 
@@ -75,10 +73,6 @@ store_shown hs rows w ps new agree fit size =
 pub load_shown : (hs : List Held) (rows : List (Entry Head)) (w : Bool) (ps : List Span) → Agree hs rows → All (FitsPage hs) ps
     → loaded (joined_table hs rows) (span_places w ps) ≡ read_from hs ps
 load_shown hs rows w ps agree fit = let fits = each (FitsPage hs) ps fit in loaded-joined (span_places w ps) hs rows (live-spans ps w hs rows agree fits) ∙ get-spans ps w hs fits
-
--- the number at the places
-pub number_shown : (hs : List Held) (rows : List (Entry Head)) (ps : List Span) → Agree hs rows → All (FitsPage hs) ps → table.loaded_number (joined_table hs rows) (span_places false ps) ≡ store.number_in hs ps
-number_shown hs rows ps agree fit = ap (from_le_bytes w64) (load_shown hs rows false ps agree fit)
 
 -- AFTER A STORE
 

@@ -3,4 +3,4 @@ pub mod Table
 pub mod Sound
 pub mod Orphan
 pub mod View
-pub mod Exchanged
+pub mod Acted

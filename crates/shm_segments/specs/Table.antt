@@ -1,12 +1,11 @@
 -- Definitions over the flat machine's table that contracts use.
-use Rattle.std.specs.Prelude.{slice_get, slice_set, replicate, option_map, ℤ, ◌≡◌, ◌≤◌, ◌+◌, ◌*◌, ◌/◌, ◌%◌, ◌^◌, ◌==◌, ℕ, pos, Bool, true, nat_lt, if◌then◌else◌, is_some, List, length, Option, Some, None}
-use Rattle.std.specs.Int.{w64, from_le_bytes, to_le_bytes}
+use Rattle.std.specs.Prelude.{slice_get, slice_set, replicate, option_map, ℤ, ◌≡◌, ◌≤◌, ◌+◌, ◌*◌, ◌/◌, ◌%◌, ◌==◌, ℕ, pos, Bool, true, nat_lt, if◌then◌else◌, is_some, List, length, Option, Some, None}
 use Rattle.shm_base.specs.declared.errno.Errno.{Errno}
 use Rattle.shm_base.specs.declared.errno.Errno.TheVariants.{Eidrm, Einval}
 use Rattle.shm_base.specs.declared.paging.Span.{Span}
 use Rattle.shm_base.specs.State.{Segment, Entry, pages_of}
 use Rattle.shm_base.specs.Identifier as flat
-use Rattle.shm_base.specs.Access.{Place, bytes_at, loaded, stored}
+use Rattle.shm_base.specs.Access.{Place, bytes_at, stored}
 use Rattle.shm_base.specs.Spans.{InPage, page_of}
 use Rattle.shm_base.specs.Segments.{pages_held}
 use Rattle.shm_base.specs.Locking.{locks_as, unlocked}
@@ -96,10 +95,7 @@ abbrev pub relocked : Option ℕ → Segment → Segment
 relocked None y = unlocked y
 relocked (Some uid) y = locks_as uid y
 
--- the little-endian number at these places, as the step's `xadd` reads it
-abbrev pub loaded_number : List Entry → List Place → ℕ
-loaded_number table ps = from_le_bytes w64 (loaded table ps)
-
--- the table after an addition to it, modulo 2^64, as the step's `xadd` leaves it
-abbrev pub added_at : List Entry → List Place → ℕ → List Entry
-added_at table ps more = stored table ps (to_le_bytes w64 ((loaded_number table ps + more) % 2 ^ 64))
+-- the table after bytes were put at these places, or none were
+abbrev pub table_with : List Entry → List Place → Option (List ℕ) → List Entry
+table_with table ps None = table
+table_with table ps (Some bytes) = stored table ps bytes

@@ -1,22 +1,22 @@
 //! The bytes of the segments, and the pages that have them.
-ghost use Rattle.std.specs.Prelude.{◌≡◌, ◌≤◌, ◌+◌, OnOk, OnErr, length, option_copied, set, None, true, false};
-ghost use Rattle.shm_base.specs.Access.{loaded, stored};
+ghost use Rattle.std.specs.Prelude.{◌≡◌, ◌≤◌, ◌+◌, OnOk, OnErr, length, set, None, true, false};
+ghost use Rattle.shm_base.specs.Access.{loaded};
 ghost use Rattle.shm_base.specs.Segments.{reserved};
 ghost use Rattle.shm_base.specs.Spans.{span_places};
 ghost use Rattle.shm_fault.specs.Allowed.{IsAccess};
 ghost use Rattle.shm_slots.specs.View.{swap_slots, sizes, area_at};
 ghost use Rattle.shm_slots.specs.Cause.{had_cause};
 ghost use Rattle.shm_fault.specs.Store.{Still};
-ghost use Rattle.shm_fault.specs.Access.{Accessed, NameFrames, IsUntouched, answer_of};
-ghost use Rattle.shm_fault.specs.Exchanging.{replaces};
-ghost use Rattle.shm_segments.specs.Exchanged.{Swapped};
+ghost use Rattle.shm_fault.specs.Access.{NameFrames, IsUntouched, answer_of};
+ghost use Rattle.shm_fault.specs.Acting.{FitsRoom, put_by, size_of};
+ghost use Rattle.shm_segments.specs.Acted.{Acted};
 ghost use Rattle.shm_fault.specs.Flushing.{IsFlushed};
-ghost use Rattle.shm_segments.specs.Table.{SpanFits, loaded_number, added_at};
+ghost use Rattle.shm_segments.specs.Table.{SpanFits};
 ghost use Rattle.shm_segments.specs.View.{IsTableExact, KeepsMemory};
 
 use crate::segments::Segments;
 use shm_base::{FlushReport, Span};
-use shm_fault::{PageStore, PagerFailed, Touched};
+use shm_fault::{Act, PageStore, PagerFailed, Touched};
 use shm_pager::{Pager, PagerFault};
 
 impl<P: Pager> Segments<P> {
@@ -28,94 +28,26 @@ impl<P: Pager> Segments<P> {
         &self.store
     }
 
-    /// Copies the bytes of one or two spans, each with the frame of its page. Brings in pages that are not
-    /// resident. `touched` gets the counts and the pages that moved. PagerFailed: a pager failed, and `out`
-    /// is unchanged.
+    /// Does an act at the bytes of one or two spans, each with the frame of its page. If `there` is as long as
+    /// they are, it gets the old bytes. Brings in pages that are not resident. `touched` gets the counts and
+    /// the pages that moved. PagerFault: a pager failed, and neither a byte nor `there` changed.
     #[inline(always)]
-    pub fn read(
+    pub fn access(
         &mut self,
         spans: &[Span],
-        out: &mut [u8],
+        act: Act<'_>,
+        there: &mut [u8],
         touched: &mut Touched,
     ) -> Result<(), PagerFault>
-        requires spans { IsAccess (SpanFits self.old.table) spans.now (length out.old) }
-        requires frames { NameFrames self.old.memory spans.now }
-        requires none { IsUntouched touched.old }
-        ensures bytes { OnOk result (out.new ≡ loaded self.old.table (span_places false spans.now)) }
-        ensures kept { OnErr result (out.new ≡ out.old) }
-        ensures table { self.new.table ≡ self.old.table }
-        ensures access { Accessed spans.now self.old.memory self.new.memory (answer_of touched.new result) }
-        ensures keeps { KeepsMemory self.old.memory self.new.memory }
-    {
-        self.store.read_with(spans, out, touched)
-    }
-
-    /// Replaces the bytes of one or two spans, as `read` reads them. PagerFailed: a pager failed, and no byte
-    /// changed.
-    #[inline(always)]
-    pub fn write(
-        &mut self,
-        spans: &[Span],
-        bytes: &[u8],
-        touched: &mut Touched,
-    ) -> Result<(), PagerFault>
-        requires spans { IsAccess (SpanFits self.old.table) spans.now (length bytes.now) }
-        requires frames { NameFrames self.old.memory spans.now }
-        requires none { IsUntouched touched.old }
-        ensures written { OnOk result
-            (self.new.table ≡ stored self.old.table (span_places false spans.now) bytes.now) }
-        ensures same { OnErr result (self.new.table ≡ self.old.table) }
-        ensures access { Accessed spans.now self.old.memory self.new.memory (answer_of touched.new result) }
-        ensures keeps { KeepsMemory self.old.memory self.new.memory }
-    {
-        self.store.write_with(spans, bytes, touched)
-    }
-
-    /// Adds to the eight little-endian bytes of one or two spans, modulo 2^64; `old` gets the number that
-    /// they had. Pages come in as for `read`. PagerFailed: a pager failed, and no byte changed.
-    #[inline(always)]
-    pub fn add(
-        &mut self,
-        spans: &[Span],
-        more: u64,
-        old: &mut u64,
-        touched: &mut Touched,
-    ) -> Result<(), PagerFault>
-        requires spans { IsAccess (SpanFits self.old.table) spans.now 8 }
-        requires frames { NameFrames self.old.memory spans.now }
-        requires none { IsUntouched touched.old }
-        ensures number { OnOk result (old.new ≡ loaded_number self.old.table (span_places false spans.now)) }
-        ensures written { OnOk result
-            (self.new.table ≡ added_at self.old.table (span_places false spans.now) more) }
-        ensures same { OnErr result (self.new.table ≡ self.old.table) }
-        ensures access { Accessed spans.now self.old.memory self.new.memory (answer_of touched.new result) }
-        ensures keeps { KeepsMemory self.old.memory self.new.memory }
-    {
-        self.store.add_with(spans, more, old, touched)
-    }
-
-    /// Copies the bytes of one or two spans into `before`, and replaces them; if bytes are expected, only if
-    /// they equal those. Pages come in as for `read`. PagerFailed: a pager failed, and no byte changed.
-    #[inline(always)]
-    pub fn exchange(
-        &mut self,
-        spans: &[Span],
-        expected: Option<&[u8]>,
-        bytes: &[u8],
-        before: &mut [u8],
-        touched: &mut Touched,
-    ) -> Result<(), PagerFault>
-        requires spans { IsAccess (SpanFits self.old.table) spans.now (length bytes.now) }
-        requires before { length before.old ≡ length bytes.now }
+        requires spans { IsAccess (SpanFits self.old.table) spans.now (size_of act (length there.old)) }
+        requires room { FitsRoom act (length there.old) }
         requires frames { NameFrames self.old.memory spans.now }
         requires none { IsUntouched touched.old }
         ensures { let answer = answer_of touched.new result in
-            let places = span_places false spans.now in
-            let writes = replaces (loaded self.old.table places) (option_copied expected.entry) in
-            Swapped writes spans.now bytes.now before.old before.new self.old self.new result answer }
+            let put = put_by act.entry (loaded self.old.table (span_places false spans.now)) in
+            Acted put spans.now there.old there.new self.old self.new result answer }
     {
-        self.store
-            .exchange_with(spans, expected, bytes, before, touched)
+        self.store.access(spans, act, there, touched)
     }
 
     /// Writes the first `n` dirty frames of segments that are not locked to their slots.

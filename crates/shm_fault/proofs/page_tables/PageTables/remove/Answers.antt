@@ -1,4 +1,4 @@
-use Rattle.shm_fault.proofs.Names.{arith, ◌≡◌}
+use Rattle.shm_fault.proofs.Names.{arith}
 use Rattle.shm_fault.proofs.Entries.{index-there, out-there}
 use Rattle.shm_fault.proofs.page_tables.PageTables.remove.Goals as goal
 

@@ -1,4 +1,4 @@
-use Rattle.shm_fault.proofs.Names.{arith, ◌≡◌, ◌∙◌, ◌≢◌, None, Some, SegRec, PageRec, HasPage, find_seg, rec_at, rec_by, set, refl}
+use Rattle.shm_fault.proofs.Names.{arith, ◌≡◌, ◌∙◌, ◌≢◌, None, Some, SegRec, HasPage, find_seg, set}
 use Rattle.shm_fault.specs.Entries.{present}
 use Rattle.shm_fault.proofs.Entries.{index-there, seg-read, edit-read, page-there}
 use Rattle.shm_fault.proofs.page_tables.PageTables.set_page.Goals as goal

@@ -1,4 +1,4 @@
-use Rattle.shm_fault.proofs.Names.{◌≡◌, sum_by, page_count, take_all, arith, common_steps}
+use Rattle.shm_fault.proofs.Names.{take_all, arith, common_steps}
 use Rattle.shm_fault.proofs.Copies.{swapped-le, swapped-present}
 use Rattle.shm_fault.proofs.page_tables.PageTables.swapped.Goals as goal
 

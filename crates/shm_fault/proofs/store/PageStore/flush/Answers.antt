@@ -1,4 +1,4 @@
-use Rattle.shm_fault.proofs.Names.{◌≡◌, ◌<◌, ◌≤◌, ◌+◌, ◌-◌, ℕ, List, true, false, length, ap, sym, ◌∙◌, refl, arith, Frame, frame_at, StoreView, may_flush}
+use Rattle.shm_fault.proofs.Names.{◌≡◌, ◌<◌, ◌≤◌, ◌+◌, ◌-◌, ℕ, true, false, length, sym, ◌∙◌, refl, arith, frame_at, may_flush}
 use Rattle.shm_fault.proofs.Flushes.{Flushed, flushed-none, flushed-not, flushed-more, flushed-past, flushed-full, flushed-all}
 use Rattle.shm_fault.proofs.Seen.{seen}
 use Rattle.shm_fault.proofs.store.PageStore.flush.Given as given

@@ -20,7 +20,7 @@ pub returns-in-Store-clause-served : goal.returns-in-Store-clause-served
 returns-in-Store-clause-served g c = rw c.in-Store.is (rw c.as_slice.ensures.value at (c.store-served.ensures c.args.time))
 
 pub returns-in-Load-clause-served : goal.returns-in-Load-clause-served
-returns-in-Load-clause-served g c = rw c.in-Load.is (c.load_reply-served.ensures c.args.time)
+returns-in-Load-clause-served g c = rw c.in-Load.is (c.load-served.ensures c.args.time)
 
 pub returns-in-Fork-clause-served : goal.returns-in-Fork-clause-served
 returns-in-Fork-clause-served g c = rw c.in-Fork.is c.fork-served.ensures

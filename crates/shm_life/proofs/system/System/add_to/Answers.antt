@@ -1,10 +1,11 @@
 use Rattle.shm_life.proofs.Names.{refl}
 use Rattle.shm_base.specs.declared.call.Call.TheVariants as call
 use Rattle.shm_life.specs.SystemState.{time_by}
+use Rattle.shm_life.proofs.Accessing.{adds}
 use Rattle.shm_life.proofs.Running.{replied_as}
 use Rattle.shm_life.proofs.system.System.add_to.Goals as goal
 
 pub returns : goal.returns
 returns g c =
-    rw (← c.self.view_is)
-    (replied_as _ _ c.args.pid (call.Xadd c.args.addr c.args.add) _ (rw (← c.self.view_is) at c.requires.room) (c.add_by-added.ensures (time_by c.self.inside.clock c.self.inside.calls)) refl)
+    rw (← c.self.view_is, c.and.ensures, c.from_le_bytes.ensures)
+    (replied_as _ _ c.args.pid (call.Xadd c.args.addr c.args.add) _ (rw (← c.self.view_is) at c.requires.room) (adds _ _ (time_by c.self.inside.clock c.self.inside.calls) c.args.addr _ _ _ c.args.add _ refl c.access_by-added.ensures) refl)

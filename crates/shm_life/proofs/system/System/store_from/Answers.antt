@@ -1,10 +1,11 @@
 use Rattle.shm_life.proofs.Names.{refl}
 use Rattle.shm_base.specs.declared.call.Call.TheVariants as call
 use Rattle.shm_life.specs.SystemState.{time_by}
+use Rattle.shm_life.proofs.Accessing.{stores}
 use Rattle.shm_life.proofs.Running.{replied_as}
 use Rattle.shm_life.proofs.system.System.store_from.Goals as goal
 
 pub returns : goal.returns
 returns g c =
     rw (← c.self.view_is)
-    (replied_as _ _ c.args.pid (call.Store c.args.bytes.now c.args.addr) _ (rw (← c.self.view_is) at c.requires.room) (c.store_by-stored.ensures (time_by c.self.inside.clock c.self.inside.calls)) refl)
+    (replied_as _ _ c.args.pid (call.Store c.args.bytes.now c.args.addr) _ (rw (← c.self.view_is) at c.requires.room) (stores _ _ (time_by c.self.inside.clock c.self.inside.calls) c.args.addr _ _ _ c.args.bytes _ c.access_by-stored.ensures) refl)
