@@ -5,7 +5,8 @@ use Rattle.std.proofs.lemmas.List.{map-append, take-append-drop}
 use Rattle.std.proofs.lemmas.Option.{none-some}
 use Rattle.std.proofs.Math.Seq.{drop-cons}
 use Rattle.shm_text.specs.Script.{ScriptView}
-use Rattle.shm_judge.specs.Judge.{DiffersInOrder, IsExplained, pid_in}
+use Rattle.shm_judge.specs.Judge.{IsExplained}
+use Rattle.shm_judge.specs.Searching.{DiffersInOrder, pid_in}
 use Rattle.shm_judge.specs.Logs.{Answer, AllFill, Entry}
 use Rattle.shm_schedules.specs.Schedules.{Run, goes, Leads, IsReached, followers}
 use Rattle.shm_judge.proofs.Verdicts.{leads-unique}

@@ -14,7 +14,8 @@ use Rattle.shm_base.specs.declared.call.Event.{Event}
 use Rattle.shm_base.specs.declared.call.Reply.{Reply}
 use Rattle.shm_text.specs.Script.{ScriptView}
 use Rattle.shm_schedules.specs.Alike.{AreAlike}
-use Rattle.shm_judge.specs.Judge.{AreApart, AreSeen, IsBeginning, IsDoubt, IsExplained, IsFound, IsLonger, IsMet, IsNew, IsSettled, IsStuck, IsTaken, IsTooMany, IsUnexplained, stuck_at}
+use Rattle.shm_judge.specs.Judge.{AreApart, IsBeginning, IsDoubt, IsExplained, IsFound, IsStuck, IsUnexplained, stuck_at}
+use Rattle.shm_judge.specs.Searching.{AreSeen, IsLonger, IsMet, IsNew, IsSettled, IsTaken, IsTooMany}
 use Rattle.shm_judge.specs.Stuck.{Stuck}
 use Rattle.shm_judge.specs.Logs.{Answer, AllBegin, AllFill, Begins, Fits, FitsAs, is_any}
 use Rattle.shm_schedules.specs.Outcomes.{masked, masked_time, told}

@@ -5,3 +5,4 @@ pub mod Reading
 pub mod Refusals
 pub mod Report
 pub mod Sampling
+pub mod Searching

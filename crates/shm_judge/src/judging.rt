@@ -2,7 +2,8 @@
 //! replies begin the log, and if no run like it was met before.
 ghost use Rattle.std.specs.Prelude.{◌≡◌, [], ◌↔◌, ◌+◌, ◌<◌, ◌≤◌, ℕ, IfErr, IfOk, IsPermutation, IsTrue, OnOk, length};
 ghost use Rattle.shm_schedules.specs.Alike.{AreAlike};
-ghost use Rattle.shm_judge.specs.Judge.{AreSeen, IsDoubt, IsLonger, IsMet, IsRight, IsTaken, IsTooMany, newest, stuck_at};
+ghost use Rattle.shm_judge.specs.Judge.{IsDoubt, IsRight, newest, stuck_at};
+ghost use Rattle.shm_judge.specs.Searching.{AreSeen, IsLonger, IsMet, IsTaken, IsTooMany};
 ghost use Rattle.shm_schedules.specs.Schedules.{fresh};
 ghost use Rattle.shm_base.specs.State.{Machine};
 ghost use Rattle.shm_schedules.specs.Finding.{finding_of};

@@ -1,6 +1,7 @@
 //! The order of a log's lines, and orders near it, tried before any search.
 ghost use Rattle.std.specs.Prelude.{◌≡◌, ◌↔◌, [], IfNone, IfOk, IfSome, IsTrue};
-ghost use Rattle.shm_judge.specs.Judge.{DiffersInOrder, IsExplained, IsWholeIn};
+ghost use Rattle.shm_judge.specs.Judge.{IsExplained, IsWholeIn};
+ghost use Rattle.shm_judge.specs.Searching.{DiffersInOrder};
 ghost use Rattle.shm_judge.specs.Logs.{AllFill};
 ghost use Rattle.shm_schedules.specs.Schedules.{fresh, goes};
 

@@ -6,10 +6,11 @@ use Rattle.std.proofs.lemmas.Bool.{cases_eq, cases_lt}
 use Rattle.std.proofs.lemmas.List.{append-nil, append_assoc, get_or-map, get_or_append_left, get_or-append_right, get_or_default, length-map}
 use Rattle.std.proofs.lemmas.List.Elements.{All-append, All-cons, All-contains, All-head, All-nil, All-tail, Contains-append_right}
 use Rattle.shm_base.specs.State.{Machine}
+use Rattle.shm_base.specs.declared.call.Event.{Event}
 use Rattle.shm_text.specs.Script.{ScriptView}
 use Rattle.shm_outcomes.specs.Branches.{sprout}
 use Rattle.shm_outcomes.specs.Groups.{Groups, mark_by, mark_of}
-use Rattle.shm_outcomes.specs.Keys.{AreMoreRuns, AreOther, IsKeyOf, Key, key_of}
+use Rattle.shm_outcomes.specs.Keys.{AreMoreKeys, AreOther, IsKeyOf, Key, key_of}
 use Rattle.shm_schedules.specs.Known.{IsAt}
 use Rattle.shm_outcomes.specs.Levels.{IsFirstCause, IsLevelCause, IsLevelFull, IsNextLevel, Level, first_level}
 use Rattle.shm_outcomes.specs.Merging.{IsCause}
@@ -18,7 +19,7 @@ use Rattle.shm_schedules.specs.declared.search_error.SearchError.TheVariants.{Bo
 use Rattle.shm_outcomes.specs.Members.{Member, Way, member, member_in, members_in, no_members, way}
 use Rattle.shm_schedules.specs.Outcomes.{outcome_of}
 use Rattle.shm_schedules.specs.Schedules.{Run, fresh, goes, IsOver, Leads, schedule_of, IsReached}
-use Rattle.shm_outcomes.specs.Search.{AreOutcomes, IsFinding, outcomes_in}
+use Rattle.shm_outcomes.specs.Search.{AreMoreRuns, AreOutcomes, IsFinding, outcomes_in}
 use Rattle.shm_schedules.specs.Finding.{Finding}
 use Rattle.shm_outcomes.proofs.Branching.{AreCarried}
 use Rattle.shm_outcomes.proofs.Grouping.{AreGroups, IsGroup, IsOne, at-once, group-of, next-groups, one-long, own-mark}
@@ -253,7 +254,7 @@ module _ (script : ScriptView) (machine : Machine) (most : ℕ) (level : Level) 
       (group-of script machine all.n level.groups w.member is.run all.is.groups is.one).within
 
   -- there are more runs than the bound
-  pub full-level : IsLevelFull script (fresh machine) level before most → AreMoreRuns script (fresh machine) most
+  pub full-level : IsLevelFull script (fresh machine) level before most → AreMoreKeys script (fresh machine) most
   full-level h =
       let s = h.stopped in
       let groups = next-groups script machine all.n level.groups h.groups all.is.groups h.put in
@@ -370,7 +371,7 @@ first-searched script machine most some =
         }
 
 -- at a bound of 0 the first run is one too many
-pub first-full : (script : ScriptView) (machine : Machine) (most : ℕ) → most ≡ 0 → AreMoreRuns script (fresh machine) most
+pub first-full : (script : ScriptView) (machine : Machine) (most : ℕ) → most ≡ 0 → AreMoreKeys script (fresh machine) most
 first-full script machine most none =
     let first = fresh machine in (
       key_of script first first ∷ [],
@@ -381,10 +382,37 @@ first-full script machine most none =
 
 -- CAUSES
 
+-- runs that have these keys
+runs-of : (script : ScriptView) (first : Run) (keys : List Key) → All (IsKeyOf script first) keys → (runs : List Run) × All (IsReached script first) runs × (map (key_of script first) runs ≡ keys)
+runs-of script first [] each = ([], All-nil (IsReached script first), refl)
+runs-of script first (k ∷ ks) each =
+    let (run, reached, is) = All-head (IsKeyOf script first) k ks each in
+    let (runs, all, same) = runs-of script first ks (All-tail (IsKeyOf script first) k ks each) in
+    (run ∷ runs, All-cons (IsReached script first) run runs reached all, ap (λ (l : List Key). key_of script first run ∷ l) same ∙ ap (λ (x : Key). x ∷ ks) (sym is))
+
+-- the same calls and replies make the same key
+same-key : (script : ScriptView) (first a b : Run) → a.events ≡ b.events → key_of script first a ≡ key_of script first b
+same-key script first a b same = ap (λ (es : List Event). key_of script first (record { machine = first.machine; events = es })) same
+
+-- more keys than the bound are those of more beginnings
+more-runs : (script : ScriptView) (first : Run) (most : ℕ) → AreMoreKeys script first most → AreMoreRuns script first most
+more-runs script first most (keys, more, each, apart) =
+    let (runs, reached, same) = runs-of script first keys each in
+    let long : length runs ≡ length keys = sym (length-map runs (key_of script first)) ∙ ap length same in
+    let others : AllPairs AreOther (map (key_of script first) runs) = subst (AllPairs AreOther) (sym same) apart in (
+      runs,
+      omega (arith, more, long),
+      reached,
+      λ i j d ij lt alike.
+          let key = key_of script first in
+          let within : j < length (map key runs) = rw (length-map runs key) lt in
+          others i j (key d) ij within (get_or-map key runs i d (key d) (omega (arith, ij, lt)) ∙ same-key script first (slice_index_or runs i d) (slice_index_or runs j d) alike ∙ sym (get_or-map key runs j d (key d) lt)),
+    )
+
 pub first-cause : (script : ScriptView) (machine : Machine) (most : ℕ) (error : SearchError) → IsFirstCause most error → IsCause script (fresh machine) most error
 first-cause script machine most (Engine e) h = tt
-first-cause script machine most Bound h = first-full script machine most h
+first-cause script machine most Bound h = more-runs script (fresh machine) most (first-full script machine most h)
 
 pub next-cause : (script : ScriptView) (machine : Machine) (most : ℕ) (level : Level) (before : List Finding) (error : SearchError) → AreSearched script machine most level before → IsLevelCause script (fresh machine) level before most error → IsCause script (fresh machine) most error
 next-cause script machine most level before (Engine e) all h = tt
-next-cause script machine most level before Bound all h = full-level script machine most level before all h
+next-cause script machine most level before Bound all h = more-runs script (fresh machine) most (full-level script machine most level before all h)

@@ -25,6 +25,6 @@ IsKeyOf script first key = (run : Run) × IsReached script first run × (key ≡
 abbrev pub AreOther : Key → Key → Type 0
 AreOther a b = a ≡ b → ⊥
 
--- the script has more runs than the bound, of which no two have one key
-abbrev pub AreMoreRuns : ScriptView → Run → ℕ → Type 0
-AreMoreRuns script first most = (keys : List Key) × (most < length keys) × All (IsKeyOf script first) keys × AllPairs AreOther keys
+-- there are more keys than the bound, of which no two are equal
+abbrev pub AreMoreKeys : ScriptView → Run → ℕ → Type 0
+AreMoreKeys script first most = (keys : List Key) × (most < length keys) × All (IsKeyOf script first) keys × AllPairs AreOther keys

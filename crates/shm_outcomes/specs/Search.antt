@@ -1,10 +1,11 @@
 -- What a search over all schedules has found so far.
 use Rattle.std.specs.Prelude.{◌≡◌, ◌⊎◌, ◌<◌, ℕ, List, [], ◌∷◌, ◌++◌, map, All, Contains, length, slice_index_or}
+use Rattle.std.specs.List.{AllPairs}
 use Rattle.shm_base.specs.declared.call.Reply.{Reply}
 use Rattle.shm_text.specs.Script.{ScriptView}
 use Rattle.shm_schedules.specs.Finding.{Finding}
 use Rattle.shm_schedules.specs.Outcomes.{outcome_of}
-use Rattle.shm_schedules.specs.Schedules.{Run, IsSchedule, schedule_of}
+use Rattle.shm_schedules.specs.Schedules.{Run, IsReached, IsSchedule, schedule_of}
 
 abbrev pub outcome_in : Finding → List (List Reply)
 outcome_in f = f.outcome
@@ -29,6 +30,14 @@ IsNoted olds f news =
 abbrev pub AreDistinct : List (List (List Reply)) → Type 0
 AreDistinct outcomes =
     (i j : ℕ) (o : List (List Reply)) → i < j → j < length outcomes → slice_index_or outcomes i o ≡ o → slice_index_or outcomes j o ≡ o → ⊥
+
+-- the calls and replies of two beginnings differ
+abbrev pub AreDifferent : Run → Run → Type 0
+AreDifferent a b = a.events ≡ b.events → ⊥
+
+-- schedules of the script lead to more beginnings than the bound, no two of them the same
+abbrev pub AreMoreRuns : ScriptView → Run → ℕ → Type 0
+AreMoreRuns script first most = (runs : List Run) × (most < length runs) × All (IsReached script first) runs × AllPairs AreDifferent runs
 
 -- Every outcome, once: each finding has a schedule, and each schedule's outcome is among them
 pub record AreOutcomes (script : ScriptView) (first : Run) (found : List Finding) : Type 0 where

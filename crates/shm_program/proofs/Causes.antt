@@ -12,7 +12,7 @@ use Rattle.shm_text.proofs.ItemSteps.{same_fault}
 use Rattle.shm_life.specs.declared.start.StartError.{StartError}
 use Rattle.shm_program.specs.Ends.{is_reading}
 use Rattle.shm_program.specs.Faults.{refused_as}
-use Rattle.shm_program.specs.Runs.{IsCause, IsCauseIn, IsSilent, IsStop, is_serial}
+use Rattle.shm_program.specs.Runs.{IsCause, IsCauseIn, IsSilent, IsStop, IsTextFor, is_serial}
 use Rattle.shm_program.specs.declared.fault.RunFault.{RunFault}
 use Rattle.shm_program.specs.declared.fault.RunFault.TheVariants.{Script, StartRefused, ReadFailed, WriteFailed, Gate, Mismatch, ThreadRefused, HostMemory}
 
@@ -29,16 +29,47 @@ whole_input None new read P taken end p = tt
 whole_input (Some input) None read P taken end p = absurd taken
 whole_input (Some input) (Some rest) read P taken end p = rw (taken ∙ ap (λ l. read ++ l) end ∙ append-nil read) p
 
--- where nothing is written, a fault is silent
-pub silent_kept : (fault : RunFault) (kept : Option (List ℕ)) → IsSilent fault kept kept
-silent_kept (Script fault) kept = Keeps-refl kept
-silent_kept (StartRefused n) kept = Keeps-refl kept
-silent_kept ReadFailed kept = Keeps-refl kept
-silent_kept WriteFailed kept = tt
-silent_kept (Gate pid) kept = Keeps-refl kept
-silent_kept (Mismatch pid) kept = Keeps-refl kept
-silent_kept ThreadRefused kept = Keeps-refl kept
-silent_kept HostMemory kept = Keeps-refl kept
+-- where nothing is written, a fault is silent, unless the writer failed
+pub unwritten : (IsText : List ℕ → Type 0) (fault : RunFault) (kept : Option (List ℕ)) → (fault ≡ WriteFailed → ⊥) → IsSilent IsText fault kept kept
+unwritten IsText (Script fault) kept h = Keeps-refl kept
+unwritten IsText (StartRefused n) kept h = Keeps-refl kept
+unwritten IsText ReadFailed kept h = Keeps-refl kept
+unwritten IsText WriteFailed kept h = absurd (h refl)
+unwritten IsText (Gate pid) kept h = Keeps-refl kept
+unwritten IsText (Mismatch pid) kept h = Keeps-refl kept
+unwritten IsText ThreadRefused kept h = Keeps-refl kept
+unwritten IsText HostMemory kept h = Keeps-refl kept
+
+-- reading writes nothing
+pub read_silent : (IsText : List ℕ → Type 0) (fault : RunFault) (kept : Option (List ℕ)) → is_reading fault ≡ true → IsSilent IsText fault kept kept
+read_silent IsText fault kept reading = unwritten IsText fault kept (λ e. let no : is_reading WriteFailed ≡ true = subst (λ f. is_reading f ≡ true) e reading in absurd (cc))
+
+-- nor does a start
+pub stop_silent : (IsText : List ℕ → Type 0) (fault : RunFault) (first : Option StartError) (kept : Option (List ℕ)) → IsStop fault first → IsSilent IsText fault kept kept
+stop_silent IsText fault first kept stop = unwritten IsText fault kept (λ e. subst (λ f. IsStop f first) e stop)
+
+-- a text of one kind is of another
+pub silent_as : (IsText IsOther : List ℕ → Type 0) (fault : RunFault) (old new : Option (List ℕ)) → ((text : List ℕ) → IsText text → IsOther text) → IsSilent IsText fault old new → IsSilent IsOther fault old new
+silent_as IsText IsOther (Script fault) old new to silent = silent
+silent_as IsText IsOther (StartRefused n) old new to silent = silent
+silent_as IsText IsOther ReadFailed old new to silent = silent
+silent_as IsText IsOther WriteFailed old new to (text, is, part) = (text, to text is, part)
+silent_as IsText IsOther (Gate pid) old new to silent = silent
+silent_as IsText IsOther (Mismatch pid) old new to silent = silent
+silent_as IsText IsOther ThreadRefused old new to silent = silent
+silent_as IsText IsOther HostMemory old new to silent = silent
+
+-- the text of the script that was read is one for the input
+pub text_for : (IsText : ScriptView → List ℕ → List ℕ → Type 0) (areas : List ℕ) (input : Option (List ℕ)) (script : ScriptView) → IfSome input (λ bytes. script_of bytes ≡ Ok script) → (text : List ℕ) → IsText script areas text → IsTextFor IsText areas input text
+text_for IsText areas None script read text is = tt
+text_for IsText areas (Some bytes) script read text is = (script, read, is)
+
+pub silents_as : (IsText IsOther : List ℕ → Type 0) (result : Result (Unit {0}) RunFault) (old new : Option (List ℕ)) → ((text : List ℕ) → IsText text → IsOther text) → IfErr result (λ f. IsSilent IsText f old new) → IfErr result (λ f. IsSilent IsOther f old new)
+silents_as IsText IsOther (Ok done) old new to silent = tt
+silents_as IsText IsOther (Err fault) old new to silent = silent_as IsText IsOther fault old new to silent
+
+pub silent_for : (IsText : ScriptView → List ℕ → List ℕ → Type 0) (result : Result (Unit {0}) RunFault) (areas : List ℕ) (input old new : Option (List ℕ)) (script : ScriptView) → IfSome input (λ bytes. script_of bytes ≡ Ok script) → IfErr result (λ f. IsSilent (IsText script areas) f old new) → IfErr result (λ f. IsSilent (IsTextFor IsText areas input) f old new)
+silent_for IsText result areas input old new script read silent = silents_as (IsText script areas) (IsTextFor IsText areas input) result old new (text_for IsText areas input script read) silent
 
 -- why a world was not opened
 pub stop_cause : (fault : RunFault) (areas : List ℕ) (script : ScriptView) → IsStop fault (start_error script.limits areas script.processes) → IsCauseIn fault areas script

@@ -3,4 +3,5 @@ pub mod Causes
 pub mod Texts
 pub mod Zipped
 pub mod Rows
+pub mod Words
 mod Numbered

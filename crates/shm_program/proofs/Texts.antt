@@ -1,6 +1,7 @@
 -- What was written, as that of the input.
 use Rattle.std.proofs.Common.{◌≡◌, ℕ, List, Option, Some, None, Ok}
 use Rattle.std.specs.Prelude.{IfSome, OnOk, Result, Err}
+use Rattle.std.specs.Io.KnownBytes.{Appends}
 use Rattle.shm_text.specs.Script.{ScriptView}
 use Rattle.shm_text.specs.Reading.{script_of}
 use Rattle.shm_program.specs.Runs.{IsWritten, Prints}
@@ -13,3 +14,8 @@ shown IsText (Some bytes) old new areas script read written = (script, read, wri
 pub shows : {E : Type 0} → (IsText : ScriptView → List ℕ → List ℕ → Type 0) (result : Result (Unit {0}) E) (input old new : Option (List ℕ)) (areas : List ℕ) (script : ScriptView) → IfSome input (λ bytes. script_of bytes ≡ Ok script) → OnOk result (IsWritten (IsText script areas) old new) → OnOk result (IfSome input (λ bytes. Prints IsText old new areas bytes))
 shows IsText (Ok done) input old new areas script read written = shown IsText input old new areas script read written
 shows IsText (Err fault) input old new areas script read written = tt
+
+-- a text with this property was written
+pub written_as : {E : Type 0} → (IsText : List ℕ → Type 0) (result : Result (Unit {0}) E) (old new : Option (List ℕ)) (text : List ℕ) → IsText text → OnOk result (Appends old new text) → OnOk result (IsWritten IsText old new)
+written_as IsText (Ok done) old new text is written = (text, is, written)
+written_as IsText (Err fault) old new text is written = tt

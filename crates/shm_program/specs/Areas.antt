@@ -1,6 +1,6 @@
 -- The pager that is made for each word for a swap area.
-use Rattle.std.specs.Prelude.{ℕ, List, [], ◌∷◌}
-use Rattle.shm_pager.specs.Areas.{IsOfKind}
+use Rattle.std.specs.Prelude.{◌≡◌, ℕ, List, [], ◌∷◌}
+use Rattle.shm_pager.specs.Areas.{IsOfKind, failed_in}
 use Rattle.shm_pager.specs.declared.area.AreaKind.{AreaKind}
 use Rattle.shm_pager.specs.declared.area.AreaKind.TheVariants as kinds
 use Rattle.shm_pager.specs.declared.area.AreaPager.{AreaPager}
@@ -31,6 +31,6 @@ abbrev pub writes_of : SwapWord → List ℕ
 writes_of (FuseWrite n k) = k ∷ []
 writes_of _ = []
 
--- the new area of a word: zeros in each slot, and only the call that a fuse names will fail
+-- the new area of a word: zeros in each slot, no failure counted, and only the call that a fuse names will fail
 abbrev pub IsAreaOf : SwapWord → AreaPager → Type 0
-IsAreaOf swap p = IsOfKind (kind_of swap) (size_of swap) (reads_of swap) (writes_of swap) p
+IsAreaOf swap p = IsOfKind (kind_of swap) (size_of swap) (reads_of swap) (writes_of swap) p × (failed_in p ≡ 0)

@@ -1,5 +1,5 @@
 -- The world that a script opens, what a run writes, and what its faults say about its input.
-use Rattle.std.specs.Prelude.{◌≡◌, ℕ, Bool, true, false, List, map, Option, Some, None, Ok, Err}
+use Rattle.std.specs.Prelude.{◌≡◌, ◌<◌, ℕ, Bool, true, false, List, length, map, take, Option, Some, None, Ok, Err, IfSome}
 use Rattle.std.specs.Io.KnownBytes.{Appends, Keeps}
 use Rattle.shm_base.specs.State.{Opening}
 use Rattle.shm_pager.specs.Pages.{pager_seen}
@@ -44,6 +44,10 @@ abbrev pub Prints : (ScriptView → List ℕ → List ℕ → Type 0) → Option
 Prints IsText old new areas input =
     (script : ScriptView) × (script_of input ≡ Ok script) × IsWritten (IsText script areas) old new
 
+-- the input is a script, and this text has the property for it
+abbrev pub IsTextFor : (ScriptView → List ℕ → List ℕ → Type 0) → List ℕ → Option (List ℕ) → List ℕ → Type 0
+IsTextFor IsText areas input text = IfSome input (λ bytes. (script : ScriptView) × (script_of bytes ≡ Ok script) × IsText script areas text)
+
 -- a script fault is that of the input, and a refused start is the first start error
 abbrev pub IsCause : RunFault → List ℕ → List ℕ → Type 0
 IsCause (Script fault) areas input = script_of input ≡ Err fault
@@ -62,10 +66,14 @@ is_serial (Mismatch pid) = false
 is_serial ThreadRefused = false
 is_serial _ = true
 
--- nothing is written, unless the writer failed
-abbrev pub IsSilent : RunFault → Option (List ℕ) → Option (List ℕ) → Type 0
-IsSilent WriteFailed old new = Unit {0}
-IsSilent _ old new = Keeps old new
+-- a beginning of a text was written, and not all of it
+abbrev pub IsPart : List ℕ → Option (List ℕ) → Option (List ℕ) → Type 0
+IsPart text old new = (n : ℕ) × (n < length text) × Appends old new (take n text)
+
+-- nothing is written; or if the writer failed, a beginning of a text with this property, and not all of it
+abbrev pub IsSilent : (List ℕ → Type 0) → RunFault → Option (List ℕ) → Option (List ℕ) → Type 0
+IsSilent IsText WriteFailed old new = (text : List ℕ) × IsText text × IsPart text old new
+IsSilent IsText _ old new = Keeps old new
 
 -- a world is not opened because of the first start error, or out of memory if there is none
 abbrev pub IsStop : RunFault → Option StartError → Type 0

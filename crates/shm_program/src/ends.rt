@@ -1,8 +1,8 @@
 //! Reads the whole input, which is a script, and writes the whole output.
-ghost use Rattle.std.specs.Prelude.{◌≡◌, ◌⊎◌, ◌++◌, ◌<◌, ◌≤◌, ◌+◌, ◌-◌, List, ℕ, Ok, true, length, OnOk, IfOk, IfErr, IfSome};
+ghost use Rattle.std.specs.Prelude.{◌≡◌, ◌⊎◌, ◌++◌, ◌<◌, ◌≤◌, ◌+◌, ◌-◌, List, ℕ, Ok, true, length, OnErr, OnOk, IfOk, IfErr, IfSome};
 ghost use Rattle.std.specs.Io.KnownBytes.{Appends, Consumes, IsAtEnd};
 ghost use Rattle.shm_text.specs.Reading.{script_of};
-ghost use Rattle.shm_program.specs.Runs.{IsCause, is_serial};
+ghost use Rattle.shm_program.specs.Runs.{IsCause, IsPart, is_serial};
 ghost use Rattle.shm_program.specs.Ends.{is_asked_again, is_reading};
 ghost use Rattle.shm_program.specs.declared.fault.RunFault.TheVariants as faults;
 
@@ -100,9 +100,10 @@ impl From<WriteFault> for RunFault {
 }
 
 /// Writes the bytes, each once. Any failure of the writer ends it, also an interruption or a write of no
-/// byte.
+/// byte. Then a beginning of the bytes is written, but not all of them.
 pub fn write_output<W: Write>(writer: &mut W, bytes: &[u8]) -> Result<(), WriteFault>
-    ensures { OnOk result (Appends (W.contents writer.old) (W.contents writer.new) bytes.now) }
+    ensures ok { OnOk result (Appends (W.contents writer.old) (W.contents writer.new) bytes.now) }
+    ensures err { OnErr result (IsPart bytes.now (W.contents writer.old) (W.contents writer.new)) }
 {
     let mut rest = bytes;
     while !rest.is_empty() {

@@ -14,8 +14,8 @@ use std::{error, fmt};
 /// - `Script`: the input is not a script; it has the first fault.
 /// - `StartRefused`: the machine was not opened; it has the number of the first start error.
 /// - `ReadFailed`: the reader failed, or was called 2,097,152 times without an end.
-/// - `WriteFailed`: the writer failed, was interrupted, or took no byte. An unknown part of the output, from
-///   its beginning, was written.
+/// - `WriteFailed`: the writer failed, was interrupted, or took no byte. A beginning of the output was
+///   written; nothing says how much.
 /// - `HostMemory`: the host refused memory.
 ///
 /// Only a run with threads has the others:

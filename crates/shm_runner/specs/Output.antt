@@ -40,14 +40,14 @@ Runs lines hs es later all = (start : List HolderView) (before : List Line) → 
 abbrev pub world_text : WorldState → List ℕ
 world_text w = events_text 1 w.events ++ listing_of w.machine ++ usage_text (tally_of w)
 
--- The text of a world was appended to what a writer has, or why not. Out of memory, nothing was written. Either way the world is
--- sound, and each of its counts is a count of a pager
+-- The text of a world was appended to what a writer has, or why not: out of memory, nothing was written; if the writer failed, a
+-- beginning of the text. Either way the world is sound, and each of its counts is a count of a pager
 pub record IsWorldWritten {P : Type 0} (failed : P → ℕ) (world : WorldState) (result : Result (Unit {0}) RunFault) (old new : Option (List ℕ)) : Type 0 where
   pub written : OnOk result (Appends old new (world_text world))
   pub sound : IsWorldSound world
   pub counted : AreCountsOf failed world.memory.swap
   pub fault : IfErr result (λ f. (f ≡ HostMemory) ⊎ (f ≡ WriteFailed))
-  pub silent : IfErr result (λ f. IsSilent f old new)
+  pub silent : IfErr result (λ f. IsSilent (λ text. text ≡ world_text world) f old new)
 
 -- no pager of this type ever counts a failure
 abbrev pub NeverFails : {P : Type 0} → (P → ℕ) → Type 0

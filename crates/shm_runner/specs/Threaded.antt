@@ -7,7 +7,7 @@ use Rattle.shm_history.specs.WorldState.{WorldState, failures_in}
 use Rattle.shm_text.specs.Script.{ScriptView}
 use Rattle.shm_threads.specs.Transcripts.{AreTranscripts}
 use Rattle.shm_threads.specs.declared.transcript.Transcript.{Transcript}
-use Rattle.shm_program.specs.Runs.{IsWorldOf, IsSilent, IsCause, Prints}
+use Rattle.shm_program.specs.Runs.{IsWorldOf, IsSilent, IsTextFor, IsCause, Prints}
 use Rattle.shm_laws.specs.Worlds.{IsWorldSound}
 use Rattle.shm_runner.specs.Marks.{have_mark}
 use Rattle.shm_runner.specs.Output.{NeverFails, world_text}
@@ -28,13 +28,18 @@ pub record IsThreadedOutput {P : Type 0} (failed : P → ℕ) (swap : SwapView) 
   pub marks : have_mark transcripts ≡ marked
   pub printed : text ≡ world_text world
 
--- nothing is written; or everything is, if a call of the run was out of memory
-abbrev pub IsAllOrNothing : RunFault → Option (List ℕ) → Option (List ℕ) → Type 0 → Type 0
-IsAllOrNothing fault old new Marked = IsSilent fault old new ⊎ ((fault ≡ HostMemory) × Marked)
+-- the same, whether or not a call is marked
+abbrev pub IsAnyOutput : {P : Type 0} → (P → ℕ) → SwapView → ScriptView → List ℕ → List ℕ → Type 0
+IsAnyOutput failed swap script areas text = (marked : Bool) × IsThreadedOutput failed swap marked script areas text
+
+-- nothing is written, or a beginning of a text with this property if the writer failed; or everything is, if a call of the run was
+-- out of memory
+abbrev pub IsAllOrNothing : (List ℕ → Type 0) → RunFault → Option (List ℕ) → Option (List ℕ) → Type 0 → Type 0
+IsAllOrNothing IsText fault old new Marked = IsSilent IsText fault old new ⊎ ((fault ≡ HostMemory) × Marked)
 
 -- a run with threads: the input before it and the rest after it, and the output
 pub record IsThreadedRun {P : Type 0} (failed : P → ℕ) (swap : SwapView) (result : Result (Unit {0}) RunFault) (input rest old new : Option (List ℕ)) (areas : List ℕ) : Type 0 where
   pub ok : OnOk result (IfSome input (λ bytes. Prints (IsThreadedOutput failed swap false) old new areas bytes))
   pub whole : OnOk result (IsAtEnd rest)
   pub cause : IfErr result (λ f. IfSome input (λ bytes. IsCause f areas bytes))
-  pub written : IfErr result (λ f. IsAllOrNothing f old new (IsAtEnd rest × IfSome input (λ bytes. Prints (IsThreadedOutput failed swap true) old new areas bytes)))
+  pub written : IfErr result (λ f. IsAllOrNothing (IsTextFor (IsAnyOutput failed swap) areas input) f old new (IsAtEnd rest × IfSome input (λ bytes. Prints (IsThreadedOutput failed swap true) old new areas bytes)))

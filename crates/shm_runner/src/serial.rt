@@ -2,7 +2,7 @@
 ghost use Rattle.std.specs.Prelude.{◌≡◌, ◌⊎◌, [], length, true, map, OnOk, IfErr, IfSome};
 ghost use Rattle.std.specs.Io.KnownBytes.{IsAtEnd};
 ghost use Rattle.shm_slots.specs.Cause.{GoesOn};
-ghost use Rattle.shm_program.specs.Runs.{Prints, IsWritten, IsCause, IsCauseIn, is_serial, IsSilent, IsOpening, handed_in};
+ghost use Rattle.shm_program.specs.Runs.{Prints, IsWritten, IsCause, IsCauseIn, is_serial, IsSilent, IsTextFor, IsOpening, handed_in};
 ghost use Rattle.shm_runner.specs.Output.{IsOutput, Runs, RunsInOrder};
 ghost use Rattle.shm_program.specs.Values.{fresh_holder};
 
@@ -17,7 +17,7 @@ use std::io::{Read, Write};
 
 /// Reads a script, runs it over swap areas with these pagers, and writes an event line for each command line, the
 /// listing of the segments, and the usage. The whole output is made before its first byte is written, so at every
-/// fault except `WriteFailed` nothing is written. Faults are found in this order: reading, script, start, run,
+/// fault except `WriteFailed` nothing is written, and then a beginning of the output. Faults are found in this order: reading, script, start, run,
 /// writing. With pagers that never fail, such as [`shm_pager::RamPager`], the event lines and the listing are those
 /// of the flat machine, whatever was paged out.
 pub fn run_serial<R: Read, W: Write, P: Pager>(
@@ -35,7 +35,9 @@ pub fn run_serial<R: Read, W: Write, P: Pager>(
         (λ f. IfSome (R.remaining reader.old)
         (λ input. IsCause f (map (λ p. length (P.content p)) pagers.items) input)) }
     ensures serial { IfErr result (λ f. is_serial f ≡ true) }
-    ensures silent { IfErr result (λ f. IsSilent f (W.contents writer.old) (W.contents writer.new)) }
+    ensures silent { let output = IsOutput P.failed (handed_in P.content P.failed pagers.items) in
+        let text = IsTextFor output (map (λ p. length (P.content p)) pagers.items) (R.remaining reader.old) in
+        IfErr result (λ f. IsSilent text f (W.contents writer.old) (W.contents writer.new)) }
 {
     match whole_script(alloc, reader) {
         Ok(script) => run_script(alloc, writer, script, pagers),
@@ -55,7 +57,9 @@ fn run_script<W: Write, P: Pager>(
         OnOk result (IsWritten (text script areas) (W.contents writer.old) (W.contents writer.new)) }
     ensures cause { IfErr result (λ f. IsCauseIn f (map (λ p. length (P.content p)) pagers.items) script) }
     ensures serial { IfErr result (λ f. is_serial f ≡ true) }
-    ensures silent { IfErr result (λ f. IsSilent f (W.contents writer.old) (W.contents writer.new)) }
+    ensures silent { let text = IsOutput P.failed (handed_in P.content P.failed pagers.items) script in
+        let is = text (map (λ p. length (P.content p)) pagers.items) in
+        IfErr result (λ f. IsSilent is f (W.contents writer.old) (W.contents writer.new)) }
 {
     match open_world(alloc, &script, pagers) {
         Ok(mut world) => run_in(alloc, writer, &mut world, script),
@@ -75,7 +79,8 @@ fn run_in<W: Write, P: Pager>(
     ensures ok { let text = IsOutput P.failed world.old.memory.swap script world.old.opening.areas in
         OnOk result (IsWritten text (W.contents writer.old) (W.contents writer.new)) }
     ensures fault { IfErr result (λ f. (f ≡ RunFault.HostMemory) ⊎ (f ≡ RunFault.WriteFailed)) }
-    ensures silent { IfErr result (λ f. IsSilent f (W.contents writer.old) (W.contents writer.new)) }
+    ensures silent { let text = IsOutput P.failed world.old.memory.swap script world.old.opening.areas in
+        IfErr result (λ f. IsSilent text f (W.contents writer.old) (W.contents writer.new)) }
 {
     match run_lines(alloc, world, script) {
         Ok(()) => write_world(alloc, writer, world),

@@ -1,12 +1,12 @@
 //! A run with threads: reads a script, runs each of its processes in its own thread, and writes their history.
-ghost use Rattle.std.specs.Prelude.{◌≡◌, ◌⊎◌, true, false, length, map, OnOk, IfErr};
+ghost use Rattle.std.specs.Prelude.{◌≡◌, ◌⊎◌, ℕ, List, true, false, length, map, OnOk, IfErr};
 ghost use Rattle.std.specs.Io.KnownBytes.{Appends};
 ghost use Rattle.shm_slots.specs.View.{AreCountsOf, AreUntouched};
 ghost use Rattle.shm_program.specs.Runs.{IsCauseIn, IsOpening, IsWritten, handed_in};
 ghost use Rattle.shm_laws.specs.Worlds.{IsWorldSound};
 ghost use Rattle.shm_runner.specs.Output.{world_text};
 ghost use Rattle.shm_runner.specs.Marks.{is_marked, has_mark, have_mark};
-ghost use Rattle.shm_runner.specs.Threaded.{IsThreadedOutput, IsThreadedRun, IsAllOrNothing};
+ghost use Rattle.shm_runner.specs.Threaded.{IsAnyOutput, IsThreadedOutput, IsThreadedRun, IsAllOrNothing};
 
 use crate::fault::run_fault;
 use crate::world::write_shared;
@@ -62,7 +62,8 @@ fn run_script<T: Threads + Wait + Sync, W: Write, P: Pager + Send>(
         let text = IsThreadedOutput P.failed swap true script.now in
         let areas = map (λ p. length (P.content p)) pagers.items in
         let marked = IsWritten (text areas) (W.contents writer.old) (W.contents writer.new) in
-        IfErr result (λ f. IsAllOrNothing f (W.contents writer.old) (W.contents writer.new) marked) }
+        let any = IsAnyOutput P.failed swap script.now areas in
+        IfErr result (λ f. IsAllOrNothing any f (W.contents writer.old) (W.contents writer.new) marked) }
 {
     match open_world(alloc, script, pagers) {
         Ok(world) => run_in(rt, alloc, writer, world, script),
@@ -87,7 +88,8 @@ fn run_in<T: Threads + Wait + Sync, W: Write, P: Pager + Send>(
     ensures written { let areas = world.opening.areas in
         let text = IsThreadedOutput P.failed world.memory.swap true script.now areas in
         let marked = IsWritten text (W.contents writer.old) (W.contents writer.new) in
-        IfErr result (λ f. IsAllOrNothing f (W.contents writer.old) (W.contents writer.new) marked) }
+        let any = IsAnyOutput P.failed world.memory.swap script.now areas in
+        IfErr result (λ f. IsAllOrNothing any f (W.contents writer.old) (W.contents writer.new) marked) }
 {
     match run_threads(rt, alloc, world, script, &OpenGate) {
         Ok(outcome) => write_outcome(rt, alloc, writer, &outcome),
@@ -114,7 +116,8 @@ pub fn write_outcome<T: Threads + Sync, W: Write, P: Pager>(
     ensures written { let text = world_text outcome.now.world in
         let appended = Appends (W.contents writer.old) (W.contents writer.new) text in
         let marked = (have_mark outcome.now.transcripts.items ≡ true) × appended in
-        IfErr result (λ f. IsAllOrNothing f (W.contents writer.old) (W.contents writer.new) marked) }
+        let is = λ (written : List ℕ). written ≡ text in
+        IfErr result (λ f. IsAllOrNothing is f (W.contents writer.old) (W.contents writer.new) marked) }
 {
     match write_shared(rt, alloc, writer, &outcome.world) {
         Ok(()) => {

@@ -1,9 +1,10 @@
 //! Writes the text of a world.
-ghost use Rattle.std.specs.Prelude.{◌≡◌, ◌+◌, ◌-◌, ◌^◌, ◌<◌, [], length, flat_map, OnOk, IfOk, string_bytes};
+ghost use Rattle.std.specs.Prelude.{◌≡◌, ◌+◌, ◌-◌, ◌^◌, ◌<◌, [], length, flat_map, OnErr, OnOk, IfOk, string_bytes};
 ghost use Rattle.std.specs.Io.KnownBytes.{Appends};
 ghost use Rattle.shm_print.specs.Text.{events_text};
 ghost use Rattle.shm_slots.specs.View.{AreCountsOf};
 ghost use Rattle.shm_laws.specs.Worlds.{IsWorldSound};
+ghost use Rattle.shm_program.specs.Runs.{IsPart};
 ghost use Rattle.shm_runner.specs.Joined.{Completes};
 ghost use Rattle.shm_runner.specs.Output.{IsWorldWritten, world_text};
 
@@ -123,8 +124,10 @@ fn shared_text<R: Threads + Sync, P: Pager>(
 
 // Writes texts, one after the other.
 fn write_parts<W: Write>(writer: &mut W, parts: &[String]) -> Result<(), WriteFault>
-    ensures { OnOk result
+    ensures ok { OnOk result
         (Appends (W.contents writer.old) (W.contents writer.new) (flat_map string_bytes parts.now)) }
+    ensures err { OnErr result
+        (IsPart (flat_map string_bytes parts.now) (W.contents writer.old) (W.contents writer.new)) }
 {
     for part in parts {
         write_output(writer, part.as_bytes())?;

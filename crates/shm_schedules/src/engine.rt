@@ -1,9 +1,11 @@
 //! The machine on which a search runs a script.
-ghost use Rattle.std.specs.Prelude.{◌≡◌, ℕ, ◌+◌, ◌-◌, ◌<◌, ◌^◌, IfOk, OnOk};
+ghost use Rattle.std.specs.Prelude.{◌≡◌, ℕ, ◌+◌, ◌-◌, ◌<◌, ◌^◌, IfErr, IfOk, OnOk};
+ghost use Rattle.shm_base.specs.Memory.{TakesNoMemory};
 ghost use Rattle.shm_base.specs.State.{Machine};
 ghost use Rattle.shm_base.specs.Step.{step};
 ghost use Rattle.shm_schedules.specs.Places.{place_of};
 ghost use Rattle.shm_schedules.specs.Schedules.{is_live};
+ghost use Rattle.shm_schedules.specs.declared.engine.EngineError.TheVariants.{HostMemory};
 
 use shm_areas::Place;
 use shm_base::{Call, Reply};
@@ -19,12 +21,16 @@ pub enum EngineError {
 }
 
 impl From<AllocError> for EngineError {
+    ghost from_gives = { λ _ r. r ≡ HostMemory };
+
     fn from(_refused: AllocError) -> EngineError {
         EngineError::HostMemory
     }
 }
 
 impl<T: Drop> From<AllocFailed<T>> for EngineError {
+    ghost from_gives = { λ _ r. r ≡ HostMemory };
+
     fn from(_refused: AllocFailed<T>) -> EngineError {
         EngineError::HostMemory
     }
@@ -52,11 +58,12 @@ pub trait Engine: Drop {
         ensures flat { IfOk result (λ copy. flat copy ≡ flat self.now) }
         ensures calls { IfOk result (λ copy. calls copy ≡ calls self.now) };
 
-    /// A process's call, which is one step of the flat machine. Errors: the host refused memory, or a pager
-    /// failed.
+    /// A process's call, which is one step of the flat machine. Errors: the host refused memory for a call that
+    /// takes some, or a pager failed.
     fn call(&mut self, pid: u32, call: &Call) -> Result<Reply, EngineError>
         requires room { calls self.old < 2 ^ 64 - 1 }
         ensures step { IfOk result (λ r. step (flat self.old) (calls self.old + 1) pid call.now
             ≡ record { reply = r; state = flat self.new }) }
-        ensures calls { OnOk result (calls self.new ≡ calls self.old + 1) };
+        ensures calls { OnOk result (calls self.new ≡ calls self.old + 1) }
+        ensures memory { IfErr result (λ e. e ≡ HostMemory → TakesNoMemory call.now → ⊥) };
 }

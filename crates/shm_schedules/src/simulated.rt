@@ -3,6 +3,7 @@ ghost use Rattle.std.specs.Prelude.{◌≡◌, ◌-◌, ◌<◌, length, map, If
 ghost use Rattle.shm_life.specs.MachineView.{names_failure};
 ghost use Rattle.shm_life.specs.Start.{start_error, IsFirstError};
 ghost use Rattle.shm_schedules.specs.Schedules.{is_live, start};
+ghost use Rattle.shm_schedules.specs.declared.engine.EngineError.TheVariants as engines;
 
 use crate::engine::{Engine, EngineError};
 use shm_areas::Place;
@@ -55,6 +56,8 @@ impl<P: ClonePager> Simulated<P> {
 }
 
 impl From<HostMemory> for EngineError {
+    ghost from_gives = { λ _ r. r ≡ engines.HostMemory };
+
     fn from(_refused: HostMemory) -> EngineError {
         EngineError::HostMemory
     }

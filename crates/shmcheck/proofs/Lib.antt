@@ -1,2 +1,3 @@
-pub mod Causes
-pub mod Doubts
+mod Left
+pub mod Stops
+pub mod Texts

@@ -1,8 +1,8 @@
 -- The verdict that the program writes, or why it writes none.
-use Rattle.std.specs.Prelude.{◌≡◌, ℕ, Bool, true, false, List, Ok, Err}
+use Rattle.std.specs.Prelude.{◌≡◌, ℕ, Bool, true, false, List, Ok}
 use Rattle.shm_text.specs.Script.{ScriptView}
 use Rattle.shm_program.specs.declared.fault.RunFault.TheVariants.{HostMemory}
-use Rattle.shm_judge.specs.Judge.{AreMore, IsRight}
+use Rattle.shm_judge.specs.Judge.{IsRight}
 use Rattle.shm_judge.specs.Logs.{Entry}
 use Rattle.shm_judge.specs.Reading.{entries_of, log_of}
 use Rattle.shm_judge.specs.Report.{verdict_text}
@@ -40,9 +40,3 @@ log_stop refusals.HostMemory = Fault HostMemory
 abbrev pub doubt_of : SearchError → ℕ → Stop
 doubt_of (searches.Engine e) most = engine_stop e
 doubt_of searches.Bound most = Doubt most
-
--- the log's first fault; or the log has more beginnings than the bound, all of them different
-abbrev pub IsStopIn : Stop → List ℕ → List ℕ → ScriptView → Type 0
-IsStopIn (BadLog fault) log areas script = entries_of script log ≡ Err fault
-IsStopIn (Doubt most) log areas script = (entries : List Entry) × (entries_of script log ≡ Ok entries) × AreMore script (log_of script entries) (start script areas) most
-IsStopIn _ log areas script = Unit {0}

@@ -1,5 +1,7 @@
-pub mod Printed
-pub mod Stop
-pub mod Judged
+pub mod Words
 pub mod Ruled
+pub mod Printed
+pub mod Judged
 pub mod Sampled
+pub mod Stop
+pub mod Answers

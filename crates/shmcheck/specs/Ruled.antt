@@ -1,5 +1,4 @@
 -- The rules of Linux with which a script's machine is opened.
-use Rattle.std.specs.Prelude.{ℕ, List}
 use Rattle.shm_base.specs.declared.flags.Rules.{Rules}
 use Rattle.shm_text.specs.Script.{ScriptView}
 use Rattle.shmcheck.specs.declared.ruling.RuleSet.{RuleSet}
@@ -13,7 +12,3 @@ rules_of Linux = record { 0 = 2047 }
 -- the script, opened with these rules
 abbrev pub under : RuleSet → ScriptView → ScriptView
 under set script = record script { limits = record script.limits { rules = rules_of set } }
-
--- the text of the script when it is opened with these rules
-abbrev pub WithRules : RuleSet → (ScriptView → List ℕ → List ℕ → Type 0) → ScriptView → List ℕ → List ℕ → Type 0
-WithRules set IsText script = IsText (under set script)

@@ -1,22 +1,15 @@
--- Why the program stops: its message, its exit status, and what it says about the input.
-use Rattle.std.specs.Prelude.{◌≡◌, ℕ, List, ◌++◌, codes, Ok}
+-- Why the program stops: its message and its exit status.
+use Rattle.std.specs.Prelude.{ℕ, List, ◌++◌, codes}
 use Rattle.std.specs.Fmt.{decimal}
-use Rattle.std.specs.Io.KnownBytes.{Keeps}
-use Rattle.std.specs.Prelude.{Option}
 use Rattle.std.specs.declared.io.ErrorKind.{ErrorKind}
 use Rattle.std.specs.declared.io.ErrorKind.TheVariants.{OutOfMemory}
-use Rattle.shm_text.specs.Reading.{script_of}
-use Rattle.shm_text.specs.Script.{ScriptView}
 use Rattle.shm_program.specs.Faults.{fault_text, exit_status}
-use Rattle.shm_program.specs.Runs.{IsCause, IsSilent}
 use Rattle.shm_program.specs.declared.fault.RunFault.TheVariants.{HostMemory}
 use Rattle.shm_schedules.specs.declared.engine.EngineError.{EngineError}
 use Rattle.shm_schedules.specs.declared.engine.EngineError.TheVariants as engines
 use Rattle.shm_schedules.specs.declared.search_error.SearchError.{SearchError}
 use Rattle.shm_schedules.specs.declared.search_error.SearchError.TheVariants.{Engine}
 use Rattle.shm_schedules.specs.declared.search_error.SearchError.TheVariants as searches
-use Rattle.shm_schedules.specs.Schedules.{start}
-use Rattle.shm_outcomes.specs.Keys.{AreMoreRuns}
 use Rattle.shm_judge.specs.declared.fault.LogFaultKind.{LogFaultKind}
 use Rattle.shm_judge.specs.declared.fault.LogFaultKind.TheVariants.{BadLine, UnknownProcess}
 use Rattle.shmcheck.specs.declared.stop.Stop.{Stop}
@@ -60,18 +53,7 @@ abbrev pub stop_of : SearchError → ℕ → Stop
 stop_of (Engine e) most = engine_stop e
 stop_of searches.Bound most = Bound most
 
--- at the bound the script has more runs than it, all of them different
-abbrev pub IsCauseIn : Stop → List ℕ → ScriptView → Type 0
-IsCauseIn (Bound most) areas script = AreMoreRuns script (start script areas) most
-IsCauseIn _ areas script = Unit {0}
-
--- the same for an input; a script fault is that of the input
-abbrev pub IsStopOf : Stop → List ℕ → List ℕ → Type 0
-IsStopOf (Bound most) areas input = (script : ScriptView) × (script_of input ≡ Ok script) × AreMoreRuns script (start script areas) most
-IsStopOf (Fault fault) areas input = IsCause fault areas input
-IsStopOf _ areas input = Unit {0}
-
--- nothing is written, unless the writer failed
-abbrev pub WritesNothing : Stop → Option (List ℕ) → Option (List ℕ) → Type 0
-WritesNothing (Fault fault) old new = IsSilent fault old new
-WritesNothing _ old new = Keeps old new
+-- a log that can't be read: the host refused memory, or the file can't be
+abbrev pub log_unread : ErrorKind → Stop
+log_unread OutOfMemory = Fault HostMemory
+log_unread _ = LogUnread

@@ -1,62 +1,35 @@
-//! Judging: reads a script and a log of what a system answered to it, and writes the verdict.
-ghost use Rattle.std.specs.Prelude.{◌≡◌, length, map, IfErr, IfOk, IfSome, OnOk};
-ghost use Rattle.std.specs.Io.KnownBytes.{IsAtEnd};
-ghost use Rattle.shm_program.specs.Runs.{Prints, IsWritten};
-ghost use Rattle.shmcheck.specs.Judged.{IsJudgedText, IsStopIn, doubt_of, is_legal, log_stop};
-ghost use Rattle.shmcheck.specs.Ruled.{WithRules};
+//! Judging: the verdict on a log of what a system answered to a script.
+ghost use Rattle.std.specs.Prelude.{◌≡◌, length, map, IfErr, IfOk};
+ghost use Rattle.shmcheck.specs.Answers.{IsAnswer, IsStopIn, verdict_status};
+ghost use Rattle.shmcheck.specs.Judged.{doubt_of, is_legal, log_stop};
 
-use crate::command::Options;
+use crate::command::{Asked, Options};
 use crate::listing::refused;
-use crate::ruling::put_rules;
+use crate::runs::Answer;
 use crate::stop::Stop;
 use shm_judge::{LogRefused, Verdict, judge_log, log_of, read_log, verdict_text};
 use shm_pager::ClonePager;
-use shm_program::{RunFault, whole_script, write_output};
+use shm_program::RunFault;
 use shm_schedules::{SearchError, Simulated};
 use shm_text::Script;
 use std::alloc::Global;
-use std::io::{Read, Write};
 
-/// Judges a log of the script that the reader gives. Opens the script with these rules over swap areas with
-/// these pagers, writes the verdict, and returns whether the log is legal. The verdict is complete before the
-/// first byte is written.
-pub(crate) fn judge_script<R: Read, W: Write, P: ClonePager>(
-    alloc: Global,
-    reader: &mut R,
-    writer: &mut W,
-    pagers: Vec<P>,
-    log: &[u8],
-    options: Options,
-) -> Result<bool, Stop>
-    ensures ok { let areas = map (λ p. length (P.content p)) pagers.items in
-        IfOk result (λ legal. IfSome (R.remaining reader.old) (λ input.
-        Prints (WithRules options.rules (IsJudgedText log.now legal))
-        (W.contents writer.old) (W.contents writer.new) areas input)) }
-    ensures whole { OnOk result (IsAtEnd (R.remaining reader.new)) }
-{
-    match whole_script(alloc, reader) {
-        Ok(mut script) => {
-            put_rules(&mut script, options.rules);
-            judge_in(alloc, writer, &script, pagers, log, options.most)
-        }
-        Err(fault) => Err(Stop::Fault(fault)),
-    }
-}
+/// The exit status if no schedule has the log's replies.
+const ILLEGAL: u8 = 6;
 
-// Writes a verdict on a log of a script.
-fn judge_in<W: Write, P: ClonePager>(
+/// A verdict on a log of a script, opened over swap areas with these pagers.
+pub(crate) fn judge_script<P: ClonePager>(
     alloc: Global,
-    writer: &mut W,
     script: &Script,
     pagers: Vec<P>,
+    options: Options,
     log: &[u8],
-    most: u64,
-) -> Result<bool, Stop>
+) -> Result<Answer, Stop>
     ensures ok { let areas = map (λ p. length (P.content p)) pagers.items in
-        IfOk result (λ legal. IsWritten (IsJudgedText log.now legal script.now areas)
-        (W.contents writer.old) (W.contents writer.new)) }
+        let is = IsAnswer (Asked.Judge options) log.now in
+        IfOk result (λ a. is a.status script.now areas a.text.items) }
     ensures cause { let areas = map (λ p. length (P.content p)) pagers.items in
-        IfErr result (λ s. IsStopIn s log.now areas script.now) }
+        IfErr result (λ s. IsStopIn s (Asked.Judge options) log.now areas script.now) }
 {
     let entries = match read_log(alloc, script, log) {
         Ok(entries) => entries,
@@ -67,15 +40,19 @@ fn judge_in<W: Write, P: ClonePager>(
         Ok(machine) => machine,
         Err(error) => return Err(Stop::Fault(refused(error))),
     };
-    let verdict = match judge_log(alloc, script, &answered, &entries, machine, most) {
+    let verdict = match judge_log(alloc, script, &answered, &entries, machine, options.most) {
         Ok(verdict) => verdict,
-        Err(error) => return Err(doubted(error, most)),
+        Err(error) => return Err(doubted(error, options.most)),
     };
     let text = verdict_text(alloc, script, &answered, &verdict)?;
-    match write_output(writer, &text) {
-        Ok(()) => Ok(is_legal(&verdict)),
-        Err(_) => Err(Stop::Fault(RunFault::WriteFailed)),
-    }
+    let status = verdict_status(is_legal(&verdict));
+    Ok(Answer { text, status })
+}
+
+fn verdict_status(legal: bool) -> u8
+    ensures { result ≡ verdict_status legal }
+{
+    if legal { 0 } else { ILLEGAL }
 }
 
 fn is_legal(verdict: &Verdict) -> bool

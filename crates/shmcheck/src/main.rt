@@ -6,75 +6,45 @@ mod command;
 mod judging;
 mod listing;
 mod ruling;
+mod runs;
 mod sampling;
 mod stop;
+mod swap;
 
-use command::{Asked, Draws, Options, read_command};
-use judging::judge_script;
-use listing::list_outcomes;
-use sampling::sample_runs;
-use shm_program::{SwapWord, areas_of};
-use std::alloc::Global;
+use command::{Asked, read_words};
+use runs::run_over;
 use std::process::ExitCode;
 use std::rt::{Env, Files};
-use std::{fs, io};
-use stop::Stop;
+use std::{env, fs, io};
+use stop::{Stop, log_unread};
+use swap::swap_area;
 
-// The swap area keeps its pages in memory.
-const AREA: SwapWord = SwapWord::Sparse(64);
-
-/// The exit status if no schedule has the log's replies.
-const ILLEGAL: u8 = 6;
-
-// Reads a whole file.
-fn read_file<R: Files + AllocGlobal>(rt: &R, path: &str) -> Result<Vec<u8>, Stop> {
-    match fs::read(rt, path) {
-        Ok(text) => Ok(text),
-        Err(_) => Err(Stop::LogUnread),
+// The log that the words name, for a judge.
+fn read_log<R: Files + AllocGlobal>(
+    rt: &R,
+    asked: Asked,
+    words: &[String],
+) -> Result<Vec<u8>, Stop> {
+    match (asked, words.get(2)) {
+        (Asked::Judge(_), Some(path)) => fs::read(rt, path.as_str()).map_err(log_unread),
+        _ => Ok(Vec::new(rt.alloc())),
     }
-}
-
-// Writes a verdict on a log.
-fn judge<R: Files + Input + Print + AllocGlobal>(
-    rt: &R,
-    alloc: Global,
-    path: &str,
-    options: Options,
-) -> Result<u8, Stop> {
-    let log = read_file(rt, path)?;
-    let pagers = areas_of(alloc, &[AREA])?;
-    let (mut reader, mut writer) = (rt.reader(), io::writer(rt));
-    let legal = judge_script(alloc, &mut reader, &mut writer, pagers, &log, options)?;
-    Ok(if legal { 0 } else { ILLEGAL })
-}
-
-// Writes every outcome.
-fn list<R: Input + Print + AllocGlobal>(
-    rt: &R,
-    alloc: Global,
-    options: Options,
-) -> Result<u8, Stop> {
-    let pagers = areas_of(alloc, &[AREA])?;
-    let (mut reader, mut writer) = (rt.reader(), io::writer(rt));
-    list_outcomes(alloc, &mut reader, &mut writer, pagers, options)?;
-    Ok(0)
-}
-
-// Writes sampled runs.
-fn sample<R: Input + Print + AllocGlobal>(rt: &R, alloc: Global, draws: Draws) -> Result<u8, Stop> {
-    let pagers = areas_of(alloc, &[AREA])?;
-    let (mut reader, mut writer) = (rt.reader(), io::writer(rt));
-    sample_runs(alloc, &mut reader, &mut writer, pagers, draws)?;
-    Ok(0)
 }
 
 fn run<R: Env + Files + Input + Print + AllocGlobal>(rt: &R) -> Result<u8, Stop> {
     let alloc = rt.alloc();
-    match read_command(rt, alloc)? {
-        Asked::Outcomes(options) => list(rt, alloc, options),
-        Asked::Judge(path, options) => judge(rt, alloc, path.as_str(), options),
-        Asked::Sample(draws) => sample(rt, alloc, draws),
-    }
+    let words: Vec<String> = env::args(rt)?.collect(alloc)?;
+    let asked = read_words(&words).ok_or(Stop::Usage)?;
+    let log = read_log(rt, asked, &words)?;
+    let (mut reader, mut writer) = (rt.reader(), io::writer(rt));
+    run_over(
+        alloc,
+        &mut reader,
+        &mut writer,
+        swap_area(alloc)?,
+        asked,
+        &log,
+    )
 }
 
 fn main(rt: HostRuntime) -> io::Result<ExitCode> {

@@ -3,7 +3,7 @@ ghost use Rattle.std.specs.Prelude.{◌≡◌, Some};
 ghost use Rattle.std.specs.IoError.{error_kind};
 ghost use Rattle.shm_program.specs.declared.fault.RunFault.TheVariants as faults;
 ghost use Rattle.shmcheck.specs.declared.stop.Stop.TheVariants as stops;
-ghost use Rattle.shmcheck.specs.Stop.{engine_stop, kind_name, stop_text, stop_status, io_stop};
+ghost use Rattle.shmcheck.specs.Stop.{engine_stop, kind_name, stop_text, stop_status, io_stop, log_unread};
 
 use shm_base::HostMemory;
 use shm_judge::{LogFault, LogFaultKind};
@@ -109,6 +109,16 @@ impl From<EngineError> for Stop {
             EngineError::PagerFailed => Stop::PagerFailed,
         }
     }
+}
+
+/// Why a log was not read.
+pub(crate) fn log_unread(error: io::Error) -> Stop
+    ensures { result ≡ log_unread (error_kind error) }
+{
+    if error.kind() == io::ErrorKind::OutOfMemory {
+        return Stop::Fault(RunFault::HostMemory);
+    }
+    Stop::LogUnread
 }
 
 // A word that is not valid UTF-8 is a usage error.

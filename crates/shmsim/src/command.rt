@@ -1,18 +1,15 @@
-//! The command line, and why the program stops.
-ghost use Rattle.std.specs.Prelude.{◌≡◌, Some};
+//! The words of the command line, and why the program stops.
+ghost use Rattle.std.specs.Prelude.{◌≡◌, ◌⊎◌, IfErr, IfOk, None, Some, map, string_bytes};
 ghost use Rattle.std.specs.IoError.{error_kind};
-ghost use Rattle.clap.specs.Values.{kind_of};
 ghost use Rattle.shm_program.specs.declared.fault.RunFault.TheVariants as faults;
 ghost use Rattle.shmsim.specs.declared.command.Stop.TheVariants as stops;
-ghost use Rattle.shmsim.specs.Stop.{stop_text, stop_status, io_stop, clap_stop};
+ghost use Rattle.shmsim.specs.Stop.{stop_text, stop_status, io_stop};
+ghost use Rattle.shmsim.specs.Words.{asked_of, mode_of};
 
-use clap::error::ErrorKind;
-use clap::{Arg, ArgAction, ArgMatches, Command, Error};
-use shm_base::{HostMemory, MOST_AREAS};
+use shm_base::HostMemory;
 use shm_program::{RunFault, SwapWord, read_swaps};
 use std::alloc::{AllocError, Global};
-use std::rt::Env;
-use std::{env, fmt, io};
+use std::{fmt, io};
 
 /// Why the program stops: wrong words on the command line, or a fault of the run.
 #[derive(Clone, Copy, Debug, PartialEq, Eq)]
@@ -52,6 +49,14 @@ impl From<AllocError> for Stop {
     }
 }
 
+impl From<RunFault> for Stop {
+    ghost from_gives = { λ f r. r ≡ stops.Fault f };
+
+    fn from(fault: RunFault) -> Stop {
+        Stop::Fault(fault)
+    }
+}
+
 impl From<HostMemory> for Stop {
     ghost from_gives = { λ _ r. r ≡ stops.Fault faults.HostMemory };
 
@@ -72,18 +77,6 @@ impl From<io::Error> for Stop {
     }
 }
 
-// Words that `clap` refuses are a usage error.
-impl From<Error> for Stop {
-    ghost from_gives = { λ e r. r ≡ clap_stop (kind_of e) };
-
-    fn from(e: Error) -> Stop {
-        match e.kind() {
-            ErrorKind::OutOfMemory => Stop::Fault(RunFault::HostMemory),
-            _ => Stop::Usage,
-        }
-    }
-}
-
 /// How the script is run: its lines in file order, or a thread for each process.
 #[derive(Clone, Copy, Debug, PartialEq, Eq)]
 pub(crate) enum Mode {
@@ -91,47 +84,38 @@ pub(crate) enum Mode {
     Threads,
 }
 
-/// The mode and the swap areas that the command line names.
-pub(crate) fn read_command<R: Env + AllocGlobal>(
-    rt: &R,
-    alloc: Global,
-) -> Result<(Mode, Vec<SwapWord>), Stop> {
-    let args = env::args(rt)?;
-    let words: Vec<String> = args.collect(alloc)?;
-    read_words(alloc, &words)
+/// What the words ask for: how the script is run, and over which swap areas.
+#[derive(Drop)]
+pub(crate) struct Asked {
+    pub(crate) mode: Mode,
+    pub(crate) swaps: Vec<SwapWord>,
 }
 
-// The mode and the areas that the words name. The first word is the program's name.
-fn read_words(alloc: Global, words: &[String]) -> Result<(Mode, Vec<SwapWord>), Stop> {
-    let matches = matched(alloc, words)?;
-    read_matches(alloc, &matches)
+fn mode_of(word: &str) -> Option<Mode>
+    ensures { result ≡ mode_of word.now }
+{
+    match word {
+        "serial" => Some(Mode::Serial),
+        "threads" => Some(Mode::Threads),
+        _ => None,
+    }
 }
 
-fn matched(alloc: Global, words: &[String]) -> Result<ArgMatches<'_>, Stop> {
-    let command = command_line(alloc)?;
-    Ok(command.try_get_matches_from(words)?)
-}
-
-// A mode, and one to eight swap areas.
-fn command_line<'a>(alloc: Global) -> Result<Command<'a>, Stop> {
-    let mode = Arg::new(alloc, "mode").required(true);
-    let command = Command::new(alloc, "shmsim").arg(mode)?;
-    let swap = Arg::new(alloc, "swap")
-        .required(true)
-        .num_args(1..=MOST_AREAS)
-        .action(ArgAction::Append);
-    Ok(command.arg(swap)?)
-}
-
-fn read_matches(alloc: Global, matches: &ArgMatches<'_>) -> Result<(Mode, Vec<SwapWord>), Stop> {
-    let mode = match matches.get_str("mode") {
-        Some("serial") => Mode::Serial,
-        Some("threads") => Mode::Threads,
-        _ => return Err(Stop::Usage),
+/// What the words ask for: the program's name, `serial` or `threads`, and one to eight swap areas.
+pub(crate) fn read_words(alloc: Global, words: &[String]) -> Result<Asked, Stop>
+    ensures ok { let asked = asked_of (map string_bytes words.now) in
+        IfOk result (λ a. asked ≡ Some (record { mode = a.mode; swaps = a.swaps.items })) }
+    ensures err { let unknown = asked_of (map string_bytes words.now) ≡ None in
+        IfErr result (λ s. (s ≡ Stop.Fault RunFault.HostMemory) ⊎ ((s ≡ Stop.Usage) × unknown)) }
+{
+    let [_, mode, rest @ ..] = words else {
+        return Err(Stop::Usage);
     };
-    let words = matches.get_strs("swap").unwrap_or(&[]);
-    match read_swaps(alloc, words)? {
-        Some(swaps) => Ok((mode, swaps)),
+    let Some(mode) = mode_of(mode.as_str()) else {
+        return Err(Stop::Usage);
+    };
+    match read_swaps(alloc, rest)? {
+        Some(swaps) => Ok(Asked { mode, swaps }),
         None => Err(Stop::Usage),
     }
 }

@@ -3,38 +3,25 @@
 #![tactic(auto)]
 
 mod command;
+mod runs;
 
-use command::{Mode, Stop, read_command};
-use shm_program::{SwapWord, areas_of};
-use shm_runner::{run_serial, run_threaded};
-use std::io;
+use command::{Asked, Stop, read_words};
+use runs::run_over;
+use shm_program::areas_of;
 use std::process::ExitCode;
 use std::rt::Env;
 use std::sync::Wait;
 use std::thread::Threads;
+use std::{env, io};
 
-// Runs the script on standard input over the swap areas that the words name.
-fn run_over<R: Input + Print + AllocGlobal + Threads + Wait + Sync>(
-    rt: &R,
-    mode: Mode,
-    swaps: &[SwapWord],
-) -> Result<(), Stop> {
-    let alloc = rt.alloc();
-    let pagers = areas_of(alloc, swaps)?;
-    let (mut reader, mut writer) = (rt.reader(), io::writer(rt));
-    let ended = match mode {
-        Mode::Serial => run_serial(alloc, &mut reader, &mut writer, pagers),
-        Mode::Threads => run_threaded(rt, alloc, &mut reader, &mut writer, pagers),
-    };
-    match ended {
-        Ok(()) => Ok(()),
-        Err(fault) => Err(Stop::Fault(fault)),
-    }
-}
-
+// Runs the script on standard input as the command line asks.
 fn run<R: Env + Input + Print + AllocGlobal + Threads + Wait + Sync>(rt: &R) -> Result<(), Stop> {
-    let (mode, swaps) = read_command(rt, rt.alloc())?;
-    run_over(rt, mode, &swaps)
+    let alloc = rt.alloc();
+    let words: Vec<String> = env::args(rt)?.collect(alloc)?;
+    let Asked { mode, swaps } = read_words(alloc, &words)?;
+    let pagers = areas_of(alloc, &swaps)?;
+    let (mut reader, mut writer) = (rt.reader(), io::writer(rt));
+    Ok(run_over(rt, alloc, &mut reader, &mut writer, mode, pagers)?)
 }
 
 fn main(rt: HostRuntime) -> io::Result<ExitCode> {

@@ -1,28 +1,24 @@
 -- What the stops say of the input, and what they leave of the output.
 use Rattle.std.proofs.Common.{◌≡◌, ◌⊎◌, refl, sym, subst, inl, inr, ℕ, true, List, Option, Some, None, Ok}
 use Rattle.std.specs.Prelude.{IfSome, IfErr, Result, Err}
-use Rattle.std.proofs.KnownBytes.{Keeps-refl}
 use Rattle.shm_life.specs.Start.{start_error}
 use Rattle.shm_text.specs.Script.{ScriptView}
 use Rattle.shm_text.specs.Reading.{script_of}
 use Rattle.shm_program.specs.Runs.{IsCause, IsStop, is_serial}
 use Rattle.shm_program.specs.declared.fault.RunFault.{RunFault}
 use Rattle.shm_program.specs.declared.fault.RunFault.TheVariants.{WriteFailed, HostMemory}
-use Rattle.shm_program.proofs.Causes.{silent_kept, stop_cause, stop_serial}
+use Rattle.shm_program.proofs.Causes.{silent_as, stop_cause, stop_serial}
 use Rattle.shmview.specs.Stop.{IsStopIn, IsStopOf, WritesNothing}
 use Rattle.shmview.specs.declared.steps.Steps.{Steps}
 use Rattle.shmview.specs.declared.stop.Stop.{Stop}
 use Rattle.shmview.specs.declared.stop.Stop.TheVariants.{Usage, TooLong, Fault}
 
-pub nothing_written : (s : Stop) (kept : Option (List ℕ)) → WritesNothing s kept kept
-nothing_written Usage kept = Keeps-refl kept
-nothing_written (TooLong n) kept = Keeps-refl kept
-nothing_written (Fault fault) kept = silent_kept fault kept
-
--- a writer that failed
-pub failed_writer : (result : Result (Unit {0}) Stop) (old new : Option (List ℕ)) → IfErr result (λ s. s ≡ Fault WriteFailed) → IfErr result (λ s. WritesNothing s old new)
-failed_writer (Ok done) old new failed = tt
-failed_writer (Err s) old new failed = subst (λ s. WritesNothing s old new) (sym failed) tt
+-- a text of one kind is of another
+pub nothing_as : (IsText IsOther : List ℕ → Type 0) (result : Result (Unit {0}) Stop) (old new : Option (List ℕ)) → ((text : List ℕ) → IsText text → IsOther text) → IfErr result (λ s. WritesNothing IsText s old new) → IfErr result (λ s. WritesNothing IsOther s old new)
+nothing_as IsText IsOther (Ok done) old new to silent = tt
+nothing_as IsText IsOther (Err Usage) old new to silent = silent
+nothing_as IsText IsOther (Err (TooLong n)) old new to silent = silent
+nothing_as IsText IsOther (Err (Fault fault)) old new to silent = silent_as IsText IsOther fault old new to silent
 
 -- what a stop says of the input, from what it says of the script that the input is
 stop_of : (s : Stop) (asked : Option Steps) (areas : List ℕ) (script : ScriptView) (input : List ℕ) → script_of input ≡ Ok script → IsStopIn s asked areas script → IsStopOf s asked areas input

@@ -1,3 +1,4 @@
 pub mod Steps
 pub mod Record
 pub mod Stop
+pub mod Words

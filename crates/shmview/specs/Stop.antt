@@ -46,7 +46,7 @@ IsStopOf Usage asked areas input = ⊥
 IsStopOf (TooLong n) asked areas input = (script : ScriptView) × (script_of input ≡ Ok script) × IsTooLong asked script n
 IsStopOf (Fault fault) asked areas input = IsCause fault areas input × (is_serial fault ≡ true)
 
--- nothing is written, unless the writer failed
-abbrev pub WritesNothing : Stop → Option (List ℕ) → Option (List ℕ) → Type 0
-WritesNothing (Fault fault) old new = IsSilent fault old new
-WritesNothing _ old new = Keeps old new
+-- nothing is written; or if the writer failed, a beginning of a text with this property, and not all of it
+abbrev pub WritesNothing : (List ℕ → Type 0) → Stop → Option (List ℕ) → Option (List ℕ) → Type 0
+WritesNothing IsText (Fault fault) old new = IsSilent IsText fault old new
+WritesNothing IsText _ old new = Keeps old new

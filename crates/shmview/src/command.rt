@@ -1,35 +1,62 @@
-//! The command line.
+//! The words of the command line.
+ghost use Rattle.std.specs.Prelude.{◌≡◌, ◌⊎◌, IfErr, IfOk, None, Some, map, string_bytes};
+ghost use Rattle.shm_program.specs.declared.fault.RunFault.TheVariants as faults;
+ghost use Rattle.shmview.specs.Words.{asked_of, request_over, words_ask};
+ghost use Rattle.shmview.specs.declared.stop.Stop.TheVariants as stops;
+
 use crate::steps::{Steps, read_steps};
 use crate::stop::Stop;
 use shm_program::{SwapWord, read_swaps};
 use std::alloc::Global;
-use std::env;
-use std::rt::Env;
 
-/// The chosen steps, and the swap areas.
-pub(crate) fn read_command<R: Env + AllocGlobal>(
-    rt: &R,
-    alloc: Global,
-) -> Result<(Option<Steps>, Vec<SwapWord>), Stop> {
-    let args = env::args(rt)?;
-    let words: Vec<String> = args.collect(alloc)?;
-    read_words(alloc, &words)
+/// What the words ask for: the chosen steps, and the swap areas.
+#[derive(Drop)]
+pub(crate) struct Asked {
+    pub(crate) steps: Option<Steps>,
+    pub(crate) swaps: Vec<SwapWord>,
 }
 
-// The steps and the areas that the words name. The first word is the program's name.
-fn read_words(alloc: Global, words: &[String]) -> Result<(Option<Steps>, Vec<SwapWord>), Stop> {
-    if words.len() < 3 || words[1].as_str() != "--steps" {
-        return Ok((None, swaps_in(alloc, words.get(1..).unwrap_or(&[]))?));
-    }
-    let Some(steps) = read_steps(words[2].as_bytes()) else {
+/// What the words ask for: the program's name, maybe `--steps FROM-TO`, and one to eight swap areas.
+pub(crate) fn read_words(alloc: Global, words: &[String]) -> Result<Asked, Stop>
+    ensures ok { let asked = asked_of (map string_bytes words.now) in
+        IfOk result (λ a. asked ≡ Some (record { steps = a.steps; swaps = a.swaps.items })) }
+    ensures err { let unknown = asked_of (map string_bytes words.now) ≡ None in
+        IfErr result (λ s. (s ≡ stops.Fault faults.HostMemory) ⊎ ((s ≡ stops.Usage) × unknown)) }
+{
+    let [_, rest @ ..] = words else {
         return Err(Stop::Usage);
     };
-    Ok((Some(steps), swaps_in(alloc, &words[3..])?))
+    read_rest(alloc, rest)
 }
 
-fn swaps_in(alloc: Global, words: &[String]) -> Result<Vec<SwapWord>, Stop> {
+// The words after the program's name.
+fn read_rest(alloc: Global, words: &[String]) -> Result<Asked, Stop>
+    ensures ok { let asked = words_ask (map string_bytes words.now) in
+        IfOk result (λ a. asked ≡ Some (record { steps = a.steps; swaps = a.swaps.items })) }
+    ensures err { let unknown = words_ask (map string_bytes words.now) ≡ None in
+        IfErr result (λ s. (s ≡ stops.Fault faults.HostMemory) ⊎ ((s ≡ stops.Usage) × unknown)) }
+{
+    let [flag, steps, rest @ ..] = words else {
+        return read_over(alloc, None, words);
+    };
+    if flag.as_str() != "--steps" {
+        return read_over(alloc, None, words);
+    }
+    let Some(steps) = read_steps(steps.as_str().as_bytes()) else {
+        return Err(Stop::Usage);
+    };
+    read_over(alloc, Some(steps), rest)
+}
+
+// The words for the swap areas.
+fn read_over(alloc: Global, steps: Option<Steps>, words: &[String]) -> Result<Asked, Stop>
+    ensures ok { let asked = request_over steps (map string_bytes words.now) in
+        IfOk result (λ a. asked ≡ Some (record { steps = a.steps; swaps = a.swaps.items })) }
+    ensures err { let unknown = request_over steps (map string_bytes words.now) ≡ None in
+        IfErr result (λ s. (s ≡ stops.Fault faults.HostMemory) ⊎ ((s ≡ stops.Usage) × unknown)) }
+{
     match read_swaps(alloc, words)? {
-        Some(swaps) => Ok(swaps),
+        Some(swaps) => Ok(Asked { steps, swaps }),
         None => Err(Stop::Usage),
     }
 }

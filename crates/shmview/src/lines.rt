@@ -1,9 +1,9 @@
 //! Runs the lines of a script, and appends the record of each step to a text.
-ghost use Rattle.std.specs.Prelude.{◌≡◌, ◌++◌, List, ℕ, map, IfOk, OnOk, string_bytes};
-ghost use Rattle.shm_program.specs.declared.action.Action.TheVariants.{Start};
+ghost use Rattle.std.specs.Prelude.{◌≡◌, ◌≤◌, ◌++◌, List, [], ℕ, None, length, map, IfOk, OnOk, string_bytes};
 ghost use Rattle.shm_laws.specs.Worlds.{IsWorldSound};
 ghost use Rattle.shm_program.specs.Values.{fresh_holder};
-ghost use Rattle.shmview.specs.Record.{HasRun, Leads, shown_text};
+ghost use Rattle.shm_program.specs.Runs.{IsOpening, IsFresh};
+ghost use Rattle.shmview.specs.Record.{HasRun, IsRecord, Leads, shown_text};
 
 use crate::steps::Steps;
 use shm_base::{Event, HostMemory};
@@ -85,15 +85,18 @@ fn push_lines<P: Pager>(
 /// The record of a script's run in the world that it opened: the world at the start, and each step.
 pub(crate) fn record<P: Pager>(
     alloc: Global,
-    steps: Steps,
+    asked: Option<Steps>,
     world: &mut World<P>,
     script: &Script,
 ) -> Result<String, HostMemory>
-    ensures { IfOk result
-        (λ text. (rest : List ℕ)
-        × Leads steps (map fresh_holder script.now.processes) 1 world.old script.now.lines rest
-        × (string_bytes text ≡ shown_text steps 0 Start world.old ++ rest)) }
+    requires events { world.old.events ≡ [] }
+    requires opened { IsOpening script.now world.old.opening }
+    requires memory { IsFresh world.old.memory.swap world.old.memory }
+    requires few { asked ≡ None → length script.now.lines ≤ 2000 }
+    ensures { let is = IsRecord world.old.memory.swap asked script.now world.old.opening.areas in
+        IfOk result (λ text. is (string_bytes text)) }
 {
+    let steps = Steps::asked(asked);
     let mut text = String::new(alloc);
     push_shown(alloc, &mut text, steps, 0, &Action::Start, world)?;
     push_lines(alloc, &mut text, steps, world, script)?;

@@ -7,18 +7,20 @@ mod steps;
 mod stop;
 mod view;
 
-use command::read_command;
+use command::{Asked, read_words};
 use shm_program::areas_of;
-use std::io;
 use std::process::ExitCode;
 use std::rt::Env;
+use std::{env, io};
 use stop::Stop;
 use view::view;
 
+// Views the script on standard input as the command line asks.
 fn run<R: Env + Input + Print + AllocGlobal>(rt: &R) -> Result<(), Stop> {
     let alloc = rt.alloc();
-    let (steps, words) = read_command(rt, alloc)?;
-    let pagers = areas_of(alloc, &words)?;
+    let words: Vec<String> = env::args(rt)?.collect(alloc)?;
+    let Asked { steps, swaps } = read_words(alloc, &words)?;
+    let pagers = areas_of(alloc, &swaps)?;
     let (mut reader, mut writer) = (rt.reader(), io::writer(rt));
     view(alloc, &mut reader, &mut writer, pagers, steps)
 }

@@ -1,7 +1,7 @@
 //! The viewer's run: reads a script, runs its lines in file order, and writes the record of each step.
-ghost use Rattle.std.specs.Prelude.{◌≡◌, ◌⊎◌, ◌≤◌, [], length, map, None, OnOk, IfErr, IfSome, MatchOption};
+ghost use Rattle.std.specs.Prelude.{◌≡◌, ◌⊎◌, ◌≤◌, ℕ, List, [], length, map, None, OnOk, IfErr, IfSome, MatchOption};
 ghost use Rattle.std.specs.Io.KnownBytes.{Appends, IsAtEnd};
-ghost use Rattle.shm_program.specs.Runs.{Prints, IsWritten, IsOpening, IsFresh, handed_in};
+ghost use Rattle.shm_program.specs.Runs.{Prints, IsWritten, IsTextFor, IsOpening, IsFresh, handed_in};
 ghost use Rattle.shmview.specs.Record.{IsRecord};
 ghost use Rattle.shmview.specs.Stop.{IsStopIn, IsStopOf, IsTooLong, WritesNothing};
 
@@ -10,7 +10,6 @@ use crate::steps::{MOST_STEPS, Steps};
 use crate::stop::Stop;
 use shm_base::HostMemory;
 use shm_history::World;
-use shm_laws::lawful;
 use shm_pager::Pager;
 use shm_program::{RunFault, open_world, whole_script, write_output};
 use shm_text::Script;
@@ -21,7 +20,6 @@ use std::io::{Read, Write};
 /// Without chosen steps it writes all, and the script may have at most 2,000 lines. It makes the whole output
 /// before it writes the first byte, so it writes nothing unless the writer fails. It stops for the same
 /// reasons as a serial run, and if there are too many steps, which it tests after it has read the script.
-#[tactic(auto, using(crate::proofs::Stops::nothing_written))]
 pub(crate) fn view<R: Read, W: Write, P: Pager>(
     alloc: Global,
     reader: &mut R,
@@ -37,7 +35,10 @@ pub(crate) fn view<R: Read, W: Write, P: Pager>(
     ensures cause { IfErr result
         (λ s. IfSome (R.remaining reader.old)
         (λ input. IsStopOf s asked (map (λ p. length (P.content p)) pagers.items) input)) }
-    ensures silent { IfErr result (λ s. WritesNothing s (W.contents writer.old) (W.contents writer.new)) }
+    ensures silent { let run = IsRecord (handed_in P.content P.failed pagers.items) asked in
+        let areas = map (λ p. length (P.content p)) pagers.items in
+        let text = IsTextFor run areas (R.remaining reader.old) in
+        IfErr result (λ s. WritesNothing text s (W.contents writer.old) (W.contents writer.new)) }
 {
     match whole_script(alloc, reader) {
         Ok(script) => view_script(alloc, writer, &script, pagers, asked),
@@ -59,7 +60,6 @@ fn too_many(script: &Script, asked: Option<Steps>) -> Option<u64>
 }
 
 // Runs a script, and writes the record of its run.
-#[tactic(auto, using(crate::proofs::Stops::nothing_written))]
 fn view_script<W: Write, P: Pager>(
     alloc: Global,
     writer: &mut W,
@@ -72,7 +72,9 @@ fn view_script<W: Write, P: Pager>(
         OnOk result (IsWritten (text script.now areas) (W.contents writer.old) (W.contents writer.new)) }
     ensures cause { IfErr result
         (λ s. IsStopIn s asked (map (λ p. length (P.content p)) pagers.items) script.now) }
-    ensures silent { IfErr result (λ s. WritesNothing s (W.contents writer.old) (W.contents writer.new)) }
+    ensures silent { let areas = map (λ p. length (P.content p)) pagers.items in
+        let text = IsRecord (handed_in P.content P.failed pagers.items) asked script.now areas in
+        IfErr result (λ s. WritesNothing text s (W.contents writer.old) (W.contents writer.new)) }
 {
     if let Some(lines) = too_many(script, asked) {
         return Err(Stop::TooLong(lines));
@@ -84,7 +86,6 @@ fn view_script<W: Write, P: Pager>(
 }
 
 // Runs a script in the world that it opened, and writes the record of its run.
-#[tactic(auto, using(crate::proofs::Stops::nothing_written))]
 fn view_in<W: Write, P: Pager>(
     alloc: Global,
     writer: &mut W,
@@ -100,11 +101,10 @@ fn view_in<W: Write, P: Pager>(
         OnOk result (IsWritten text (W.contents writer.old) (W.contents writer.new)) }
     ensures fault { IfErr result
         (λ s. (s ≡ Stop.Fault RunFault.HostMemory) ⊎ (s ≡ Stop.Fault RunFault.WriteFailed)) }
-    ensures silent { IfErr result (λ s. WritesNothing s (W.contents writer.old) (W.contents writer.new)) }
+    ensures silent { let text = IsRecord world.old.memory.swap asked script.now world.old.opening.areas in
+        IfErr result (λ s. WritesNothing text s (W.contents writer.old) (W.contents writer.new)) }
 {
-    // Calling this tells the proof that the laws hold before the first step too.
-    let _sound = lawful(world);
-    match record(alloc, Steps::asked(asked), world, script) {
+    match record(alloc, asked, world, script) {
         Ok(text) => write_text(writer, text.as_bytes()),
         Err(HostMemory) => Err(Stop::Fault(RunFault::HostMemory)),
     }
@@ -113,6 +113,8 @@ fn view_in<W: Write, P: Pager>(
 fn write_text<W: Write>(writer: &mut W, text: &[u8]) -> Result<(), Stop>
     ensures ok { OnOk result (Appends (W.contents writer.old) (W.contents writer.new) text.now) }
     ensures fault { IfErr result (λ s. s ≡ Stop.Fault RunFault.WriteFailed) }
+    ensures silent { let is = λ (written : List ℕ). written ≡ text.now in
+        IfErr result (λ s. WritesNothing is s (W.contents writer.old) (W.contents writer.new)) }
 {
     match write_output(writer, text) {
         Ok(()) => Ok(()),

@@ -1,6 +1,7 @@
 use Rattle.std.proofs.Common.{rules, ◌≡◌, ◌∙◌, ◌++◌, ◌∷◌, [], List, ap, arith, length, length-append, subst, sym}
 use Rattle.shm_base.specs.State.{Machine}
-use Rattle.shm_judge.specs.Judge.{IsExplained, IsTaken, IsTooMany}
+use Rattle.shm_judge.specs.Judge.{IsExplained}
+use Rattle.shm_judge.specs.Searching.{IsTaken, IsTooMany}
 use Rattle.shm_judge.specs.Logs.{AllFill}
 use Rattle.shm_schedules.specs.Schedules.{Run, fresh, followers}
 use Rattle.shm_judge.proofs.Verdicts.{first-begins, first-doubt, first-seen, goes-on, illegal, legal, permuted, stuck-on, taken-count}

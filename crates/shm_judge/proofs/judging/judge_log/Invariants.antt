@@ -1,5 +1,6 @@
 use Rattle.std.proofs.Common.{◌≡◌, ◌+◌, ◌-◌, ◌≤◌, [], length}
-use Rattle.shm_judge.specs.Judge.{AreSeen, IsBeginning, stuck_at}
+use Rattle.shm_judge.specs.Judge.{IsBeginning, stuck_at}
+use Rattle.shm_judge.specs.Searching.{AreSeen}
 use Rattle.shm_schedules.specs.Schedules.{Run, fresh}
 use Rattle.shm_judge.proofs.judging.judge_log.Given as goal
 

@@ -1,5 +1,5 @@
 use Rattle.std.proofs.Common.{rules, ◌≡◌, ◌++◌, ◌∷◌, [], List, arith, subst}
-use Rattle.shm_judge.specs.Judge.{AreSeen}
+use Rattle.shm_judge.specs.Searching.{AreSeen}
 use Rattle.shm_schedules.specs.Schedules.{Run, fresh}
 use Rattle.shm_judge.proofs.Verdicts.{doubt, taken, taken-count}
 use Rattle.shm_judge.proofs.judging.take_in.Goals as goal

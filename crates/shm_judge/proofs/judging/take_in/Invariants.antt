@@ -1,5 +1,5 @@
 use Rattle.std.proofs.Common.{◌≡◌, ℕ, ◌+◌, ◌≤◌, length}
-use Rattle.shm_judge.specs.Judge.{AreSeen}
+use Rattle.shm_judge.specs.Searching.{AreSeen}
 use Rattle.shm_schedules.specs.Schedules.{fresh}
 use Rattle.shm_base.specs.State.{Machine}
 use Rattle.shm_judge.proofs.judging.take_in.Given as goal

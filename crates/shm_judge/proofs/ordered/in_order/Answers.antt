@@ -1,5 +1,6 @@
 use Rattle.std.proofs.Common.{rules, ◌≡◌, List, arith, None, Some, map, subst, sym, take}
-use Rattle.shm_judge.specs.Judge.{IsExplained, pid_in}
+use Rattle.shm_judge.specs.Judge.{IsExplained}
+use Rattle.shm_judge.specs.Searching.{pid_in}
 use Rattle.shm_judge.specs.Logs.{Entry}
 use Rattle.shm_schedules.specs.Schedules.{Leads, fresh, goes}
 use Rattle.shm_schedules.proofs.Walking.{follower-reached}

@@ -1,5 +1,5 @@
 use Rattle.std.proofs.Common.{map, take}
-use Rattle.shm_judge.specs.Judge.{pid_in}
+use Rattle.shm_judge.specs.Searching.{pid_in}
 use Rattle.shm_schedules.specs.Schedules.{Leads, fresh, IsReached}
 use Rattle.shm_judge.proofs.ordered.in_order.Given as goal
 

@@ -2,8 +2,8 @@ use Rattle.std.proofs.Common.{ap, subst, sym, inl}
 use Rattle.shm_base.specs.State.{Opening}
 use Rattle.shm_program.specs.Runs.{IsOpening, IsWorldOf}
 use Rattle.shm_laws.specs.Worlds.{IsWorldSound}
-use Rattle.shm_program.proofs.Causes.{world_causes, silent_kept}
-use Rattle.shm_runner.proofs.Causes.{ended_cause}
+use Rattle.shm_program.proofs.Causes.{world_causes}
+use Rattle.shm_runner.proofs.Causes.{ended_cause, ended_silent}
 use Rattle.shm_runner.proofs.Texts.{began_from, threaded_text, marked_text}
 use Rattle.shm_runner.proofs.threaded.run_in.Goals as goal
 
@@ -28,4 +28,4 @@ pub returns-in-Err-clause-cause : goal.returns-in-Err-clause-cause
 returns-in-Err-clause-cause g c = rw c.run_fault.ensures (ended_cause c.in-Err.error c.args.world.opening.areas c.args.script.now)
 
 pub returns-in-Err-clause-written : goal.returns-in-Err-clause-written
-returns-in-Err-clause-written g c = inl (silent_kept c.run_fault.result (g.W.Write.contents c.args.writer.now))
+returns-in-Err-clause-written g c = inl (rw c.run_fault.ensures (ended_silent _ c.in-Err.error (g.W.Write.contents c.args.writer.now)))

@@ -4,7 +4,7 @@ use Rattle.shm_slots.specs.View.{AreUntouched}
 use Rattle.shm_slots.proofs.Starts.{untouched_new}
 use Rattle.shm_fault.specs.Store.{StoreView}
 use Rattle.shm_program.specs.Runs.{handed_in}
-use Rattle.shm_program.proofs.Causes.{stop_cause, silent_kept}
+use Rattle.shm_program.proofs.Causes.{stop_cause, stop_silent}
 use Rattle.shm_runner.proofs.threaded.run_script.Goals as goal
 
 pub run_in-requires-clause-untouched : goal.run_in-requires-clause-untouched
@@ -29,4 +29,4 @@ pub returns-in-Err-clause-cause : goal.returns-in-Err-clause-cause
 returns-in-Err-clause-cause g c = stop_cause c.in-Err.fault (map (λ p. length (g.P.Pager.content p)) c.args.pagers.items) c.args.script.now c.in-Err.ensures.err
 
 pub returns-in-Err-clause-written : goal.returns-in-Err-clause-written
-returns-in-Err-clause-written g c = inl (silent_kept c.in-Err.fault (g.W.Write.contents c.args.writer.now))
+returns-in-Err-clause-written g c = inl (stop_silent _ c.in-Err.fault _ (g.W.Write.contents c.args.writer.now) c.in-Err.ensures.err)

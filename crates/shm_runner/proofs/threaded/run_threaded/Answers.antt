@@ -3,7 +3,7 @@ use Rattle.std.specs.Prelude.{false}
 use Rattle.std.specs.Io.KnownBytes.{IsAtEnd}
 use Rattle.shm_runner.specs.Threaded.{IsThreadedOutput}
 use Rattle.shm_program.specs.Runs.{handed_in}
-use Rattle.shm_program.proofs.Causes.{anyway, causes, early_cause, silent_kept}
+use Rattle.shm_program.proofs.Causes.{anyway, causes, early_cause, read_silent}
 use Rattle.shm_program.proofs.Texts.{shows}
 use Rattle.shm_runner.proofs.Texts.{marked_shows}
 use Rattle.shm_runner.proofs.threaded.run_threaded.Goals as goal
@@ -21,5 +21,5 @@ returns-in-Err g c = record {
   ok = tt;
   whole = tt;
   cause = early_cause c.in-Err.fault (g.R.Read.remaining c.args.reader.now) (map (λ p. length (g.P.Pager.content p)) c.args.pagers.items) c.in-Err.ensures.cause;
-  written = inl (silent_kept c.in-Err.fault (g.W.Write.contents c.args.writer.now));
+  written = inl (read_silent _ c.in-Err.fault (g.W.Write.contents c.args.writer.now) c.in-Err.ensures.which);
 }

@@ -1,6 +1,6 @@
 use Rattle.std.proofs.Common.{rules, ◌≡◌, ◌∙◌, ap, true}
 use Rattle.shm_outcomes.specs.Text.{outcomes_text}
-use Rattle.shmcheck.proofs.Causes.{masked-text}
+use Rattle.shmcheck.proofs.Texts.{masked-text}
 use Rattle.shmcheck.proofs.listing.text_of.Goals as goal
 
 pub returns : goal.returns

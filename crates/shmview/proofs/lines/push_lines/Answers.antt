@@ -4,7 +4,6 @@ use Rattle.std.proofs.lemmas.List.{drop_more}
 use Rattle.shm_text.specs.declared.script.Line.{Line}
 use Rattle.shm_program.specs.Values.{HolderView, fresh_holder}
 use Rattle.shmview.specs.Record.{HasRun, Leads, shown_text}
-use Rattle.shmview.proofs.Leading.{one_more}
 use Rattle.shmview.proofs.lines.push_lines.Goals as goal
 
 pub loop-line-init : goal.loop-line-init
@@ -31,7 +30,8 @@ loop-line-preserved g c =
     let text = string_bytes c.loop-line.text in
     let pushed : string_bytes c.push_shown.new.text ≡ text ++ shown_text steps n action next = c.in_ok-push_shown.ensures.text in record {
       leads = λ more leads.
-          let step : Leads steps hs n w (drop i ls) (shown_text steps n action next ++ more) = subst (λ (left : List Line). Leads steps hs n w left (shown_text steps n action next ++ more)) (sym split) (one_more steps hs c.run_line.new.values n w next line (drop (i + 1) ls) action more run c.push_shown.ensures.sound leads) in
+          let one : Leads steps hs n w (line ∷ drop (i + 1) ls) (shown_text steps n action next ++ more) = (action, c.run_line.new.values, next, more, run, c.push_shown.ensures.sound, leads, refl) in
+          let step : Leads steps hs n w (drop i ls) (shown_text steps n action next ++ more) = subst (λ (left : List Line). Leads steps hs n w left (shown_text steps n action next ++ more)) (sym split) one in
           let (rest, whole, same) = c.loop-line.invariant.leads (shown_text steps n action next ++ more) step in
           (rest, whole, ap (λ t. t ++ more) pushed ∙ append_assoc text (shown_text steps n action next) more ∙ same);
       count = ap (λ k. k + 1) c.loop-line.invariant.count;

@@ -1,41 +1,25 @@
--- The cause of a search without a result is the cause of the program's stop.
-use Rattle.std.specs.Prelude.{◌≡◌, ℕ, Bool, true, false, List}
+-- The answers about a machine as a script opens it.
+use Rattle.std.specs.Prelude.{◌≡◌, ℕ, Bool, true, false, List, Ok}
 use Rattle.std.proofs.Common.{subst, sym}
+use Rattle.rand_core.specs.Stream.{Stream}
 use Rattle.shm_base.specs.State.{Machine}
 use Rattle.shm_text.specs.Script.{ScriptView}
-use Rattle.rand_core.specs.Stream.{Stream}
+use Rattle.shm_judge.specs.Judge.{IsRight}
+use Rattle.shm_judge.specs.Logs.{Answer, Entry}
+use Rattle.shm_judge.specs.Reading.{entries_of, log_of}
+use Rattle.shm_judge.specs.Report.{verdict_text}
 use Rattle.shm_judge.specs.Sampling.{AreSamples}
-use Rattle.shm_schedules.specs.declared.engine.EngineError.{EngineError}
-use Rattle.shm_schedules.specs.declared.engine.EngineError.TheVariants as engines
-use Rattle.shm_schedules.specs.declared.search_error.SearchError.{SearchError}
-use Rattle.shm_schedules.specs.declared.search_error.SearchError.TheVariants.{Engine, Bound}
+use Rattle.shm_judge.specs.declared.verdict.Verdict.{Verdict}
 use Rattle.shm_outcomes.specs.Masking.{AreMaskedOutcomes}
-use Rattle.shm_schedules.specs.Schedules.{Run, fresh, start}
 use Rattle.shm_outcomes.specs.Search.{AreOutcomes}
-use Rattle.shm_schedules.specs.Finding.{Finding}
 use Rattle.shm_outcomes.specs.Text.{outcomes_text}
+use Rattle.shm_schedules.specs.Finding.{Finding}
+use Rattle.shm_schedules.specs.Schedules.{Run, fresh, start}
+use Rattle.shmcheck.specs.Judged.{IsJudgedText, is_legal}
 use Rattle.shmcheck.specs.Printed.{IsTextOf}
 use Rattle.shmcheck.specs.Sampled.{IsSamplesText, answers_from}
-use Rattle.shm_outcomes.specs.Merging.{IsCause}
-use Rattle.shmcheck.specs.Stop.{IsCauseIn, engine_stop, stop_of}
 
-from-first : (script : ScriptView) (areas : List ℕ) (most : ℕ) (error : SearchError) → IsCause script (start script areas) most error → IsCauseIn (stop_of error most) areas script
-from-first script areas most (Engine engines.HostMemory) h = tt
-from-first script areas most (Engine engines.PagerFailed) h = tt
-from-first script areas most Bound h = h
-
-pub cause_stop :
-    (script : ScriptView) (areas : List ℕ) (machine : Machine) (most : ℕ) (error : SearchError)
-    → machine ≡ (start script areas).machine → IsCause script (fresh machine) most error → IsCauseIn (stop_of error most) areas script
-cause_stop script areas machine most error is h =
-    from-first script areas most error (subst (λ (m : Machine). IsCause script (fresh m) most error) is h)
-
--- a machine without a reply is not at the bound
-pub engine_cause : (script : ScriptView) (areas : List ℕ) (error : EngineError) → IsCauseIn (engine_stop error) areas script
-engine_cause script areas engines.HostMemory = tt
-engine_cause script areas engines.PagerFailed = tt
-
--- the text of runs from the machine as a script opens it
+-- the text of runs
 pub sampled :
     (script : ScriptView) (areas : List ℕ) (machine : Machine) (seed runs : ℕ) (rest : Stream) (text : List ℕ)
     → machine ≡ (start script areas).machine → AreSamples script (fresh machine) runs (answers_from seed) rest text → IsSamplesText seed runs script areas text
@@ -49,7 +33,7 @@ pub masked-text :
 masked-text true script first others text on are is = (others, are, is)
 masked-text false script first others text on are is = absurd (cc)
 
--- the text of the outcomes that a search from the machine found
+-- the text of the outcomes that a search found
 pub listed :
     (masked : Bool) (script : ScriptView) (areas : List ℕ) (machine : Machine) (found shown : List Finding) (text : List ℕ)
     → machine ≡ (start script areas).machine → shown ≡ found → AreOutcomes script (fresh machine) found
@@ -57,3 +41,19 @@ pub listed :
 listed masked script areas machine found shown text at same are to =
     to (start script areas)
     (subst (λ (l : List Finding). AreOutcomes script (start script areas) l) (sym same) (subst (λ (m : Machine). AreOutcomes script (fresh m) found) at are))
+
+-- the text of a verdict
+pub judged-text :
+    (script : ScriptView) (log : List ℕ) (entries : List Entry) (answered : List (List Answer)) (areas : List ℕ) (machine : Machine) (verdict : Verdict) (legal : Bool) (text : List ℕ)
+    → entries_of script log ≡ Ok entries → answered ≡ log_of script entries → machine ≡ (start script areas).machine
+    → IsRight script answered (fresh machine) verdict → legal ≡ is_legal verdict → text ≡ verdict_text script answered verdict → IsJudgedText log legal script areas text
+judged-text script log entries answered areas machine verdict legal text read is at right same written = (
+  entries,
+  read,
+  (
+    verdict,
+    subst (λ (l : List (List Answer)). IsRight script l (start script areas) verdict) is (subst (λ (m : Machine). IsRight script answered (fresh m) verdict) at right),
+    sym same,
+    subst (λ (l : List (List Answer)). text ≡ verdict_text script l verdict) is written,
+  ),
+)
