@@ -1,5 +1,5 @@
 mod Causes
 mod Flatness
+pub mod Opened
 mod Parts
-mod Shared
 mod Texts

@@ -10,3 +10,8 @@ ended_as errors.HostMemory = HostMemory
 ended_as (errors.GateExpired pid) = Gate pid
 ended_as (errors.HistoryMismatch pid) = Mismatch pid
 ended_as errors.ThreadRefused = ThreadRefused
+
+-- no run ends with a mismatch
+abbrev pub CanFail : RunFault → Type 0
+CanFail (Mismatch pid) = ⊥
+CanFail _ = Unit {0}

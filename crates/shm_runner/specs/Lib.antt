@@ -1,5 +1,4 @@
 pub mod Output
-pub mod Joined
 pub mod Flat
 pub mod Marks
 pub mod Threaded

@@ -9,6 +9,7 @@ use Rattle.shm_threads.specs.Transcripts.{AreTranscripts}
 use Rattle.shm_threads.specs.declared.transcript.Transcript.{Transcript}
 use Rattle.shm_program.specs.Runs.{IsWorldOf, IsSilent, IsTextFor, IsCause, Prints}
 use Rattle.shm_laws.specs.Worlds.{IsWorldSound}
+use Rattle.shm_runner.specs.Faults.{CanFail}
 use Rattle.shm_runner.specs.Marks.{have_mark}
 use Rattle.shm_runner.specs.Output.{NeverFails, world_text}
 use Rattle.shm_program.specs.declared.fault.RunFault.{RunFault}
@@ -42,4 +43,5 @@ pub record IsThreadedRun {P : Type 0} (failed : P → ℕ) (swap : SwapView) (re
   pub ok : OnOk result (IfSome input (λ bytes. Prints (IsThreadedOutput failed swap false) old new areas bytes))
   pub whole : OnOk result (IsAtEnd rest)
   pub cause : IfErr result (λ f. IfSome input (λ bytes. IsCause f areas bytes))
+  pub ended : IfErr result CanFail
   pub written : IfErr result (λ f. IsAllOrNothing (IsTextFor (IsAnyOutput failed swap) areas input) f old new (IsAtEnd rest × IfSome input (λ bytes. Prints (IsThreadedOutput failed swap true) old new areas bytes)))

@@ -1,15 +1,16 @@
 //! A run with threads: reads a script, runs each of its processes in its own thread, and writes their history.
-ghost use Rattle.std.specs.Prelude.{◌≡◌, ◌⊎◌, ℕ, List, true, false, length, map, OnOk, IfErr};
+ghost use Rattle.std.specs.Prelude.{◌≡◌, ◌⊎◌, ℕ, List, [], true, false, length, map, OnOk, IfErr};
 ghost use Rattle.std.specs.Io.KnownBytes.{Appends};
 ghost use Rattle.shm_slots.specs.View.{AreCountsOf, AreUntouched};
 ghost use Rattle.shm_program.specs.Runs.{IsCauseIn, IsOpening, IsWritten, handed_in};
 ghost use Rattle.shm_laws.specs.Worlds.{IsWorldSound};
+ghost use Rattle.shm_runner.specs.Faults.{CanFail};
 ghost use Rattle.shm_runner.specs.Output.{world_text};
 ghost use Rattle.shm_runner.specs.Marks.{is_marked, has_mark, have_mark};
 ghost use Rattle.shm_runner.specs.Threaded.{IsAnyOutput, IsThreadedOutput, IsThreadedRun, IsAllOrNothing};
 
 use crate::fault::run_fault;
-use crate::world::write_shared;
+use crate::world::write_world;
 use shm_history::World;
 use shm_pager::Pager;
 use shm_program::{RunFault, open_world, whole_script};
@@ -58,6 +59,7 @@ fn run_script<T: Threads + Wait + Sync, W: Write, P: Pager + Send>(
         OnOk result (IsWritten (text areas) (W.contents writer.old) (W.contents writer.new)) }
     ensures cause { IfErr result
         (λ f. IsCauseIn f (map (λ p. length (P.content p)) pagers.items) script.now) }
+    ensures ended { IfErr result CanFail }
     ensures written { let swap = handed_in P.content P.failed pagers.items in
         let text = IsThreadedOutput P.failed swap true script.now in
         let areas = map (λ p. length (P.content p)) pagers.items in
@@ -80,11 +82,13 @@ fn run_in<T: Threads + Wait + Sync, W: Write, P: Pager + Send>(
     script: &Script,
 ) -> Result<(), RunFault>
     requires opened { IsOpening script.now world.opening }
+    requires events { world.events ≡ [] }
     requires untouched { AreUntouched world.memory.swap }
     ensures ok { let areas = world.opening.areas in
         let text = IsThreadedOutput P.failed world.memory.swap false script.now areas in
         OnOk result (IsWritten text (W.contents writer.old) (W.contents writer.new)) }
     ensures cause { IfErr result (λ f. IsCauseIn f world.opening.areas script.now) }
+    ensures ended { IfErr result CanFail }
     ensures written { let areas = world.opening.areas in
         let text = IsThreadedOutput P.failed world.memory.swap true script.now areas in
         let marked = IsWritten text (W.contents writer.old) (W.contents writer.new) in
@@ -92,17 +96,15 @@ fn run_in<T: Threads + Wait + Sync, W: Write, P: Pager + Send>(
         IfErr result (λ f. IsAllOrNothing any f (W.contents writer.old) (W.contents writer.new) marked) }
 {
     match run_threads(rt, alloc, world, script, &OpenGate) {
-        Ok(outcome) => write_outcome(rt, alloc, writer, &outcome),
+        Ok(outcome) => write_outcome(alloc, writer, &outcome),
         Err(error) => Err(run_fault(error)),
     }
 }
 
 /// Writes the output of a run with threads as `run_threaded` does, for a run with another gate or world. The whole text is
-/// made before its first byte is written. Up to four threads make the lines of a long history. It fails with `WriteFailed`
-/// if the writer fails, and with `HostMemory` before the first byte, or after the last one if the host refused memory to a
-/// call of the run.
-pub fn write_outcome<T: Threads + Sync, W: Write, P: Pager>(
-    rt: &T,
+/// made before its first byte is written. It fails with `WriteFailed` if the writer fails, and with `HostMemory` before the
+/// first byte, or after the last one if the host refused memory to a call of the run.
+pub fn write_outcome<W: Write, P: Pager>(
     alloc: Global,
     writer: &mut W,
     outcome: &Outcome<P>,
@@ -119,7 +121,7 @@ pub fn write_outcome<T: Threads + Sync, W: Write, P: Pager>(
         let is = λ (written : List ℕ). written ≡ text in
         IfErr result (λ f. IsAllOrNothing is f (W.contents writer.old) (W.contents writer.new) marked) }
 {
-    match write_shared(rt, alloc, writer, &outcome.world) {
+    match write_world(alloc, writer, &outcome.world) {
         Ok(()) => {
             if have_mark(&outcome.transcripts) {
                 Err(RunFault::HostMemory)

@@ -4,12 +4,14 @@
 //!
 //! With the word `gauged` nothing reads, and with `plain` nothing is published either. Comparing the three
 //! shows the costs.
-ghost use Rattle.std.specs.Prelude.{◌≡◌};
+ghost use Rattle.std.specs.Prelude.{◌≡◌, IfOk};
+ghost use Rattle.shm_threads.specs.Outcomes.{IsOpened};
 
 use crate::stop::Stop;
 use shm_base::{HostMemory, PROFILE_SLOTS};
-use shm_history::{Gauge, GaugeRefused, Keeper, ReaderSeat, System, World, gauge};
+use shm_history::{Gauge, GaugeRefused, Keeper, ReaderSeat, World, gauge};
 use shm_pager::SparsePager;
+use shm_program::open_world;
 use shm_text::{Script, read_script};
 use shm_threads::{OpenGate, RunError, run_threads, run_threads_gauged};
 use std::alloc::{AllocError, AllocFailed, Global};
@@ -81,11 +83,14 @@ impl From<RunError> for NoRun {
     }
 }
 
-fn start(alloc: Global, script: &Script) -> Result<World<SparsePager>, NoRun> {
+#[tactic(auto, using(crate::proofs::Opened::is_opened))]
+fn start(alloc: Global, script: &Script) -> Result<World<SparsePager>, NoRun>
+    ensures { IfOk result (IsOpened script.now) }
+{
     let mut pagers = Vec::new(alloc);
     pagers.push(SparsePager::new(alloc, PROFILE_SLOTS)?)?;
-    match System::start(alloc, script.limits, pagers, &script.processes) {
-        Ok(system) => Ok(World::new(alloc, system)),
+    match open_world(alloc, script, pagers) {
+        Ok(world) => Ok(world),
         Err(_) => Err(NoRun::Start),
     }
 }
@@ -121,7 +126,9 @@ fn run_gauged<R: Threads + Wait + Sync>(
     world: World<SparsePager>,
     keeper: Keeper,
     script: &Script,
-) -> Result<u64, RunError> {
+) -> Result<u64, RunError>
+    requires { IsOpened script.now world }
+{
     let (outcome, _) = run_threads_gauged(rt, alloc, world, keeper, script, &OpenGate)?;
     Ok(outcome.world.history().len() as u64)
 }
@@ -131,7 +138,9 @@ fn run_plain<R: Threads + Wait + Sync>(
     alloc: Global,
     world: World<SparsePager>,
     script: &Script,
-) -> Result<u64, RunError> {
+) -> Result<u64, RunError>
+    requires { IsOpened script.now world }
+{
     let outcome = run_threads(rt, alloc, world, script, &OpenGate)?;
     Ok(outcome.world.history().len() as u64)
 }
@@ -150,13 +159,17 @@ fn run_watched<R: Threads + Wait + Sync>(
     alloc: Global,
     world: World<SparsePager>,
     script: &Script,
-) -> Result<Watched, NoRun> {
+) -> Result<Watched, NoRun>
+    requires { IsOpened script.now world }
+{
     let (gauge, keeper, seat) = gauge(rt, alloc, &world)?;
     let is_done = AtomicBool::new(false);
     let (watched, run) = join(
         rt,
         || watch(rt, &gauge, seat, &is_done),
-        || {
+        || -> Result<u64, RunError>
+            requires { IsOpened script.now world }
+        {
             let run = run_gauged(rt, alloc, world, keeper, script);
             is_done.store(true, Ordering::SeqCst);
             run

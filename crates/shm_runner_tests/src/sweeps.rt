@@ -1,6 +1,9 @@
 //! One call of a pager fails, at each place in turn, without a swapoff and with one. Whatever failed, each
 //! call has the reply that it has on lists of bytes, where a call that was refused for the failure does
 //! nothing. At the end every byte is the same.
+ghost use Rattle.std.specs.Prelude.{IfOk};
+ghost use Rattle.shm_threads.specs.Outcomes.{IsOpened};
+
 use crate::flat::Flat;
 use shm_base::{AccessLen, AtFlags, Call, Chunk, Errno, Event, Reply, ShmId};
 use shm_history::World;
@@ -121,7 +124,9 @@ fn with_threads<R: Threads + Wait + Sync, P: Pager + Send>(
     alloc: Global,
     script: &Script,
     world: World<P>,
-) -> Result<World<P>, Fail> {
+) -> Result<World<P>, Fail>
+    requires { IsOpened script.now world }
+{
     let run = run_threads(rt, alloc, world, script, &OpenGate);
     Ok(run.ok().ok_or("a run")?.world)
 }
@@ -160,8 +165,18 @@ fn ran<R: Threads + Wait + Sync, P: Pager + Send>(
     Ok(world)
 }
 
-fn opened<P: Pager>(alloc: Global, script: &Script, pagers: Vec<P>) -> Result<World<P>, Fail> {
-    Ok(open_world(alloc, script, pagers).ok().ok_or("it starts")?)
+#[tactic(auto, using(crate::proofs::Opened::is_opened))]
+pub(crate) fn opened<P: Pager>(
+    alloc: Global,
+    script: &Script,
+    pagers: Vec<P>,
+) -> Result<World<P>, Fail>
+    ensures { IfOk result (IsOpened script.now) }
+{
+    match open_world(alloc, script, pagers) {
+        Ok(world) => Ok(world),
+        Err(_) => Err("it starts".into()),
+    }
 }
 
 fn load(addr: u64, len: u64) -> Result<Call, Fail> {

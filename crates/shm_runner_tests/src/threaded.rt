@@ -1,9 +1,13 @@
 //! A run with threads writes its whole output or nothing.
+ghost use Rattle.std.specs.Prelude.{IfOk};
+ghost use Rattle.shm_threads.specs.Outcomes.{IsOpened};
+
 use crate::ends::{OUTPUT, SCRIPT, Sink, reader, writer};
+use crate::sweeps::opened;
 use shm_base::{Call, Reply};
 use shm_history::World;
 use shm_pager::RamPager;
-use shm_program::{RunFault, open_world};
+use shm_program::RunFault;
 use shm_runner::{run_threaded, write_outcome};
 use shm_text::{Script, read_script};
 use shm_threads::{Answer, Entry, OpenGate, Outcome, Transcript, run_threads};
@@ -60,15 +64,17 @@ fn script(alloc: Global) -> Result<Script, Fail> {
 }
 
 // The world of the script before its first event.
-fn opened(alloc: Global, script: &Script) -> Result<World<RamPager>, Fail> {
+fn over_ram(alloc: Global, script: &Script) -> Result<World<RamPager>, Fail>
+    ensures { IfOk result (IsOpened script.now) }
+{
     let pagers = vec![in alloc; RamPager::new(alloc, 64)?]?;
-    Ok(open_world(alloc, script, pagers).ok().ok_or("it starts")?)
+    opened(alloc, script, pagers)
 }
 
 // The world after the script.
 fn ran<T: Threads + Wait + Sync>(rt: &T, alloc: Global) -> Result<World<RamPager>, Fail> {
     let script = script(alloc)?;
-    let world = opened(alloc, &script)?;
+    let world = over_ram(alloc, &script)?;
     let run = run_threads(rt, alloc, world, &script, &OpenGate);
     Ok(run.ok().ok_or("a run")?.world)
 }
@@ -110,7 +116,7 @@ fn written<T: Threads + Wait + Sync>(
     taker: &mut Sink,
 ) -> Result<Option<RunFault>, Fail> {
     let outcome = outcome(rt, alloc, marked)?;
-    Ok(write_outcome(rt, alloc, taker, &outcome).err())
+    Ok(write_outcome(alloc, taker, &outcome).err())
 }
 
 #[test]

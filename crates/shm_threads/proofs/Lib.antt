@@ -1,8 +1,11 @@
+pub mod Ages
+mod Answering
+mod Entries
+pub mod Lives
 mod Noting
+mod Over
+mod Placing
+mod Starts
+mod Stepping
 mod Steps
-mod Following
-mod Found
-mod LeastWrong
-mod Leaving
-mod Own
-mod Placed
+mod Turns

@@ -1,19 +1,15 @@
--- The requests of a run's threads, in order, and how a worker's entries follow them.
+-- The requests of a run's threads, in order.
 use Prim.Native.Nat.{zero, suc}
-use Rattle.std.specs.Prelude.{◌≡◌, ◌<◌, ◌+◌, ◌++◌, ℕ, Bool, true, false, List, [], ◌∷◌, length, Option, MatchBool, if◌then◌else◌}
-use Rattle.shm_text.specs.Form.{CommandView}
-use Rattle.shm_text.specs.Variables.{no_values, call_of, values_after}
+use Rattle.std.specs.Prelude.{◌≡◌, ◌<◌, ◌+◌, ◌++◌, ℕ, Bool, true, false, List, [], ◌∷◌, length, Option, Some, None, MatchBool, if◌then◌else◌}
 use Rattle.shm_text.specs.declared.script.Line.{Line}
 use Rattle.shm_text.specs.declared.script.Line.TheVariants.{Command, Flush}
-use Rattle.shm_threads.specs.Transcripts.{reply_in, is_end}
-use Rattle.shm_threads.specs.declared.transcript.Entry.{Entry}
 
--- What a worker asks or reports, with the answer: whether its process is born; whether it may make its n-th call; the call of a
--- command line with these variables; that the n-th call was answered; that the process has left
+-- What a worker asks or reports, with the answer: how many lines its process has, once it is born; whether it may make its n-th
+-- call; the call of its next line, and whether it can go on; that the n-th call was answered; that the process has left
 pub data Asked : Type 0 where
-  Born : (is_born : Bool) → Asked
+  Born : (lines : Option ℕ) → Asked
   Before : (n : ℕ) → (may : Bool) → Asked
-  Called : (values : List (Option ℕ)) → (command : CommandView) → (entry : Entry) → Asked
+  Stepped : (goes_on : Bool) → Asked
   After : (n : ℕ) → Asked
   Left : Asked
 
@@ -21,35 +17,42 @@ pub data Asked : Type 0 where
 abbrev pub Adds : {A : Type 0} → (List A → Type 0) → List A → (List A → Type 0) → Type 0
 Adds {A} before more after = (log : List A) → before log → after (log ++ more)
 
--- The requests of a worker for these command lines, from these variables and the n-th call on; its calls had these entries. Each
--- line has three: whether it may, the call, and that it was answered. After a successful exit there are none. If an entry is
--- missing, the answer to the first request was no
-abbrev pub asks_of : List (Option ℕ) → ℕ → List CommandView → List Entry → List Asked
-asks_of values n [] es = []
-asks_of values n (c ∷ cs) [] = Before n false ∷ []
-asks_of values n (c ∷ cs) (e ∷ es) =
-    Before n true ∷ Called values c e ∷ After n ∷ (if is_end e.call e.answer then [] else asks_of (values_after values c.var (reply_in e.answer)) (n + 1) cs es)
+-- The requests of a worker for this many lines, from the n-th call on; its steps had these answers. Each line has three: whether
+-- it may, the step, and that it was made. After a step after which the process can't go on there are none. If a step is missing,
+-- the answer to the first request was no
+abbrev pub asks_of : ℕ → ℕ → List Bool → List Asked
+asks_of n zero steps = []
+asks_of n (suc lines) [] = Before n false ∷ []
+asks_of n (suc lines) (goes_on ∷ steps) = Before n true ∷ Stepped goes_on ∷ After n ∷ (if goes_on then asks_of (n + 1) lines steps else [])
 
--- The entries follow the command lines from these variables, to the last line or to the first successful exit; if they are not
--- whole, to a line before which the gate ended the worker
-abbrev pub FollowsTo : List (Option ℕ) → List CommandView → List Entry → Bool → Type 0
-FollowsTo values [] [] whole = whole ≡ true
-FollowsTo values [] (e ∷ es) whole = ⊥
-FollowsTo values (c ∷ cs) [] whole = whole ≡ false
-FollowsTo values (c ∷ cs) (e ∷ es) whole =
-    (e.call ≡ call_of values c.call)
-    × MatchBool (is_end e.call e.answer) ((es ≡ []) × (whole ≡ true)) (FollowsTo (values_after values c.var (reply_in e.answer)) cs es whole)
+-- the steps go to the last line, or to the first after which the process can't go on; if they are not whole, to a line before
+-- which the gate ended the worker
+abbrev pub GoTo : ℕ → List Bool → Bool → Type 0
+GoTo zero steps whole = (steps ≡ []) × (whole ≡ true)
+GoTo (suc lines) [] whole = whole ≡ false
+GoTo (suc lines) (goes_on ∷ steps) whole = MatchBool goes_on (GoTo lines steps whole) ((steps ≡ []) × (whole ≡ true))
 
--- A worker of a born process: its entries follow its lines, and it makes only these requests, in order
-pub record RunsLines (before after : List Asked → Type 0) (lines : List CommandView) (entries : List Entry) (whole : Bool) : Type 0 where
-  pub follows : FollowsTo no_values lines entries whole
-  pub asked : Adds before (asks_of no_values 1 lines entries) after
+-- A worker of a born process makes only these requests, in order
+pub record RunsLines (before after : List Asked → Type 0) (lines : ℕ) (whole : Bool) : Type 0 where
+  pub steps : List Bool
+  pub ends : GoTo lines steps whole
+  pub asked : Adds before (asks_of 1 lines steps) after
+
+-- the requests after a process is born, if it is
+abbrev pub asks_after : Option ℕ → List Bool → List Asked
+asks_after None steps = []
+asks_after (Some lines) steps = asks_of 1 lines steps
+
+abbrev pub EndsAfter : Option ℕ → List Bool → Bool → Type 0
+EndsAfter None steps whole = (steps ≡ []) × (whole ≡ true)
+EndsAfter (Some lines) steps whole = GoTo lines steps whole
 
 -- A worker asks whether its process is born, runs its lines if so, and reports that the process has left
-pub record Works (before after : List Asked → Type 0) (lines : List CommandView) (entries : List Entry) (whole : Bool) : Type 0 where
-  pub is_born : Bool
-  pub follows : MatchBool is_born (FollowsTo no_values lines entries whole) ((entries ≡ []) × (whole ≡ true))
-  pub asked : Adds before (Born is_born ∷ (if is_born then asks_of no_values 1 lines entries else []) ++ Left ∷ []) after
+pub record Works (before after : List Asked → Type 0) (whole : Bool) : Type 0 where
+  pub lines : Option ℕ
+  pub steps : List Bool
+  pub ends : EndsAfter lines steps whole
+  pub asked : Adds before (Born lines ∷ asks_after lines steps ++ Left ∷ []) after
 
 -- What the flusher asks or reports: whether it may make its n-th round; a round of at most this many pages; that it was made
 pub data RoundAsked : Type 0 where

@@ -1,11 +1,9 @@
 pub mod Asked
 pub mod Births
 pub mod Ends
-pub mod Joining
 pub mod Keepers
-pub mod Known
-pub mod Noted
 pub mod Outcomes
-pub mod Pids
 pub mod Plans
+pub mod Running
+pub mod Strands
 pub mod Transcripts

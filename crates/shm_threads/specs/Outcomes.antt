@@ -1,12 +1,19 @@
--- The results of a run with threads.
-use Rattle.std.specs.Prelude.{◌≡◌, ℕ, List, Option, Some, IsNone, ◌↔◌}
+-- What a run with threads asks for and promises.
+use Rattle.std.specs.Prelude.{◌≡◌, ℕ, List, [], true}
 use Rattle.shm_base.specs.History.{IsHistory}
 use Rattle.shm_base.specs.State.{Opening}
+use Rattle.shm_life.specs.Start.{are_pids}
 use Rattle.shm_slots.specs.View.{first_counts}
 use Rattle.shm_history.specs.WorldState.{WorldState}
 use Rattle.shm_text.specs.Script.{ScriptView}
-use Rattle.shm_threads.specs.Transcripts.{AreTranscripts, AreListed, IsLeastWrong}
+use Rattle.shm_threads.specs.Transcripts.{AreTranscripts}
 use Rattle.shm_threads.specs.declared.transcript.Transcript.{Transcript}
+
+-- the world as the script opens it: it has no event, and the script's processes, of which no two have the same pid
+pub record IsOpened (script : ScriptView) (world : WorldState) : Type 0 where
+  pub events : world.events ≡ []
+  pub processes : world.opening.processes ≡ script.processes
+  pub pids : are_pids script.processes ≡ true
 
 -- The world started from this opening, over areas whose pagers had these counts of failures when they were passed in
 pub record StartedFrom (opened : Opening) (counts : List ℕ) (world : WorldState) : Type 0 where
@@ -19,11 +26,3 @@ pub record IsOutcome (script : ScriptView) (opened : Opening) (counts : List ℕ
   pub started : StartedFrom opened counts world
   pub legal : IsHistory world.opening world.events world.machine
   pub transcripts : AreTranscripts script world.events all
-
--- The mismatch of a run's world and transcripts. None exactly if they are an outcome. If the world started from what was passed
--- in, and each process has one transcript: the least pid that disagrees. Otherwise 0
-pub record IsMismatch (script : ScriptView) (opened : Opening) (counts : List ℕ) (world : WorldState) (all : List Transcript) (found : Option ℕ) : Type 0 where
-  pub none : IsNone found ↔ IsOutcome script opened counts world all
-  pub least : StartedFrom opened counts world → AreListed script all → (pid : ℕ) → found ≡ Some pid ↔ IsLeastWrong script world.events all pid
-  pub started : (StartedFrom opened counts world → ⊥) → found ≡ Some 0
-  pub unlisted : (AreListed script all → ⊥) → found ≡ Some 0

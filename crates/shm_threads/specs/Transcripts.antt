@@ -32,10 +32,6 @@ abbrev pub reply_in : Answer → Option Reply
 reply_in (Replied r) = Some r
 reply_in HostMemory = None
 
--- an entry whose call is still to be made
-abbrev pub blank : Entry
-blank = record { call = Exec; answer = Replied Done }
-
 -- the process ends with this call and answer
 abbrev pub is_end : ProcessCall → Answer → Bool
 is_end Exit (Replied Done) = true
@@ -61,11 +57,6 @@ abbrev pub transcript_events : ℕ → List Entry → List Event
 transcript_events pid [] = []
 transcript_events pid (e ∷ es) = events_of pid e.call e.answer (transcript_events pid es)
 
--- the entry exists and is not marked
-abbrev pub is_answered : Option Entry → Bool
-is_answered None = false
-is_answered (Some e) = is_some (reply_in e.answer)
-
 -- the call is a successful fork of this child
 abbrev pub is_fork_of : ℕ → ProcessCall → Reply → Bool
 is_fork_of child (Fork c) Done = c == child
@@ -90,10 +81,6 @@ HasLines script history t =
     Follows no_values (commands_of t.pid script.lines) t.entries.items
     ⊎ ((is_child t.pid script.processes ≡ true) × (t.entries.items ≡ []) × (is_forked t.pid history ≡ false))
 
--- the transcript is empty or follows its process's lines
-abbrev pub IsEmptyOrFollows : List Line → Transcript → Type 0
-IsEmptyOrFollows lines t = (t.entries.items ≡ []) ⊎ Follows no_values (commands_of t.pid lines) t.entries.items
-
 -- only a call that may take memory is marked as out of memory
 abbrev pub IsMarkAllowed : Entry → Type 0
 IsMarkAllowed e = e.answer ≡ HostMemory → takes_memory e.call ≡ true
@@ -103,11 +90,6 @@ pub record IsTranscript (script : ScriptView) (history : List Event) (t : Transc
   pub lines : HasLines script history t
   pub own : transcript_events t.pid t.entries.items ≡ own_part t.pid history
   pub marks : All IsMarkAllowed t.entries.items
-
--- the lesser of a pid and the least one so far
-abbrev pub least_of : Option ℕ → ℕ → ℕ
-least_of None pid = pid
-least_of (Some other) pid = min other pid
 
 -- The event is one of a declared process that was live
 pub record IsAdmitted (processes : List Process) (e : Event) : Type 0 where
@@ -123,32 +105,3 @@ pub record AreTranscripts (script : ScriptView) (history : List Event) (all : Li
   pub processes : AreListed script all
   pub each : All (IsTranscript script history) all
   pub events : All (IsAdmitted script.processes) history
-
-abbrev pub pid_at : Event → ℕ
-pid_at e = e.pid
-
--- the elements with this pid satisfy P
-abbrev pub AllOfPid : {X : Type 0} (pid_in : X → ℕ) (P : X → Type 0) → ℕ → List X → Type 0
-AllOfPid pid_in P pid xs = All (λ x. pid_in x ≡ pid → P x) xs
-
--- none: all elements satisfy P; else the least pid of one that does not
-abbrev pub IsLeastOf : {X : Type 0} (pid_in : X → ℕ) (P : X → Type 0) → List X → Option ℕ → Type 0
-IsLeastOf pid_in P xs None = All P xs
-IsLeastOf pid_in P xs (Some pid) = (AllOfPid pid_in P pid xs → ⊥) × ((lesser : ℕ) → lesser < pid → AllOfPid pid_in P lesser xs)
-
--- The transcript of this pid is its process's, and its events are those of a declared process that was live
-pub record Agrees (script : ScriptView) (history : List Event) (all : List Transcript) (pid : ℕ) : Type 0 where
-  pub transcript : AllOfPid pid_of (IsTranscript script history) pid all
-  pub events : AllOfPid pid_at (IsAdmitted script.processes) pid history
-
--- The least pid that does not agree
-pub record IsLeastWrong (script : ScriptView) (history : List Event) (all : List Transcript) (pid : ℕ) : Type 0 where
-  pub wrong : Agrees script history all pid → ⊥
-  pub least : (lesser : ℕ) → lesser < pid → Agrees script history all lesser
-
--- The result of a comparison. None exactly if the transcripts are the run's; the least pid that does not agree; 0 if the list is
--- not one transcript for each process
-pub record IsFound (script : ScriptView) (history : List Event) (all : List Transcript) (found : Option ℕ) : Type 0 where
-  pub none : IsNone found ↔ AreTranscripts script history all
-  pub least : AreListed script all → (pid : ℕ) → found ≡ Some pid ↔ IsLeastWrong script history all pid
-  pub unlisted : (AreListed script all → ⊥) → found ≡ Some 0

@@ -1,40 +1,35 @@
-//! What the threads of a run use: the gate, without the lock, and the world, under the lock.
-ghost use Rattle.std.specs.Prelude.{◌≡◌, map};
-ghost use Rattle.shm_threads.specs.Keepers.{cell_of};
-ghost use Rattle.shm_threads.specs.Pids.{line_pid};
-ghost use Rattle.shm_threads.specs.Plans.{HasRoom, LeavesLines};
-
+//! What the threads of a run use: the gate, without the lock, and what they share, under the lock.
 use crate::flusher::{Flusher, flush_all};
 use crate::gate::Gate;
+use crate::origin::Origin;
 use crate::shared::Shared;
-use crate::transcript::{Entry, Transcript};
-use crate::worker::{Caller, Ended, work};
-use shm_history::Keeper;
+use crate::worker::{Caller, work};
 use shm_pager::Pager;
-use shm_text::{Command, Line, Vars};
+use shm_text::Line;
 use std::sync::Wait;
 
 #[derive(Drop)]
-struct ProcessCaller<'a, R: Wait, G: Gate, P: Pager> {
+struct ProcessCaller<'a, 'l, R: Wait, G: Gate, P: Pager, O: Origin> {
     rt: &'a R,
-    shared: &'a Shared<P>,
+    shared: &'a Shared<'l, P, O>,
     gate: &'a G,
+    index: usize,
     pid: u32,
 }
 
-impl<R: Wait, G: Gate, P: Pager> Caller for ProcessCaller<'_, R, G, P> {
+impl<R: Wait, G: Gate, P: Pager, O: Origin> Caller for ProcessCaller<'_, '_, R, G, P, O> {
     ghost asked = { λ _ _. Unit {0} };
 
-    fn born(&mut self) -> bool {
-        self.shared.wait_for_birth(self.rt, self.pid)
+    fn born(&mut self) -> Option<usize> {
+        self.shared.wait_for_birth(self.rt, self.index, self.pid)
     }
 
     fn before(&mut self, n: u64) -> bool {
         self.gate.before(self.pid, n)
     }
 
-    fn call(&mut self, command: &Command, vars: &Vars, entry: &mut Entry) {
-        self.shared.call(self.rt, command, vars, entry);
+    fn step(&mut self) -> bool {
+        self.shared.step(self.rt, self.index)
     }
 
     fn after(&mut self, n: u64) {
@@ -46,50 +41,40 @@ impl<R: Wait, G: Gate, P: Pager> Caller for ProcessCaller<'_, R, G, P> {
     }
 }
 
-/// Runs one process of a run, from its birth to its end.
-pub(crate) fn run_process<R: Wait, G: Gate, P: Pager>(
+/// Runs the process at an index of a run, from its birth to its end. Returns its pid if the gate ended it.
+pub(crate) fn run_process<R: Wait, G: Gate, P: Pager, O: Origin>(
     rt: &R,
-    shared: &Shared<P>,
-    lines: &[Line],
-    pids: &[u32],
+    shared: &Shared<'_, P, O>,
     gate: &G,
-    transcript: Transcript,
-) -> Ended
-    requires room { HasRoom lines.now transcript }
-    requires pids { pids.now ≡ map line_pid lines.now }
-    ensures pid { result.transcript.pid ≡ transcript.pid }
-    ensures lines { LeavesLines lines.now result }
-{
+    index: usize,
+    pid: u32,
+) -> Option<u32> {
     let mut caller = ProcessCaller {
         rt,
         shared,
         gate,
-        pid: transcript.pid,
+        index,
+        pid,
     };
-    work(&mut caller, lines, pids, transcript)
+    if work(&mut caller) { None } else { Some(pid) }
 }
 
 #[derive(Drop)]
-struct RoundFlusher<'a, R: Wait, G: Gate, P: Pager> {
+struct RoundFlusher<'a, 'l, R: Wait, G: Gate, P: Pager, O: Origin> {
     rt: &'a R,
-    shared: &'a Shared<P>,
+    shared: &'a Shared<'l, P, O>,
     gate: &'a G,
-    keeper: Option<Keeper>,
 }
 
-impl<R: Wait, G: Gate, P: Pager> Flusher for RoundFlusher<'_, R, G, P> {
-    ghost use Rattle.shm_threads.specs.Keepers.{cell_of};
-
+impl<R: Wait, G: Gate, P: Pager, O: Origin> Flusher for RoundFlusher<'_, '_, R, G, P, O> {
     ghost asked = { λ _ _. Unit {0} };
-
-    ghost cell = { λ f. cell_of f.keeper };
 
     fn before(&mut self, n: u64) -> bool {
         self.gate.before(0, n)
     }
 
     fn round(&mut self, pages: u32) {
-        self.shared.flush(self.rt, pages, &mut self.keeper);
+        self.shared.flush(self.rt, pages);
     }
 
     fn after(&mut self, n: u64) {
@@ -97,33 +82,13 @@ impl<R: Wait, G: Gate, P: Pager> Flusher for RoundFlusher<'_, R, G, P> {
     }
 }
 
-/// The flusher's keeper, if it has one, and whether the gate ended the flusher.
-#[derive(Drop)]
-pub(crate) struct FlusherEnded {
-    pub(crate) keeper: Option<Keeper>,
-    pub(crate) is_expired: bool,
-}
-
-/// Runs the flush lines of a run in order. The keeper publishes in each round.
-pub(crate) fn run_rounds<R: Wait, G: Gate, P: Pager>(
+/// Runs the flush lines of a run in order. True if the gate ended the flusher.
+pub(crate) fn run_rounds<R: Wait, G: Gate, P: Pager, O: Origin>(
     rt: &R,
-    shared: &Shared<P>,
-    lines: &[Line],
+    shared: &Shared<'_, P, O>,
     gate: &G,
-    keeper: Option<Keeper>,
-) -> FlusherEnded
-    ensures { cell_of result.keeper ≡ cell_of keeper }
-{
-    let mut flusher = RoundFlusher {
-        rt,
-        shared,
-        gate,
-        keeper,
-    };
-    let is_whole = flush_all(&mut flusher, lines);
-    let RoundFlusher { keeper, .. } = flusher;
-    FlusherEnded {
-        keeper,
-        is_expired: !is_whole,
-    }
+    lines: &[Line],
+) -> bool {
+    let mut flusher = RoundFlusher { rt, shared, gate };
+    !flush_all(&mut flusher, lines)
 }

@@ -1,6 +1,5 @@
 //! The work of the flusher's thread, independent of what makes its rounds.
-ghost use Rattle.std.specs.Prelude.{◌≡◌, [], ◌∷◌, List, Option};
-ghost use Rattle.shm_history.specs.Gauges.{CellName};
+ghost use Rattle.std.specs.Prelude.{[], ◌∷◌, List};
 ghost use Rattle.shm_threads.specs.Asked.{RoundAsked, Adds, May, Round, Made, RunsRounds, rounds_of};
 
 use shm_text::Line;
@@ -10,29 +9,22 @@ pub(crate) trait Flusher {
     /// Whether these may be the rounds so far.
     ghost asked: { Self → List RoundAsked → Type 0 };
 
-    /// The cell that it publishes to, if it does.
-    ghost cell: { Self → Option CellName };
-
     /// Whether the n-th round may be made. False ends the flusher.
     fn before(&mut self, n: u64) -> bool
-        ensures asked { Adds (asked self.old) (May n result ∷ []) (asked self.new) }
-        ensures cell { cell self.new ≡ cell self.old };
+        ensures { Adds (asked self.old) (May n result ∷ []) (asked self.new) };
 
     /// Makes a round of at most this many pages, and publishes the counts after it.
     fn round(&mut self, pages: u32)
-        ensures asked { Adds (asked self.old) (Round pages ∷ []) (asked self.new) }
-        ensures cell { cell self.new ≡ cell self.old };
+        ensures { Adds (asked self.old) (Round pages ∷ []) (asked self.new) };
 
     /// Called after the n-th round.
     fn after(&mut self, n: u64)
-        ensures asked { Adds (asked self.old) (Made n ∷ []) (asked self.new) }
-        ensures cell { cell self.new ≡ cell self.old };
+        ensures { Adds (asked self.old) (Made n ∷ []) (asked self.new) };
 }
 
 /// Runs the flush lines in order. False if the gate ended the flusher.
 pub(crate) fn flush_all<F: Flusher>(flusher: &mut F, lines: &[Line]) -> bool
-    ensures runs { RunsRounds (F.asked flusher.old) (F.asked flusher.new) (rounds_of lines.now) result }
-    ensures cell { F.cell flusher.new ≡ F.cell flusher.old }
+    ensures { RunsRounds (F.asked flusher.old) (F.asked flusher.new) (rounds_of lines.now) result }
 {
     let mut n = 0u64;
     for line in lines {

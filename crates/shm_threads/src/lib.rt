@@ -3,19 +3,16 @@
 
 mod births;
 mod callers;
-mod compare;
 mod flusher;
 mod gate;
-mod mismatch;
+mod origin;
 mod outcome;
-mod pids;
-mod plan;
 mod run;
 mod shared;
+mod strand;
 mod transcript;
 mod worker;
 
-pub use compare::disagreement;
 pub use gate::{Gate, OpenGate};
 pub use outcome::{Outcome, RunError};
 pub use run::{run_threads, run_threads_gauged};

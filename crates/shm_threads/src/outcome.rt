@@ -17,10 +17,9 @@ pub struct Outcome<P: Pager> {
 /// - `HostMemory`: the host refused memory before a worker was started.
 /// - `ThreadRefused`: the host refused a thread.
 /// - `GateExpired`: the gate ended a worker: the least such pid, 0 for the flusher.
-/// - `HistoryMismatch`: a transcript and the history disagree: the least such pid, or 0 if the opening or the
-///   list of transcripts is wrong.
+/// - `HistoryMismatch`: no run ends with it.
 ///
-/// `ThreadRefused` takes precedence over `GateExpired`, and that over `HistoryMismatch`.
+/// `ThreadRefused` takes precedence over `GateExpired`.
 #[derive(Clone, Copy, Debug, PartialEq, Eq, Error)]
 pub enum RunError {
     #[error("out of memory")]

@@ -1,94 +1,161 @@
-//! The world under its lock, and the state of each process.
+//! What the threads of a run share: the world and each process's place in its lines, under one lock.
 //!
-//! The world's guarantees are invariants of its type, so they hold whenever the lock is free. Noting a birth
-//! or an end returns news, which can only be used up by waking the waiting threads.
-ghost use Rattle.std.specs.Prelude.{◌≡◌, ◌++◌, [], is_some, map};
+//! The run's guarantees are invariants of the type under the lock, so they hold whenever the lock is free. Threads only
+//! say whose turn it is. Noting a birth or an end returns news, which can only be used up by waking the waiting threads.
+ghost use Rattle.std.specs.Prelude.{◌≡◌, ◌≤◌, ◌<◌, ◌⊎◌, [], false, length, map, All, IfNone, is_some, vec_len, vec_capacity};
+ghost use Rattle.std.specs.List.{HoldsAt};
+ghost use Rattle.shm_base.specs.Step.{caller_of};
 ghost use Rattle.shm_history.specs.WorldState.{IsRound};
-ghost use Rattle.shm_text.specs.Variables.{call_of};
 ghost use Rattle.shm_threads.specs.Births.{births_after, is_birth, with_end};
 ghost use Rattle.shm_threads.specs.Keepers.{cell_of, HasPublished};
-ghost use Rattle.shm_threads.specs.Transcripts.{events_of};
+ghost use Rattle.shm_threads.specs.Running.{IsIdle, IsOver, IsRunning, IsTurn};
+ghost use Rattle.shm_threads.specs.Strands.{can_go, transcript_of};
 
 use crate::births::{News, ProcessState, is_born, may_fork, note_birth, note_end};
-use crate::transcript::{Answer, Entry};
-use shm_base::{Call, FlushReport, HostMemory, Reply};
+use crate::origin::Origin;
+use crate::strand::{Made, Strand, make};
+use crate::transcript::Transcript;
+use shm_base::FlushReport;
 use shm_history::{Keeper, World};
 use shm_pager::Pager;
-use shm_text::{Command, Vars};
+use std::marker::{Model, PhantomData};
 use std::sync::{Condvar, Mutex, MutexGuard, Wait};
 use std::thread::yield_now;
 
+/// The world, a strand for each process, which processes are born and have left, and the keeper of a gauged run.
 #[derive(Drop)]
-struct RunState<P: Pager> {
+pub(crate) struct RunState<'a, P: Pager, O: Origin> {
     world: World<P>,
+    strands: Vec<Strand<'a>>,
     processes: Vec<ProcessState>,
+    keeper: Option<Keeper>,
+    of: PhantomData<O>,
 }
 
-impl<P: Pager> RunState<P> {
-    // Makes the entry's call for a process, and writes the answer. If it forks a child, notes that and returns
-    // it as news.
-    fn call(&mut self, pid: u32, entry: &mut Entry) -> Option<News>
-        ensures call { entry.new.call ≡ entry.old.call }
-        ensures recorded { let of = events_of pid entry.old.call entry.new.answer in
-            self.new.world.events ≡ self.old.world.events ++ of [] }
-        ensures opening { self.new.world.opening ≡ self.old.world.opening }
-        ensures births { let after = births_after entry.old.call entry.new.answer in
-            self.new.processes.items ≡ after self.old.processes.items }
-        ensures news { is_some result ≡ is_birth entry.old.call entry.new.answer }
+impl<'a, P: Pager, O: Origin> Model for RunState<'a, P, O> {
+    ghost use Rattle.std.specs.Prelude.{◌≡◌};
+    ghost use Rattle.shm_threads.specs.Keepers.{cell_of};
+    ghost use Rattle.shm_threads.specs.Running.{IsRunning, RunView};
+
+    ghost Value = { RunView };
+
+    ghost view = { λ s. record {
+      world = s.world;
+      strands = s.strands.items;
+      processes = s.processes.items;
+      keeper = s.keeper;
+    } };
+
+    ghost invariant = { λ s. IsRunning O.script O.opening O.counts s.world s.strands.items
+        × (cell_of s.keeper ≡ O.cell) };
+}
+
+fn is_live<P: Pager>(world: &World<P>, pid: u32) -> bool
+    ensures { result ≡ is_some (caller_of world.now.machine pid) }
+{
+    world.system().spaces().caller(pid).is_some()
+}
+
+// What a turn of a process left: whether it may have more of them, and news of a birth.
+struct Turn {
+    goes_on: bool,
+    news: Option<News>,
+}
+
+impl<P: Pager, O: Origin> RunState<'_, P, O> {
+    // Whether the strand at an index can go on: its process is live, and has a line left.
+    fn can_go(&self, index: usize) -> bool
+        requires { index < length self.now.strands }
+        ensures { HoldsAt (λ s. result ≡ can_go self.now.world.machine s) self.now.strands index }
     {
-        match self.world.call(pid, &entry.call) {
-            Ok(reply) => {
-                let news = self.born_by(&entry.call, &reply);
-                entry.answer = Answer::Reply(reply);
-                news
-            }
-            Err(HostMemory) => {
-                entry.answer = Answer::HostMemory;
-                None
-            }
+        let strand = &self.strands[index];
+        strand.entries.len() < strand.commands.len() && is_live(&self.world, strand.pid)
+    }
+
+    // Makes the call of the next line of a strand, if it can go on.
+    fn step(&mut self, index: usize) -> Turn
+        ensures { IsIdle self.old index result.goes_on (is_some result.news) self.new
+            ⊎ IsTurn self.old index result.goes_on (is_some result.news) self.new }
+    {
+        if index >= self.strands.len() || !self.can_go(index) {
+            return Turn {
+                goes_on: false,
+                news: None,
+            };
+        }
+        let made = make(&mut self.world, &mut self.strands[index]);
+        Turn {
+            goes_on: made != Made::End,
+            news: born_by(&mut self.processes, made),
         }
     }
 
-    // Notes the child that a call has forked, if any.
-    fn born_by(&mut self, call: &Call, reply: &Reply) -> Option<News>
-        ensures births { let after = births_after call.now (Answer.Reply reply.now) in
-            self.new.processes.items ≡ after self.old.processes.items }
-        ensures news { is_some result ≡ is_birth call.now (Answer.Reply reply.now) }
-        ensures world { self.new.world ≡ self.old.world }
+    // The first strand that can go on.
+    fn next(&self) -> Option<usize>
+        ensures none { IfNone result (All (λ s. can_go self.now.world.machine s ≡ false) self.now.strands) }
     {
-        match (call, reply) {
-            (Call::Fork { child }, Reply::Done) => Some(note_birth(&mut self.processes, *child)),
-            _ => None,
+        for index in 0..self.strands.len() {
+            if self.can_go(index) {
+                return Some(index);
+            }
+        }
+        None
+    }
+
+    // How many lines a process has.
+    fn lines(&self, index: usize) -> usize {
+        match self.strands.get(index) {
+            Some(strand) => strand.commands.len(),
+            None => 0,
         }
     }
 
     // A flush round of at most this many pages. If there is a keeper, it publishes the counts afterwards.
-    fn flush<R: Wait>(&mut self, rt: &R, pages: u32, keeper: &mut Option<Keeper>) -> FlushReport
+    fn flush<R: Wait>(&mut self, rt: &R, pages: u32) -> FlushReport
         ensures round { IsRound self.old.world pages result self.new.world }
-        ensures cell { cell_of keeper.new ≡ cell_of keeper.old }
-        ensures published { HasPublished self.new.world keeper.new }
+        ensures published { HasPublished self.new.world self.new.keeper }
     {
         let report = self.world.flush(u64::from(pages));
-        if let Some(keeper) = keeper {
-            self.world.publish(rt, keeper);
-        }
+        publish(rt, &self.world, &mut self.keeper);
         report
     }
 
     // Notes that a process has left, and returns it as news.
     fn end(&mut self, pid: u32) -> News
-        ensures ended { self.new.processes.items ≡ map (with_end pid) self.old.processes.items }
+        ensures ended { self.new.processes ≡ map (with_end pid) self.old.processes }
         ensures world { self.new.world ≡ self.old.world }
+        ensures strands { self.new.strands ≡ self.old.strands }
     {
         note_end(&mut self.processes, pid)
     }
 }
 
-/// What the threads of a run share: the world under its lock, and a condition variable for forks and for processes that
+// Has the keeper, if there is one, publish the counts of a world.
+fn publish<R: Wait, P: Pager>(rt: &R, world: &World<P>, keeper: &mut Option<Keeper>)
+    ensures cell { cell_of keeper.new ≡ cell_of keeper.old }
+    ensures published { HasPublished world.now keeper.new }
+{
+    if let Some(keeper) = keeper {
+        world.publish(rt, keeper);
+    }
+}
+
+// Notes the child that a call has forked, if any, and returns it as news.
+fn born_by(processes: &mut Vec<ProcessState>, made: Made) -> Option<News>
+    ensures births { processes.new.items ≡ births_after made processes.old.items }
+    ensures news { is_some result ≡ is_birth made }
+{
+    match made {
+        Made::Birth(child) => Some(note_birth(processes, child)),
+        Made::End | Made::Nothing => None,
+    }
+}
+
+/// What the threads of a run share: the state under its lock, and a condition variable for forks and for processes that
 /// leave.
 #[derive(Drop)]
-pub(crate) struct Shared<P: Pager> {
-    state: Mutex<RunState<P>>,
+pub(crate) struct Shared<'a, P: Pager, O: Origin> {
+    state: Mutex<RunState<'a, P, O>>,
     changed: Condvar,
 }
 
@@ -105,10 +172,24 @@ fn let_others_run(times: u32) {
     }
 }
 
-impl<P: Pager> Shared<P> {
-    pub(crate) fn new(world: World<P>, processes: Vec<ProcessState>) -> Shared<P> {
+impl<'a, P: Pager, O: Origin> Shared<'a, P, O> {
+    pub(crate) fn new(
+        world: World<P>,
+        strands: Vec<Strand<'a>>,
+        processes: Vec<ProcessState>,
+        keeper: Option<Keeper>,
+    ) -> Shared<'a, P, O>
+        requires running { IsRunning O.script O.opening O.counts world strands.items }
+        requires cell { cell_of keeper ≡ O.cell }
+    {
         Shared {
-            state: Mutex::new(RunState { world, processes }),
+            state: Mutex::new(RunState {
+                world,
+                strands,
+                processes,
+                keeper,
+                of: PhantomData,
+            }),
             changed: Condvar::new(),
         }
     }
@@ -116,7 +197,7 @@ impl<P: Pager> Shared<P> {
     // The lock. A call is short, so a thread that finds it taken lets others run before it tries again, longer
     // each time, and sleeps at last. A lock that moves to another processor brings what it guards along, which
     // takes longer than the call.
-    fn locked<R: Wait>(&self, rt: &R) -> MutexGuard<'_, RunState<P>> {
+    fn locked<R: Wait>(&self, rt: &R) -> MutexGuard<'_, RunState<'a, P, O>> {
         let mut yields = 1u32;
         for _ in 0..TRIES {
             if let Some(guard) = self.state.try_lock() {
@@ -128,32 +209,29 @@ impl<P: Pager> Shared<P> {
         self.state.lock(rt)
     }
 
-    /// Makes a command line's call, and writes the call and its answer to the entry. Only the call itself is
-    /// made under the lock.
-    pub(crate) fn call<R: Wait>(&self, rt: &R, command: &Command, vars: &Vars, entry: &mut Entry)
-        ensures { entry.new.call ≡ call_of vars.now command.now.call }
-    {
-        entry.call = vars.call(command);
-        let news = self.locked(rt).call(command.pid(), entry);
-        match news {
-            Some(news) => news.announce(&self.changed),
-            None => {}
-        }
+    /// Makes the call of the next line of a process. False if it can't go on.
+    pub(crate) fn step<R: Wait>(&self, rt: &R, index: usize) -> bool {
+        let Turn { goes_on, news } = self.locked(rt).step(index);
+        announce(news, &self.changed);
+        goes_on
     }
 
-    /// Makes one flush round of at most this many pages, under the lock, and has the keeper publish in it.
-    pub(crate) fn flush<R: Wait>(&self, rt: &R, pages: u32, keeper: &mut Option<Keeper>)
-        ensures { cell_of keeper.new ≡ cell_of keeper.old }
-    {
-        let _report = self.state.lock(rt).flush(rt, pages, keeper);
+    /// Makes one flush round of at most this many pages, under the lock. A keeper publishes in it.
+    pub(crate) fn flush<R: Wait>(&self, rt: &R, pages: u32) {
+        let _report = self.state.lock(rt).flush(rt, pages);
     }
 
-    /// Waits until the process is born, or no process is left that could fork it. True if it is born.
-    pub(crate) fn wait_for_birth<R: Wait>(&self, rt: &R, pid: u32) -> bool {
+    /// Waits until the process is born, or no process is left that could fork it. Returns how many lines it has, if it
+    /// is born.
+    pub(crate) fn wait_for_birth<R: Wait>(&self, rt: &R, index: usize, pid: u32) -> Option<usize> {
         let state = self.changed.wait_while(rt, self.state.lock(rt), |state| {
             !is_born(&state.processes, pid) && may_fork(&state.processes)
         });
-        is_born(&state.processes, pid)
+        if is_born(&state.processes, pid) {
+            Some(state.lines(index))
+        } else {
+            None
+        }
     }
 
     /// Notes that a process has left.
@@ -162,13 +240,50 @@ impl<P: Pager> Shared<P> {
         news.announce(&self.changed);
     }
 
-    /// The world, once no worker is left.
-    pub(crate) fn into_world(self) -> World<P> {
-        let Shared { state, changed: _ } = self;
-        let RunState {
-            world,
-            processes: _,
-        } = state.into_inner();
-        world
+    /// The world, the strands and the keeper, once no thread is left. It makes the calls of lines that are left: there are
+    /// none, as each worker has run its lines.
+    pub(crate) fn finish<R: Wait>(self, rt: &R) -> (World<P>, Vec<Strand<'a>>, Option<Keeper>)
+        ensures over { IsOver O.script O.opening O.counts result.0 result.1.items }
+        ensures cell { cell_of result.2 ≡ O.cell }
+    {
+        let Shared { state, changed } = self;
+        let mut state = state.into_inner();
+        for _ in rt.forever() {
+            let Some(index) = state.next() else {
+                let RunState {
+                    world,
+                    strands,
+                    keeper,
+                    ..
+                } = state;
+                return (world, strands, keeper);
+            };
+            let Turn { goes_on: _, news } = state.step(index);
+            announce(news, &changed);
+        }
+        unreachable!()
     }
+}
+
+fn announce(news: Option<News>, changed: &Condvar) {
+    match news {
+        Some(news) => news.announce(changed),
+        None => {}
+    }
+}
+
+/// The transcripts of strands. The list has room for each.
+pub(crate) fn transcripts_of(
+    strands: Vec<Strand<'_>>,
+    mut transcripts: Vec<Transcript>,
+) -> Vec<Transcript>
+    requires none { transcripts.items ≡ [] }
+    requires room { vec_len strands ≤ vec_capacity transcripts }
+    ensures { result.items ≡ map transcript_of strands.entry.items }
+{
+    for strand in strands {
+        let Strand { pid, entries, .. } = strand;
+        transcripts.push_reserved(Transcript { pid, entries });
+    }
+    transcripts
 }

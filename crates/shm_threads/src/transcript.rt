@@ -74,37 +74,3 @@ impl Drop for Transcript {
         let Transcript { pid: _, entries: _ } = self;
     }
 }
-
-impl Transcript {
-    ghost use Rattle.std.specs.Prelude.{◌≡◌, ◌<◌, ◌+◌, ◌++◌, ◌∷◌, [], vec_len, vec_capacity};
-    ghost use Rattle.shm_threads.specs.Transcripts.{blank};
-
-    /// Adds an entry whose call is still to be made. There is room for it.
-    #[inline(always)]
-    pub(crate) fn push_blank(&mut self)
-        requires { vec_len self.old.entries < vec_capacity self.old.entries }
-        ensures entries { self.new.entries.items ≡ self.old.entries.items ++ blank ∷ [] }
-        ensures len { vec_len self.new.entries ≡ vec_len self.old.entries + 1 }
-        ensures pid { self.new.pid ≡ self.old.pid }
-        ensures room { vec_capacity self.new.entries ≡ vec_capacity self.old.entries }
-    {
-        self.entries.push_reserved(Entry {
-            call: Call::Exec,
-            answer: Answer::Reply(Reply::Done),
-        });
-    }
-
-    /// Writes to all the room of an empty transcript, so that the host lends its pages now, while other
-    /// processes start, and not between the calls.
-    pub(crate) fn touch(&mut self)
-        requires { self.old.entries.items ≡ [] }
-        ensures pid { self.new.pid ≡ self.old.pid }
-        ensures empty { self.new.entries.items ≡ [] }
-        ensures room { vec_capacity self.new.entries ≡ vec_capacity self.old.entries }
-    {
-        for _ in 0..self.entries.capacity() {
-            self.push_blank();
-        }
-        self.entries.truncate(0);
-    }
-}

@@ -1,5 +1,6 @@
 //! Gauged runs with a reader, which waits for no lock.
 ghost use Rattle.std.specs.Prelude.{◌≡◌};
+ghost use Rattle.shm_threads.specs.Outcomes.{IsOpened};
 
 use crate::runs::{COUNTER, COUNTS, late, repeated};
 use crate::shared::{Rule, Ruled, comes_to, script, world_over};
@@ -101,7 +102,9 @@ fn run_gauged<R: Threads + Wait + Sync, G: Gate, P: Pager + Send>(
     script: &Script,
     gate: &G,
     readings: &Readings,
-) -> Option<RunError> {
+) -> Option<RunError>
+    requires { IsOpened script.now world }
+{
     let run = run_threads_gauged(rt, alloc, world, keeper, script, gate);
     readings.done.store(1, Ordering::SeqCst);
     match run {
@@ -145,7 +148,9 @@ fn with_a_reader<R: Threads + Wait + Sync, G: Gate, P: Pager + Send>(
     let (mut seat, fault) = join(
         rt,
         || watch(rt, &gauge, seat, readings, least),
-        || run_gauged(rt, alloc, world, keeper, script, gate, readings),
+        || -> Option<RunError>
+            requires { IsOpened script.now world }
+        { run_gauged(rt, alloc, world, keeper, script, gate, readings) },
     );
     Ok(Ending {
         fault,

@@ -5,8 +5,6 @@
 #[cfg(test)]
 mod boxes;
 #[cfg(test)]
-mod disagreements;
-#[cfg(test)]
 mod gates;
 #[cfg(test)]
 mod gauged;

@@ -1,7 +1,10 @@
 //! A run of which the host refuses one allocation: none of its calls is lost or made twice, and no thread
 //! waits forever. `rt try --test --fail-alloc N -- refused::` makes the N-th allocation fail.
-use crate::shared::{Noted, Rule, Ruled, ended};
-use shm_history::{System, World};
+ghost use Rattle.std.specs.Prelude.{IfSome};
+ghost use Rattle.shm_threads.specs.Outcomes.{IsOpened};
+
+use crate::shared::{Noted, Rule, Ruled, ended, opened_over};
+use shm_history::World;
 use shm_pager::RamPager;
 use shm_text::{Script, read_script};
 use shm_threads::{RunError, run_threads};
@@ -37,12 +40,16 @@ fn is_as_it_may(run: &Result<Noted, RunError>, gate: &Ruled) -> bool {
     }
 }
 
-fn opened(alloc: Global, script: &Script) -> Option<World<RamPager>> {
+fn opened(alloc: Global, script: &Script) -> Option<World<RamPager>>
+    ensures { IfSome result (IsOpened script.now) }
+{
     let mut pagers = Vec::new(alloc);
     let pager = RamPager::new(alloc, 64).ok()?;
     pagers.push(pager).ok()?;
-    let system = System::start(alloc, script.limits, pagers, &script.processes).ok()?;
-    Some(World::new(alloc, system))
+    match opened_over(alloc, script, pagers) {
+        Ok(world) => Some(world),
+        Err(_) => None,
+    }
 }
 
 // The observations after the run; none if memory was refused before it.

@@ -1,6 +1,10 @@
 //! What tests of runs share: a gate, worlds, and observations after a run.
+ghost use Rattle.std.specs.Prelude.{IfOk};
+ghost use Rattle.shm_threads.specs.Outcomes.{IsOpened};
+
 use shm_base::{AccessLen, Call, Reply, Tally};
 use shm_history::{System, World};
+use shm_life::StartError;
 use shm_pager::{Pager, RamPager};
 use shm_text::{Script, read_script};
 use shm_threads::{Gate, Outcome, RunError, Transcript, run_threads};
@@ -197,15 +201,30 @@ pub(crate) fn script(alloc: Global, text: &[u8]) -> Result<Script, Fail> {
     Ok(read_script(alloc, text)?)
 }
 
+/// A world over a system as a script starts it over these pagers.
+pub(crate) fn opened_over<P: Pager>(
+    alloc: Global,
+    script: &Script,
+    pagers: Vec<P>,
+) -> Result<World<P>, StartError>
+    ensures { IfOk result (IsOpened script.now) }
+{
+    match System::start(alloc, script.limits, pagers, &script.processes) {
+        Ok(system) => Ok(World::new(alloc, system)),
+        Err(error) => Err(error),
+    }
+}
+
 pub(crate) fn world_over<P: Pager>(
     alloc: Global,
     script: &Script,
     pager: P,
-) -> Result<World<P>, Fail> {
+) -> Result<World<P>, Fail>
+    ensures { IfOk result (IsOpened script.now) }
+{
     let mut pagers = Vec::new(alloc);
     pagers.push(pager)?;
-    let system = System::start(alloc, script.limits, pagers, &script.processes)?;
-    Ok(World::new(alloc, system))
+    Ok(opened_over(alloc, script, pagers)?)
 }
 
 /// What a test examines after a run.

@@ -2,6 +2,8 @@
 use Rattle.std.specs.Prelude.{ℕ, List, codes}
 use Rattle.std.specs.declared.io.ErrorKind.{ErrorKind}
 use Rattle.std.specs.declared.io.ErrorKind.TheVariants.{OutOfMemory}
+use Rattle.clap.specs.declared.error.kind.ErrorKind.{ErrorKind as Refusal}
+use Rattle.clap.specs.declared.error.kind.ErrorKind.TheVariants as refusals
 use Rattle.shm_program.specs.Faults.{fault_text, exit_status}
 use Rattle.shm_program.specs.declared.fault.RunFault.TheVariants.{HostMemory}
 use Rattle.shmsim.specs.declared.command.Stop.{Stop}
@@ -19,3 +21,8 @@ stop_status (Fault fault) = exit_status fault
 abbrev pub io_stop : ErrorKind → Stop
 io_stop OutOfMemory = Fault HostMemory
 io_stop _ = Usage
+
+-- the words were refused: the host refused memory, or they are not those of the program
+abbrev pub clap_stop : Refusal → Stop
+clap_stop refusals.OutOfMemory = Fault HostMemory
+clap_stop _ = Usage

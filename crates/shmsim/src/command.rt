@@ -1,15 +1,19 @@
-//! The words of the command line, and why the program stops.
-ghost use Rattle.std.specs.Prelude.{◌≡◌, ◌⊎◌, IfErr, IfOk, None, Some, map, string_bytes};
+//! The command line, and why the program stops.
+ghost use Rattle.std.specs.Prelude.{◌≡◌, Some};
 ghost use Rattle.std.specs.IoError.{error_kind};
+ghost use Rattle.clap.specs.Values.{kind_of};
 ghost use Rattle.shm_program.specs.declared.fault.RunFault.TheVariants as faults;
 ghost use Rattle.shmsim.specs.declared.command.Stop.TheVariants as stops;
-ghost use Rattle.shmsim.specs.Stop.{stop_text, stop_status, io_stop};
-ghost use Rattle.shmsim.specs.Words.{asked_of, mode_of};
+ghost use Rattle.shmsim.specs.Stop.{stop_text, stop_status, io_stop, clap_stop};
+ghost use Rattle.shmsim.specs.Words.{mode_of};
 
-use shm_base::HostMemory;
+use clap::error::ErrorKind;
+use clap::{Arg, ArgAction, ArgMatches, Command, Error};
+use shm_base::{HostMemory, MOST_AREAS};
 use shm_program::{RunFault, SwapWord, read_swaps};
 use std::alloc::{AllocError, Global};
-use std::{fmt, io};
+use std::rt::Env;
+use std::{env, fmt, io};
 
 /// Why the program stops: wrong words on the command line, or a fault of the run.
 #[derive(Clone, Copy, Debug, PartialEq, Eq)]
@@ -77,6 +81,18 @@ impl From<io::Error> for Stop {
     }
 }
 
+// Words that `clap` refuses are a usage error.
+impl From<Error> for Stop {
+    ghost from_gives = { λ e r. r ≡ clap_stop (kind_of e) };
+
+    fn from(e: Error) -> Stop {
+        match e.kind() {
+            ErrorKind::OutOfMemory => Stop::Fault(RunFault::HostMemory),
+            _ => Stop::Usage,
+        }
+    }
+}
+
 /// How the script is run: its lines in file order, or a thread for each process.
 #[derive(Clone, Copy, Debug, PartialEq, Eq)]
 pub(crate) enum Mode {
@@ -84,11 +100,36 @@ pub(crate) enum Mode {
     Threads,
 }
 
-/// What the words ask for: how the script is run, and over which swap areas.
-#[derive(Drop)]
-pub(crate) struct Asked {
-    pub(crate) mode: Mode,
-    pub(crate) swaps: Vec<SwapWord>,
+/// The mode and the swap areas that the command line names.
+pub(crate) fn read_command<R: Env + AllocGlobal>(
+    rt: &R,
+    alloc: Global,
+) -> Result<(Mode, Vec<SwapWord>), Stop> {
+    let args = env::args(rt)?;
+    let words: Vec<String> = args.collect(alloc)?;
+    read_words(alloc, &words)
+}
+
+// The mode and the areas that the words name. The first word is the program's name.
+fn read_words(alloc: Global, words: &[String]) -> Result<(Mode, Vec<SwapWord>), Stop> {
+    let matches = matched(alloc, words)?;
+    read_matches(alloc, &matches)
+}
+
+fn matched(alloc: Global, words: &[String]) -> Result<ArgMatches<'_>, Stop> {
+    let command = command_line(alloc)?;
+    Ok(command.try_get_matches_from(words)?)
+}
+
+// A mode, and one to eight swap areas.
+fn command_line<'a>(alloc: Global) -> Result<Command<'a>, Stop> {
+    let mode = Arg::new(alloc, "mode").required(true);
+    let command = Command::new(alloc, "shmsim").arg(mode)?;
+    let swap = Arg::new(alloc, "swap")
+        .required(true)
+        .num_args(1..=MOST_AREAS)
+        .action(ArgAction::Append);
+    Ok(command.arg(swap)?)
 }
 
 fn mode_of(word: &str) -> Option<Mode>
@@ -101,21 +142,13 @@ fn mode_of(word: &str) -> Option<Mode>
     }
 }
 
-/// What the words ask for: the program's name, `serial` or `threads`, and one to eight swap areas.
-pub(crate) fn read_words(alloc: Global, words: &[String]) -> Result<Asked, Stop>
-    ensures ok { let asked = asked_of (map string_bytes words.now) in
-        IfOk result (λ a. asked ≡ Some (record { mode = a.mode; swaps = a.swaps.items })) }
-    ensures err { let unknown = asked_of (map string_bytes words.now) ≡ None in
-        IfErr result (λ s. (s ≡ Stop.Fault RunFault.HostMemory) ⊎ ((s ≡ Stop.Usage) × unknown)) }
-{
-    let [_, mode, rest @ ..] = words else {
+fn read_matches(alloc: Global, matches: &ArgMatches<'_>) -> Result<(Mode, Vec<SwapWord>), Stop> {
+    let Some(mode) = mode_of(matches.get_str("mode").unwrap_or("")) else {
         return Err(Stop::Usage);
     };
-    let Some(mode) = mode_of(mode.as_str()) else {
-        return Err(Stop::Usage);
-    };
-    match read_swaps(alloc, rest)? {
-        Some(swaps) => Ok(Asked { mode, swaps }),
+    let words = matches.get_strs("swap").unwrap_or(&[]);
+    match read_swaps(alloc, words)? {
+        Some(swaps) => Ok((mode, swaps)),
         None => Err(Stop::Usage),
     }
 }

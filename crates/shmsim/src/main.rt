@@ -5,20 +5,19 @@
 mod command;
 mod runs;
 
-use command::{Asked, Stop, read_words};
+use command::{Stop, read_command};
 use runs::run_over;
 use shm_program::areas_of;
+use std::io;
 use std::process::ExitCode;
 use std::rt::Env;
 use std::sync::Wait;
 use std::thread::Threads;
-use std::{env, io};
 
 // Runs the script on standard input as the command line asks.
 fn run<R: Env + Input + Print + AllocGlobal + Threads + Wait + Sync>(rt: &R) -> Result<(), Stop> {
     let alloc = rt.alloc();
-    let words: Vec<String> = env::args(rt)?.collect(alloc)?;
-    let Asked { mode, swaps } = read_words(alloc, &words)?;
+    let (mode, swaps) = read_command(rt, alloc)?;
     let pagers = areas_of(alloc, &swaps)?;
     let (mut reader, mut writer) = (rt.reader(), io::writer(rt));
     Ok(run_over(rt, alloc, &mut reader, &mut writer, mode, pagers)?)

@@ -4,7 +4,8 @@ use Rattle.shm_slots.specs.View.{AreUntouched}
 use Rattle.shm_slots.proofs.Starts.{untouched_new}
 use Rattle.shm_fault.specs.Store.{StoreView}
 use Rattle.shm_program.specs.Runs.{handed_in}
-use Rattle.shm_program.proofs.Causes.{stop_cause, stop_silent}
+use Rattle.shm_program.proofs.Causes.{stop_cause, stop_serial, stop_silent}
+use Rattle.shm_runner.proofs.Causes.{serial_fails}
 use Rattle.shm_runner.proofs.threaded.run_script.Goals as goal
 
 pub run_in-requires-clause-untouched : goal.run_in-requires-clause-untouched
@@ -30,3 +31,6 @@ returns-in-Err-clause-cause g c = stop_cause c.in-Err.fault (map (λ p. length (
 
 pub returns-in-Err-clause-written : goal.returns-in-Err-clause-written
 returns-in-Err-clause-written g c = inl (stop_silent _ c.in-Err.fault _ (g.W.Write.contents c.args.writer.now) c.in-Err.ensures.err)
+
+pub returns-in-Err-clause-ended : goal.returns-in-Err-clause-ended
+returns-in-Err-clause-ended g c = serial_fails c.in-Err.fault (stop_serial c.in-Err.fault _ c.in-Err.ensures.err)

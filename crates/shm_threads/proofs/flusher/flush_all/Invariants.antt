@@ -7,7 +7,6 @@ abbrev pub invariant-loop-line : goal.invariant-loop-line
 invariant-loop-line g l = record {
   counted : l.n ≤ l.line-index;
   made : l.n + length (rounds_of (drop l.line-index l.lines)) ≡ length (rounds_of l.lines);
-  cell : g.F.Flusher.cell l.flusher ≡ g.F.Flusher.cell l.fn.flusher;
   asked : (more : ℕ) (end : _) → Adds (g.F.Flusher.asked l.flusher) (asks_of_rounds (l.n + 1) (rounds_of (drop l.line-index l.lines)) more) (g.F.Flusher.asked end)
       → Adds (g.F.Flusher.asked l.fn.flusher) (asks_of_rounds 1 (rounds_of l.lines) (l.n + more)) (g.F.Flusher.asked end);
 }

@@ -9,7 +9,6 @@ pub returns : goal.returns
 returns g c =
     let w = c.args.world.now in
     let script = c.args.script.now in
-    let text = string_bytes c.text.text in
     let (more, led, same) = c.in_ok-push_lines.ensures in
     let first : string_bytes c.push_shown.new.text ≡ shown_text c.asked-steps.result 0 Start w = search rules in
     let (rest, leads, printed) = subst (λ (steps : Steps). (rest : List ℕ) × Leads steps (map fresh_holder script.processes) 1 w script.lines rest × (string_bytes c.push_lines.new.text ≡ shown_text steps 0 Start w ++ rest)) c.asked-steps.ensures (more, led, same ∙ ap (λ t. t ++ more) first) in record {

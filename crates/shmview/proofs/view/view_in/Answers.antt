@@ -1,4 +1,4 @@
-use Rattle.std.proofs.Common.{◌≡◌, ◌++◌, subst, sym, string_bytes, rules}
+use Rattle.std.proofs.Common.{◌≡◌, ◌∙◌, subst, sym, string_bytes, rules}
 use Rattle.std.specs.Prelude.{OnOk}
 use Rattle.std.specs.Io.KnownBytes.{Appends}
 use Rattle.shm_program.proofs.Texts.{written_as}

@@ -1,0 +1,19 @@
+-- What an event does to the lives of processes.
+use Rattle.std.specs.Prelude.{◌≡◌, ◌≢◌, ℕ, Bool, true, false, List, Option, Some, MatchBool}
+use Rattle.shm_base.specs.State.{Ended, Live, Runner, Unborn}
+use Rattle.shm_base.specs.declared.call.Event.{Event}
+use Rattle.shm_base.specs.declared.owner.Cred.{Cred}
+use Rattle.shm_threads.specs.Strands.{life_from}
+use Rattle.shm_threads.specs.Transcripts.{is_end, is_fork_of}
+use Rattle.shm_threads.specs.declared.transcript.Answer.TheVariants.{Reply as Replied}
+
+abbrev pub IsLive : ℕ → List Runner → Type 0
+IsLive pid rs = (cred : Cred) × (life_from pid rs ≡ Some (Live cred))
+
+-- Who has ended stays ended; who is not born is born by a fork of it, and only then; a live process lives on, unless it exits
+pub record Ages (e : Event) (olds news : List Runner) : Type 0 where
+  pub ended : (q : ℕ) → life_from q olds ≡ Some Ended → life_from q news ≡ Some Ended
+  pub unborn : (q : ℕ) → life_from q olds ≡ Some Unborn → is_fork_of q e.call e.reply ≡ false → life_from q news ≡ Some Unborn
+  pub born : (q : ℕ) → life_from q olds ≡ Some Unborn → is_fork_of q e.call e.reply ≡ true → IsLive q news
+  pub live : (q : ℕ) → q ≢ e.pid → IsLive q olds → IsLive q news
+  pub own : MatchBool (is_end e.call (Replied e.reply)) (life_from e.pid news ≡ Some Ended) (IsLive e.pid olds → IsLive e.pid news)

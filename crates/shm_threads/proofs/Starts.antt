@@ -1,0 +1,151 @@
+-- The invariant of a run before its first call.
+use Rattle.std.specs.Prelude.{◌≡◌, ◌≢◌, ◌<◌, ◌≤◌, ◌+◌, ◌-◌, ◌==◌, ◌&&◌, ℕ, zero, suc, Bool, true, false, not, List, [], ◌∷◌, Option, Some, None, is_some, length, map, All}
+use Rattle.std.proofs.Common.{subst, sym, ap, ◌∙◌, refl, arith, inl, inr, eq-eqb, ne_eqb, true≢false}
+use Rattle.std.proofs.Math.ListN.{get_or}
+use Rattle.std.proofs.lemmas.Bool.{cases_eq, or_left, or_right, and_from, not_from_false, or_parts}
+use Rattle.std.proofs.lemmas.List.{length-map}
+use Rattle.std.proofs.lemmas.List.Elements.{All-head, All-nil, All-tail}
+use Rattle.shm_base.specs.History.{IsHistory, LeadsFrom, own_part}
+use Rattle.shm_base.specs.Processes.{has_pid}
+use Rattle.shm_base.specs.State.{Live, Machine, Opening, Unborn, life_at_start, runner_at_start, start_of}
+use Rattle.shm_base.specs.declared.call.Event.{Event}
+use Rattle.shm_base.specs.declared.call.Process.{Process}
+use Rattle.shm_base.specs.declared.owner.Cred.{Cred}
+use Rattle.shm_history.specs.WorldState.{WorldState}
+use Rattle.shm_life.specs.Start.{are_pids}
+use Rattle.shm_slots.specs.View.{first_counts}
+use Rattle.shm_text.specs.Form.{CommandView}
+use Rattle.shm_text.specs.Script.{ScriptView}
+use Rattle.shm_text.specs.Variables.{no_values}
+use Rattle.shm_text.specs.declared.script.Line.{Line}
+use Rattle.shm_text.specs.declared.script.Line.TheVariants.{Command, Flush}
+use Rattle.shm_threads.specs.Outcomes.{IsOpened}
+use Rattle.shm_threads.specs.Running.{IsRunning}
+use Rattle.shm_threads.specs.Strands.{IsFresh, IsStrand, IsUnderway, StandsAt, left_in, life_from, now_of, pid_of_strand}
+use Rattle.shm_threads.specs.Transcripts.{IsAdmitted, IsMarkAllowed, commands_of, is_child, pid_in, transcript_events}
+use Rattle.shm_threads.specs.declared.strand.Strand.{Strand}
+use Rattle.shm_threads.specs.declared.transcript.Entry.{Entry}
+use Rattle.shm_threads.proofs.Placing.{has-at}
+use Rattle.shm_threads.proofs.Turns.{as-long, pid-at, some-process}
+
+once : (p : Process) (ps : List Process) → are_pids (p ∷ ps) ≡ true → has_pid p.pid ps ≡ false
+once p ps is = grind (arith, is)
+
+others : (p : Process) (ps : List Process) → are_pids (p ∷ ps) ≡ true → are_pids ps ≡ true
+others p ps is = grind (arith, is)
+
+-- LIVES
+
+life-first : (ps : List Process) → are_pids ps ≡ true → (j : ℕ) (d : Process) → j < length ps → life_from (get_or ps j d).pid (map runner_at_start ps) ≡ Some (life_at_start (get_or ps j d).born)
+life-first [] pids j d lt = absurd (omega (arith, lt))
+life-first (p ∷ ps) pids zero d lt = rw (eq-eqb p.pid p.pid refl) refl
+life-first (p ∷ ps) pids (suc j) d lt =
+    let less : j < length ps = omega (arith, lt) in
+    rw (ne_eqb p.pid (get_or ps j d).pid (λ same. true≢false (sym (has-at ps p.pid j d less (sym same)) ∙ once p ps pids))) (life-first ps (others p ps pids) j d less)
+
+child-at : (ps : List Process) (j : ℕ) (d : Process) → j < length ps → (get_or ps j d).born ≡ None → is_child (get_or ps j d).pid ps ≡ true
+child-at [] j d lt none = absurd (omega (arith, lt))
+child-at (p ∷ ps) zero d lt none = or_left ((p.pid == p.pid) && not (is_some p.born)) (is_child p.pid ps) (and_from (p.pid == p.pid) (not (is_some p.born)) (eq-eqb p.pid p.pid refl) (ap (λ (o : Option Cred). not (is_some o)) none))
+child-at (p ∷ ps) (suc j) d lt none = or_right ((p.pid == (get_or ps j d).pid) && not (is_some p.born)) (is_child (get_or ps j d).pid ps) (child-at ps j d (omega (arith, lt)) none)
+
+-- ROOM
+
+-- the command lines of these processes
+abbrev total : List Process → List Line → ℕ
+total [] ls = 0
+total (p ∷ ps) ls = length (commands_of p.pid ls) + total ps ls
+
+total-none : (ps : List Process) → total ps [] ≡ 0
+total-none [] = refl
+total-none (p ∷ ps) = let more = total-none ps in omega (arith, more)
+
+total-flush : (ps : List Process) (n : ℕ) (ls : List Line) → total ps (Flush n ∷ ls) ≡ total ps ls
+total-flush [] n ls = refl
+total-flush (p ∷ ps) n ls = ap (λ (k : ℕ). length (commands_of p.pid ls) + k) (total-flush ps n ls)
+
+total-absent : (ps : List Process) (c : CommandView) (ls : List Line) → has_pid c.pid ps ≡ false → total ps (Command c ∷ ls) ≡ total ps ls
+total-absent [] c ls none = refl
+total-absent (p ∷ ps) c ls none =
+    let parts = or_parts (p.pid == c.pid) (has_pid c.pid ps) none in
+    let more = total-absent ps c ls parts.1 in
+    let apart : c.pid ≢ p.pid = λ same. true≢false (sym (eq-eqb p.pid c.pid (sym same)) ∙ parts.0) in
+    rw (ne_eqb c.pid p.pid apart) (ap (λ (k : ℕ). length (commands_of p.pid ls) + k) more)
+
+total-command : (ps : List Process) (c : CommandView) (ls : List Line) → are_pids ps ≡ true → total ps (Command c ∷ ls) ≤ total ps ls + 1
+total-command [] c ls pids = omega arith
+total-command (p ∷ ps) c ls pids =
+    elim (cases_eq c.pid p.pid) [
+      | inl same ↦
+          (let rest = total-absent ps c ls (ap (λ (q : ℕ). has_pid q ps) same ∙ once p ps pids) in
+          rw (eq-eqb c.pid p.pid same) (omega (arith, rest)))
+      | inr apart ↦
+          (let rest = total-command ps c ls (others p ps pids) in
+          rw (ne_eqb c.pid p.pid apart) (omega (arith, rest)))
+    ]
+
+total-few : (ps : List Process) (ls : List Line) → are_pids ps ≡ true → total ps ls ≤ length ls
+total-few ps [] pids = let none = total-none ps in omega (arith, none)
+total-few ps (Flush n ∷ ls) pids = let same = total-flush ps n ls in let few = total-few ps ls pids in omega (arith, same, few)
+total-few ps (Command c ∷ ls) pids = let most = total-command ps c ls pids in let few = total-few ps ls pids in omega (arith, most, few)
+
+left-total : (ls : List Line) (ss : List Strand) (ps : List Process) → map pid_of_strand ss ≡ map pid_in ps → All (IsFresh ls) ss → left_in ss ≡ total ps ls
+left-total ls [] [] same fresh = refl
+left-total ls [] (p ∷ ps) same fresh = absurd (cc same)
+left-total ls (s ∷ ss) [] same fresh = absurd (cc same)
+left-total ls (s ∷ ss) (p ∷ ps) same fresh =
+    let first : s.pid ≡ p.pid = cc same in
+    let rest : map pid_of_strand ss ≡ map pid_in ps = cc same in
+    let f = All-head (IsFresh ls) s ss fresh in
+    let more = left-total ls ss ps rest (All-tail (IsFresh ls) s ss fresh) in
+    let mine : length s.commands.items ≡ length (commands_of p.pid ls) = sym (length-map s.commands.items now_of) ∙ ap length f.commands ∙ ap (λ (q : ℕ). length (commands_of q ls)) first in
+    let none : length s.entries.items ≡ 0 = ap length f.entries in
+    omega (arith, more, mine, none)
+
+-- THE START
+
+module _ (script : ScriptView) (w : WorldState) (s : Strand) (is : IsFresh script.lines s) where
+  fresh-stands : (born : Option Cred) → (born ≡ None → is_child s.pid script.processes ≡ true) → StandsAt script [] s (Some (life_at_start born))
+  fresh-stands None child = (child refl, is.entries, is.values, refl)
+  fresh-stands (Some cred) child = rw (is.entries, is.values) (λ more follows. follows)
+
+  fresh-strand : (born : Option Cred) → life_from s.pid w.machine.runners ≡ Some (life_at_start born) → (born ≡ None → is_child s.pid script.processes ≡ true) → IsStrand script w.machine [] s
+  fresh-strand born life child =
+      record {
+        commands = is.commands;
+        room = is.room;
+        place = subst (StandsAt script [] s) (sym life) (fresh-stands born child);
+        own = ap (λ (es : List Entry). transcript_events s.pid es) is.entries;
+        marks = subst (All IsMarkAllowed) (sym is.entries) (All-nil IsMarkAllowed);
+      }
+
+pub running-start : (script : ScriptView) (w : WorldState) (ss : List Strand) (counts : List ℕ) → IsOpened script w → w.machine ≡ start_of w.opening → first_counts w.memory.swap ≡ counts
+    → map pid_of_strand ss ≡ map pid_in script.processes → All (IsFresh script.lines) ss → length script.lines ≤ w.room → IsRunning script w.opening counts w ss
+running-start script w ss counts opened start began listed fresh room =
+    let ps = script.processes in
+    let runners : w.machine.runners ≡ map runner_at_start ps = ap (λ (m : Machine). m.runners) start ∙ ap (map runner_at_start) opened.processes in
+    let each : All (IsStrand script w.machine []) ss =
+    λ k d lt.
+    let less : k < length ps = omega (arith, lt, as-long ss ps listed) in
+    let e = some-process ss ps listed k less in
+    let same = pid-at ss ps listed k d e lt in
+    let life : life_from (get_or ss k d).pid w.machine.runners ≡ Some (life_at_start (get_or ps k e).born) = rw (same, runners) (life-first ps opened.pids k e less) in
+    fresh-strand script w (get_or ss k d) (fresh k d lt) (get_or ps k e).born life (λ none. rw same (child-at ps k e less none)) in
+    let few = total-few ps script.lines opened.pids in
+    let all = left-total script.lines ss ps listed fresh in
+    record {
+      started = record { opening = refl; began = began };
+      pids = opened.pids;
+      listed = listed;
+      each = subst (λ (h : List Event). All (IsStrand script w.machine h) ss) (sym opened.events) each;
+      events = subst (All (IsAdmitted ps)) (sym opened.events) (All-nil (IsAdmitted ps));
+      room = omega (arith, few, all, room);
+    }
+
+-- and where room was reserved in the world
+pub running-prepared : (script : ScriptView) (old new : WorldState) (ss : List Strand) → IsOpened script old → IsHistory old.opening old.events old.machine → new ≡ record old { room = new.room }
+    → map pid_of_strand ss ≡ map pid_in script.processes → All (IsFresh script.lines) ss → length script.lines ≤ new.room → IsRunning script old.opening (first_counts old.memory.swap) new ss
+running-prepared script old new ss opened legal rest listed fresh room =
+    let begun : LeadsFrom 1 (start_of old.opening) [] old.machine = subst (λ (es : List Event). LeadsFrom 1 (start_of old.opening) es old.machine) opened.events legal in
+    let full : WorldState = record old { room = new.room } in
+    let here : IsOpened script full = record { events = opened.events; processes = opened.processes; pids = opened.pids } in
+    subst (λ (w : WorldState). IsRunning script old.opening (first_counts old.memory.swap) w ss) (sym rest) (running-start script full ss (first_counts old.memory.swap) here begun refl listed fresh room)

@@ -1,0 +1,180 @@
+-- The invariant of a run after a turn of one of its strands.
+use Rattle.std.specs.Prelude.{◌≡◌, ◌≢◌, ◌<◌, ◌≤◌, ◌+◌, ◌-◌, ◌++◌, ◌&&◌, ℕ, Bool, true, false, List, [], ◌∷◌, Option, Some, length, map, nat_lt, is_some, MatchBool, All}
+use Rattle.std.proofs.Common.{subst, sym, ap, ◌∙◌, refl, arith, append-nil}
+use Rattle.std.proofs.Math.ListN.{get_or, set}
+use Rattle.std.proofs.lemmas.Bool.{and_parts, ltb-true}
+use Rattle.std.proofs.lemmas.List.{ext_get_or, get_or-map, get_or_default, length-map, length_push, map-set, set-get_or}
+use Rattle.std.proofs.lemmas.List.Elements.{All-push}
+use Rattle.shm_base.specs.Calls.{ProcessCall}
+use Rattle.shm_base.specs.History.{IsMove, own_part}
+use Rattle.shm_base.specs.Processes.{has_pid}
+use Rattle.shm_base.specs.State.{Ended, Machine, Opening}
+use Rattle.shm_base.specs.Step.{caller_of}
+use Rattle.shm_base.specs.declared.call.Event.{Event}
+use Rattle.shm_base.specs.declared.call.Process.{Process}
+use Rattle.shm_base.specs.declared.call.Reply.{Reply}
+use Rattle.shm_base.specs.declared.call.Reply.TheVariants.{Refused}
+use Rattle.shm_base.specs.declared.errno.Errno.TheVariants.{Esrch}
+use Rattle.shm_base.specs.declared.owner.Cred.{Cred}
+use Rattle.shm_slots.specs.Cause.{GoesOn}
+use Rattle.shm_slots.specs.View.{AreaView, SwapView, first_counts, no_area}
+use Rattle.shm_history.specs.WorldState.{IsCalled, WorldState, event}
+use Rattle.shm_text.specs.Script.{ScriptView}
+use Rattle.shm_threads.specs.Outcomes.{StartedFrom}
+use Rattle.shm_threads.specs.Running.{IsRunning}
+use Rattle.shm_threads.specs.Strands.{IsAnswered, IsMade, IsStrand, can_go, left_in, left_of, life_from, pid_of_strand}
+use Rattle.shm_threads.specs.Transcripts.{IsAdmitted, events_of, is_end, pid_in, transcript_events}
+use Rattle.shm_threads.specs.declared.strand.Made.{Made}
+use Rattle.shm_threads.specs.declared.strand.Strand.{Strand}
+use Rattle.shm_threads.specs.declared.transcript.Answer.{Answer}
+use Rattle.shm_threads.specs.declared.transcript.Answer.TheVariants.{Reply as Replied, HostMemory}
+use Rattle.shm_threads.proofs.Ages.{Ages, IsLive}
+use Rattle.shm_threads.proofs.Answering.{found}
+use Rattle.shm_threads.proofs.Entries.{own-same}
+use Rattle.shm_threads.proofs.Lives.{ages-move, lives}
+use Rattle.shm_threads.proofs.Placing.{apart-pids, each-set, has-at, left-set, left-some}
+use Rattle.shm_threads.proofs.Stepping.{Notes, strand-other, strand-own}
+
+-- areas that go on have the counts that they began with
+pub same-counts : (s t : SwapView) → GoesOn s t → first_counts t ≡ first_counts s
+same-counts s t on =
+    let long : length (first_counts t) ≡ length (first_counts s) = length-map t.areas _ ∙ on.areas ∙ sym (length-map s.areas _) in
+    ext_get_or 0 (first_counts t) (first_counts s) long
+    (λ k lt.
+    let short : k < length t.areas = omega (arith, lt, length-map t.areas (λ (a : AreaView). a.start)) in
+    let less : k < length s.areas = omega (arith, short, on.areas) in
+    get_or-map (λ (a : AreaView). a.start) t.areas k no_area 0 short ∙ on.starts k ∙ sym (get_or-map (λ (a : AreaView). a.start) s.areas k no_area 0 less))
+
+-- a flush round changes nothing that a run keeps
+pub running-flush : (script : ScriptView) (opening : Opening) (counts : List ℕ) (before after : WorldState) (ss : List Strand) → IsRunning script opening counts before ss
+    → after ≡ record before { memory = after.memory } → GoesOn before.memory.swap after.memory.swap → IsRunning script opening counts after ss
+running-flush script opening counts before after ss running rest on =
+    record {
+      started = record { opening = ap (λ (w : WorldState). w.opening) rest ∙ running.started.opening; began = same-counts before.memory.swap after.memory.swap on ∙ running.started.began };
+      pids = running.pids;
+      listed = running.listed;
+      each = subst (λ (w : WorldState). All (IsStrand script w.machine w.events) ss) (sym rest) running.each;
+      events = subst (λ (w : WorldState). All (IsAdmitted script.processes) w.events) (sym rest) running.events;
+      room = subst (λ (w : WorldState). left_in ss ≤ w.room) (sym rest) running.room;
+    }
+
+lives-on : (b : Bool) (P Q R : Type 0) → MatchBool b P (Q → R) → Q → MatchBool b P R
+lives-on true P Q R is q = is
+lives-on false P Q R is q = is q
+
+-- a call without a reply ends no process
+never-ends : (call : ProcessCall) → is_end call HostMemory ≡ false
+never-ends call = grind arith
+
+module _ (ss : List Strand) (ps : List Process) (listed : map pid_of_strand ss ≡ map pid_in ps) where
+  pub as-long : length ss ≡ length ps
+  as-long = sym (length-map ss pid_of_strand) ∙ ap length listed ∙ length-map ps pid_in
+
+  pub pid-at : (k : ℕ) (d : Strand) (e : Process) → k < length ss → (get_or ss k d).pid ≡ (get_or ps k e).pid
+  pid-at k d e lt =
+      let less : k < length ps = omega (arith, lt, as-long) in
+      sym (get_or-map pid_of_strand ss k d 0 lt) ∙ ap (λ (l : List ℕ). get_or l k 0) listed ∙ get_or-map pid_in ps k e 0 less
+
+  pub some-process : (k : ℕ) → k < length ps → Process
+  some-process k lt = by ps lt
+    where
+      by : (qs : List Process) → k < length qs → Process
+      by [] less = absurd (omega (arith, less))
+      by (q ∷ qs) less = q
+
+-- the event of a call has a place, and so has its entry
+pub has-line : (m : Machine) (s : Strand) → can_go m s ≡ true → length s.entries.items < length s.commands.items
+has-line m s go = ltb-true _ _ (and_parts (nat_lt (length s.entries.items) (length s.commands.items)) (is_some (caller_of m s.pid)) go).0
+
+pub has-place : (m : Machine) (ss : List Strand) (k room : ℕ) (s : Strand) → k < length ss → ((d : Strand) → get_or ss k d ≡ s) → can_go m s ≡ true → left_in ss ≤ room → 0 < room
+has-place m ss k room s lt here go enough =
+    let some = left-some ss k s lt in
+    let mine : left_of (get_or ss k s) ≡ left_of s = ap left_of (here s) in
+    omega (arith, some, mine, has-line m s go, enough)
+
+module _ (script : ScriptView) (opening : Opening) (counts : List ℕ) (before after : WorldState) (ss : List Strand) (k : ℕ) (s t : Strand) (made : Made)
+    (running : IsRunning script opening counts before ss) (lt : k < length ss) (here : (d : Strand) → get_or ss k d ≡ s) (go : can_go before.machine s ≡ true) (is : IsMade before s made after t) where
+  parts : (nat_lt (length s.entries.items) (length s.commands.items) ≡ true) × (is_some (caller_of before.machine s.pid) ≡ true)
+  parts = and_parts (nat_lt (length s.entries.items) (length s.commands.items)) (is_some (caller_of before.machine s.pid)) go
+
+  line : length s.entries.items < length s.commands.items
+  line = has-line before.machine s go
+
+  live : IsLive s.pid before.machine.runners
+  live = lives before.machine s.pid parts.1
+
+  notes : Notes s is.entry is.command t
+  notes = record { line = is.line; call = is.call; pid = is.pid; commands = is.commands; values = is.values; entries = is.entries; room = is.room }
+
+  old : IsStrand script before.machine before.events s
+  old = subst (IsStrand script before.machine before.events) (here s) (running.each k s lt)
+
+  -- the other strands are of other processes
+  others : (j : ℕ) (d : Strand) → j < length ss → j ≢ k → (get_or ss j d).pid ≢ s.pid
+  others j d less apart same =
+      let long = as-long ss script.processes running.listed in
+      let e = some-process ss script.processes running.listed k (omega (arith, lt, long)) in
+      let mine : s.pid ≡ (get_or script.processes k e).pid = ap pid_of_strand (sym (here d)) ∙ pid-at ss script.processes running.listed k d e lt in
+      let its : (get_or ss j d).pid ≡ (get_or script.processes j e).pid = pid-at ss script.processes running.listed j d e less in
+      apart (apart-pids script.processes running.pids j k e (omega (arith, less, long)) (omega (arith, lt, long)) (sym its ∙ same ∙ mine))
+
+  declared : has_pid s.pid script.processes ≡ true
+  declared =
+      let long = as-long ss script.processes running.listed in
+      let e = some-process ss script.processes running.listed k (omega (arith, lt, long)) in
+      let mine : (get_or script.processes k e).pid ≡ s.pid = sym (pid-at ss script.processes running.listed k s e lt) ∙ ap pid_of_strand (here s) in
+      has-at script.processes s.pid k e (omega (arith, lt, long)) mine
+
+  listed : map pid_of_strand (set ss k t) ≡ map pid_in script.processes
+  listed =
+      map-set pid_of_strand ss k t
+      ∙ ap (λ (p : ℕ). set (map pid_of_strand ss) k p) (is.pid ∙ sym (get_or-map pid_of_strand ss k s 0 lt ∙ ap pid_of_strand (here s)))
+      ∙ set-get_or (map pid_of_strand ss) k 0 ∙ running.listed
+
+  left : left_in (set ss k t) + 1 ≡ left_in ss
+  left =
+      let long : length t.entries.items ≡ length s.entries.items + 1 = ap length is.entries ∙ length_push s.entries.items is.entry in
+      let same : length t.commands.items ≡ length s.commands.items = ap (λ c. length c.items) is.commands in
+      let one : left_of t + 1 ≡ left_of s = omega (arith, long, same, line) in
+      left-set ss k t s lt (one ∙ ap left_of (sym (here s)))
+
+  by : (a : Answer) → is.entry.answer ≡ a → IsAnswered before s.pid is.entry.call a after → IsRunning script opening counts after (set ss k t)
+  by (Replied r) answer called =
+      let e = event s.pid is.entry.call r in
+      let n = length before.events + 1 in
+      let ages = ages-move before.machine n e after.machine called.move_of in
+      let aged = subst (λ (a : Answer). MatchBool (is_end is.entry.call a) (life_from s.pid after.machine.runners ≡ Some Ended) (IsLive s.pid after.machine.runners)) (sym answer) (lives-on (is_end is.entry.call (Replied r)) _ _ _ ages.own live) in
+      let told : transcript_events s.pid (is.entry ∷ []) ≡ e ∷ [] = ap (λ (a : Answer). events_of s.pid is.entry.call a []) answer in
+      let whole : own_part s.pid (before.events ++ e ∷ []) ≡ own_part s.pid before.events ++ transcript_events s.pid (is.entry ∷ []) = own-same s.pid before.events e refl ∙ ap (λ (l : List Event). own_part s.pid before.events ++ l) (sym told) in
+      let mine : IsStrand script after.machine (before.events ++ e ∷ []) t = strand-own script before.machine after.machine before.events (before.events ++ e ∷ []) s t is.entry is.command notes old line live aged whole (λ none. absurd (let both = sym answer ∙ none in cc)) in
+      let each : All (IsStrand script after.machine (before.events ++ e ∷ [])) (set ss k t) =
+      each-set (IsStrand script before.machine before.events) (IsStrand script after.machine (before.events ++ e ∷ [])) ss k t lt running.each
+      (λ j d less apart strand. strand-other script before.machine after.machine before.events e (get_or ss j d) ages (others j d less apart) strand) mine in
+      let admitted : IsAdmitted script.processes e = record { declared = declared; live = found before.machine n e after.machine called.move_of parts.1 } in
+      record {
+        started = record { opening = called.opening ∙ running.started.opening; began = same-counts before.memory.swap after.memory.swap called.keeps.goes_on ∙ running.started.began };
+        pids = running.pids;
+        listed = listed;
+        each = subst (λ (h : List Event). All (IsStrand script after.machine h) (set ss k t)) (sym called.recorded) each;
+        events = subst (All (IsAdmitted script.processes)) (sym called.recorded) (All-push (IsAdmitted script.processes) before.events e running.events admitted);
+        room = omega (arith, left, running.room, called.room);
+      }
+  by HostMemory answer (same, grows, takes) =
+      let goes : is_end is.entry.call is.entry.answer ≡ false = ap (is_end is.entry.call) answer ∙ never-ends is.entry.call in
+      let aged : MatchBool (is_end is.entry.call is.entry.answer) (life_from s.pid before.machine.runners ≡ Some Ended) (IsLive s.pid before.machine.runners) = rw goes live in
+      let told : transcript_events s.pid (is.entry ∷ []) ≡ [] = ap (λ (a : Answer). events_of s.pid is.entry.call a []) answer in
+      let whole : own_part s.pid before.events ≡ own_part s.pid before.events ++ transcript_events s.pid (is.entry ∷ []) = sym (ap (λ (l : List Event). own_part s.pid before.events ++ l) told ∙ append-nil (own_part s.pid before.events)) in
+      let mine : IsStrand script before.machine before.events t = strand-own script before.machine before.machine before.events before.events s t is.entry is.command notes old line live aged whole (λ none. takes) in
+      let each : All (IsStrand script before.machine before.events) (set ss k t) =
+      each-set (IsStrand script before.machine before.events) (IsStrand script before.machine before.events) ss k t lt running.each (λ j d less apart strand. strand) mine in
+      record {
+        started = subst (StartedFrom opening counts) (sym same) (record { opening = running.started.opening; began = running.started.began });
+        pids = running.pids;
+        listed = listed;
+        each = subst (λ (w : WorldState). All (IsStrand script w.machine w.events) (set ss k t)) (sym same) each;
+        events = subst (λ (w : WorldState). All (IsAdmitted script.processes) w.events) (sym same) running.events;
+        room = omega (arith, left, running.room, grows);
+      }
+
+  pub running-step : IsRunning script opening counts after (set ss k t)
+  running-step = by is.entry.answer refl is.answered

@@ -1,7 +1,0 @@
-use Rattle.shm_threads.proofs.Placed.{absent_line}
-use Rattle.shm_threads.proofs.pids.own_command.Goals as goal
-
-pub returns-then-is_of_another-clause-other : goal.returns-then-is_of_another-clause-other
-returns-then-is_of_another-clause-other c =
-    let other = c.is_of_another.ensures.0 c.if-is_of_another.true in
-    absent_line c.args.pid c.args.index c.args.lines.now c.args.pids.now c.args.pid c.requires.pids other.0 c.requires.index other.1

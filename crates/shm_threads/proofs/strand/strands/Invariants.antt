@@ -1,0 +1,11 @@
+use Rattle.std.proofs.Common.{◌≡◌, All, map, take}
+use Rattle.shm_threads.specs.Strands.{IsFresh, pid_of_strand}
+use Rattle.shm_threads.specs.Transcripts.{pid_in}
+use Rattle.shm_threads.proofs.strand.strands.Given as goal
+
+-- one for each of the first processes
+abbrev pub invariant-loop-process : goal.invariant-loop-process
+invariant-loop-process l = record {
+  pids : map pid_of_strand l.strands.items ≡ map pid_in (take l.process-index l.script.processes);
+  fresh : All (IsFresh l.script.lines) l.strands.items;
+}

@@ -1,0 +1,69 @@
+-- What holds of a run whenever its lock is free.
+use Rattle.std.specs.Prelude.{◌≡◌, ◌<◌, ◌≤◌, ℕ, Bool, true, false, List, [], length, map, slice_index_or, slice_set, All, Option}
+use Rattle.shm_base.specs.Bounds.{largest}
+use Rattle.shm_base.specs.State.{Opening}
+use Rattle.shm_history.specs.Gauges.{Seat}
+use Rattle.shm_history.specs.WorldState.{WorldState}
+use Rattle.shm_life.specs.Start.{are_pids}
+use Rattle.shm_text.specs.Script.{ScriptView}
+use Rattle.shm_threads.specs.Outcomes.{StartedFrom}
+use Rattle.shm_threads.specs.Births.{births_after, is_birth}
+use Rattle.shm_threads.specs.Strands.{IsMade, IsStrand, can_go, left_in, pid_of_strand}
+use Rattle.shm_threads.specs.Transcripts.{IsAdmitted, pid_in}
+use Rattle.shm_threads.specs.declared.births.ProcessState.{ProcessState}
+use Rattle.shm_threads.specs.declared.strand.Made.{Made}
+use Rattle.shm_threads.specs.declared.strand.Made.TheVariants.{End}
+use Rattle.shm_threads.specs.declared.strand.Strand.{Strand}
+
+-- THE INVARIANT of the lock: the world began as it was passed in; each process of the script has its strand; the history has
+-- only events of declared processes that were live; and there is room for an event of each line that is left
+pub record IsRunning (script : ScriptView) (opening : Opening) (counts : List ℕ) (world : WorldState) (strands : List Strand) : Type 0 where
+  pub started : StartedFrom opening counts world
+  pub pids : are_pids script.processes ≡ true
+  pub listed : map pid_of_strand strands ≡ map pid_in script.processes
+  pub each : All (IsStrand script world.machine world.events) strands
+  pub events : All (IsAdmitted script.processes) world.events
+  pub room : left_in strands ≤ world.room
+
+-- the same, and no process can continue
+pub record IsOver (script : ScriptView) (opening : Opening) (counts : List ℕ) (world : WorldState) (strands : List Strand) : Type 0 where
+  pub running : IsRunning script opening counts world strands
+  pub none : All (λ (s : Strand). can_go world.machine s ≡ false) strands
+
+-- what contracts see of what the threads share
+pub record RunView : Type 0 where
+  pub world : WorldState
+  pub strands : List Strand
+  pub processes : List ProcessState
+  pub keeper : Option Seat
+
+-- the process has not ended by this call
+abbrev pub goes_on_by : Made → Bool
+goes_on_by End = false
+goes_on_by _ = true
+
+-- A strand that can go on made the call of its next line: its entry, a birth if there was one, and whether it may have more
+pub record IsTurn (before : RunView) (index : ℕ) (goes_on news : Bool) (after : RunView) : Type 0 where
+  pub strand : Strand
+  pub next : Strand
+  pub effect : Made
+  pub at : (d : Strand) → slice_index_or before.strands index d ≡ strand
+  pub step : IsMade before.world strand effect after.world next
+  pub strands : after.strands ≡ slice_set before.strands index next
+  pub births : after.processes ≡ births_after effect before.processes
+  pub keeper : after.keeper ≡ before.keeper
+  pub noted : news ≡ is_birth effect
+  pub more : goes_on ≡ goes_on_by effect
+
+-- no strand is at the index, or it can't go on; then nothing happens
+pub record IsIdle (before : RunView) (index : ℕ) (goes_on news : Bool) (after : RunView) : Type 0 where
+  pub stays : (d : Strand) → index < length before.strands → can_go before.world.machine (slice_index_or before.strands index d) ≡ false
+  pub same : after ≡ before
+  pub noted : news ≡ false
+  pub more : goes_on ≡ false
+
+abbrev pub no_script : ScriptView
+no_script = record { limits = largest; processes = []; lines = [] }
+
+abbrev pub no_opening : Opening
+no_opening = record { limits = largest; areas = []; processes = [] }

@@ -1,0 +1,33 @@
+//! What a run began with, as ghosts that each run picks at its call.
+
+use std::marker::Brand;
+
+/// The script of a run, the opening and the counts of failures of the world that was passed in, and the cell of the keeper
+/// that was passed in.
+pub trait Origin {
+    ghost use Rattle.std.specs.Prelude.{List, Option, ℕ};
+    ghost use Rattle.shm_history.specs.Gauges.{CellName};
+    ghost use Rattle.shm_base.specs.State.{Opening};
+    ghost use Rattle.shm_text.specs.Script.{ScriptView};
+
+    ghost script: { ScriptView };
+
+    ghost opening: { Opening };
+
+    ghost counts: { List ℕ };
+
+    ghost cell: { Option CellName };
+}
+
+impl Origin for Brand {
+    ghost use Rattle.std.specs.Prelude.{[], None};
+    ghost use Rattle.shm_threads.specs.Running.{no_script, no_opening};
+
+    ghost script = { no_script };
+
+    ghost opening = { no_opening };
+
+    ghost counts = { [] };
+
+    ghost cell = { None };
+}
