@@ -235,7 +235,7 @@ def ask(port, method, path, body=None, headers=(), length=None):
         connection.close()
 
 
-# what a browser is told of each answer: the page may load nothing, and ask this server alone
+# the headers of every answer: they let the page send requests to this server only, and load nothing else
 HEADERS = {
     "Content-Security-Policy": "default-src 'none'; script-src 'unsafe-inline'; style-src 'unsafe-inline'; img-src data:; connect-src 'self'; "
                                "base-uri 'none'; form-action 'none'; frame-ancestors 'none'",
