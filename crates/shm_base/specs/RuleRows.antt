@@ -65,7 +65,7 @@ ForkRule =
     ∷ does 2 (stat 0) (shows 0 4096 1 2 3 0)
     ∷ [])
 
--- REST_IS_ATTACHED: a remap that takes a part, one that takes the whole, and an unmap
+-- REST_IS_ATTACHED: a remap that takes a part of an attach, and one that takes the rest of it
 abbrev pub RestRule : Type 0
 RestRule =
     Answers (with_rules 8 (process 1 100 100 ∷ []))

@@ -2,10 +2,11 @@ ghost use Rattle.std.specs.Prelude.{◌≡◌, Some};
 ghost use Rattle.shm_base.specs.Codes.{code_of, name_of};
 
 use std::fmt;
+use thiserror::Error;
 
 /// Why a call was refused, by the names and numbers of errno(3). An access that faults is refused with one of
 /// the two signals (this project's profile).
-#[derive(Clone, Copy, Debug, PartialEq, Eq)]
+#[derive(Clone, Copy, Debug, PartialEq, Eq, Error)]
 pub enum Errno {
     Eperm,
     Enoent,
