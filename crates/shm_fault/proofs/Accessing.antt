@@ -2,7 +2,7 @@
 use Rattle.shm_fault.proofs.Names.{◌≡◌, ℕ, ◌≤◌, true, false, false≢true, List, length, Option, Some, None, Result, Ok, Err, is_ok, OnOk, OnErr, refl, sym, ap, ◌∙◌, Span, Held, StoreView, InFrames, Touched, IsStoreSound, AreIn, Brings}
 use Rattle.shm_fault.specs.Access.{answer_of}
 use Rattle.shm_fault.specs.Acting.{Acts, HasOld, Puts}
-use Rattle.shm_fault.specs.Held.{read_from, written}
+use Rattle.shm_fault.specs.Held.{written}
 use Rattle.shm_fault.specs.Placing.{places, after_access, Stops}
 use Rattle.shm_fault.specs.Store.{held}
 use Rattle.shm_fault.proofs.Bringing.{accessed, accessed-failed}
@@ -12,7 +12,7 @@ use Rattle.shm_fault.proofs.Dirtied.{none-in, none-stopped, dirtied-after}
 module _ (ps : List Span) (s t z : StoreView) (u : Touched) (here : InFrames) (before after : List ℕ)
     (few : length ps ≤ 2) (brings : Brings ps s t u true) (are : AreIn t ps here) (came : places t ≡ after_access ps (places s)) (sound : IsStoreSound t) (old : HasOld (held t) ps before after) where
   there : HasOld (held s) ps before after
-  there size = old size ∙ ap (λ (hs : List Held). read_from hs ps) brings.goes.bytes
+  there = rw brings.goes.bytes at old
 
   pub acts-done : {A E : Type 0} (a : A) (put : Option (List ℕ)) → Puts put ps t z → Acts {A = A} {E = E} put ps before after s z (Ok a) (Ok u)
   acts-done a None is = record {

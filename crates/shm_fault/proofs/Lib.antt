@@ -26,6 +26,7 @@ pub mod Drops
 pub mod Areas
 pub mod Seen
 pub mod Puts
+pub mod Putting
 pub mod Placed
 pub mod Places
 pub mod Moves

@@ -1,5 +1,5 @@
 -- What an access does at the bytes of its spans, and what it leaves.
-use Rattle.std.specs.Prelude.{ℕ, ◌≡◌, ◌+◌, ◌%◌, ◌^◌, Bool, true, false, if◌then◌else◌, List, length, sum_by, Option, Some, None, is_some, Result, OnOk, OnErr, ⊤}
+use Rattle.std.specs.Prelude.{ℕ, ◌≡◌, ◌+◌, ◌%◌, ◌^◌, ◌==◌, Bool, true, false, if◌then◌else◌, List, length, sum_by, Option, Some, None, is_some, Result, OnOk, OnErr, ⊤}
 use Rattle.std.specs.Int.{w64, from_le_bytes, to_le_bytes}
 use Rattle.shm_base.specs.Exchange.{same_bytes}
 use Rattle.shm_base.specs.declared.paging.Span.{Span}
@@ -60,9 +60,12 @@ DirtiedIf false ps s t = NoneDirtied s.frames t.frames
 abbrev pub left_by : Bool → List Span → Places → Places
 left_by puts ps s = if puts then with_dirty ps s else s
 
--- the place has the bytes that were there, if it is as long as they are
+-- the place for the old bytes: it has them afterwards, if it is as long as they are
+abbrev pub place_after : ℕ → List ℕ → List ℕ → List ℕ
+place_after size old before = if size == length before then old else before
+
 abbrev pub HasOld : List Held → List Span → List ℕ → List ℕ → Type 0
-HasOld hs ps before after = bytes_in ps ≡ length before → after ≡ read_from hs ps
+HasOld hs ps before after = after ≡ place_after (bytes_in ps) (read_from hs ps) before
 
 -- Bytes were put into spans whose pages are resident, or none were. Neither a page moved, nor did a bit change but dirty ones.
 pub record PutAt (bytes : List ℕ) (ps : List Span) (s t : StoreView) : Type 0 where

@@ -16,7 +16,7 @@ ghost use Rattle.shm_fault.specs.Sound.{IsStoreSound};
 ghost use Rattle.shm_fault.specs.Goes.{frame_by, referenced_at};
 ghost use Rattle.shm_fault.specs.Placing.{places, with_bit, with_dirty, after_access, Stops, AreDirtied};
 ghost use Rattle.shm_fault.specs.Access.{NameFrames, NamesFrame, IsUntouched, AreIn, Brings, answer_of};
-ghost use Rattle.shm_fault.specs.Acting.{Acts, FitsRoom, HasOld, Puts, put_by, size_of};
+ghost use Rattle.shm_fault.specs.Acting.{Acts, FitsRoom, HasOld, PutAt, Puts, put_by, size_of};
 
 use crate::act::Act;
 use crate::store::PageStore;
@@ -233,6 +233,31 @@ impl<P: Pager> PageStore<P> {
         paste_into(&mut self.frames, frame, from, bytes);
     }
 
+    // As [`PageStore::copy_spans`], for two spans.
+    #[inline(never)]
+    fn copy_two(&self, first: Span, second: Span, here: InFrames, out: &mut [u8])
+        requires spans { IsAccess (FitsPage (held self.now)) (first ∷ second ∷ []) (length out.old) }
+        requires here { AreIn self.now (first ∷ second ∷ []) here }
+        ensures { out.new ≡ read_from (held self.now) (first ∷ second ∷ []) }
+    {
+        let (front, back) = out.split_at_mut(first.len as usize);
+        self.copy_out(&first, here.first, front);
+        self.copy_out(&second, here.second, back);
+    }
+
+    // As [`PageStore::store_spans`], for two spans.
+    #[inline(never)]
+    fn store_two(&mut self, first: Span, second: Span, here: InFrames, bytes: &[u8])
+        requires spans { IsAccess (FitsPage (held self.old)) (first ∷ second ∷ []) (length bytes.now) }
+        requires here { AreIn self.old (first ∷ second ∷ []) here }
+        requires sound { IsStoreSound self.old }
+        ensures { PutAt bytes.now (first ∷ second ∷ []) self.old self.new }
+    {
+        let (front, back) = bytes.split_at(first.len as usize);
+        self.store(&first, here.first, front);
+        self.store(&second, here.second, back);
+    }
+
     // Copies the bytes of spans out of the frames that their pages are in.
     #[inline(always)]
     pub(crate) fn copy_spans(&self, spans: &[Span], here: InFrames, out: &mut [u8])
@@ -243,11 +268,7 @@ impl<P: Pager> PageStore<P> {
         match spans {
             [] => {}
             [first] => self.copy_out(first, here.first, out),
-            [first, second, ..] => {
-                let (front, back) = out.split_at_mut(first.len as usize);
-                self.copy_out(first, here.first, front);
-                self.copy_out(second, here.second, back);
-            }
+            [first, second, ..] => self.copy_two(*first, *second, here, out),
         }
     }
 
@@ -257,34 +278,12 @@ impl<P: Pager> PageStore<P> {
         requires spans { IsAccess (FitsPage (held self.old)) spans.now (length bytes.now) }
         requires here { AreIn self.old spans.now here }
         requires sound { IsStoreSound self.old }
-        ensures written { held self.new ≡ written (held self.old) spans.now bytes.now }
-        ensures bits { (f : ℕ) → referenced_at self.new f ≡ referenced_at self.old f }
-        ensures dirtied { AreDirtied spans.now self.old self.new }
-        ensures placed { places self.new ≡ with_dirty spans.now (places self.old) }
-        ensures rest { self.new ≡ record self.old { frames = self.new.frames } }
-        ensures count { length self.new.frames ≡ length self.old.frames }
-        ensures sound { IsStoreSound self.new }
+        ensures { PutAt bytes.now spans.now self.old self.new }
     {
         match spans {
             [] => {}
             [first] => self.store(first, here.first, bytes),
-            [first, second, ..] => {
-                let (front, back) = bytes.split_at(first.len as usize);
-                self.store(first, here.first, front);
-                self.store(second, here.second, back);
-            }
-        }
-    }
-
-    // Copies the bytes of spans out, if the place is as long as they are.
-    #[inline(always)]
-    fn copy_fitting(&self, spans: &[Span], here: InFrames, size: usize, out: &mut [u8])
-        requires spans { IsAccess (FitsPage (held self.now)) spans.now size }
-        requires here { AreIn self.now spans.now here }
-        ensures { HasOld (held self.now) spans.now out.old out.new }
-    {
-        if out.len() == size {
-            self.copy_spans(spans, here, out);
+            [first, second, ..] => self.store_two(*first, *second, here, bytes),
         }
     }
 
@@ -299,23 +298,20 @@ impl<P: Pager> PageStore<P> {
         ensures put { let put = put_by act.entry (read_from (held self.old) spans.now) in
             Puts put spans.now self.old self.new }
     {
-        match act {
-            Act::Nothing => self.copy_spans(spans, here, there),
-            Act::Put(bytes) => {
-                self.copy_fitting(spans, here, bytes.len(), there);
-                self.store_spans(spans, here, bytes);
-            }
-            Act::PutIfEqual { expected, bytes } => {
-                self.copy_spans(spans, here, there);
-                if are_same(there, expected) {
-                    self.store_spans(spans, here, bytes);
-                }
-            }
-            Act::Add(more) => {
-                self.copy_spans(spans, here, there);
-                self.store_spans(spans, here, &sum_with(there, more));
-            }
+        if there.len() == act.size(there.len()) {
+            self.copy_spans(spans, here, there);
         }
+        let mut sum = [0; 8];
+        let bytes: &[u8] = match act {
+            Act::Nothing => return,
+            Act::PutIfEqual { expected, .. } if !are_same(there, expected) => return,
+            Act::Put(bytes) | Act::PutIfEqual { bytes, .. } => bytes,
+            Act::Add(more) => {
+                sum = sum_with(there, more);
+                &sum
+            }
+        };
+        self.store_spans(spans, here, bytes);
     }
 
     /// Does an act at the bytes of at most two spans, once their pages are resident. If `there` is as long as

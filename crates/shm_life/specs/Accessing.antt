@@ -7,7 +7,7 @@ use Rattle.shm_base.specs.declared.errno.Errno.TheVariants.{Esrch, Sigbus, Sigse
 use Rattle.shm_base.specs.declared.paging.Span.{Span}
 use Rattle.shm_base.specs.State.{Entry}
 use Rattle.shm_attach.specs.Spans.{wanted_in}
-use Rattle.shm_fault.specs.Acting.{put_by, size_of, writes}
+use Rattle.shm_fault.specs.Acting.{place_after, put_by, size_of, writes}
 use Rattle.shm_fault.specs.declared.act.Act.{Act}
 use Rattle.shm_segments.specs.Table.{table_with}
 use Rattle.shm_slots.specs.Cause.{had_cause}
@@ -40,7 +40,7 @@ pub record LeavesOrFails
 pub record Does
     (act : Act) (places : List Place) (before after : List ℕ) (s : MachineView) (r : Result (Unit {0}) Errno)
     (t : MachineView) : Type 0 where
-  pub there : OnOk r (size_of act (length before) ≡ length before → after ≡ loaded s.flat.table places)
+  pub there : OnOk r (after ≡ place_after (size_of act (length before)) (loaded s.flat.table places) before)
   pub kept : OnErr r (after ≡ before)
   pub leaves : LeavesOrFails (table_with s.flat.table places (put_by act (loaded s.flat.table places))) s r t
 

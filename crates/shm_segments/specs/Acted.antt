@@ -1,12 +1,12 @@
 -- The segments after an access of the bytes of spans.
-use Rattle.std.specs.Prelude.{ℕ, ◌≡◌, false, List, length, Option, Result, OnOk, OnErr}
+use Rattle.std.specs.Prelude.{ℕ, ◌≡◌, false, List, Option, Result, OnOk, OnErr}
 use Rattle.shm_base.specs.Access.{loaded}
 use Rattle.shm_base.specs.Spans.{span_places}
 use Rattle.shm_base.specs.declared.paging.Span.{Span}
 use Rattle.shm_fault.specs.declared.touched.Touched.{Touched}
 use Rattle.shm_fault.specs.declared.touched.PagerFailed.{PagerFailed}
 use Rattle.shm_fault.specs.Access.{Accessed}
-use Rattle.shm_fault.specs.Acting.{bytes_in}
+use Rattle.shm_fault.specs.Acting.{bytes_in, place_after}
 use Rattle.shm_segments.specs.Table.{table_with}
 use Rattle.shm_segments.specs.View.{SegmentsView, KeepsMemory}
 
@@ -14,7 +14,7 @@ use Rattle.shm_segments.specs.View.{SegmentsView, KeepsMemory}
 pub record Acted
     {A E : Type 0} (put : Option (List ℕ)) (ps : List Span) (before after : List ℕ) (s t : SegmentsView)
     (result : Result A E) (answer : Result Touched PagerFailed) : Type 0 where
-  pub there : OnOk result (bytes_in ps ≡ length before → after ≡ loaded s.table (span_places false ps))
+  pub there : OnOk result (after ≡ place_after (bytes_in ps) (loaded s.table (span_places false ps)) before)
   pub kept : OnErr result (after ≡ before)
   pub written : OnOk result (t.table ≡ table_with s.table (span_places false ps) put)
   pub same : OnErr result (t.table ≡ s.table)
