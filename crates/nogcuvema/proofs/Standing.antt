@@ -1,7 +1,8 @@
 -- A machine that was opened was not refused.
-use Rattle.nogcuvema.proofs.Names.{ℕ, ◌+◌, Bool, false, not, nat_lt, if◌then◌else◌, List, [], map, ap, Result, Ok, Err, ◌∙◌, refl, sym, Bounds, bad, BadLimits, Process, start_error, Machine, AreaConfig, IsOpened, sizes_of, NogLimits, NogArea, NogFailure, NogProcess, area_of, process_of, are_kinds, are_there, bounds_of, Opens}
+use Rattle.nogcuvema.proofs.Names.{ℕ, ◌+◌, Bool, false, not, nat_lt, if◌then◌else◌, List, [], map, ap, Result, Ok, Err, ◌∙◌, refl, sym, Bounds, bad, BadLimits, Process, start_error, Machine, AreaConfig, IsOpened, sizes_of, NogLimits, NogArea, NogFailure, NogProcess, area_of, failure_of, process_of, are_kinds, are_there, bounds_of, Opens}
 use Rattle.std.proofs.Common.{◌≡◌, ◌∷◌, true, None, Some, arith}
 use Rattle.std.proofs.lemmas.Bool.Decides.{nat_tests}
+use Rattle.shm_machine.specs.declared.opening.Failure.{Failure}
 use Rattle.std.proofs.lemmas.Grind.{common_steps}
 use Rattle.shm_life.specs.declared.start.StartError.{StartError}
 use Rattle.shm_life.specs.Start.{error_number}
@@ -52,15 +53,15 @@ bounds-are l x h = by (is_of_profile l) refl h
     by true is h = of-profile l x (profile_of l) refl h
     by false is h = granted largest (numbers_of l) x h
 
-pub opens : (l : NogLimits) (areas : List NogArea) (failures : List NogFailure) (processes : List NogProcess) (x : Bounds) (given : List AreaConfig) (ps : List Process) (m : Machine)
+pub opens : (l : NogLimits) (areas : List NogArea) (failures : List NogFailure) (processes : List NogProcess) (x : Bounds) (given : List AreaConfig) (fs : List Failure) (ps : List Process) (m : Machine)
     → limits_by l ≡ Ok x → are_kinds areas ≡ true → are_there areas failures ≡ true
-    → given ≡ map area_of areas → ps ≡ map process_of processes → start_error x (sizes_of given) ps ≡ None → IsOpened x given ps m.system → Opens l areas failures processes m
-opens l areas failures processes x given ps m limits kinds there same-areas same-processes start opened =
+    → given ≡ map area_of areas → fs ≡ map failure_of failures → ps ≡ map process_of processes → start_error x (sizes_of given) ps ≡ None → IsOpened x given fs ps m.system → Opens l areas failures processes m
+opens l areas failures processes x given fs ps m limits kinds there same-areas same-failures same-processes start opened =
     let none : start_error x (sizes_of (map area_of areas)) (map process_of processes) ≡ None = rw (← same-areas, ← same-processes) start in
     let bounds = bounds-are l x limits in
     record {
       sound = rw (limits, kinds, there, none) refl;
-      opened = rw (← bounds, ← same-areas, ← same-processes) opened;
+      opened = rw (← bounds, ← same-areas, ← same-failures, ← same-processes) opened;
     }
 
 -- the sizes that C gives are those of the areas

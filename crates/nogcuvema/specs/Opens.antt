@@ -104,7 +104,7 @@ opening_code l areas failures processes = code_by (limits_by l) areas failures p
 -- nothing is refused, and this machine is open
 pub record Opens (l : NogLimits) (areas : List NogArea) (failures : List NogFailure) (processes : List NogProcess) (m : Machine) : Type 0 where
   pub sound : opening_code l areas failures processes ≡ 0
-  pub opened : IsOpened (bounds_of l) (map area_of areas) (map process_of processes) m.system
+  pub opened : IsOpened (bounds_of l) (map area_of areas) (map failure_of failures) (map process_of processes) m.system
 
 -- out of memory may replace 0 and the errors of processes, because limits, numbers and areas are tested before memory is taken
 abbrev pub may_want_memory : ℕ → Bool

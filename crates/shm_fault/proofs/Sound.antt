@@ -6,6 +6,7 @@ use Rattle.shm_fault.proofs.Ties.{Touches, tied_touched, bytes_touched}
 use Rattle.shm_fault.proofs.Tally.{resident-frames}
 use Rattle.shm_fault.proofs.Bytes.{bytes_at, held-same}
 use Rattle.shm_fault.proofs.Failures.{spent-cause, cause-before}
+pub use Rattle.shm_slots.proofs.Causes.{GoesOn-refl, GoesOn-trans}
 
 -- a page and the frame that it is in
 pub frame-own : (s : StoreView) → IsStoreSound s → (r : PageRef) (f : ℕ) → (rec_by s.segs r).frame ≡ Some f → (f < length s.frames) × ((frame_at s.frames f).owner ≡ Some r)
@@ -36,12 +37,6 @@ module _ (off : PageRef → Bool) (s t : StoreView) (sound : IsStoreSound s) (to
 
   pub goes-touched : GoesOn s.swap t.swap → ((q : PageRef) → off q ≡ false → HasPage s.segs q → bytes_at t q ≡ bytes_at s q) → Goes s t
   goes-touched goes_on bytes = grind (arith, held-same, apart-same, bytes_touched, spent-cause)
-
-pub GoesOn-refl : (s : SwapView) → GoesOn s s
-GoesOn-refl s = record { areas = refl; starts = λ a. refl; counts = λ a. omega arith; here = λ a e. e; flag = λ e. e }
-
-pub GoesOn-trans : (s t u : SwapView) → GoesOn s t → GoesOn t u → GoesOn s u
-GoesOn-trans s t u a b = grind (arith, nat_tests, common_steps, b.areas, a.areas, b.starts, a.starts, a.counts, b.counts, a.here, b.here, a.flag, b.flag)
 
 pub Goes-trans : (s t u : StoreView) → Goes s t → Goes t u → Goes s u
 Goes-trans s t u a b = record {

@@ -101,7 +101,7 @@ impl<P: Pager> System<P> {
         processes: &[Process],
     ) -> Result<System<P>, StartError>
         ensures started { let sizes = map (λ p. length (P.content p)) pagers.items in
-            let areas = map (λ p. fresh (pager_seen P.content P.failed p)) pagers.items in
+            let areas = map (λ p. fresh (pager_seen P.content P.failed P.most p)) pagers.items in
             IfOk result (λ s. IsStarted limits sizes areas processes.now s) }
         ensures ok { let sizes = map (λ p. length (P.content p)) pagers.items in
             OnOk result (start_error limits sizes processes.now ≡ None) }
@@ -127,7 +127,7 @@ impl<P: Pager> System<P> {
         requires none { let sizes = map (λ p. length (P.content p)) pagers.items in
             start_error limits sizes processes.now ≡ None }
         ensures { let sizes = map (λ p. length (P.content p)) pagers.items in
-            let areas = map (λ p. fresh (pager_seen P.content P.failed p)) pagers.items in
+            let areas = map (λ p. fresh (pager_seen P.content P.failed P.most p)) pagers.items in
             IfOk result (λ s. IsStarted limits sizes areas processes.now s) }
     {
         // Reading the limits tells the proof their ranges.

@@ -1,5 +1,5 @@
 -- What a machine is opened with, and its state then.
-use Rattle.std.specs.Prelude.{ℕ, ◌==◌, ◌&&◌, Bool, true, false, not, List, map, filter}
+use Rattle.std.specs.Prelude.{ℕ, ◌+◌, ◌==◌, ◌&&◌, Bool, true, false, not, List, [], ◌∷◌, map, filter}
 use Rattle.shm_base.specs.Bounds.{Bounds}
 use Rattle.shm_base.specs.declared.call.Process.{Process}
 use Rattle.shm_slots.specs.View.{fresh}
@@ -8,7 +8,9 @@ use Rattle.shm_machine.specs.declared.opening.AreaConfig.{AreaConfig}
 use Rattle.shm_machine.specs.declared.opening.Failure.{Failure}
 use Rattle.shm_machine.specs.declared.opening.Side.{Side}
 use Rattle.shm_machine.specs.declared.opening.Side.TheVariants.{Left, Right}
-use Rattle.shm_pager.specs.Areas.{blank}
+use Rattle.shm_pager.specs.Pages.{PagerView, blank}
+use Rattle.shm_pager.specs.Areas.{FailingCalls, IsOfKind, most_of_kind}
+use Rattle.shm_pager.specs.declared.area.AreaPager.{AreaPager}
 
 abbrev pub same_side : Side → Side → Bool
 same_side Left Left = true
@@ -30,6 +32,26 @@ calls_at area side is_write failures = map (λ (f : Failure). f.call) (filter (i
 abbrev pub sizes_of : List AreaConfig → List ℕ
 sizes_of areas = map (λ (a : AreaConfig). a.slots) areas
 
--- the machine at its start: areas of zeros, with no failure counted
-abbrev pub IsOpened : Bounds → List AreaConfig → List Process → SystemState → Type 0
-IsOpened limits areas processes s = IsStarted limits (sizes_of areas) (map (λ (a : AreaConfig). fresh (blank a.slots)) areas) processes s
+-- the calls of a side that fail
+abbrev pub failing_at : List Failure → ℕ → Side → FailingCalls
+failing_at failures area side = record { reads = calls_at area side false failures; writes = calls_at area side true failures }
+
+-- the pager of an area, which is of its kind, and of which exactly the listed calls will fail
+abbrev pub IsMade : List Failure → ℕ → AreaConfig → AreaPager → Type 0
+IsMade failures index a p = IsOfKind a.kind a.slots (failing_at failures index Left) (failing_at failures index Right) p
+
+-- the pagers of areas, of which the first has this index
+abbrev pub AreMade : List Failure → ℕ → List AreaConfig → List AreaPager → Type 0
+AreMade failures index [] [] = Unit {0}
+AreMade failures index (a ∷ more) (p ∷ ps) = IsMade failures index a p × AreMade failures (index + 1) more ps
+AreMade failures index _ _ = ⊥
+
+-- what is seen of them: zeros in each slot, no failure counted, and the most that each may count
+abbrev pub pagers_made : List Failure → ℕ → List AreaConfig → List PagerView
+pagers_made failures index [] = []
+pagers_made failures index (a ∷ more) =
+    blank a.slots (most_of_kind a.kind (failing_at failures index Left)) ∷ pagers_made failures (index + 1) more
+
+-- the machine at its start: areas of zeros, with no failure counted, whose pagers will fail at the listed calls
+abbrev pub IsOpened : Bounds → List AreaConfig → List Failure → List Process → SystemState → Type 0
+IsOpened limits areas failures processes s = IsStarted limits (sizes_of areas) (map fresh (pagers_made failures 0 areas)) processes s

@@ -47,7 +47,7 @@ impl Machine {
         failures: &[Failure],
         processes: &[Process],
     ) -> Result<Machine, StartError>
-        ensures opened { IfOk result (λ m. IsOpened limits areas.now processes.now m.system) }
+        ensures opened { IfOk result (λ m. IsOpened limits areas.now failures.now processes.now m.system) }
         ensures ok { OnOk result (start_error limits (sizes_of areas.now) processes.now ≡ None) }
         ensures err { IfErr result (λ e. (e ≡ start.HostMemory)
             ⊎ (start_error limits (sizes_of areas.now) processes.now ≡ Some e)) }

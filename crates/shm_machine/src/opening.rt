@@ -1,8 +1,6 @@
 //! What a machine is opened with.
-ghost use Rattle.std.specs.Prelude.{◌≡◌, ◌==◌, ◌≤◌, IfOk, map, length, true, false};
-ghost use Rattle.shm_pager.specs.Pages.{pager_seen};
-ghost use Rattle.shm_pager.specs.Areas.{blank, area_pages, failed_in, IsOfKind};
-ghost use Rattle.shm_machine.specs.Opened.{is_at, calls_at};
+ghost use Rattle.std.specs.Prelude.{◌≡◌, ◌==◌, ◌≤◌, IfOk, length, true, false};
+ghost use Rattle.shm_machine.specs.Opened.{is_at, calls_at, IsMade, AreMade};
 
 use shm_base::HostMemory;
 use shm_pager::{AreaKind, AreaPager, Failing};
@@ -75,16 +73,14 @@ fn failing(
     })
 }
 
-// An area of zeros whose listed calls fail.
+// An area of zeros, of which exactly the listed calls fail, beside those of a sparse area for lack of memory.
 fn pager_for(
     alloc: Global,
     index: u32,
     area: &AreaConfig,
     failures: &[Failure],
 ) -> Result<AreaPager, HostMemory>
-    ensures blank { IfOk result (λ p. pager_seen area_pages failed_in p ≡ blank area.now.slots) }
-    ensures kind { IfOk result (λ p. IsOfKind area.now.kind area.now.slots
-        (calls_at index Side.Left false failures.now) (calls_at index Side.Left true failures.now) p) }
+    ensures { IfOk result (IsMade failures.now index area.now) }
 {
     let left = failing(alloc, failures, index, Side::Left)?;
     let right = failing(alloc, failures, index, Side::Right)?;
@@ -98,8 +94,7 @@ pub(crate) fn pagers_for(
     failures: &[Failure],
 ) -> Result<Vec<AreaPager>, HostMemory>
     requires { length areas.now ≤ 8 }
-    ensures { IfOk result (λ v.
-        map (pager_seen area_pages failed_in) v.items ≡ map (λ a. blank a.slots) areas.now) }
+    ensures { IfOk result (λ v. AreMade failures.now 0 areas.now v.items) }
 {
     let mut pagers = Vec::new(alloc);
     for (index, area) in areas.iter().enumerate() {

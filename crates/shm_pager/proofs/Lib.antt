@@ -1,3 +1,4 @@
 pub mod Merged
-mod Mirrored
+pub mod Made
 pub mod Rooms
+mod Bounds

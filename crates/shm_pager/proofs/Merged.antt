@@ -3,7 +3,7 @@ use Rattle.std.proofs.Common.{◌≡◌, ℕ, zero, suc, ◌<◌, ◌⊎◌, tru
 use Rattle.std.proofs.lemmas.Grind.{common_steps}
 use Rattle.std.proofs.lemmas.List.{get_or_read}
 use Rattle.shm_pager.specs.Pages.{SlotUnknown}
-use Rattle.shm_pager.specs.Mirror.{MirrorView, merged, pages_shown, good_at, no_side}
+use Rattle.shm_pager.specs.Mirror.{MirrorSeen, merged, pages_shown, good_at, no_side}
 use Rattle.shm_pager.specs.declared.mirror.Good.{Good}
 
 -- the page of one slot
@@ -15,7 +15,7 @@ length-merged [] ls rs = refl
 length-merged (g ∷ gs) ls rs = ap suc (length-merged gs (drop 1 ls) (drop 1 rs))
 
 -- the marks of the slot that a call found
-pub good-found : (v m : MirrorView) (slot : ℕ) (g : Good) → v ≡ m → g ≡ get_or v.good slot g → slot < length (pages_shown m) → g ≡ good_at m slot
+pub good-found : (v m : MirrorSeen) (slot : ℕ) (g : Good) → v ≡ m → g ≡ get_or v.good slot g → slot < length (pages_shown m) → g ≡ good_at m slot
 good-found v m slot g same found within = get_or_read m.good slot g (omega (arith, within, length-merged m.good m.left.pages m.right.pages)) (rw (← same) found) no_side
 
 pub get_or-merged : (gs : List Good) (ls rs : List (List ℕ)) (i : ℕ) → i < length gs

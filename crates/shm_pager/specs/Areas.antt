@@ -1,19 +1,30 @@
 -- The pages and failures of an area of each kind.
 use Rattle.std.specs.Prelude.{ℕ, ◌≡◌, List, replicate}
-use Rattle.shm_base.specs.Page.{zero_page}
-use Rattle.shm_pager.specs.Pages.{PagerView}
-use Rattle.shm_pager.specs.Fuse.{FuseView, new_fuse}
-use Rattle.shm_pager.specs.Mirror.{pages_shown}
+use Rattle.shm_pager.specs.Pages.{blank, last_count}
+use Rattle.shm_pager.specs.Fuse.{FuseView, new_fuse, fuse_most}
+use Rattle.shm_pager.specs.Mirror.{MirrorView, MirrorSeen, mirror_of, mirror_seen, pages_shown, left_alone}
 use Rattle.shm_pager.specs.declared.area.AreaPager.{AreaPager}
 use Rattle.shm_pager.specs.declared.area.AreaPager.TheVariants.{Ram, Sparse, Mirror}
+use Rattle.shm_pager.specs.declared.area.Failing.{Failing}
 use Rattle.shm_pager.specs.declared.area.AreaKind.{AreaKind}
 use Rattle.shm_pager.specs.declared.area.AreaKind.TheVariants as kinds
+
+-- the pages and failures of a fuse
+abbrev pub fuse_pages : FuseView → List (List ℕ)
+fuse_pages f = f.inner.pages
+
+abbrev pub fuse_failed : FuseView → ℕ
+fuse_failed f = f.failed
+
+-- a mirror of two fuses, by their pages and counts
+abbrev pub fuses_seen : MirrorView FuseView FuseView → MirrorSeen
+fuses_seen = mirror_seen fuse_pages fuse_failed fuse_most fuse_pages fuse_failed fuse_most
 
 -- the page in each slot
 abbrev pub area_pages : AreaPager → List (List ℕ)
 area_pages (Ram f) = f.inner.pages
 area_pages (Sparse f) = f.inner.pages
-area_pages (Mirror m) = pages_shown m
+area_pages (Mirror m) = pages_shown (fuses_seen m)
 
 -- how many reads and writes have failed
 abbrev pub failed_in : AreaPager → ℕ
@@ -21,17 +32,34 @@ failed_in (Ram f) = f.failed
 failed_in (Sparse f) = f.failed
 failed_in (Mirror m) = m.failed
 
--- this many slots of zeros
-abbrev pub blank : ℕ → PagerView
-blank slots = record { pages = replicate slots zero_page; failed = 0 }
+-- the most that ever will have failed
+abbrev pub most_in : AreaPager → ℕ
+most_in (Ram f) = fuse_most f
+most_in (Sparse f) = fuse_most f
+most_in (Mirror m) = last_count
 
--- zeros in each slot, and exactly these reads and writes will fail
-abbrev pub FailsWhere : FuseView → ℕ → List ℕ → List ℕ → Type 0
-FailsWhere f slots reads writes = f ≡ new_fuse (blank slots) reads writes 0
+-- which reads and writes of a side fail, by their places
+pub record FailingCalls : Type 0 where
+  pub reads : List ℕ
+  pub writes : List ℕ
 
--- a new area of a kind; for a mirror, the calls that will fail are those of its sides, and are not seen here
-abbrev pub IsOfKind : AreaKind → ℕ → List ℕ → List ℕ → AreaPager → Type 0
-IsOfKind kinds.Ram slots reads writes (Ram f) = FailsWhere f slots reads writes
-IsOfKind kinds.Sparse slots reads writes (Sparse f) = FailsWhere f slots reads writes
-IsOfKind kinds.Mirror slots reads writes (Mirror m) = (m.left ≡ blank slots) × (m.right ≡ blank slots)
-IsOfKind _ slots reads writes _ = ⊥
+abbrev pub calls_of : Failing → FailingCalls
+calls_of f = record { reads = f.reads.items; writes = f.writes.items }
+
+-- a new fuse around slots of zeros: exactly the listed reads and writes will fail, and as many more as its pager may
+abbrev pub fails_at : ℕ → ℕ → FailingCalls → FuseView
+fails_at slots most calls = new_fuse (blank slots most) calls.reads calls.writes 0
+
+-- a new area of a kind, with zeros in each slot; only a mirror has a right side
+abbrev pub IsOfKind : AreaKind → ℕ → FailingCalls → FailingCalls → AreaPager → Type 0
+IsOfKind kinds.Ram slots left right (Ram f) = f ≡ fails_at slots 0 left
+IsOfKind kinds.Sparse slots left right (Sparse f) = f ≡ fails_at slots last_count left
+IsOfKind kinds.Mirror slots left right (Mirror m) =
+    m ≡ mirror_of (fails_at slots 0 left) (fails_at slots 0 right) (replicate slots left_alone) 0
+IsOfKind _ slots left right _ = ⊥
+
+-- the most failures that it will count
+abbrev pub most_of_kind : AreaKind → FailingCalls → ℕ
+most_of_kind kinds.Ram left = fuse_most (fails_at 0 0 left)
+most_of_kind kinds.Sparse left = last_count
+most_of_kind kinds.Mirror left = last_count

@@ -1,7 +1,7 @@
 //! A swap area of any kind, as one type.
 ghost use Rattle.std.specs.Prelude.{◌≡◌, IfOk, replicate};
 ghost use Rattle.shm_base.specs.Page.{zero_page};
-ghost use Rattle.shm_pager.specs.Areas.{area_pages, failed_in, FailsWhere, IsOfKind};
+ghost use Rattle.shm_pager.specs.Areas.{area_pages, failed_in, most_in, calls_of, fails_at, IsOfKind};
 
 use crate::fuse::FusePager;
 use crate::mirror::MirrorPager;
@@ -46,7 +46,7 @@ impl Drop for AreaPager {
 
 // A side in memory.
 fn ram(alloc: Global, slots: u32, failing: Failing) -> Result<FusePager<RamPager>, HostMemory>
-    ensures { IfOk result (λ f. FailsWhere f slots failing.reads.items failing.writes.items) }
+    ensures { IfOk result (λ f. f ≡ fails_at slots 0 (calls_of failing)) }
 {
     let Failing { reads, writes } = failing;
     Ok(FusePager::new(RamPager::new(alloc, slots)?, reads, writes))
@@ -64,7 +64,7 @@ impl AreaPager {
     ) -> Result<AreaPager, HostMemory>
         ensures pages { IfOk result (λ p. area_pages p ≡ replicate slots zero_page) }
         ensures failed { IfOk result (λ p. failed_in p ≡ 0) }
-        ensures kind { IfOk result (λ p. IsOfKind kind slots left.reads.items left.writes.items p) }
+        ensures kind { IfOk result (IsOfKind kind slots (calls_of left) (calls_of right)) }
     {
         match kind {
             AreaKind::Ram => Ok(AreaPager::Ram(ram(alloc, slots, left)?)),
@@ -89,6 +89,8 @@ impl Pager for AreaPager {
     ghost content = { area_pages };
 
     ghost failed = { failed_in };
+
+    ghost most = { most_in };
 
     fn slots(&self) -> u32 {
         match self {

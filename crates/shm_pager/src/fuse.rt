@@ -1,8 +1,8 @@
 //! A pager that fails at chosen calls.
-ghost use Rattle.std.specs.Prelude.{◌≡◌, ◌<◌, [], length, set, get_or, replicate, true, false, not, ◌&&◌, if◌then◌else◌, is_ok, IfOk};
+ghost use Rattle.std.specs.Prelude.{◌≡◌, ◌<◌, ◌≤◌, [], length, set, get_or, replicate, true, false, not, ◌&&◌, if◌then◌else◌, is_ok, IfOk};
 ghost use Rattle.shm_base.specs.Page.{zero_page};
-ghost use Rattle.shm_pager.specs.Pages.{last_count, next_count, pager_seen, served, SlotUnknown, CountsErr, TriesWrite, TriesRead};
-ghost use Rattle.shm_pager.specs.Fuse.{new_fuse, is_listed, read_is_bad, write_is_bad, scorched_page};
+ghost use Rattle.shm_pager.specs.Pages.{last_count, next_count, pager_seen, served, SlotUnknown, CountsErr, KeepsMost, TriesWrite, TriesRead};
+ghost use Rattle.shm_pager.specs.Fuse.{new_fuse, is_listed, read_is_bad, write_is_bad, scorched_page, fuse_most};
 
 use crate::pager::{ClonePager, Pager, PagerFault, read_if, try_write};
 use shm_base::{HostMemory, PAGE_BYTES};
@@ -30,7 +30,7 @@ impl<P: Pager> Model for FusePager<P> {
     ghost Value = { FuseView };
 
     ghost view = { λ f. record {
-      inner = pager_seen P.content P.failed f.inner;
+      inner = pager_seen P.content P.failed P.most f.inner;
       bad_reads = f.bad_reads.items;
       bad_writes = f.bad_writes.items;
       reads = f.reads;
@@ -51,7 +51,7 @@ fn next_call(listed: &Vec<u64>, call: &mut u64) -> bool
 impl<P: Pager> FusePager<P> {
     /// A pager whose listed calls fail.
     pub fn new(inner: P, bad_reads: Vec<u64>, bad_writes: Vec<u64>) -> FusePager<P>
-        ensures { let view = pager_seen P.content P.failed in
+        ensures { let view = pager_seen P.content P.failed P.most in
             result ≡ new_fuse (view inner) bad_reads.items bad_writes.items 0 }
     {
         FusePager::new_at(inner, bad_reads, bad_writes, 0)
@@ -66,7 +66,7 @@ impl<P: Pager> FusePager<P> {
         bad_writes: Vec<u64>,
         failures: u64,
     ) -> FusePager<P>
-        ensures { let view = pager_seen P.content P.failed in
+        ensures { let view = pager_seen P.content P.failed P.most in
             result ≡ new_fuse (view inner) bad_reads.items bad_writes.items failures }
     {
         FusePager {
@@ -85,6 +85,10 @@ impl<P: Pager> Pager for FusePager<P> {
 
     ghost failed = { λ f. f.failed };
 
+    /// Its count, the listed places that its counts of calls have not passed, and the failures that its pager
+    /// may still count.
+    ghost most = { fuse_most };
+
     fn slots(&self) -> u32 {
         self.inner.slots()
     }
@@ -101,6 +105,8 @@ impl<P: Pager> Pager for FusePager<P> {
         ensures page { IfOk result (λ _.
             self.new.inner.pages ≡ set self.old.inner.pages slot page.now) }
         ensures failed { CountsErr result self.old.failed self.new.failed }
+        ensures most { KeepsMost result (fuse_most self.old) (fuse_most self.new) }
+        ensures bounded { self.new.failed ≤ fuse_most self.new }
         ensures cause { is_ok result
             ≡ (not (write_is_bad self.old) && served self.old.inner self.new.inner) }
         ensures inner { let given = (if write_is_bad self.old then scorched_page else page.now) in
@@ -128,6 +134,8 @@ impl<P: Pager> Pager for FusePager<P> {
         ensures content { self.new.inner.pages ≡ self.old.inner.pages }
         ensures page { IfOk result (λ _. get_or self.old.inner.pages slot [] ≡ page.new) }
         ensures failed { CountsErr result self.old.failed self.new.failed }
+        ensures most { KeepsMost result (fuse_most self.old) (fuse_most self.new) }
+        ensures bounded { self.new.failed ≤ fuse_most self.new }
         ensures cause { is_ok result
             ≡ (not (read_is_bad self.old) && served self.old.inner self.new.inner) }
         ensures inner { read_is_bad self.old ≡ false → TriesRead self.old.inner self.new.inner }

@@ -1,8 +1,7 @@
 //! Two pagers that hold the same pages.
 ghost use Rattle.std.specs.Prelude.{◌≡◌, ◌≢◌, ◌<◌, ◌==◌, length, set, replicate, if◌then◌else◌, IfOk, IfErr, IsErr};
-ghost use Rattle.shm_base.specs.Page.{zero_page};
-ghost use Rattle.shm_pager.specs.Pages.{last_count, pager_seen, SlotUnknown};
-ghost use Rattle.shm_pager.specs.Mirror.{MirrorView, mirror_of, left_alone, both_sides, no_side, pages_shown, ReadsMirror, WritesMirror};
+ghost use Rattle.shm_pager.specs.Pages.{last_count};
+ghost use Rattle.shm_pager.specs.Mirror.{mirror_of, mirror_seen, left_alone, both_sides, pages_shown, ReadsMirror, WritesMirror, DiscardsMirror, WipesMirror};
 
 use crate::pager::{ClonePager, Pager, PagerFault, read_if, try_write};
 use shm_base::{HostMemory, PAGE_BYTES};
@@ -47,18 +46,14 @@ pub struct MirrorPager<L: Pager, R: Pager> {
 }
 
 impl<L: Pager, R: Pager> Model for MirrorPager<L, R> {
-    ghost use Rattle.shm_pager.specs.Pages.{pager_seen};
-    ghost use Rattle.shm_pager.specs.Mirror.{MirrorView, IsMirror, mirror_of};
+    ghost use Rattle.shm_pager.specs.Mirror.{MirrorView, IsMirror, mirror_of, mirror_seen};
 
-    ghost Value = { MirrorView };
+    ghost Value = { MirrorView L R };
 
-    ghost view = { λ m. mirror_of
-        (pager_seen L.content L.failed m.left) (pager_seen R.content R.failed m.right)
-        m.good.items m.failed };
+    ghost view = { λ m. mirror_of m.left m.right m.good.items m.failed };
 
-    ghost invariant = { λ m. IsMirror (mirror_of
-        (pager_seen L.content L.failed m.left) (pager_seen R.content R.failed m.right)
-        m.good.items m.failed) };
+    ghost invariant = { λ m. let seen = mirror_seen L.content L.failed L.most R.content R.failed R.most in
+        IsMirror (seen (mirror_of m.left m.right m.good.items m.failed)) };
 }
 
 // Makes both sides good for each slot.
@@ -93,7 +88,7 @@ impl<L: Pager, R: Pager> MirrorPager<L, R> {
     pub fn new(alloc: Global, left: L, right: R) -> Result<MirrorPager<L, R>, MirrorRefused<L, R>>
         ensures ok { IfOk result (λ m.
             let good = replicate (length (L.content left)) left_alone in
-            m ≡ mirror_of (pager_seen L.content L.failed left) (pager_seen R.content R.failed right) good 0) }
+            m ≡ mirror_of left right good 0) }
         ensures unequal { length (L.content left) ≢ length (R.content right) → IsErr result }
         ensures refused { IfErr result (λ e.
             let equal = length (L.content left) == length (R.content right) in
@@ -126,9 +121,12 @@ impl<L: Pager, R: Pager> MirrorPager<L, R> {
 
 #[tactic(auto, using(crate::proofs::Merged::merging))]
 impl<L: Pager, R: Pager> Pager for MirrorPager<L, R> {
-    ghost content = { pages_shown };
+    ghost content = { λ m. pages_shown (mirror_seen L.content L.failed L.most R.content R.failed R.most m) };
 
     ghost failed = { λ m. m.failed };
+
+    /// A slot that no side is good for is unreadable, as often as it is read.
+    ghost most = { λ _. last_count };
 
     fn slots(&self) -> u32 {
         self.left.slots()
@@ -139,9 +137,11 @@ impl<L: Pager, R: Pager> Pager for MirrorPager<L, R> {
     }
 
     fn write(&mut self, slot: u32, page: &[u8; PAGE_BYTES]) -> Result<(), PagerFault>
-        requires there { slot < length (pages_shown self.old) }
+        requires there { let seen = mirror_seen L.content L.failed L.most R.content R.failed R.most in
+            slot < length (pages_shown (seen self.old)) }
         requires countable { self.old.failed < last_count }
-        ensures { WritesMirror slot page.now self.old self.new result }
+        ensures { let seen = mirror_seen L.content L.failed L.most R.content R.failed R.most in
+            WritesMirror slot page.now (seen self.old) (seen self.new) result }
     {
         let left = try_write(&mut self.left, slot, page).is_ok();
         let right = try_write(&mut self.right, slot, page).is_ok();
@@ -155,9 +155,11 @@ impl<L: Pager, R: Pager> Pager for MirrorPager<L, R> {
 
     /// Does not call a side that is not good for the slot, nor the right side if the left one succeeds.
     fn read(&mut self, slot: u32, page: &mut [u8; PAGE_BYTES]) -> Result<(), PagerFault>
-        requires there { slot < length (pages_shown self.old) }
+        requires there { let seen = mirror_seen L.content L.failed L.most R.content R.failed R.most in
+            slot < length (pages_shown (seen self.old)) }
         requires countable { self.old.failed < last_count }
-        ensures { ReadsMirror slot page.new self.old self.new result }
+        ensures { let seen = mirror_seen L.content L.failed L.most R.content R.failed R.most in
+            ReadsMirror slot page.new (seen self.old) (seen self.new) result }
     {
         let good = self.good[slot as usize];
         if read_if(good.left, &mut self.left, slot, page) {
@@ -171,15 +173,10 @@ impl<L: Pager, R: Pager> Pager for MirrorPager<L, R> {
     }
 
     fn discard(&mut self, slot: u32)
-        requires { slot < length (pages_shown self.old) }
-        ensures content { SlotUnknown slot (pages_shown self.old) (pages_shown self.new) }
-        ensures left { SlotUnknown slot self.old.left.pages self.new.left.pages }
-        ensures right { SlotUnknown slot self.old.right.pages self.new.right.pages }
-        ensures rest { self.new ≡ record self.old {
-          left = record self.old.left { pages = self.new.left.pages };
-          right = record self.old.right { pages = self.new.right.pages };
-          good = set self.old.good slot no_side;
-        } }
+        requires { let seen = mirror_seen L.content L.failed L.most R.content R.failed R.most in
+            slot < length (pages_shown (seen self.old)) }
+        ensures { let seen = mirror_seen L.content L.failed L.most R.content R.failed R.most in
+            DiscardsMirror slot (seen self.old) (seen self.new) }
     {
         self.left.discard(slot);
         self.right.discard(slot);
@@ -191,13 +188,8 @@ impl<L: Pager, R: Pager> Pager for MirrorPager<L, R> {
 
     /// Afterwards both sides are good for each slot.
     fn wipe(&mut self)
-        ensures content { pages_shown self.new ≡ replicate (length (pages_shown self.old)) zero_page }
-        ensures left { self.new.left
-            ≡ record self.old.left { pages = replicate (length self.old.left.pages) zero_page } }
-        ensures right { self.new.right
-            ≡ record self.old.right { pages = replicate (length self.old.right.pages) zero_page } }
-        ensures good { self.new.good ≡ replicate (length self.old.good) both_sides }
-        ensures failed { self.new.failed ≡ self.old.failed }
+        ensures { let seen = mirror_seen L.content L.failed L.most R.content R.failed R.most in
+            WipesMirror (seen self.old) (seen self.new) }
     {
         self.left.wipe();
         self.right.wipe();

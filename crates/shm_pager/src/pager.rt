@@ -1,8 +1,8 @@
 //! What each pager promises. A pager that broke its promise could change bytes of segments. One that fails in
 //! the ways named here can not.
-ghost use Rattle.std.specs.Prelude.{◌≡◌, ℕ, ◌<◌, ◌&&◌, true, false, List, [], length, set, get_or, replicate, is_ok, IfOk};
+ghost use Rattle.std.specs.Prelude.{◌≡◌, ℕ, ◌<◌, ◌≤◌, ◌&&◌, true, false, List, [], length, set, get_or, replicate, is_ok, IfOk};
 ghost use Rattle.shm_base.specs.Page.{zero_page};
-ghost use Rattle.shm_pager.specs.Pages.{last_count, pager_seen, served, SlotUnknown, CountsErr, TriesWrite, TriesRead};
+ghost use Rattle.shm_pager.specs.Pages.{last_count, pager_seen, served, SlotUnknown, CountsErr, KeepsMost, TriesWrite, TriesRead};
 
 use shm_base::{HostMemory, PAGE_BYTES};
 use thiserror::Error;
@@ -20,6 +20,9 @@ pub trait Pager: Drop {
     /// How many reads and writes have failed.
     ghost failed: { Self → ℕ };
 
+    /// The most reads and writes that will ever have failed; `u64::MAX` if no lower bound is known.
+    ghost most: { Self → ℕ };
+
     /// How many slots there are. No call changes it.
     fn slots(&self) -> u32
         ensures { result ≡ length (content self.now) };
@@ -27,7 +30,8 @@ pub trait Pager: Drop {
     /// How many reads and writes have failed. A pager whose count is `u64::MAX` must not be read or written
     /// any more: see [`try_read`] and [`try_write`].
     fn failures(&self) -> u64
-        ensures { result ≡ failed self.now };
+        ensures count { result ≡ failed self.now }
+        ensures bounded { failed self.now ≤ most self.now };
 
     /// Writes a page to a slot. After an error the slot's bytes are unknown; the other slots are unchanged.
     fn write(&mut self, slot: u32, page: &[u8; PAGE_BYTES]) -> Result<(), PagerFault>
@@ -35,7 +39,9 @@ pub trait Pager: Drop {
         requires countable { failed self.old < last_count }
         ensures others { SlotUnknown slot (content self.old) (content self.new) }
         ensures page { IfOk result (λ _. content self.new ≡ set (content self.old) slot page.now) }
-        ensures failed { CountsErr result (failed self.old) (failed self.new) };
+        ensures failed { CountsErr result (failed self.old) (failed self.new) }
+        ensures most { KeepsMost result (most self.old) (most self.new) }
+        ensures bounded { failed self.new ≤ most self.new };
 
     /// Reads the page in a slot. After an error the buffer's bytes are unknown.
     fn read(&mut self, slot: u32, page: &mut [u8; PAGE_BYTES]) -> Result<(), PagerFault>
@@ -43,18 +49,22 @@ pub trait Pager: Drop {
         requires countable { failed self.old < last_count }
         ensures content { content self.new ≡ content self.old }
         ensures page { IfOk result (λ _. get_or (content self.old) slot [] ≡ page.new) }
-        ensures failed { CountsErr result (failed self.old) (failed self.new) };
+        ensures failed { CountsErr result (failed self.old) (failed self.new) }
+        ensures most { KeepsMost result (most self.old) (most self.new) }
+        ensures bounded { failed self.new ≤ most self.new };
 
     /// Says that a slot's bytes are no longer needed. Afterwards they are unknown.
     fn discard(&mut self, slot: u32)
         requires { slot < length (content self.old) }
         ensures content { SlotUnknown slot (content self.old) (content self.new) }
-        ensures failed { failed self.new ≡ failed self.old };
+        ensures failed { failed self.new ≡ failed self.old }
+        ensures most { most self.new ≡ most self.old };
 
     /// Fills each slot with zeros.
     fn wipe(&mut self)
         ensures content { content self.new ≡ replicate (length (content self.old)) zero_page }
-        ensures failed { failed self.new ≡ failed self.old };
+        ensures failed { failed self.new ≡ failed self.old }
+        ensures most { most self.new ≡ most self.old };
 }
 
 /// A pager that can be copied. Afterwards the copy and the original are independent.
@@ -74,9 +84,9 @@ pub fn try_write<P: Pager>(
     page: &[u8; PAGE_BYTES],
 ) -> Result<(), PagerFault>
     requires { slot < length (P.content pager.old) }
-    ensures pager { let view = pager_seen P.content P.failed in
+    ensures pager { let view = pager_seen P.content P.failed P.most in
         TriesWrite slot page.now (view pager.old) (view pager.new) }
-    ensures ok { let view = pager_seen P.content P.failed in
+    ensures ok { let view = pager_seen P.content P.failed P.most in
         is_ok result ≡ served (view pager.old) (view pager.new) }
 {
     if pager.failures() == u64::MAX {
@@ -93,9 +103,9 @@ pub fn try_read<P: Pager>(
     page: &mut [u8; PAGE_BYTES],
 ) -> Result<(), PagerFault>
     requires { slot < length (P.content pager.old) }
-    ensures pager { let view = pager_seen P.content P.failed in
+    ensures pager { let view = pager_seen P.content P.failed P.most in
         TriesRead (view pager.old) (view pager.new) }
-    ensures ok { let view = pager_seen P.content P.failed in
+    ensures ok { let view = pager_seen P.content P.failed P.most in
         is_ok result ≡ served (view pager.old) (view pager.new) }
     ensures page { IfOk result (λ _. get_or (P.content pager.old) slot [] ≡ page.new) }
 {
@@ -113,11 +123,11 @@ pub(crate) fn read_if<P: Pager>(
     page: &mut [u8; PAGE_BYTES],
 ) -> bool
     requires { slot < length (P.content pager.old) }
-    ensures asked { let view = pager_seen P.content P.failed in
+    ensures asked { let view = pager_seen P.content P.failed P.most in
         asked ≡ true → TriesRead (view pager.old) (view pager.new) }
     ensures unasked { asked ≡ false → pager.new ≡ pager.old }
     ensures content { P.content pager.new ≡ P.content pager.old }
-    ensures served { let view = pager_seen P.content P.failed in
+    ensures served { let view = pager_seen P.content P.failed P.most in
         result ≡ (asked && served (view pager.old) (view pager.new)) }
     ensures page { result ≡ true → get_or (P.content pager.old) slot [] ≡ page.new }
 {
@@ -132,6 +142,8 @@ impl Pager for AnyPager {
     ghost content = { λ b. (Pager-box b).content b.value };
 
     ghost failed = { λ b. (Pager-box b).failed b.value };
+
+    ghost most = { λ b. (Pager-box b).most b.value };
 
     fn slots(&self) -> u32 {
         (**self).slots()

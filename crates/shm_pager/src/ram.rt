@@ -47,6 +47,8 @@ impl Pager for RamPager {
 
     ghost failed = { λ _. 0 };
 
+    ghost most = { λ _. 0 };
+
     fn slots(&self) -> u32 {
         self.pages.len() as u32
     }

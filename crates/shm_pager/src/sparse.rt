@@ -65,11 +65,10 @@ pub struct SparsePager {
 impl Model for SparsePager {
     ghost use Rattle.std.specs.Prelude.{◌≤◌, length, map, vec_capacity};
     ghost use Rattle.shm_base.specs.Page.{zero_page};
-    ghost use Rattle.shm_pager.specs.Pages.{PagerView};
     ghost use Rattle.shm_base.specs.Stored.{padded};
-    ghost use Rattle.shm_pager.specs.Sparse.{page_behind, NoZeros};
+    ghost use Rattle.shm_pager.specs.Sparse.{SparseView, page_behind, NoZeros};
 
-    ghost Value = { PagerView };
+    ghost Value = { SparseView };
 
     ghost view = { λ s. record {
       pages = padded (map page_behind s.pages.items) s.slots zero_page;
@@ -175,6 +174,9 @@ impl Pager for SparsePager {
     ghost content = { λ p. p.pages };
 
     ghost failed = { λ p. p.failed };
+
+    /// A write may fail as often as the host refuses memory.
+    ghost most = { λ _. last_count };
 
     fn slots(&self) -> u32 {
         self.slots

@@ -22,6 +22,8 @@ impl Pager for CountedPager {
 
     ghost failed = { λ p. p.failures };
 
+    ghost most = { λ p. p.failures };
+
     fn slots(&self) -> u32 {
         self.inner.slots()
     }

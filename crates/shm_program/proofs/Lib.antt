@@ -5,3 +5,4 @@ pub mod Zipped
 pub mod Rows
 pub mod Words
 mod Numbered
+pub mod Named

@@ -1,9 +1,11 @@
 -- The pager that is made for each word for a swap area.
-use Rattle.std.specs.Prelude.{◌≡◌, ℕ, List, [], ◌∷◌}
-use Rattle.shm_pager.specs.Areas.{IsOfKind, failed_in}
+use Rattle.std.specs.Prelude.{◌≡◌, ℕ, List, [], ◌∷◌, map}
+use Rattle.shm_pager.specs.Pages.{blank}
+use Rattle.shm_pager.specs.Areas.{FailingCalls, IsOfKind, failed_in, most_of_kind}
 use Rattle.shm_pager.specs.declared.area.AreaKind.{AreaKind}
 use Rattle.shm_pager.specs.declared.area.AreaKind.TheVariants as kinds
 use Rattle.shm_pager.specs.declared.area.AreaPager.{AreaPager}
+use Rattle.shm_slots.specs.View.{SwapView, fresh, new_swap}
 use Rattle.shm_program.specs.declared.options.SwapWord.{SwapWord}
 use Rattle.shm_program.specs.declared.options.SwapWord.TheVariants.{Ram, Sparse, Mirror, FuseRead, FuseWrite}
 
@@ -31,6 +33,22 @@ abbrev pub writes_of : SwapWord → List ℕ
 writes_of (FuseWrite n k) = k ∷ []
 writes_of _ = []
 
--- the new area of a word: zeros in each slot, no failure counted, and only the call that a fuse names will fail
+abbrev pub calls_of : SwapWord → FailingCalls
+calls_of swap = record { reads = reads_of swap; writes = writes_of swap }
+
+-- no call fails
+abbrev pub no_calls : FailingCalls
+no_calls = record { reads = []; writes = [] }
+
+-- the new area of a word: zeros in each slot, no failure counted, and only the call that a fuse names will fail, beside those of
+-- a sparse area for lack of memory; no call of either side of a mirror will
 abbrev pub IsAreaOf : SwapWord → AreaPager → Type 0
-IsAreaOf swap p = IsOfKind (kind_of swap) (size_of swap) (reads_of swap) (writes_of swap) p × (failed_in p ≡ 0)
+IsAreaOf swap p = IsOfKind (kind_of swap) (size_of swap) (calls_of swap) no_calls p × (failed_in p ≡ 0)
+
+-- the most failures that its pager will count
+abbrev pub most_of : SwapWord → ℕ
+most_of swap = most_of_kind (kind_of swap) (calls_of swap)
+
+-- the swap areas that the words name, as they are passed in
+abbrev pub areas_named : List SwapWord → SwapView
+areas_named swaps = new_swap (map (λ (swap : SwapWord). fresh (blank (size_of swap) (most_of swap))) swaps)

@@ -22,8 +22,8 @@ pub record IsOpening (script : ScriptView) (opening : Opening) : Type 0 where
   pub is : opening ≡ opening_of script opening.areas
 
 -- the swap areas when these pagers are passed in
-abbrev pub handed_in : {P : Type 0} → (P → List (List ℕ)) → (P → ℕ) → List P → SwapView
-handed_in content failed pagers = new_swap (map (λ p. fresh (pager_seen content failed p)) pagers)
+abbrev pub handed_in : {P : Type 0} → (P → List (List ℕ)) → (P → ℕ) → (P → ℕ) → List P → SwapView
+handed_in content failed most pagers = new_swap (map (λ p. fresh (pager_seen content failed most p)) pagers)
 
 -- the memory when a world opens over swap areas: no segments, and the areas as they were passed in
 abbrev pub IsFresh : SwapView → StoreView → Type 0

@@ -1,7 +1,9 @@
 //! The pagers of the swap areas that the command line names.
 ghost use Rattle.std.specs.Prelude.{◌≡◌, IfOk};
 ghost use Rattle.std.specs.List.{AllZip};
-ghost use Rattle.shm_program.specs.Areas.{kind_of, size_of, reads_of, writes_of, IsAreaOf};
+ghost use Rattle.shm_pager.specs.Areas.{area_pages, failed_in, most_in};
+ghost use Rattle.shm_program.specs.Areas.{kind_of, size_of, reads_of, writes_of, IsAreaOf, areas_named};
+ghost use Rattle.shm_program.specs.Runs.{handed_in};
 
 use crate::options::SwapWord;
 use shm_base::HostMemory;
@@ -64,7 +66,9 @@ fn area_of(alloc: Global, swap: SwapWord) -> Result<AreaPager, HostMemory>
 /// A pager for each of the words, in order. A fuse fails only at the read or the write that its word names.
 /// HostMemory: the host refused memory.
 pub fn areas_of(alloc: Global, swaps: &[SwapWord]) -> Result<Vec<AreaPager>, HostMemory>
-    ensures { IfOk result (λ pagers. AllZip IsAreaOf swaps.now pagers.items) }
+    ensures each { IfOk result (λ pagers. AllZip IsAreaOf swaps.now pagers.items) }
+    ensures seen { IfOk result (λ pagers.
+        handed_in area_pages failed_in most_in pagers.items ≡ areas_named swaps.now) }
 {
     let mut pagers = Vec::new(alloc);
     for swap in swaps {

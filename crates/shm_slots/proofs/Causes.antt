@@ -1,11 +1,18 @@
 -- Failures that are reported are failures that were counted.
 use Rattle.std.proofs.Common.{◌≡◌, ℕ, suc, ◌<◌, ◌≤◌, true, false, List, [], ◌∷◌, All, length, get_or, refl, sym, ◌∙◌, arith, sum_by}
-use Rattle.std.specs.List.{list_any}
+use Rattle.std.specs.List.{list_all, list_any}
 use Rattle.std.proofs.lemmas.List.Elements.{All-head, All-tail}
 use Rattle.std.proofs.lemmas.List.Sums.{sum_by-cons}
 use Rattle.std.proofs.lemmas.Grind.{common_steps}
-use Rattle.shm_slots.specs.View.{AreaView, SwapView, no_area, rise, is_spent, is_spent_here, IsSwap, IsCounted, AreCountsOf}
-use Rattle.shm_slots.specs.Cause.{some_spent, total, had_cause, GoesOn}
+use Rattle.std.proofs.lemmas.Bool.Decides.{nat_tests}
+use Rattle.shm_slots.specs.View.{AreaView, SwapView, no_area, rise, most_rise, is_spent, is_spent_here, is_finite, are_finite, IsSwap, IsCounted, AreCountsOf}
+use Rattle.shm_slots.specs.Cause.{some_spent, total, most_total, had_cause, GoesOn}
+
+pub GoesOn-refl : (s : SwapView) → GoesOn s s
+GoesOn-refl s = record { areas = refl; starts = λ a. refl; counts = λ a. omega arith; mosts = λ a. omega arith; here = λ a e. e; flag = λ e. e }
+
+pub GoesOn-trans : (s t u : SwapView) → GoesOn s t → GoesOn t u → GoesOn s u
+GoesOn-trans s t u a b = grind (arith, nat_tests, common_steps, b.areas, a.areas, b.starts, a.starts, a.counts, b.counts, a.mosts, b.mosts, a.here, b.here, a.flag, b.flag)
 
 -- counts that never fell, area by area
 pub rises-le : (xs ys : List AreaView) → length ys ≡ length xs
@@ -35,6 +42,36 @@ some_spent-never s swap flag = grind (arith, common_steps, spent-here s.areas, s
 -- if no area was spent, a cause is a failure that was counted
 pub total-lt : (s t : SwapView) → some_spent s ≡ false → had_cause s t ≡ true → total s < total t
 total-lt s t clear cause = grind (arith, common_steps, clear, cause)
+
+-- counts within bounds that never rose, area by area
+rises-most : (xs ys : List AreaView) → length ys ≡ length xs
+    → ((k : ℕ) → (get_or ys k no_area).start ≡ (get_or xs k no_area).start)
+    → ((k : ℕ) → (get_or ys k no_area).failed ≤ (get_or ys k no_area).most)
+    → ((k : ℕ) → (get_or ys k no_area).most ≤ (get_or xs k no_area).most)
+    → sum_by rise ys ≤ sum_by most_rise xs
+rises-most (x ∷ xs) (y ∷ ys) e s f m =
+    let rest = rises-most xs ys (omega (arith, e)) (λ k. s (suc k)) (λ k. f (suc k)) (λ k. m (suc k)) in
+    let first : rise y ≤ most_rise x = omega (arith, s 0, f 0, m 0) in
+    omega (arith, rest, first, sum_by-cons most_rise x xs, sum_by-cons rise y ys)
+rises-most xs ys e s f m = grind (arith, common_steps)
+
+-- the sum of failures stays within the bounds at the start
+pub total-most : (s t : SwapView) → IsSwap t → GoesOn s t → total t ≤ most_total s
+unfolding total most_total
+total-most s t swap goes = rises-most s.areas t.areas goes.areas goes.starts (λ k. (swap.each k).bounded) goes.mosts
+
+unspent-most : (xs ys : List AreaView) → length ys ≡ length xs
+    → ((k : ℕ) → (get_or ys k no_area).failed ≤ (get_or ys k no_area).most)
+    → ((k : ℕ) → (get_or ys k no_area).most ≤ (get_or xs k no_area).most)
+    → list_all is_finite xs ≡ true → list_any is_spent ys ≡ false
+unspent-most xs [] e f m few = refl
+unspent-most [] (y ∷ ys) e f m few = absurd (omega (arith, e))
+unspent-most (x ∷ xs) (y ∷ ys) e f m few =
+    grind (arith, common_steps, few, f 0, m 0, unspent-most xs ys (omega (arith, e)) (λ k. f (suc k)) (λ k. m (suc k)))
+
+-- no area is spent if a number below the last count bounds each area's count at the start
+pub never_spent-most : (s t : SwapView) → IsSwap t → GoesOn s t → are_finite s ≡ true → t.never_spent ≡ true
+never_spent-most s t swap goes few = rw (swap.unspent, unspent-most s.areas t.areas goes.areas (λ k. (swap.each k).bounded) goes.mosts few) refl
 
 -- if all counts are 0, none has risen and none is at its last value
 counts-zero : {P : Type 0} (failed : P → ℕ) (xs : List AreaView) → All (IsCounted failed) xs → ((p : P) → failed p ≡ 0)

@@ -107,8 +107,8 @@ module _ (s : SwapView) (i : ℕ) (was a : AreaView) (found : was ≡ get_or s.a
   at_i : i < length s.areas → was ≡ area_at s i
   at_i within = found ∙ get_or_default s.areas i was no_area within
 
-  GoesOn-changed : (flag : Bool) → a.start ≡ was.start → was.failed ≤ a.failed → (a.here ≡ true → was.here ≡ true) → (flag ≡ true → s.never_spent ≡ true) → GoesOn s (changed s i a flag)
-  GoesOn-changed flag start counts here falls = grind (arith, common_steps)
+  GoesOn-changed : (flag : Bool) → a.start ≡ was.start → was.failed ≤ a.failed → a.most ≤ was.most → (a.here ≡ true → was.here ≡ true) → (flag ≡ true → s.never_spent ≡ true) → GoesOn s (changed s i a flag)
+  GoesOn-changed flag start counts mosts here falls = grind (arith, common_steps)
 
   sizes-changed : IsSwap s → IsArea a → a.here ≡ was.here → length a.owners ≡ length was.owners → map size_of (set s.areas i a) ≡ sizes s
   sizes-changed swap area here owners = grind (arith, common_steps, set, map-changed, size_of-kept, at_i, set_past)
@@ -117,8 +117,8 @@ module _ (s : SwapView) (i : ℕ) (was a : AreaView) (found : was ≡ get_or s.a
   IsSwap-kept : IsSwap s → IsArea a → a.failed ≡ was.failed → IsSwap (changed s i a s.never_spent)
   IsSwap-kept swap area same = grind (arith, common_steps, any_spent-kept s.areas i was a found)
 
-  GoesOn-kept : a.start ≡ was.start → a.failed ≡ was.failed → (a.here ≡ true → was.here ≡ true) → GoesOn s (changed s i a s.never_spent)
-  GoesOn-kept start failed here = GoesOn-changed s.never_spent start (omega (arith, failed)) here (λ flag. flag)
+  GoesOn-kept : a.start ≡ was.start → a.failed ≡ was.failed → a.most ≤ was.most → (a.here ≡ true → was.here ≡ true) → GoesOn s (changed s i a s.never_spent)
+  GoesOn-kept start failed mosts here = GoesOn-changed s.never_spent start (omega (arith, failed)) mosts here (λ flag. flag)
 
   total-kept : a.start ≡ was.start → a.failed ≡ was.failed → (flag : Bool) → total (changed s i a flag) ≡ total s
   unfolding total
@@ -139,9 +139,9 @@ module _ (s : SwapView) (i : ℕ) (was a : AreaView) (found : was ≡ get_or s.a
   IsSwap-asked : i < length s.areas → was.failed ≤ a.failed → IsSwap s → IsArea a → IsSwap (asked_of s i a)
   IsSwap-asked within counts swap area = grind (arith, common_steps, at_i within, any_spent-set s.areas i a within)
 
-  module _ (pages : List (List ℕ)) (failed : ℕ) (is : a ≡ record was { pages = pages; failed = failed }) where
-    GoesOn-asked : was.failed ≤ a.failed → GoesOn s (asked_of s i a)
-    GoesOn-asked counts = grind (arith, common_steps, GoesOn-changed)
+  module _ (pages : List (List ℕ)) (failed most : ℕ) (is : a ≡ record was { pages = pages; failed = failed; most = most }) where
+    GoesOn-asked : was.failed ≤ a.failed → a.most ≤ was.most → GoesOn s (asked_of s i a)
+    GoesOn-asked counts mosts = grind (arith, common_steps, GoesOn-changed)
 
     sizes-asked : IsSwap s → IsArea a → map size_of (set s.areas i a) ≡ sizes s
     sizes-asked swap area = grind (arith, common_steps, sizes-changed)
@@ -152,20 +152,20 @@ module _ (s : SwapView) (i : ℕ) (was a : AreaView) (found : was ≡ get_or s.a
     had_cause-asked flag slot there swap (inl counted) = grind (arith, common_steps, sum_by, swap.each)
     had_cause-asked flag slot there swap (inr spent) = grind (arith, common_steps, at_i, swap.each)
 
-    pub asked : {A E : Type 0} (r : Result A E) (slot : ℕ) → HasSlot s i slot → IsSwap s → was.failed ≤ a.failed → IsArea a → IfErr r (λ _. CountedFault was a) → Asked r s i was a
-    asked r slot there swap counts area fault =
+    pub asked : {A E : Type 0} (r : Result A E) (slot : ℕ) → HasSlot s i slot → IsSwap s → was.failed ≤ a.failed → a.most ≤ was.most → IsArea a → IfErr r (λ _. CountedFault was a) → Asked r s i was a
+    asked r slot there swap counts mosts area fault =
         record {
           before = sym (at_i there.0);
           after = get_or-set_same s.areas i a no_area there.0;
           flag = flag-kept there.0 swap;
           sound = IsSwap-asked there.0 counts swap area;
-          goes_on = GoesOn-asked counts;
+          goes_on = GoesOn-asked counts mosts;
           same_sizes = sizes-asked swap area;
           cause = IfErr-weaker r _ _ (λ _ f. had_cause-asked _ slot there swap f) fault;
         }
 
-  -- only the count changed
-  pub SameSlots-asked : a ≡ record was { failed = a.failed } → SameSlots s (asked_of s i a)
+  -- only the count and the bound on it changed
+  pub SameSlots-asked : a ≡ record was { failed = a.failed; most = a.most } → SameSlots s (asked_of s i a)
   SameSlots-asked is = grind (arith, common_steps)
 
   -- the pager was dropped
@@ -173,8 +173,8 @@ module _ (s : SwapView) (i : ℕ) (was a : AreaView) (found : was ≡ get_or s.a
     pub IsSwap-off : IsSwap s → IsArea a → IsSwap (changed s i a s.never_spent)
     IsSwap-off swap area = IsSwap-kept swap area (ap (λ (b : AreaView). b.failed) is)
 
-    pub GoesOn-off : GoesOn s (changed s i a s.never_spent)
-    GoesOn-off = grind (arith, common_steps, GoesOn-kept)
+    pub GoesOn-off : IsSwap s → i < length s.areas → GoesOn s (changed s i a s.never_spent)
+    GoesOn-off swap within = grind (arith, common_steps, GoesOn-kept, at_i within, swap.each i)
 
     pub total-off : (flag : Bool) → total (changed s i a flag) ≡ total s
     total-off flag = total-kept (ap (λ (b : AreaView). b.start) is) (ap (λ (b : AreaView). b.failed) is) flag

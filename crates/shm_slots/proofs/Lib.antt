@@ -2,4 +2,3 @@ pub mod Least
 pub mod Changes
 pub mod Causes
 pub mod Counts
-pub mod Starts

@@ -1,7 +1,7 @@
 -- Failures: their sum, which never falls, and the possible causes of a refusal.
 use Rattle.std.specs.Prelude.{ℕ, ◌≡◌, ◌≤◌, Bool, true, ◌||◌, nat_lt, length, sum_by}
 use Rattle.std.specs.List.{list_any}
-use Rattle.shm_slots.specs.View.{SwapView, area_at, rise, is_spent_here, sizes}
+use Rattle.shm_slots.specs.View.{SwapView, area_at, rise, most_rise, is_spent_here, sizes}
 
 -- some active area has its count at the last value
 unfoldable pub some_spent : SwapView → Bool
@@ -11,15 +11,20 @@ some_spent s = list_any is_spent_here s.areas
 unfoldable pub total : SwapView → ℕ
 total s = sum_by rise s.areas
 
+-- the most that this sum can become
+unfoldable pub most_total : SwapView → ℕ
+most_total s = sum_by most_rise s.areas
+
 -- a refusal has a cause: a count rose in the call, or the count of an active area was at its last value before
 abbrev pub had_cause : SwapView → SwapView → Bool
 had_cause before after = nat_lt (total before) (total after) || some_spent before
 
--- counts never fall, an area that is gone stays gone, and a spent area is never forgotten
+-- counts never fall, the bounds on them never rise, an area that is gone stays gone, and a spent area is never forgotten
 pub record GoesOn (before after : SwapView) : Type 0 where
   pub areas : length after.areas ≡ length before.areas
   pub starts : (area : ℕ) → (area_at after area).start ≡ (area_at before area).start
   pub counts : (area : ℕ) → (area_at before area).failed ≤ (area_at after area).failed
+  pub mosts : (area : ℕ) → (area_at after area).most ≤ (area_at before area).most
   pub here : (area : ℕ) → (area_at after area).here ≡ true → (area_at before area).here ≡ true
   pub flag : after.never_spent ≡ true → before.never_spent ≡ true
 

@@ -1,6 +1,6 @@
 -- What contracts see of swap areas, and the changes that calls make.
-use Rattle.std.specs.Prelude.{ℕ, ◌≡◌, ◌≢◌, ◌<◌, ◌≤◌, ◌+◌, ◌-◌, ◌*◌, ◌⊎◌, ◌==◌, ◌&&◌, Bool, true, false, not, if◌then◌else◌, List, [], Option, Some, None, set, get_or, map, replicate, length, is_some, sum_by, All, MatchOption}
-use Rattle.std.specs.List.{list_any}
+use Rattle.std.specs.Prelude.{ℕ, ◌≡◌, ◌≢◌, ◌<◌, ◌≤◌, ◌+◌, ◌-◌, ◌*◌, ◌⊎◌, ◌==◌, ◌&&◌, nat_lt, Bool, true, false, not, if◌then◌else◌, List, [], Option, Some, None, set, get_or, map, replicate, length, is_some, sum_by, All, MatchOption}
+use Rattle.std.specs.List.{list_all, list_any}
 use Rattle.shm_base.specs.declared.paging.PageRef.{PageRef}
 use Rattle.shm_base.specs.declared.paging.Slot.{Slot}
 pub use Rattle.shm_base.specs.Segments.{slots_in}
@@ -9,31 +9,37 @@ use Rattle.shm_pager.specs.Pages.{PagerView, SlotUnknown, last_count}
 use Rattle.shm_slots.specs.Owners.{used_count}
 use Rattle.shm_base.specs.declared.bounds.TheConstants.{MOST_AREAS, MOST_SLOTS}
 
--- a swap area: whether it is active, the page and the owner of each slot, and its pager's count of failures at the start and now
+-- a swap area: whether it is active, the page and the owner of each slot, its pager's count of failures at the start and now, and
+-- the most that the pager will ever count
 pub record AreaView : Type 0 where
   pub here : Bool
   pub pages : List (List ℕ)
   pub owners : List (Option PageRef)
   pub start : ℕ
   pub failed : ℕ
+  pub most : ℕ
 
 -- the pages of a pager; none once it is gone
 abbrev pub content_of : {P : Type 0} → (P → List (List ℕ)) → Option P → List (List ℕ)
 content_of content None = []
 content_of content (Some p) = content p
 
--- the pager's count; the last known one once it is gone
+-- one of the pager's counts; the last known one once it is gone
 abbrev pub count_of : {P : Type 0} → (P → ℕ) → ℕ → Option P → ℕ
 count_of failed last None = last
 count_of failed last (Some p) = failed p
 
 -- the value beyond the last area
 abbrev pub no_area : AreaView
-no_area = record { here = false; pages = []; owners = []; start = 0; failed = 0 }
+no_area = record { here = false; pages = []; owners = []; start = 0; failed = 0; most = 0 }
 
 -- how much the area's count has risen
 abbrev pub rise : AreaView → ℕ
 rise a = a.failed - a.start
+
+-- how much the count of an area may have risen in the end
+abbrev pub most_rise : AreaView → ℕ
+most_rise a = a.most - a.start
 
 -- the area's count is at its last value
 abbrev pub is_spent : AreaView → Bool
@@ -47,14 +53,14 @@ is_spent_here a = is_spent a && a.here
 abbrev pub CountedFault : AreaView → AreaView → Type 0
 CountedFault before after = (after.failed ≡ before.failed + 1) ⊎ ((before.failed ≡ last_count) × (after ≡ before))
 
--- a read that failed changes at most the count
+-- a read that failed changes at most the count and the bound on it
 abbrev pub AfterReadFault : AreaView → AreaView → Type 0
-AfterReadFault before after = (after ≡ record before { failed = after.failed }) × CountedFault before after
+AfterReadFault before after = (after ≡ record before { failed = after.failed; most = after.most }) × CountedFault before after
 
--- a write that failed may change the slot's page and the count
+-- a write that failed may change the slot's page, the count and the bound on it
 abbrev pub AfterWriteFault : ℕ → AreaView → AreaView → Type 0
 AfterWriteFault slot before after =
-    (after ≡ record before { pages = after.pages; failed = after.failed }) × SlotUnknown slot before.pages after.pages × CountedFault before after
+    (after ≡ record before { pages = after.pages; failed = after.failed; most = after.most }) × SlotUnknown slot before.pages after.pages × CountedFault before after
 
 -- the area with this page in one slot
 abbrev pub with_page : AreaView → ℕ → List ℕ → AreaView
@@ -64,13 +70,13 @@ with_page a slot page = record a { pages = set a.pages slot page }
 abbrev pub with_owner : AreaView → ℕ → Option PageRef → AreaView
 with_owner a slot owner = record a { owners = set a.owners slot owner }
 
--- the area after its pager is gone
+-- the area after its pager is gone, which counts no more failures
 abbrev pub off : AreaView → AreaView
-off a = record { here = false; pages = []; owners = []; start = a.start; failed = a.failed }
+off a = record { here = false; pages = []; owners = []; start = a.start; failed = a.failed; most = a.failed }
 
 -- an area when its pager is passed in
 abbrev pub fresh : PagerView → AreaView
-fresh p = record { here = true; pages = p.pages; owners = replicate (length p.pages) None; start = p.failed; failed = p.failed }
+fresh p = record { here = true; pages = p.pages; owners = replicate (length p.pages) None; start = p.failed; failed = p.failed; most = p.most }
 
 -- the areas, and whether none of them was ever spent
 pub record SwapView : Type 0 where
@@ -163,23 +169,17 @@ used_in a = used_count a.owners
 abbrev pub used_slots : SwapView → ℕ
 used_slots s = sum_by used_in s.areas
 
--- each area's count when its pager was passed in, areas that are gone included
-abbrev pub first_counts : SwapView → List ℕ
-first_counts s = map (λ (a : AreaView). a.start) s.areas
-
 -- some area, active or gone, has its count at the last value
 abbrev pub was_spent : SwapView → Bool
 was_spent s = list_any is_spent s.areas
 
--- the area is active and has counted no failure since its pager was passed in
-pub record IsUntouched (a : AreaView) : Type 0 where
-  pub here : a.here ≡ true
-  pub count : a.failed ≡ a.start
+-- a number below the last count bounds the area's count
+abbrev pub is_finite : AreaView → Bool
+is_finite a = nat_lt a.most last_count
 
--- every area of the swap is untouched
-pub record AreUntouched (s : SwapView) : Type 0 where
-  pub each : All IsUntouched s.areas
-  pub unspent : s.never_spent ≡ not (was_spent s)
+-- and so it is for each area
+abbrev pub are_finite : SwapView → Bool
+are_finite s = list_all is_finite s.areas
 
 -- some pager of this type has this count
 abbrev pub IsCountOf : {P : Type 0} → (P → ℕ) → ℕ → Type 0
@@ -209,6 +209,7 @@ pub record IsArea (a : AreaView) : Type 0 where
   pub gone : a.here ≡ false → a.pages ≡ []
   pub begun : a.start ≤ a.failed
   pub countable : a.failed ≤ last_count
+  pub bounded : a.failed ≤ a.most
 
 -- the invariant of every swap; it was never spent exactly when no area's count is at its last value
 pub record IsSwap (s : SwapView) : Type 0 where

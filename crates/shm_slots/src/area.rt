@@ -41,6 +41,7 @@ impl<P: Pager> Model for Area<P> {
       owners = a.owners;
       start = a.start;
       failed = count_of P.failed a.last a.pager;
+      most = count_of P.most a.last a.pager;
     } };
 
     ghost invariant = { λ a. IsArea (record {
@@ -49,6 +50,7 @@ impl<P: Pager> Model for Area<P> {
       owners = a.owners;
       start = a.start;
       failed = count_of P.failed a.last a.pager;
+      most = count_of P.most a.last a.pager;
     }) × IsCountOf P.failed a.start × IsCountOf P.failed a.last };
 }
 
@@ -59,7 +61,7 @@ impl<P: Pager> Area<P> {
     /// An area with no slot owned.
     pub(crate) fn new(alloc: Global, pager: P) -> Result<Area<P>, AllocError>
         requires { length (P.content pager) ≤ MOST_SLOTS }
-        ensures made { IfOk result (λ a. a ≡ fresh (pager_seen P.content P.failed pager)) }
+        ensures made { IfOk result (λ a. a ≡ fresh (pager_seen P.content P.failed P.most pager)) }
         ensures sound { IfOk result IsArea }
     {
         let start = pager.failures();
@@ -145,8 +147,10 @@ impl<P: Pager> Area<P> {
         requires { slot < length self.old.pages }
         ensures ok { IfOk result (λ _. self.new ≡ with_page self.old slot page.now) }
         ensures err { IfErr result (λ _. AfterWriteFault slot self.old self.new) }
-        ensures rest { self.new ≡ record self.old { pages = self.new.pages; failed = self.new.failed } }
+        ensures rest { self.new
+            ≡ record self.old { pages = self.new.pages; failed = self.new.failed; most = self.new.most } }
         ensures counts { self.old.failed ≤ self.new.failed }
+        ensures most { self.new.most ≤ self.old.most }
         ensures sound { IsArea self.new }
     {
         match &mut self.pager {
@@ -161,8 +165,9 @@ impl<P: Pager> Area<P> {
         ensures ok { IfOk result (λ _. self.new ≡ self.old) }
         ensures page { IfOk result (λ _. get_or self.old.pages slot [] ≡ page.new) }
         ensures err { IfErr result (λ _. AfterReadFault self.old self.new) }
-        ensures rest { self.new ≡ record self.old { failed = self.new.failed } }
+        ensures rest { self.new ≡ record self.old { failed = self.new.failed; most = self.new.most } }
         ensures counts { self.old.failed ≤ self.new.failed }
+        ensures most { self.new.most ≤ self.old.most }
         ensures sound { IsArea self.new }
     {
         match &mut self.pager {

@@ -58,7 +58,7 @@ impl<P: Pager> Swap<P> {
         requires areas { (1 ≤ length pagers.items) × (length pagers.items ≤ MOST_AREAS) }
         requires sizes { All (λ p. IsAreaSize (length (P.content p))) pagers.items }
         ensures { IfOk result (λ s.
-            s ≡ new_swap (map (λ p. fresh (pager_seen P.content P.failed p)) pagers.items)) }
+            s ≡ new_swap (map (λ p. fresh (pager_seen P.content P.failed P.most p)) pagers.items)) }
     {
         let mut areas = Vec::with_capacity(alloc, pagers.len())?;
         let mut never_spent = true;

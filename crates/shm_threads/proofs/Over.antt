@@ -11,6 +11,7 @@ use Rattle.shm_base.specs.Step.{caller_of}
 use Rattle.shm_base.specs.declared.call.Event.{Event}
 use Rattle.shm_history.specs.WorldState.{WorldState}
 use Rattle.shm_text.specs.Script.{ScriptView}
+use Rattle.shm_slots.specs.View.{SwapView}
 use Rattle.shm_threads.specs.Outcomes.{IsOutcome}
 use Rattle.shm_threads.specs.Running.{IsOver}
 use Rattle.shm_threads.specs.Strands.{IsStrand, StandsAt, can_go, life_from, now_of, pid_of_strand, transcript_of}
@@ -42,9 +43,9 @@ pids-of : (ss : List Strand) → map pid_of (map transcript_of ss) ≡ map pid_o
 pids-of [] = refl
 pids-of (s ∷ ss) = ap (λ (l : List ℕ). s.pid ∷ l) (pids-of ss)
 
-pub outcome-of : (script : ScriptView) (opening : Opening) (counts : List ℕ) (w : WorldState) (ss : List Strand) (all : List Transcript)
-    → IsOver script opening counts w ss → IsHistory w.opening w.events w.machine → all ≡ map transcript_of ss → IsOutcome script opening counts w all
-outcome-of script opening counts w ss all over legal is =
+pub outcome-of : (script : ScriptView) (opening : Opening) (swap : SwapView) (w : WorldState) (ss : List Strand) (all : List Transcript)
+    → IsOver script opening swap w ss → IsHistory w.opening w.events w.machine → all ≡ map transcript_of ss → IsOutcome script opening swap w all
+outcome-of script opening swap w ss all over legal is =
     let each : All (IsTranscript script w.events) (map transcript_of ss) =
     All-map (IsTranscript script w.events) transcript_of ss (λ k d lt. is-whole script w.machine w.events (get_or ss k d) (over.running.each k d lt) (over.none k d lt)) in
     record {

@@ -13,7 +13,9 @@ use Rattle.shm_base.specs.declared.call.Process.{Process}
 use Rattle.shm_base.specs.declared.owner.Cred.{Cred}
 use Rattle.shm_history.specs.WorldState.{WorldState}
 use Rattle.shm_life.specs.Start.{are_pids}
-use Rattle.shm_slots.specs.View.{first_counts}
+use Rattle.shm_slots.specs.View.{SwapView}
+use Rattle.shm_slots.specs.Cause.{GoesOn}
+use Rattle.shm_slots.proofs.Causes.{GoesOn-refl}
 use Rattle.shm_text.specs.Form.{CommandView}
 use Rattle.shm_text.specs.Script.{ScriptView}
 use Rattle.shm_text.specs.Variables.{no_values}
@@ -118,9 +120,9 @@ module _ (script : ScriptView) (w : WorldState) (s : Strand) (is : IsFresh scrip
         marks = subst (All IsMarkAllowed) (sym is.entries) (All-nil IsMarkAllowed);
       }
 
-pub running-start : (script : ScriptView) (w : WorldState) (ss : List Strand) (counts : List ℕ) → IsOpened script w → w.machine ≡ start_of w.opening → first_counts w.memory.swap ≡ counts
-    → map pid_of_strand ss ≡ map pid_in script.processes → All (IsFresh script.lines) ss → length script.lines ≤ w.room → IsRunning script w.opening counts w ss
-running-start script w ss counts opened start began listed fresh room =
+pub running-start : (script : ScriptView) (w : WorldState) (ss : List Strand) (swap : SwapView) → IsOpened script w → w.machine ≡ start_of w.opening → GoesOn swap w.memory.swap
+    → map pid_of_strand ss ≡ map pid_in script.processes → All (IsFresh script.lines) ss → length script.lines ≤ w.room → IsRunning script w.opening swap w ss
+running-start script w ss swap opened start began listed fresh room =
     let ps = script.processes in
     let runners : w.machine.runners ≡ map runner_at_start ps = ap (λ (m : Machine). m.runners) start ∙ ap (map runner_at_start) opened.processes in
     let each : All (IsStrand script w.machine []) ss =
@@ -143,9 +145,9 @@ running-start script w ss counts opened start began listed fresh room =
 
 -- and where room was reserved in the world
 pub running-prepared : (script : ScriptView) (old new : WorldState) (ss : List Strand) → IsOpened script old → IsHistory old.opening old.events old.machine → new ≡ record old { room = new.room }
-    → map pid_of_strand ss ≡ map pid_in script.processes → All (IsFresh script.lines) ss → length script.lines ≤ new.room → IsRunning script old.opening (first_counts old.memory.swap) new ss
+    → map pid_of_strand ss ≡ map pid_in script.processes → All (IsFresh script.lines) ss → length script.lines ≤ new.room → IsRunning script old.opening old.memory.swap new ss
 running-prepared script old new ss opened legal rest listed fresh room =
     let begun : LeadsFrom 1 (start_of old.opening) [] old.machine = subst (λ (es : List Event). LeadsFrom 1 (start_of old.opening) es old.machine) opened.events legal in
     let full : WorldState = record old { room = new.room } in
     let here : IsOpened script full = record { events = opened.events; processes = opened.processes; pids = opened.pids } in
-    subst (λ (w : WorldState). IsRunning script old.opening (first_counts old.memory.swap) w ss) (sym rest) (running-start script full ss (first_counts old.memory.swap) here begun refl listed fresh room)
+    subst (λ (w : WorldState). IsRunning script old.opening old.memory.swap w ss) (sym rest) (running-start script full ss old.memory.swap here begun (GoesOn-refl old.memory.swap) listed fresh room)

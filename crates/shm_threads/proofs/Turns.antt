@@ -17,7 +17,8 @@ use Rattle.shm_base.specs.declared.call.Reply.TheVariants.{Refused}
 use Rattle.shm_base.specs.declared.errno.Errno.TheVariants.{Esrch}
 use Rattle.shm_base.specs.declared.owner.Cred.{Cred}
 use Rattle.shm_slots.specs.Cause.{GoesOn}
-use Rattle.shm_slots.specs.View.{AreaView, SwapView, first_counts, no_area}
+use Rattle.shm_slots.specs.View.{SwapView}
+use Rattle.shm_slots.proofs.Causes.{GoesOn-trans}
 use Rattle.shm_history.specs.WorldState.{IsCalled, WorldState, event}
 use Rattle.shm_text.specs.Script.{ScriptView}
 use Rattle.shm_threads.specs.Outcomes.{StartedFrom}
@@ -35,22 +36,12 @@ use Rattle.shm_threads.proofs.Lives.{ages-move, lives}
 use Rattle.shm_threads.proofs.Placing.{apart-pids, each-set, has-at, left-set, left-some}
 use Rattle.shm_threads.proofs.Stepping.{Notes, strand-other, strand-own}
 
--- areas that go on have the counts that they began with
-pub same-counts : (s t : SwapView) → GoesOn s t → first_counts t ≡ first_counts s
-same-counts s t on =
-    let long : length (first_counts t) ≡ length (first_counts s) = length-map t.areas _ ∙ on.areas ∙ sym (length-map s.areas _) in
-    ext_get_or 0 (first_counts t) (first_counts s) long
-    (λ k lt.
-    let short : k < length t.areas = omega (arith, lt, length-map t.areas (λ (a : AreaView). a.start)) in
-    let less : k < length s.areas = omega (arith, short, on.areas) in
-    get_or-map (λ (a : AreaView). a.start) t.areas k no_area 0 short ∙ on.starts k ∙ sym (get_or-map (λ (a : AreaView). a.start) s.areas k no_area 0 less))
-
 -- a flush round changes nothing that a run keeps
-pub running-flush : (script : ScriptView) (opening : Opening) (counts : List ℕ) (before after : WorldState) (ss : List Strand) → IsRunning script opening counts before ss
-    → after ≡ record before { memory = after.memory } → GoesOn before.memory.swap after.memory.swap → IsRunning script opening counts after ss
-running-flush script opening counts before after ss running rest on =
+pub running-flush : (script : ScriptView) (opening : Opening) (swap : SwapView) (before after : WorldState) (ss : List Strand) → IsRunning script opening swap before ss
+    → after ≡ record before { memory = after.memory } → GoesOn before.memory.swap after.memory.swap → IsRunning script opening swap after ss
+running-flush script opening swap before after ss running rest on =
     record {
-      started = record { opening = ap (λ (w : WorldState). w.opening) rest ∙ running.started.opening; began = same-counts before.memory.swap after.memory.swap on ∙ running.started.began };
+      started = record { opening = ap (λ (w : WorldState). w.opening) rest ∙ running.started.opening; began = GoesOn-trans swap before.memory.swap after.memory.swap running.started.began on };
       pids = running.pids;
       listed = running.listed;
       each = subst (λ (w : WorldState). All (IsStrand script w.machine w.events) ss) (sym rest) running.each;
@@ -92,8 +83,8 @@ has-place m ss k room s lt here go enough =
     let mine : left_of (get_or ss k s) ≡ left_of s = ap left_of (here s) in
     omega (arith, some, mine, has-line m s go, enough)
 
-module _ (script : ScriptView) (opening : Opening) (counts : List ℕ) (before after : WorldState) (ss : List Strand) (k : ℕ) (s t : Strand) (made : Made)
-    (running : IsRunning script opening counts before ss) (lt : k < length ss) (here : (d : Strand) → get_or ss k d ≡ s) (go : can_go before.machine s ≡ true) (is : IsMade before s made after t) where
+module _ (script : ScriptView) (opening : Opening) (swap : SwapView) (before after : WorldState) (ss : List Strand) (k : ℕ) (s t : Strand) (made : Made)
+    (running : IsRunning script opening swap before ss) (lt : k < length ss) (here : (d : Strand) → get_or ss k d ≡ s) (go : can_go before.machine s ≡ true) (is : IsMade before s made after t) where
   parts : (nat_lt (length s.entries.items) (length s.commands.items) ≡ true) × (is_some (caller_of before.machine s.pid) ≡ true)
   parts = and_parts (nat_lt (length s.entries.items) (length s.commands.items)) (is_some (caller_of before.machine s.pid)) go
 
@@ -138,7 +129,7 @@ module _ (script : ScriptView) (opening : Opening) (counts : List ℕ) (before a
       let one : left_of t + 1 ≡ left_of s = omega (arith, long, same, line) in
       left-set ss k t s lt (one ∙ ap left_of (sym (here s)))
 
-  by : (a : Answer) → is.entry.answer ≡ a → IsAnswered before s.pid is.entry.call a after → IsRunning script opening counts after (set ss k t)
+  by : (a : Answer) → is.entry.answer ≡ a → IsAnswered before s.pid is.entry.call a after → IsRunning script opening swap after (set ss k t)
   by (Replied r) answer called =
       let e = event s.pid is.entry.call r in
       let n = length before.events + 1 in
@@ -152,7 +143,7 @@ module _ (script : ScriptView) (opening : Opening) (counts : List ℕ) (before a
       (λ j d less apart strand. strand-other script before.machine after.machine before.events e (get_or ss j d) ages (others j d less apart) strand) mine in
       let admitted : IsAdmitted script.processes e = record { declared = declared; live = found before.machine n e after.machine called.move_of parts.1 } in
       record {
-        started = record { opening = called.opening ∙ running.started.opening; began = same-counts before.memory.swap after.memory.swap called.keeps.goes_on ∙ running.started.began };
+        started = record { opening = called.opening ∙ running.started.opening; began = GoesOn-trans swap before.memory.swap after.memory.swap running.started.began called.keeps.goes_on };
         pids = running.pids;
         listed = listed;
         each = subst (λ (h : List Event). All (IsStrand script after.machine h) (set ss k t)) (sym called.recorded) each;
@@ -168,7 +159,7 @@ module _ (script : ScriptView) (opening : Opening) (counts : List ℕ) (before a
       let each : All (IsStrand script before.machine before.events) (set ss k t) =
       each-set (IsStrand script before.machine before.events) (IsStrand script before.machine before.events) ss k t lt running.each (λ j d less apart strand. strand) mine in
       record {
-        started = subst (StartedFrom opening counts) (sym same) (record { opening = running.started.opening; began = running.started.began });
+        started = subst (StartedFrom opening swap) (sym same) (record { opening = running.started.opening; began = running.started.began });
         pids = running.pids;
         listed = listed;
         each = subst (λ (w : WorldState). All (IsStrand script w.machine w.events) (set ss k t)) (sym same) each;
@@ -176,5 +167,5 @@ module _ (script : ScriptView) (opening : Opening) (counts : List ℕ) (before a
         room = omega (arith, left, running.room, grows);
       }
 
-  pub running-step : IsRunning script opening counts after (set ss k t)
+  pub running-step : IsRunning script opening swap after (set ss k t)
   running-step = by is.entry.answer refl is.answered

@@ -3,7 +3,8 @@ use Rattle.std.specs.Prelude.{◌≡◌, ℕ, List, [], true}
 use Rattle.shm_base.specs.History.{IsHistory}
 use Rattle.shm_base.specs.State.{Opening}
 use Rattle.shm_life.specs.Start.{are_pids}
-use Rattle.shm_slots.specs.View.{first_counts}
+use Rattle.shm_slots.specs.View.{SwapView}
+use Rattle.shm_slots.specs.Cause.{GoesOn}
 use Rattle.shm_history.specs.WorldState.{WorldState}
 use Rattle.shm_text.specs.Script.{ScriptView}
 use Rattle.shm_threads.specs.Transcripts.{AreTranscripts}
@@ -15,14 +16,14 @@ pub record IsOpened (script : ScriptView) (world : WorldState) : Type 0 where
   pub processes : world.opening.processes ≡ script.processes
   pub pids : are_pids script.processes ≡ true
 
--- The world started from this opening, over areas whose pagers had these counts of failures when they were passed in
-pub record StartedFrom (opened : Opening) (counts : List ℕ) (world : WorldState) : Type 0 where
+-- the world started from this opening and these swap areas
+pub record StartedFrom (opened : Opening) (swap : SwapView) (world : WorldState) : Type 0 where
   pub opening : world.opening ≡ opened
-  pub began : first_counts world.memory.swap ≡ counts
+  pub began : GoesOn swap world.memory.swap
 
 -- The outcome of a run: the world started from what was passed in, the history is legal, and the transcripts are those of its
 -- processes
-pub record IsOutcome (script : ScriptView) (opened : Opening) (counts : List ℕ) (world : WorldState) (all : List Transcript) : Type 0 where
-  pub started : StartedFrom opened counts world
+pub record IsOutcome (script : ScriptView) (opened : Opening) (swap : SwapView) (world : WorldState) (all : List Transcript) : Type 0 where
+  pub started : StartedFrom opened swap world
   pub legal : IsHistory world.opening world.events world.machine
   pub transcripts : AreTranscripts script world.events all

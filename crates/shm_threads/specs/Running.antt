@@ -5,6 +5,7 @@ use Rattle.shm_base.specs.State.{Opening}
 use Rattle.shm_history.specs.Gauges.{Seat}
 use Rattle.shm_history.specs.WorldState.{WorldState}
 use Rattle.shm_life.specs.Start.{are_pids}
+use Rattle.shm_slots.specs.View.{SwapView}
 use Rattle.shm_text.specs.Script.{ScriptView}
 use Rattle.shm_threads.specs.Outcomes.{StartedFrom}
 use Rattle.shm_threads.specs.Births.{births_after, is_birth}
@@ -17,8 +18,8 @@ use Rattle.shm_threads.specs.declared.strand.Strand.{Strand}
 
 -- THE INVARIANT of the lock: the world began as it was passed in; each process of the script has its strand; the history has
 -- only events of declared processes that were live; and there is room for an event of each line that is left
-pub record IsRunning (script : ScriptView) (opening : Opening) (counts : List ℕ) (world : WorldState) (strands : List Strand) : Type 0 where
-  pub started : StartedFrom opening counts world
+pub record IsRunning (script : ScriptView) (opening : Opening) (swap : SwapView) (world : WorldState) (strands : List Strand) : Type 0 where
+  pub started : StartedFrom opening swap world
   pub pids : are_pids script.processes ≡ true
   pub listed : map pid_of_strand strands ≡ map pid_in script.processes
   pub each : All (IsStrand script world.machine world.events) strands
@@ -26,8 +27,8 @@ pub record IsRunning (script : ScriptView) (opening : Opening) (counts : List �
   pub room : left_in strands ≤ world.room
 
 -- the same, and no process can continue
-pub record IsOver (script : ScriptView) (opening : Opening) (counts : List ℕ) (world : WorldState) (strands : List Strand) : Type 0 where
-  pub running : IsRunning script opening counts world strands
+pub record IsOver (script : ScriptView) (opening : Opening) (swap : SwapView) (world : WorldState) (strands : List Strand) : Type 0 where
+  pub running : IsRunning script opening swap world strands
   pub none : All (λ (s : Strand). can_go world.machine s ≡ false) strands
 
 -- what contracts see of what the threads share

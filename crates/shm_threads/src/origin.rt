@@ -2,10 +2,11 @@
 
 use std::marker::Brand;
 
-/// The script of a run, the opening and the counts of failures of the world that was passed in, and the cell of the keeper
-/// that was passed in.
+/// The script of a run, the opening and the swap areas of the world that was passed in, and the cell of the keeper that was
+/// passed in.
 pub trait Origin {
-    ghost use Rattle.std.specs.Prelude.{List, Option, ℕ};
+    ghost use Rattle.std.specs.Prelude.{Option};
+    ghost use Rattle.shm_slots.specs.View.{SwapView};
     ghost use Rattle.shm_history.specs.Gauges.{CellName};
     ghost use Rattle.shm_base.specs.State.{Opening};
     ghost use Rattle.shm_text.specs.Script.{ScriptView};
@@ -14,20 +15,21 @@ pub trait Origin {
 
     ghost opening: { Opening };
 
-    ghost counts: { List ℕ };
+    ghost swap: { SwapView };
 
     ghost cell: { Option CellName };
 }
 
 impl Origin for Brand {
     ghost use Rattle.std.specs.Prelude.{[], None};
+    ghost use Rattle.shm_slots.specs.View.{new_swap};
     ghost use Rattle.shm_threads.specs.Running.{no_script, no_opening};
 
     ghost script = { no_script };
 
     ghost opening = { no_opening };
 
-    ghost counts = { [] };
+    ghost swap = { new_swap [] };
 
     ghost cell = { None };
 }

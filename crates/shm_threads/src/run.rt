@@ -1,6 +1,5 @@
 //! A run with threads: it starts them, joins them, and takes out what they share.
 ghost use Rattle.std.specs.Prelude.{◌≡◌, ◌≤◌, [], false, IfErr, IfOk, IfNone, IfSome, length, vec_capacity};
-ghost use Rattle.shm_slots.specs.View.{first_counts};
 ghost use Rattle.shm_threads.specs.Ends.{CanEnd, IsFirst, least_pid};
 ghost use Rattle.shm_threads.specs.Keepers.{cell_of, IsCaughtUp};
 ghost use Rattle.shm_threads.specs.Outcomes.{IsOpened, IsOutcome};
@@ -33,8 +32,8 @@ use std::thread::{JoinHandle, Scope, Threads};
 /// order in which threads get the lock, or that a run ends: workers wait, and the gate may wait.
 ///
 /// The clause says about an outcome:
-/// - Its world has the opening that was passed in, and its areas had the counts of failures that were passed
-///   in.
+/// - Its world has the opening that was passed in, and its areas are those that were passed in: their counts of
+///   failures began there and never fell, and the bounds on these never rose.
 /// - Its history is legal.
 /// - It has a transcript for each process, in the script's order. A transcript follows the process's lines,
 ///   or is empty if the process is a child that was never born.
@@ -52,8 +51,8 @@ pub fn run_threads<R: Threads + Wait + Sync, G: Gate, P: Pager + Send>(
     gate: &G,
 ) -> Result<Outcome<P>, RunError>
     requires { IsOpened script.now world }
-    ensures outcome { let counts = first_counts world.memory.swap in
-        IfOk result (λ o. IsOutcome script.now world.opening counts o.world o.transcripts.items) }
+    ensures outcome { let swap = world.memory.swap in
+        IfOk result (λ o. IsOutcome script.now world.opening swap o.world o.transcripts.items) }
     ensures error { IfErr result CanEnd }
 {
     let (outcome, _) = run_with(rt, alloc, world, None, script, gate)?;
@@ -73,8 +72,8 @@ pub fn run_threads_gauged<R: Threads + Wait + Sync, G: Gate, P: Pager + Send>(
     gate: &G,
 ) -> Result<(Outcome<P>, Keeper), RunError>
     requires { IsOpened script.now world }
-    ensures outcome { let counts = first_counts world.memory.swap in
-        IfOk result (λ r. IsOutcome script.now world.opening counts r.0.world r.0.transcripts.items) }
+    ensures outcome { let swap = world.memory.swap in
+        IfOk result (λ r. IsOutcome script.now world.opening swap r.0.world r.0.transcripts.items) }
     ensures cell { IfOk result (λ r. r.1.cell ≡ keeper.cell) }
     ensures numbers { IfOk result (λ r. IsCaughtUp r.0.world r.1.numbers) }
     ensures error { IfErr result CanEnd }
@@ -95,8 +94,8 @@ fn run_with<R: Threads + Wait + Sync, G: Gate, P: Pager + Send>(
     gate: &G,
 ) -> Result<(Outcome<P>, Option<Keeper>), RunError>
     requires { IsOpened script.now world }
-    ensures outcome { let counts = first_counts world.memory.swap in
-        IfOk result (λ r. IsOutcome script.now world.opening counts r.0.world r.0.transcripts.items) }
+    ensures outcome { let swap = world.memory.swap in
+        IfOk result (λ r. IsOutcome script.now world.opening swap r.0.world r.0.transcripts.items) }
     ensures cell { IfOk result (λ r. cell_of r.1 ≡ cell_of keeper) }
     ensures error { IfErr result CanEnd }
 {
@@ -118,9 +117,9 @@ fn run_from<O: Origin + Send + Sync, R: Threads + Wait + Sync, G: Gate, P: Pager
 ) -> Result<(Outcome<P>, Option<Keeper>), RunError>
     requires script { O.script ≡ script.now }
     requires room { HaveRoom script.now.processes start.handles start.transcripts }
-    requires running { IsRunning O.script O.opening O.counts world start.strands.items }
+    requires running { IsRunning O.script O.opening O.swap world start.strands.items }
     requires cell { cell_of keeper ≡ O.cell }
-    ensures outcome { IfOk result (λ r. IsOutcome O.script O.opening O.counts r.0.world r.0.transcripts.items) }
+    ensures outcome { IfOk result (λ r. IsOutcome O.script O.opening O.swap r.0.world r.0.transcripts.items) }
     ensures cell { IfOk result (λ r. cell_of r.1 ≡ O.cell) }
     ensures error { IfErr result CanEnd }
 {
@@ -163,8 +162,9 @@ fn prepared<'a, P: Pager>(
 ) -> Result<Start<'a>, HostMemory>
     requires { IsOpened script.now world.old }
     ensures room { IfOk result (λ s. HaveRoom script.now.processes s.handles s.transcripts) }
-    ensures running { let counts = first_counts world.old.memory.swap in
-        IfOk result (λ s. IsRunning script.now world.old.opening counts world.new s.strands.items) }
+    ensures running { let swap = world.old.memory.swap in
+        IfOk result (λ s. IsRunning script.now world.old.opening swap world.new s.strands.items) }
+    ensures kept { IfOk result (λ _. world.new.memory ≡ world.old.memory) }
 {
     // What the world promises: its history is legal, so its machine is that of the opening.
     prove!({

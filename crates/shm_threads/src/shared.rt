@@ -46,7 +46,7 @@ impl<'a, P: Pager, O: Origin> Model for RunState<'a, P, O> {
       keeper = s.keeper;
     } };
 
-    ghost invariant = { λ s. IsRunning O.script O.opening O.counts s.world s.strands.items
+    ghost invariant = { λ s. IsRunning O.script O.opening O.swap s.world s.strands.items
         × (cell_of s.keeper ≡ O.cell) };
 }
 
@@ -179,7 +179,7 @@ impl<'a, P: Pager, O: Origin> Shared<'a, P, O> {
         processes: Vec<ProcessState>,
         keeper: Option<Keeper>,
     ) -> Shared<'a, P, O>
-        requires running { IsRunning O.script O.opening O.counts world strands.items }
+        requires running { IsRunning O.script O.opening O.swap world strands.items }
         requires cell { cell_of keeper ≡ O.cell }
     {
         Shared {
@@ -243,7 +243,7 @@ impl<'a, P: Pager, O: Origin> Shared<'a, P, O> {
     /// The world, the strands and the keeper, once no thread is left. It makes the calls of lines that are left: there are
     /// none, as each worker has run its lines.
     pub(crate) fn finish<R: Wait>(self, rt: &R) -> (World<P>, Vec<Strand<'a>>, Option<Keeper>)
-        ensures over { IsOver O.script O.opening O.counts result.0 result.1.items }
+        ensures over { IsOver O.script O.opening O.swap result.0 result.1.items }
         ensures cell { cell_of result.2 ≡ O.cell }
     {
         let Shared { state, changed } = self;

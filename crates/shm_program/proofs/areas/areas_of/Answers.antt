@@ -1,5 +1,7 @@
 use Rattle.std.proofs.Common.{arith}
+use Rattle.std.proofs.lemmas.List.{take_all}
 use Rattle.shm_program.specs.Areas.{IsAreaOf}
+use Rattle.shm_program.proofs.Named.{named}
 use Rattle.shm_program.proofs.Zipped.{zipped-more}
 use Rattle.shm_program.proofs.areas.areas_of.Goals as goal
 
@@ -7,3 +9,8 @@ pub loop-swap-preserved : goal.loop-swap-preserved
 loop-swap-preserved c =
     let at = c.loop-swap in
     rw c.in_ok-push.ensures.items (zipped-more IsAreaOf c.args.swaps.now at.pagers.items at.swap-index _ _ (omega arith) at.invariant c.in_ok-area_of.ensures)
+
+pub returns-clause-seen : goal.returns-clause-seen
+returns-clause-seen c =
+    let at = c.loop-swap in
+    named c.args.swaps.now at.pagers.items (rw (take_all at.swap-index c.args.swaps.now (omega arith)) at at.invariant)

@@ -12,4 +12,4 @@ transcripts_of-transcripts-requires-clause-room g c =
     omega (arith, long, same, c.requires.room.transcripts_fit, strands.ok.0)
 
 pub returns-clause-outcome : goal.returns-clause-outcome
-returns-clause-outcome g c = outcome-of g.O.Origin.script g.O.Origin.opening g.O.Origin.counts c.finish-world.result.0 c.finish-world.result.1.items c.transcripts_of-transcripts.result.items c.finish-world.ensures.over c.history.ensures.legal c.transcripts_of-transcripts.ensures
+returns-clause-outcome g c = outcome-of g.O.Origin.script g.O.Origin.opening g.O.Origin.swap c.finish-world.result.0 c.finish-world.result.1.items c.transcripts_of-transcripts.result.items c.finish-world.ensures.over c.history.ensures.legal c.transcripts_of-transcripts.ensures

@@ -8,12 +8,12 @@ pagers_for-requires c = few-areas c.args.limits c.args.areas.now (sym (c.first_a
 
 pub returns-in-Ok-start-clause-opened : goal.returns-in-Ok-start-clause-opened
 returns-in-Ok-start-clause-opened c =
-    rw (← pager-sizes c.in-Ok.pagers.items c.args.areas.now c.in-Ok.ensures, ← pager-areas c.in-Ok.pagers.items c.args.areas.now c.in-Ok.ensures) c.in-Ok-start.ensures.started
+    rw (← pager-sizes c.args.failures.now c.in-Ok.pagers.items c.args.areas.now c.in-Ok.ensures, ← pager-areas c.args.failures.now c.in-Ok.pagers.items c.args.areas.now c.in-Ok.ensures) c.in-Ok-start.ensures.started
 
 pub returns-in-Ok-start-clause-ok : goal.returns-in-Ok-start-clause-ok
 returns-in-Ok-start-clause-ok c =
-    ap (λ (ns : List ℕ). start_error c.args.limits ns c.args.processes.now) (sym (pager-sizes c.in-Ok.pagers.items c.args.areas.now c.in-Ok.ensures)) ∙ c.in-Ok-start.ensures.ok
+    ap (λ (ns : List ℕ). start_error c.args.limits ns c.args.processes.now) (sym (pager-sizes c.args.failures.now c.in-Ok.pagers.items c.args.areas.now c.in-Ok.ensures)) ∙ c.in-Ok-start.ensures.ok
 
 pub returns-in-Err-clause-err : goal.returns-in-Err-clause-err
 returns-in-Err-clause-err c =
-    first-error c.args.limits c.in-Err.error _ _ c.args.processes.now (pager-sizes c.in-Ok.pagers.items c.args.areas.now c.in-Ok.ensures) c.in-Err.ensures.err
+    first-error c.args.limits c.in-Err.error _ _ c.args.processes.now (pager-sizes c.args.failures.now c.in-Ok.pagers.items c.args.areas.now c.in-Ok.ensures) c.in-Err.ensures.err

@@ -9,11 +9,12 @@ returns-clause-sound g c = record {
   gone = λ e. (cc);
   begun = omega arith;
   countable = omega arith;
+  bounded = c.failures-start.ensures.bounded;
 }
 
 pub invariant_of-result : goal.invariant_of-result
 invariant_of-result g c =
-    (returns-clause-sound g c, (c.args.pager, sym c.failures-start.ensures), (c.args.pager, sym c.failures-start.ensures))
+    (returns-clause-sound g c, (c.args.pager, sym c.failures-start.ensures.count), (c.args.pager, sym c.failures-start.ensures.count))
 
 pub returns-clause-made : goal.returns-clause-made
-returns-clause-made g c = rw (c.in_ok-owners.ensures, c.slots.ensures, c.failures-start.ensures) refl
+returns-clause-made g c = rw (c.in_ok-owners.ensures, c.slots.ensures, c.failures-start.ensures.count) refl

@@ -11,7 +11,7 @@ done : (g : Over) (c : After-unspent_after-self-inside g)
 done g c =
     let there : HasSlot (record { areas = c.self.inside.areas.items; never_spent = c.self.inside.never_spent }) c.args.slot.area c.args.slot.slot = rw (← c.self.view_is) at c.requires in
     let e = c.read-result.ensures in
-    asked _ _ _ _ c.index_mut-area.ensures.value _ _ e.rest c.read-result.result _ there c.self.invariant e.counts e.sound (IfErr-weaker c.read-result.result _ _ (λ _ fault. fault.1) e.err)
+    asked _ _ _ _ c.index_mut-area.ensures.value _ _ _ e.rest c.read-result.result _ there c.self.invariant e.counts e.most e.sound (IfErr-weaker c.read-result.result _ _ (λ _ fault. fault.1) e.err)
 
 pub returns-clause-kept : goal.returns-clause-kept
 returns-clause-kept g c =

@@ -8,7 +8,7 @@ invariant_of-self g c =
     IsSwap-off _ _ _ _ c.index_mut.ensures.value c.turn_off.ensures.gone c.self.invariant c.turn_off.ensures.sound
 
 pub returns-clause-goes_on : goal.returns-clause-goes_on
-returns-clause-goes_on g c = rw (← c.self.view_is) (GoesOn-off _ _ _ _ c.index_mut.ensures.value c.turn_off.ensures.gone)
+returns-clause-goes_on g c = rw (← c.self.view_is) (GoesOn-off _ _ _ _ c.index_mut.ensures.value c.turn_off.ensures.gone c.self.invariant (omega (arith, area_within _ _ _ c.self.view_is c.requires.there)))
 
 pub returns-clause-failures : goal.returns-clause-failures
 returns-clause-failures g c = rw (← c.self.view_is) (total-off _ _ _ _ c.index_mut.ensures.value c.turn_off.ensures.gone _)

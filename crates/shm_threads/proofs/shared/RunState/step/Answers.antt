@@ -29,7 +29,7 @@ invariant_of-self g c =
     let s = c.index_mut.result.now in
     let lt : c.args.index < length items = omega (arith, c.if-index-len.false, c.len.ensures, c.self.inside.strands.ok.0) in
     let here = λ (d : Strand). sym (get_or_read items c.args.index s lt c.index_mut.ensures.value d) in (
-      running-step g.O.Origin.script g.O.Origin.opening g.O.Origin.counts c.self.inside.world c.make-made.new.world items c.args.index s c.make-made.new.strand c.make-made.result
+      running-step g.O.Origin.script g.O.Origin.opening g.O.Origin.swap c.self.inside.world c.make-made.new.world items c.args.index s c.make-made.new.strand c.make-made.result
           c.self.invariant.0 lt here (goes _ _ c.args.index s c.self.view_is c.if-not-can_go.ensures here) c.make-made.ensures,
       c.self.invariant.1,
     )

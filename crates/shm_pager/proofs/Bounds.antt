@@ -1,0 +1,122 @@
+-- The most failures that a fuse will count.
+use Rattle.std.proofs.Common.{◌≡◌, ℕ, ◌<◌, ◌≤◌, ◌+◌, ◌-◌, Bool, true, false, not, ◌&&◌, if◌then◌else◌, List, [], ◌∷◌, min, refl, sym, arith}
+use Rattle.std.proofs.lemmas.Grind.{common_steps}
+use Rattle.shm_pager.specs.Pages.{PagerView, Counts, TriesRead, served, last_count, next_count}
+use Rattle.shm_pager.specs.Fuse.{FuseView, is_listed, listed_above, is_endless, fuse_most, read_is_bad, write_is_bad}
+
+-- one for a listed place
+abbrev pub one_if : Bool → ℕ
+one_if b = if b then 1 else 0
+
+-- a count of calls passes the place that it reaches, if that is listed
+listed_above-more : (places : List ℕ) (n : ℕ) → listed_above places n ≡ one_if (is_listed places (n + 1)) + listed_above places (n + 1)
+listed_above-more [] n = refl
+listed_above-more (k ∷ ks) n = grind (arith, common_steps, listed_above-more ks n)
+
+pub listed_above-next : (places : List ℕ) (n : ℕ) → n ≤ last_count → is_listed places last_count ≡ false
+    → listed_above places n ≡ one_if (is_listed places (next_count n)) + listed_above places (next_count n)
+listed_above-next places n within clear = grind (arith, common_steps, listed_above-more places n, clear)
+
+-- a call leaves its pager no more failures than it had
+left-falls : (p q : PagerView) → Counts p q → q.most - q.failed ≤ p.most - p.failed
+left-falls p q c = grind (arith, common_steps)
+
+-- one less if it failed, unless no number bounds them
+left-drops : (p q : PagerView) → Counts p q → served p q ≡ false → p.most < last_count → (q.most - q.failed) + 1 ≤ p.most - p.failed
+left-drops p q c e lt = grind (arith, common_steps)
+
+-- the count and what is left, up to the last count
+abbrev most_of : Bool → ℕ → ℕ
+most_of endless n = if endless then last_count else min n last_count
+
+most_of-le : (a b : Bool) (m n : ℕ) → (a ≡ true → b ≡ true) → (b ≡ false → m ≤ n) → most_of a m ≤ most_of b n
+most_of-le true true m n e le = omega arith
+most_of-le true false m n e le = grind (arith, common_steps, e)
+most_of-le false true m n e le = omega arith
+most_of-le false false m n e le = omega (arith, le refl)
+
+most_of-same : (a b : Bool) (m n : ℕ) → a ≡ b → (b ≡ false → m ≡ n) → most_of a m ≡ most_of b n
+most_of-same true true m n e le = refl
+most_of-same true false m n e le = absurd (cc)
+most_of-same false true m n e le = absurd (cc)
+most_of-same false false m n e le = rw (le refl) refl
+
+-- a fuse has counted no more than the most that it will count
+pub bounded-fuse : (f : FuseView) → f.failed ≤ last_count → f.failed ≤ fuse_most f
+bounded-fuse f le = grind (arith, common_steps)
+
+-- a fuse after a read and after a write
+abbrev after_read : FuseView → PagerView → ℕ → FuseView
+after_read f q failed = record f { inner = q; reads = next_count f.reads; failed = failed }
+
+abbrev after_write : FuseView → PagerView → ℕ → FuseView
+after_write f q failed = record f { inner = q; writes = next_count f.writes; failed = failed }
+
+module _ (f : FuseView) (q : PagerView) where
+  -- the bounds of its pager show that no listed place is one at which a count stops
+  clear-reads : is_endless f ≡ false → is_listed f.bad_reads last_count ≡ false
+  clear-reads e = grind (arith, common_steps, e)
+
+  clear-writes : is_endless f ≡ false → is_listed f.bad_writes last_count ≡ false
+  clear-writes e = grind (arith, common_steps, e)
+
+  clear-inner : is_endless f ≡ false → f.inner.most < last_count
+  clear-inner e = grind (arith, common_steps, e)
+
+  endless-back : (g : FuseView) → g.bad_reads ≡ f.bad_reads → g.bad_writes ≡ f.bad_writes → g.inner.most ≤ f.inner.most → is_endless g ≡ true → is_endless f ≡ true
+  endless-back g r w le e = grind (arith, common_steps, r, w, e)
+
+  module _ (within : f.reads ≤ last_count) where
+    pub read-same : read_is_bad f ≡ false → q.most ≡ f.inner.most → q.failed ≡ f.inner.failed → fuse_most (after_read f q f.failed) ≡ fuse_most f
+    read-same good most failed =
+        most_of-same (is_endless (after_read f q f.failed)) (is_endless f) _ _ (rw most refl)
+        (λ e. omega (arith, most, failed, rw good at (listed_above-next f.bad_reads f.reads within (clear-reads e))))
+
+    pub read-listed : read_is_bad f ≡ true → q ≡ f.inner → fuse_most (after_read f q (f.failed + 1)) ≤ fuse_most f
+    read-listed bad same =
+        most_of-le (is_endless (after_read f q (f.failed + 1))) (is_endless f) _ _ (λ e. rw same at e)
+        (λ e. rw same (omega (arith, rw bad at (listed_above-next f.bad_reads f.reads within (clear-reads e)))))
+
+    pub read-failed : read_is_bad f ≡ false → Counts f.inner q → served f.inner q ≡ false → fuse_most (after_read f q (f.failed + 1)) ≤ fuse_most f
+    read-failed good c un =
+        most_of-le (is_endless (after_read f q (f.failed + 1))) (is_endless f) _ _ (endless-back (after_read f q (f.failed + 1)) refl refl c.most)
+        (λ e. omega (arith, left-drops f.inner q c un (clear-inner e), rw good at (listed_above-next f.bad_reads f.reads within (clear-reads e))))
+
+  module _ (within : f.writes ≤ last_count) where
+    pub write-same : write_is_bad f ≡ false → q.most ≡ f.inner.most → q.failed ≡ f.inner.failed → fuse_most (after_write f q f.failed) ≡ fuse_most f
+    write-same good most failed =
+        most_of-same (is_endless (after_write f q f.failed)) (is_endless f) _ _ (rw most refl)
+        (λ e. omega (arith, most, failed, rw good at (listed_above-next f.bad_writes f.writes within (clear-writes e))))
+
+    pub write-listed : write_is_bad f ≡ true → Counts f.inner q → fuse_most (after_write f q (f.failed + 1)) ≤ fuse_most f
+    write-listed bad c =
+        most_of-le (is_endless (after_write f q (f.failed + 1))) (is_endless f) _ _ (endless-back (after_write f q (f.failed + 1)) refl refl c.most)
+        (λ e. omega (arith, left-falls f.inner q c, rw bad at (listed_above-next f.bad_writes f.writes within (clear-writes e))))
+
+    pub write-failed : write_is_bad f ≡ false → Counts f.inner q → served f.inner q ≡ false → fuse_most (after_write f q (f.failed + 1)) ≤ fuse_most f
+    write-failed good c un =
+        most_of-le (is_endless (after_write f q (f.failed + 1))) (is_endless f) _ _ (endless-back (after_write f q (f.failed + 1)) refl refl c.most)
+        (λ e. omega (arith, left-drops f.inner q c un (clear-inner e), rw good at (listed_above-next f.bad_writes f.writes within (clear-writes e))))
+
+-- a read that succeeded, and one that failed
+pub most-read : (f : FuseView) (q : PagerView) (bad : Bool) → f.reads ≤ last_count → bad ≡ read_is_bad f → (not bad && served f.inner q) ≡ true
+    → (not bad ≡ true → TriesRead f.inner q) → fuse_most (after_read f q f.failed) ≡ fuse_most f
+most-read f q false within is ok tried =
+    let counts = (tried refl).counts in
+    read-same f q within (sym is) (counts.same_most ok) (grind (arith, common_steps, ok))
+most-read f q true within is ok tried = absurd (cc)
+
+pub most-unread : (f : FuseView) (q : PagerView) (bad : Bool) → f.reads ≤ last_count → bad ≡ read_is_bad f → (not bad && served f.inner q) ≡ false
+    → (not bad ≡ true → TriesRead f.inner q) → (not bad ≡ false → q ≡ f.inner) → fuse_most (after_read f q (f.failed + 1)) ≤ fuse_most f
+most-unread f q false within is failed tried same = read-failed f q within (sym is) (tried refl).counts failed
+most-unread f q true within is failed tried same = read-listed f q within (sym is) (same refl)
+
+-- a write that succeeded, and one that failed
+pub most-written : (f : FuseView) (q : PagerView) → f.writes ≤ last_count → write_is_bad f ≡ false → served f.inner q ≡ true
+    → Counts f.inner q → fuse_most (after_write f q f.failed) ≡ fuse_most f
+most-written f q within good ok counts = write-same f q within good (counts.same_most ok) (grind (arith, common_steps, ok))
+
+pub most-unwritten : (f : FuseView) (q : PagerView) (bad : Bool) → f.writes ≤ last_count → bad ≡ write_is_bad f → (not bad && served f.inner q) ≡ false
+    → Counts f.inner q → fuse_most (after_write f q (f.failed + 1)) ≤ fuse_most f
+most-unwritten f q false within is failed counts = write-failed f q within (sym is) counts failed
+most-unwritten f q true within is failed counts = write-listed f q within (sym is) counts
