@@ -2,7 +2,7 @@
 use Rattle.nogcuvema.proofs.Names.{ℕ, List, Err, inr, subst, ProcessCall, Reply, Machine, Refusal, Answered, Progress, ReadTo, WrittenTo, stop_code, ReadBy, WrittenBy, refusal_code, AnswersFor}
 use Rattle.std.proofs.Common.{◌≡◌, Ok, inl, refl}
 use Rattle.shm_base.specs.State.{Machine as Flat}
-use Rattle.shm_base.specs.Step.{Outcome}
+use Rattle.shm_life.specs.Exchanged.{Exchange}
 use Rattle.shm_machine.specs.Stretched.{CopiedTo}
 use Rattle.nogcuvema.specs.Through.{CopiedBy}
 use Rattle.nogcuvema.specs.Exchanges.{ExchangesAs, ExchangesFor}
@@ -22,9 +22,9 @@ pub done_alike : (before after : Machine) (pid : ℕ) (asked call : ProcessCall)
 done_alike before after pid asked call reply same answered = inl (refl, subst (λ (c : ProcessCall). Answered before.system pid c (Ok reply) after.system) same answered)
 
 -- an exchange that is refused
-pub not_exchanged : (outcome : Flat → Outcome) (before after : Machine) (there : List ℕ) (code : ℕ) (refusal : Refusal) → code ≡ refusal_code refusal → ExchangesAs (outcome before.system.machine) before there (Err refusal) after
-    → ExchangesFor outcome before there code after
-not_exchanged outcome before after there code refusal is answered = inr (refusal, is, answered)
+pub not_exchanged : (exchange : Flat → Exchange) (before after : Machine) (there : List ℕ) (code : ℕ) (refusal : Refusal) → code ≡ refusal_code refusal → ExchangesAs (exchange before.system.machine) before there (Err refusal) after
+    → ExchangesFor exchange before there code after
+not_exchanged exchange before after there code refusal is answered = inr (refusal, is, answered)
 
 -- AS FAR AS IT CAME
 

@@ -1,7 +1,7 @@
 //! Exchanges, and compares with exchange.
 ghost use Rattle.std.specs.Prelude.{◌≡◌, ◌≢◌, ◌≤◌, ◌&&◌, ◌==◌, length};
 ghost use Rattle.shm_base.specs.Bounds.{within};
-ghost use Rattle.shm_base.specs.Exchange.{compares, exchanges};
+ghost use Rattle.shm_life.specs.Exchanged.{comparing, exchanging};
 ghost use Rattle.shm_base.specs.State.{Machine as Flat};
 ghost use Rattle.nogcuvema.specs.Exchanges.{ExchangesFor, ExchangesWhere};
 
@@ -15,7 +15,7 @@ use std::alloc::Global;
 fn exchange(machine: &mut Machine, pid: u32, addr: u64, bytes: &[u8], before: &mut [u8]) -> u32
     requires size { (1 ≤ length bytes.now) × (length bytes.now ≤ 64) }
     requires before { length before.old ≡ length bytes.now }
-    ensures answers { ExchangesFor (λ (s : Flat). exchanges s pid addr bytes.now)
+    ensures answers { ExchangesFor (λ (s : Flat). exchanging s pid addr bytes.now)
         machine.old before.new result machine.new }
     ensures before { result ≢ 0 → before.new ≡ before.old }
 {
@@ -36,7 +36,7 @@ fn compare(
 ) -> u32
     requires size { (1 ≤ length bytes.now) × (length bytes.now ≤ 64) }
     requires before { length before.old ≡ length bytes.now }
-    ensures answers { ExchangesFor (λ (s : Flat). compares s pid addr expected.now bytes.now)
+    ensures answers { ExchangesFor (λ (s : Flat). comparing s pid addr expected.now bytes.now)
         machine.old before.new result machine.new }
     ensures before { result ≢ 0 → before.new ≡ before.old }
 {
@@ -57,7 +57,7 @@ pub extern "C" fn nog_exchange(
     before: &mut [u8],
 ) -> u32
     ensures answers { let fit = within 1 64 (length bytes.now) && (length before.old == length bytes.now) in
-        ExchangesWhere fit (λ (s : Flat). exchanges s pid addr bytes.now)
+        ExchangesWhere fit (λ (s : Flat). exchanging s pid addr bytes.now)
         handle.old.kept.value before.new result handle.new.kept.value }
     ensures before { result ≢ 0 → before.new ≡ before.old }
 {
@@ -84,7 +84,7 @@ pub extern "C" fn nog_compare_exchange(
 ) -> u32
     ensures answers { let size = length bytes.now in
         let fit = within 1 64 size && (length before.old == size) && (length expected.now == size) in
-        ExchangesWhere fit (λ (s : Flat). compares s pid addr expected.now bytes.now)
+        ExchangesWhere fit (λ (s : Flat). comparing s pid addr expected.now bytes.now)
         handle.old.kept.value before.new result handle.new.kept.value }
     ensures before { result ≢ 0 → before.new ≡ before.old }
 {

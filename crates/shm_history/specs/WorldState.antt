@@ -9,7 +9,7 @@ use Rattle.shm_base.specs.declared.call.Reply.{Reply}
 use Rattle.shm_base.specs.declared.call.Event.{Event}
 use Rattle.shm_base.specs.declared.paging.FlushReport.{FlushReport}
 use Rattle.shm_base.specs.History.{IsMove, is_failure, is_refusal}
-use Rattle.shm_base.specs.Step.{step}
+use Rattle.shm_base.specs.Step.{caller_of, step}
 use Rattle.shm_base.specs.State.{Opening, Machine}
 use Rattle.shm_base.specs.Segments.{segment_count, reserved, locked}
 use Rattle.shm_base.specs.declared.paging.Tally.{Tally}
@@ -18,6 +18,7 @@ use Rattle.shm_slots.specs.Cause.{total, had_cause}
 use Rattle.shm_fault.specs.Store.{StoreView, resident, dirty, used}
 use Rattle.shm_fault.specs.Flushing.{IsFlushed}
 use Rattle.shm_life.specs.MachineView.{KeepsOn, StillIfRefused}
+use Rattle.shm_life.specs.Paging.{Pages, paging_of}
 use Rattle.shm_base.specs.Memory.{TakesNoMemory}
 
 pub record WorldState : Type 0 where
@@ -50,13 +51,15 @@ calls_in (Flush n) = []
 abbrev pub step_calls : List Step → List (ℕ × ProcessCall)
 step_calls steps = flat_map calls_in steps
 
--- the call is recorded with its reply, and is a move of the machine
+-- the call is recorded with its reply, and is a move of the machine; pages are where it leaves them
 pub record IsCalled (before : WorldState) (pid : ℕ) (call : ProcessCall) (reply : Reply) (after : WorldState) : Type 0 where
   pub recorded : after.events ≡ before.events ++ event pid call reply ∷ []
   pub move_of : IsMove before.machine (length before.events + 1) (event pid call reply) after.machine
   pub cause : is_failure call reply ≡ true → had_cause before.memory.swap after.memory.swap ≡ true
   pub keeps : KeepsOn before.memory after.memory
   pub still : StillIfRefused reply before.memory after.memory
+  pub paged :
+      Pages (paging_of call (caller_of before.machine pid)) (is_failure call reply) reply before.memory after.memory
   pub opening : after.opening ≡ before.opening
   pub room : before.room ≤ after.room + 1
 

@@ -1,8 +1,8 @@
 -- The replies to an access that succeeded, and to one that was refused or at which a pager failed.
-use Rattle.shm_life.proofs.Names.{◌≡◌, ◌∙◌, ℕ, ◌+◌, ◌%◌, Bool, true, false, if◌then◌else◌, List, length, Some, None, refl, sym, ap, arith, common_steps, OnOk, OnErr, Entry, Span, Place, Outcome, gives, Bytes, Machine, Piece, wanted_in, load-wanted, store-wanted, loaded, span_places, SameTable, same-refl, stored-same, KeepsMemory, Bounds, Runner, StoreView, sizes}
+use Rattle.shm_life.proofs.Names.{All, InPage, SegmentsView, eq-eqb, ◌≤◌, ◌≡◌, ◌∙◌, ℕ, ◌+◌, ◌%◌, Bool, true, false, if◌then◌else◌, List, length, Some, None, refl, sym, ap, arith, common_steps, OnOk, OnErr, Entry, Span, Place, Outcome, gives, Bytes, Machine, Piece, wanted_in, load-wanted, store-wanted, loaded, span_places, SameTable, same-refl, stored-same, Bounds, Runner, StoreView, sizes}
 use Rattle.std.specs.Borrow.{Bor}
 use Rattle.std.specs.Int.{w64, from_le_bytes, to_le_bytes}
-use Rattle.std.specs.Prelude.{◌^◌, map, Option, Result, Ok, Err, IfOk, IfErr, option_map}
+use Rattle.std.specs.Prelude.{◌^◌, is_some, map, Option, Result, Ok, Err, IfOk, IfErr, option_map}
 use Rattle.std.specs.Result.{result_and, result_or}
 use Rattle.std.proofs.lemmas.Result.{IfOk-weaker}
 use Rattle.shm_base.specs.Access.{places, stored, writable_places}
@@ -18,38 +18,60 @@ use Rattle.shm_attach.specs.Spaces.{IsCaller, caller_seen}
 use Rattle.shm_attach.specs.Spans.{unmarked}
 use Rattle.shm_attach.specs.declared.process.Caller.{Caller as Called}
 use Rattle.shm_attach.proofs.FlatSteps.{are_asked, loaded-unmarked, stored-unmarked}
-use Rattle.shm_fault.specs.Access.{Accessed, answer_of}
-use Rattle.shm_fault.specs.Acting.{bytes_in, put_by, size_of}
+use Rattle.shm_fault.specs.Access.{answer_of}
+use Rattle.shm_fault.specs.Acting.{bytes_in, place_after, put_by, size_of}
 use Rattle.shm_fault.specs.declared.act.Act.{Act}
 use Rattle.shm_fault.specs.declared.act.Act.TheVariants.{Nothing, Put, PutIfEqual, Add}
 use Rattle.shm_fault.specs.declared.touched.Touched.{Touched}
 use Rattle.shm_segments.specs.Table.{table_with}
 use Rattle.shm_life.specs.Accessing.{Does, DoesAt, DoesBy, LeavesOrFails}
-use Rattle.shm_life.specs.Exchanged.{IsExchange}
-use Rattle.shm_life.specs.MachineView.{Answered, AnsweredTo, MachineView, done, names_failure, replied, reply_in}
+use Rattle.shm_segments.specs.Acted.{Acted}
+use Rattle.shm_life.specs.Exchanged.{IsExchange, is_bus_error}
+use Rattle.shm_life.specs.MachineView.{Answered, AnsweredTo, MachineView, done, replied, reply_in}
+use Rattle.shm_life.specs.Paging.{exchange_by, compare_by, spans_of}
+use Rattle.shm_life.specs.Paging.Paging.{Touches}
+use Rattle.shm_life.proofs.Touching.{comes-in, comes-up-to, have-pages}
 use Rattle.shm_life.proofs.Running.{answered_as, failing, granted}
 
 -- a reply that refuses nothing and names no failure
 abbrev IsGrant : (Reply → Bool) → Reply → Type 0
 IsGrant names reply = (names reply ≡ false) × (is_refusal reply ≡ false)
 
-accessed : {T : Type 0} (o : Outcome) (table : List Entry) (names : Reply → Bool) (reply : T → Reply) (s t : MachineView) (r : Result T Errno)
+accessed : {T : Type 0} (o : Outcome) (table : List Entry) (puts : Bool) (bytes : List Place) (names : Reply → Bool) (reply : T → Reply) (s t : MachineView) (r : Result T Errno)
     → names (Refused Sigbus) ≡ true → is_refusal o.reply ≡ false → ((x : T) → IsGrant names (reply x))
-    → IfOk r (λ x. o ≡ gives (record s.flat { table = table }) (reply x)) → LeavesOrFails table s r t → Answered o (names (replied reply r)) false (replied reply r) s t
-accessed o table names reply s t (Ok x) fails none grant step leaves =
-    rw (grant x).0 (granted o (reply x) false s t (step ∙ ap (λ (m : Machine). gives m (reply x)) (sym leaves.written)) (grant x).1 leaves.keeps)
-accessed o table names reply s t (Err e) fails none grant step leaves =
-    rw (leaves.err.told, fails) (failing o Sigbus false s t refl (record { instead = none; unchanged = leaves.same; cause = leaves.err.cause }) leaves.keeps)
+    → IfOk r (λ x. o ≡ gives (record s.flat { table = table }) (reply x)) → LeavesOrFails table puts (spans_of bytes) s r t → Answered o (Touches puts bytes) (names (replied reply r)) false (replied reply r) s t
+accessed o table puts bytes names reply s t (Ok x) fails none grant step leaves =
+    rw (grant x).0 (granted o (Touches puts bytes) (reply x) false s t (step ∙ ap (λ (m : Machine). gives m (reply x)) (sym leaves.written)) (grant x).1 leaves.keeps leaves.came)
+accessed o table puts bytes names reply s t (Err e) fails none grant step leaves =
+    rw (leaves.err.told, fails) (failing o (Touches puts bytes) Sigbus false s t refl (record { instead = none; unchanged = leaves.same; cause = leaves.err.cause }) leaves.keeps leaves.stopped)
 
 abbrev view_with : Bounds → List Entry → List Runner → StoreView → MachineView
 view_with limits t rs m = record { flat = record { limits = limits; areas = sizes m.swap; table = t; runners = rs }; memory = m }
 
 -- an access of the segments, as one of the machine
-pub told : {A E : Type 0} (r : Result A E) (limits : Bounds) (t u w : List Entry) (rs after : List Runner) (m n : StoreView) (ps : List Span) (touched : Touched) → OnOk r (u ≡ w) → OnErr r (u ≡ t) → after ≡ rs
-    → KeepsMemory m n → Accessed ps m n (answer_of touched r) → LeavesOrFails w (view_with limits t rs m) (result_or r (Err Sigbus)) (view_with limits u after n)
-told (Ok a) limits t u w rs after m n ps touched written same runners keeps access = record { written = rw (written, runners, access.same_sizes) refl; same = tt; keeps = keeps; err = tt }
-told (Err e) limits t u w rs after m n ps touched written same runners keeps access =
-    record { written = tt; same = rw (same, runners, access.same_sizes) refl; keeps = keeps; err = record { told = refl; cause = access.paged.cause refl } }
+pub told : {A E : Type 0} (r : Result A E) (limits : Bounds) (put : Option (List ℕ)) (before after : List ℕ) (rs rest : List Runner) (s t : SegmentsView) (ps : List Span) (touched : Touched) → length ps ≤ 2 → All InPage ps → rest ≡ rs
+    → Acted put ps before after s t r (answer_of touched r)
+    → LeavesOrFails (table_with s.table (span_places false ps) put) (is_some put) (spans_of (span_places false ps)) (view_with limits s.table rs s.memory) (result_or r (Err Sigbus)) (view_with limits t.table rest t.memory)
+told (Ok a) limits put before after rs rest s t ps touched few fit runners acted =
+    let have = have-pages ps few fit in
+    record {
+      written = rw (acted.written, runners, acted.access.same_sizes) refl;
+      same = tt;
+      keeps = acted.keeps;
+      err = tt;
+      came = comes-in (is_some put) s.memory t.memory touched ps _ have acted.has acted.access.paged acted.places;
+      stopped = tt;
+    }
+told (Err e) limits put before after rs rest s t ps touched few fit runners acted =
+    let have = have-pages ps few fit in
+    record {
+      written = tt;
+      same = rw (acted.same, runners, acted.access.same_sizes) refl;
+      keeps = acted.keeps;
+      err = record { told = refl; cause = acted.access.paged.cause refl };
+      came = tt;
+      stopped = comes-up-to s.memory t.memory touched ps _ have acted.has acted.access.paged acted.stopped;
+    }
 
 -- a result with another error in place of its own
 pub or-ok : {A E : Type 0} (P Q : A → Type 0) (r : Result A E) (other : Errno) → ((a : A) → P a → Q a) → IfOk r P → IfOk (result_or r (Err other)) Q
@@ -67,10 +89,11 @@ noted (Some bytes) ps t = stored-same ps bytes t
 
 -- an act at spans, as one at their places
 pub did : {E : Type 0} (act : Act) (ps : List Span) (before after : List ℕ) (s t : MachineView) → bytes_in ps ≡ size_of act (length before) → (r : Result (Unit {0}) E)
-    → OnOk r (bytes_in ps ≡ length before → after ≡ loaded s.flat.table (span_places false ps)) → OnErr r (after ≡ before)
-    → LeavesOrFails (table_with s.flat.table (span_places false ps) (put_by act (loaded s.flat.table (span_places false ps)))) s (result_or r (Err Sigbus)) t
+    → OnOk r (after ≡ place_after (bytes_in ps) (loaded s.flat.table (span_places false ps)) before) → OnErr r (after ≡ before)
+    → (let put = put_by act (loaded s.flat.table (span_places false ps)) in
+    LeavesOrFails (table_with s.flat.table (span_places false ps) put) (is_some put) (spans_of (span_places false ps)) s (result_or r (Err Sigbus)) t)
     → Does act (span_places false ps) before after s (result_or r (Err Sigbus)) t
-did act ps before after s t sum (Ok a) there kept leaves = record { there = λ long. there (sum ∙ long); kept = tt; leaves = leaves }
+did act ps before after s t sum (Ok a) there kept leaves = record { there = rw sum at there; kept = tt; leaves = leaves }
 did act ps before after s t sum (Err e) there kept leaves = record { there = tt; kept = kept; leaves = leaves }
 
 -- a caller's act is that of its process
@@ -106,9 +129,17 @@ module _ (s : Machine) (ps : List Piece) (addr : ℕ) where
 -- WHAT AN ACCESS REPLIES
 
 -- a result with another value in place of its own
-and-leaves : (table : List Entry) (s t : MachineView) (x : ℕ) (r : Result (Unit {0}) Errno) → LeavesOrFails table s r t → LeavesOrFails table s (result_and r (Ok x)) t
-and-leaves table s t x (Ok a) l = record { written = l.written; same = tt; keeps = l.keeps; err = tt }
-and-leaves table s t x (Err e) l = record { written = tt; same = l.same; keeps = l.keeps; err = l.err }
+and-leaves : (table : List Entry) (puts : Bool) (ps : List Span) (s t : MachineView) (x : ℕ) (r : Result (Unit {0}) Errno) → LeavesOrFails table puts ps s r t → LeavesOrFails table puts ps s (result_and r (Ok x)) t
+and-leaves table puts ps s t x (Ok a) l = record { written = l.written; same = tt; keeps = l.keeps; err = tt; came = l.came; stopped = tt }
+and-leaves table puts ps s t x (Err e) l = record { written = tt; same = l.same; keeps = l.keeps; err = l.err; came = tt; stopped = l.stopped }
+
+-- a place for the old bytes that is as long as they are
+filled : (n : ℕ) (old before : List ℕ) → n ≡ length before → place_after n old before ≡ old
+filled n old before long = rw (eq-eqb n (length before) long) refl
+
+if-puts : (b : Bool) (bytes : List ℕ) → is_some (if b then Some bytes else None) ≡ b
+if-puts true bytes = refl
+if-puts false bytes = refl
 
 on-ok : {A E : Type 0} (P Q : Type 0) (r : Result A E) → (P → Q) → OnOk r P → OnOk r Q
 on-ok P Q (Ok a) f p = f p
@@ -129,63 +160,64 @@ does-kept act addr (Some c) before after s t r d = at _ d.by
 
 module _ (s t : MachineView) (n addr : ℕ) (before after : List ℕ) (r : Result (Unit {0}) Errno) where
   pub loads : (len : ℕ) → len ≡ length before → (who : Option Caller) → DoesBy Nothing addr who before after s r t
-      → AnsweredTo (step_by s.flat n (call.Load addr len) who) (call.Load addr len) (reply_in (Bytes after) r) s t
+      → AnsweredTo (step_by s.flat n (call.Load addr len) who) who (call.Load addr len) (reply_in (Bytes after) r) s t
   loads len size None d = rw (d.by.0, d.by.1.1) (answered_as _ _ _ s refl)
   loads len size (Some c) d = at (wanted_in false c.pieces addr len) refl (rw (← size) at d.by)
     where
       at : (o : Option (List Place)) → wanted_in false c.pieces addr len ≡ o → DoesAt Nothing o before after s r t
-          → AnsweredTo (load s.flat (places c.pieces addr len)) (call.Load addr len) (reply_in (Bytes after) r) s t
+          → AnsweredTo (load s.flat (places c.pieces addr len)) (Some c) (call.Load addr len) (reply_in (Bytes after) r) s t
       at None is d = rw (d.0, d.1.1, none-asked (places c.pieces addr len) is) (answered_as _ _ _ s refl)
       at (Some asked) is d =
           let step = load-wanted s.flat c.pieces addr len asked is in
-          accessed _ _ (is_failure (call.Load addr len)) (λ _. Bytes after) s t r refl (rw step refl) (λ _. (refl, refl)) (IfOk-weaker r _ _ (λ _ same. rw same step) (on-ok _ _ r (λ f. f refl) d.there)) d.leaves
+          rw is (accessed _ _ false asked (is_failure (call.Load addr len)) (λ _. Bytes after) s t r refl (rw step refl) (λ _. (refl, refl)) (IfOk-weaker r _ _ (λ _ same. rw same step) (on-ok _ _ r (λ f. f ∙ filled _ _ before refl) d.there)) d.leaves)
 
-  pub stores : (b : Bor (List ℕ)) (who : Option Caller) → DoesBy (Put b) addr who before after s r t → AnsweredTo (step_by s.flat n (call.Store b.now addr) who) (call.Store b.now addr) (replied done r) s t
+  pub stores : (b : Bor (List ℕ)) (who : Option Caller) → DoesBy (Put b) addr who before after s r t → AnsweredTo (step_by s.flat n (call.Store b.now addr) who) who (call.Store b.now addr) (replied done r) s t
   stores b None d = rw (d.by.0, d.by.1.1) (answered_as _ _ _ s refl)
   stores b (Some c) d = at (wanted_in true c.pieces addr (length b.now)) refl d.by
     where
       at : (o : Option (List Place)) → wanted_in true c.pieces addr (length b.now) ≡ o → DoesAt (Put b) o before after s r t
-          → AnsweredTo (store s.flat b.now (writable_places c.pieces addr (length b.now))) (call.Store b.now addr) (replied done r) s t
+          → AnsweredTo (store s.flat b.now (writable_places c.pieces addr (length b.now))) (Some c) (call.Store b.now addr) (replied done r) s t
       at None is d = rw (d.0, d.1.1, none-asked (writable_places c.pieces addr (length b.now)) is) (answered_as _ _ _ s refl)
       at (Some asked) is d =
           let step = store-wanted s.flat c.pieces addr b.now asked is in
-          accessed _ _ (is_failure (call.Store b.now addr)) done s t r refl (rw step refl) (λ _. (refl, refl)) (IfOk-weaker r _ _ (λ _ _. step) d.leaves.written) d.leaves
+          rw is (accessed _ _ true asked (is_failure (call.Store b.now addr)) done s t r refl (rw step refl) (λ _. (refl, refl)) (IfOk-weaker r _ _ (λ _ _. step) d.leaves.written) d.leaves)
 
   -- the number in the old bytes
   abbrev number : ℕ
   number = from_le_bytes w64 after
 
   pub adds : (add : ℕ) (who : Option Caller) → length before ≡ 8 → DoesBy (Add add) addr who before after s r t
-      → AnsweredTo (step_by s.flat n (call.Xadd addr add) who) (call.Xadd addr add) (replied Number (result_and r (Ok number))) s t
+      → AnsweredTo (step_by s.flat n (call.Xadd addr add) who) who (call.Xadd addr add) (replied Number (result_and r (Ok number))) s t
   adds add None eight d = rw (d.by.0, d.by.1.1) (answered_as _ _ _ s refl)
   adds add (Some c) eight d = at (wanted_in true c.pieces addr 8) refl (rw eight at d.by)
     where
       at : (o : Option (List Place)) → wanted_in true c.pieces addr 8 ≡ o → DoesAt (Add add) o before after s r t
-          → AnsweredTo (xadd s.flat add (writable_places c.pieces addr 8)) (call.Xadd addr add) (replied Number (result_and r (Ok number))) s t
+          → AnsweredTo (xadd s.flat add (writable_places c.pieces addr 8)) (Some c) (call.Xadd addr add) (replied Number (result_and r (Ok number))) s t
       at None is d = rw (d.0, d.1.1, none-asked (writable_places c.pieces addr 8) is) (answered_as _ _ _ s refl)
       at (Some asked) is d =
           let step = add-wanted s.flat c.pieces addr add asked is in
-          let read = on-ok _ _ r (λ f. ap (from_le_bytes w64) (f refl)) d.there in
-          accessed _ _ (is_failure (call.Xadd addr add)) Number s t (result_and r (Ok number)) refl (rw step refl) (λ _. (refl, refl)) (IfOk-weaker (result_and r (Ok number)) _ _ (λ x same. rw same step) (and-ok _ number r read)) (and-leaves _ s t number r d.leaves)
+          let read = on-ok _ _ r (λ f. ap (from_le_bytes w64) (f ∙ filled _ _ before refl)) d.there in
+          rw is (accessed _ _ true asked (is_failure (call.Xadd addr add)) Number s t (result_and r (Ok number)) refl (rw step refl) (λ _. (refl, refl)) (IfOk-weaker (result_and r (Ok number)) _ _ (λ x same. rw same step) (and-ok _ number r read)) (and-leaves _ _ _ s t number r d.leaves))
 
-  pub exchanges : (b : Bor (List ℕ)) (who : Option Caller) → length before ≡ length b.now → DoesBy (Put b) addr who before after s r t → IsExchange (exchanges_of s.flat addr b.now who) (reply_in (Bytes after) r) s t
+  pub exchanges : (b : Bor (List ℕ)) (who : Option Caller) → length before ≡ length b.now → DoesBy (Put b) addr who before after s r t → IsExchange (record { outcome = exchanges_of s.flat addr b.now who; does = exchange_by b.now addr who }) (reply_in (Bytes after) r) s t
   exchanges b None long d = rw (d.by.0, d.by.1.1) (answered_as _ _ _ s refl)
   exchanges b (Some c) long d = at (wanted_in true c.pieces addr (length b.now)) refl d.by
     where
       at : (o : Option (List Place)) → wanted_in true c.pieces addr (length b.now) ≡ o → DoesAt (Put b) o before after s r t
-          → IsExchange (exchange s.flat b.now (writable_places c.pieces addr (length b.now))) (reply_in (Bytes after) r) s t
+          → IsExchange (record { outcome = exchange s.flat b.now (writable_places c.pieces addr (length b.now)); does = exchange_by b.now addr (Some c) }) (reply_in (Bytes after) r) s t
       at None is d = rw (d.0, d.1.1, none-asked (writable_places c.pieces addr (length b.now)) is) (answered_as _ _ _ s refl)
       at (Some asked) is d =
           let step = exchange-wanted s.flat c.pieces addr b.now asked is in
-          accessed _ _ names_failure (λ _. Bytes after) s t r refl (rw step refl) (λ _. (refl, refl)) (IfOk-weaker r _ _ (λ _ same. rw same step) (on-ok _ _ r (λ f. f (sym long)) d.there)) d.leaves
+          rw is (accessed _ _ true asked is_bus_error (λ _. Bytes after) s t r refl (rw step refl) (λ _. (refl, refl)) (IfOk-weaker r _ _ (λ _ same. rw same step) (on-ok _ _ r (λ f. f ∙ filled _ _ before (sym long)) d.there)) d.leaves)
 
-  pub compares : (e b : Bor (List ℕ)) (who : Option Caller) → length before ≡ length b.now → DoesBy (PutIfEqual e b) addr who before after s r t → IsExchange (compares_of s.flat addr e.now b.now who) (reply_in (Bytes after) r) s t
+  pub compares : (e b : Bor (List ℕ)) (who : Option Caller) → length before ≡ length b.now → DoesBy (PutIfEqual e b) addr who before after s r t → IsExchange (record { outcome = compares_of s.flat addr e.now b.now who; does = compare_by s.flat.table e.now b.now addr who }) (reply_in (Bytes after) r) s t
   compares e b None long d = rw (d.by.0, d.by.1.1) (answered_as _ _ _ s refl)
   compares e b (Some c) long d = at (wanted_in true c.pieces addr (length b.now)) refl (rw long at d.by)
     where
       at : (o : Option (List Place)) → wanted_in true c.pieces addr (length b.now) ≡ o → DoesAt (PutIfEqual e b) o before after s r t
-          → IsExchange (compare s.flat e.now b.now (writable_places c.pieces addr (length b.now))) (reply_in (Bytes after) r) s t
+          → IsExchange (record { outcome = compare s.flat e.now b.now (writable_places c.pieces addr (length b.now)); does = compare_by s.flat.table e.now b.now addr (Some c) }) (reply_in (Bytes after) r) s t
       at None is d = rw (d.0, d.1.1, none-asked (writable_places c.pieces addr (length b.now)) is) (answered_as _ _ _ s refl)
       at (Some asked) is d =
           let step = compare-wanted s.flat c.pieces addr e.now b.now asked is in
-          accessed _ _ names_failure (λ _. Bytes after) s t r refl (rw step refl) (λ _. (refl, refl)) (IfOk-weaker r _ _ (λ _ same. rw same step) (on-ok _ _ r (λ f. f refl) d.there)) d.leaves
+          let leaves = rw (if-puts (same_bytes (loaded s.flat.table asked) e.now) b.now) at d.leaves in
+          rw is (accessed _ _ _ asked is_bus_error (λ _. Bytes after) s t r refl (rw step refl) (λ _. (refl, refl)) (IfOk-weaker r _ _ (λ _ same. rw same step) (on-ok _ _ r (λ f. f ∙ filled _ _ before refl) d.there)) leaves)

@@ -18,5 +18,6 @@ pub mod Reserved
 pub mod Joining
 pub mod Peopled
 pub mod Pids
+pub mod Touching
 pub mod Accessing
 mod Indexed

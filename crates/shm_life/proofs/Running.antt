@@ -12,6 +12,10 @@ use Rattle.shm_base.specs.declared.call.Reply.TheVariants.{Refused}
 use Rattle.shm_base.specs.declared.errno.Errno.{Errno}
 use Rattle.shm_life.specs.Sound.{AreProcesses}
 use Rattle.shm_life.specs.MachineView.{MachineView, Answered, IsFailed, names_failure}
+use Rattle.shm_life.specs.Paging.{Did, DidUpTo, Pages, Paging}
+use Rattle.shm_life.specs.Paging.Paging.{Rests}
+use Rattle.shm_segments.specs.Staying.{Ends, MovesNone}
+use Rattle.shm_segments.proofs.Staying.{ends-refl, moves-refl}
 use Rattle.std.specs.Prelude.{Result, Ok, Err}
 use Rattle.shm_base.specs.Calls.{ProcessCall}
 use Rattle.shm_attach.specs.Spaces.{IsCaller}
@@ -31,6 +35,31 @@ keeps_on a b r = record { kept = r.kept; goes_on = r.goes_on }
 pub kept_refl : (m : StoreView) → KeepsMemory m m
 kept_refl m = memory-refl m
 
+-- WHERE PAGES ARE AFTER AN ANSWER
+
+pages_done : (does : Paging) (reply : Reply) (m n : StoreView) → Did does m n → Pages does false reply m n
+pages_done does reply m n did = record { done = λ _. did; stopped = λ e. absurd (true≢false (sym e)) }
+
+pages_stopped : (does : Paging) (errno : Errno) (m n : StoreView) → DidUpTo does m n → Pages does true (Refused errno) m n
+pages_stopped does errno m n did = record { done = λ e. absurd (true≢false e); stopped = λ _. did }
+
+pub pages_refused : (does : Paging) (errno : Errno) (m : StoreView) → Pages does false (Refused errno) m m
+pages_refused does errno m = record { done = λ e. absurd (true≢false e); stopped = λ e. absurd (true≢false (sym e)) }
+
+pub pages_rest : (reply : Reply) (m : StoreView) → Pages Rests false reply m m
+pages_rest reply m = pages_done Rests reply m m (moves-refl m)
+
+pub pages_moved : (reply : Reply) (m n : StoreView) → MovesNone m n → Pages Rests false reply m n
+pages_moved reply m n moves = pages_done Rests reply m n moves
+
+pub pages_ended : (reply : Reply) (m n : StoreView) → Ends m n → Pages Rests false reply m n
+pages_ended reply m n ends = pages_done Rests reply m n ends.moves
+
+pub ends_refl : (m : StoreView) → Ends m m
+ends_refl m = ends-refl m
+
+-- WHAT STAYS LOCKED
+
 unlocked-less : (m : StoreView) (gs : List SegRec) (seg at : ℕ) → holds_locked (map (held_by m.frames m.swap) (map (with_seg_lock seg false) gs)) at ≡ true → holds_locked (map (held_by m.frames m.swap) gs) at ≡ true
 unlocked-less m [] seg at h = h
 unlocked-less m (g ∷ gs) seg at h = grind (arith, nat_tests, unlocked-less m gs seg at)
@@ -49,20 +78,48 @@ unlock_keeps a b seg is still = record {
 }
 
 -- an answer that is not a refusal
-pub granted : (o : Outcome) (reply : Reply) (locks : Bool) (s t : MachineView) → o ≡ record { reply = reply; state = t.flat } → is_refusal reply ≡ false → KeepsMemory s.memory t.memory → Answered o false locks reply s t
-granted o reply locks s t step none keeps = record { step = λ _. step; failed = λ e. absurd (true≢false (sym e)); keeps = keeps_on s.memory t.memory keeps; locked = λ _. keeps.locks; still = λ r _. absurd (true≢false (sym r ∙ none)) }
+pub granted : (o : Outcome) (does : Paging) (reply : Reply) (locks : Bool) (s t : MachineView) → o ≡ record { reply = reply; state = t.flat } → is_refusal reply ≡ false → KeepsMemory s.memory t.memory → Did does s.memory t.memory → Answered o does false locks reply s t
+granted o does reply locks s t step none keeps did = record {
+  step = λ _. step;
+  failed = λ e. absurd (true≢false (sym e));
+  keeps = keeps_on s.memory t.memory keeps;
+  locked = λ _. keeps.locks;
+  still = λ r _. absurd (true≢false (sym r ∙ none));
+  paged = pages_done does reply s.memory t.memory did;
+}
 
 -- a lock that is granted
-pub locking : (o : Outcome) (reply : Reply) (s t : MachineView) → o ≡ record { reply = reply; state = t.flat } → is_refusal reply ≡ false → KeepsOn s.memory t.memory → Answered o false true reply s t
-locking o reply s t step none keeps = record { step = λ _. step; failed = λ e. absurd (true≢false (sym e)); keeps = keeps; locked = λ e. absurd (true≢false e); still = λ r _. absurd (true≢false (sym r ∙ none)) }
+pub locking : (o : Outcome) (reply : Reply) (s t : MachineView) → o ≡ record { reply = reply; state = t.flat } → is_refusal reply ≡ false → KeepsOn s.memory t.memory → MovesNone s.memory t.memory → Answered o Rests false true reply s t
+locking o reply s t step none keeps moves = record {
+  step = λ _. step;
+  failed = λ e. absurd (true≢false (sym e));
+  keeps = keeps;
+  locked = λ e. absurd (true≢false e);
+  still = λ r _. absurd (true≢false (sym r ∙ none));
+  paged = pages_moved reply s.memory t.memory moves;
+}
 
 -- an answer that changes nothing
-pub answered_as : (o : Outcome) (reply : Reply) (locks : Bool) (s : MachineView) → o ≡ record { reply = reply; state = s.flat } → Answered o false locks reply s s
-answered_as o reply locks s step = record { step = λ _. step; failed = λ e. absurd (true≢false (sym e)); keeps = keeps_refl s.memory; locked = λ _ seg is. is; still = λ _ _. refl }
+answered_with : (o : Outcome) (does : Paging) (reply : Reply) (locks : Bool) (s : MachineView) → o ≡ record { reply = reply; state = s.flat } → Pages does false reply s.memory s.memory → Answered o does false locks reply s s
+answered_with o does reply locks s step paged = record { step = λ _. step; failed = λ e. absurd (true≢false (sym e)); keeps = keeps_refl s.memory; locked = λ _ seg is. is; still = λ _ _. refl; paged = paged }
+
+pub answered_as : (o : Outcome) (reply : Reply) (locks : Bool) (s : MachineView) → o ≡ record { reply = reply; state = s.flat } → Answered o Rests false locks reply s s
+answered_as o reply locks s step = answered_with o Rests reply locks s step (pages_rest reply s.memory)
+
+-- a refusal
+pub refused_as : (o : Outcome) (does : Paging) (errno : Errno) (locks : Bool) (s : MachineView) → o ≡ record { reply = Refused errno; state = s.flat } → Answered o does false locks (Refused errno) s s
+refused_as o does errno locks s step = answered_with o does (Refused errno) locks s step (pages_refused does errno s.memory)
 
 -- a refusal that names a pager's failure
-pub failing : (o : Outcome) (errno : Errno) (locks : Bool) (s t : MachineView) → names_failure (Refused errno) ≡ true → IsFailed o s t → KeepsMemory s.memory t.memory → Answered o true locks (Refused errno) s t
-failing o errno locks s t names failed keeps = record { step = λ e. absurd (true≢false e); failed = λ _. failed; keeps = keeps_on s.memory t.memory keeps; locked = λ _. keeps.locks; still = λ _ n. absurd (true≢false (sym names ∙ n)) }
+pub failing : (o : Outcome) (does : Paging) (errno : Errno) (locks : Bool) (s t : MachineView) → names_failure (Refused errno) ≡ true → IsFailed o s t → KeepsMemory s.memory t.memory → DidUpTo does s.memory t.memory → Answered o does true locks (Refused errno) s t
+failing o does errno locks s t names failed keeps did = record {
+  step = λ e. absurd (true≢false e);
+  failed = λ _. failed;
+  keeps = keeps_on s.memory t.memory keeps;
+  locked = λ _. keeps.locks;
+  still = λ _ n. absurd (true≢false (sym names ∙ n));
+  paged = pages_stopped does errno s.memory t.memory did;
+}
 
 -- a call of a live process is served
 pub called : (s : MachineView) (n pid : ℕ) (caller : Caller) (call : ProcessCall) (reply : Reply) (t : MachineView) → caller.pid ≡ pid → IsCaller caller s.flat.runners → Served s n caller call reply t → AnsweredBy s n pid call reply t
@@ -80,6 +137,7 @@ replied_as s t pid call reply room a rest = record {
   keeps = a.keeps;
   locked = a.locked;
   still = a.still;
+  paged = a.paged;
 }
   where
     by : (b : Bool) → is_failure call reply ≡ b → IsMove s.machine (time_of s) (record { pid = pid; call = call; reply = reply }) t.machine
@@ -96,6 +154,7 @@ pub record SweptTo (rs : List Runner) (ts : List Translation) (table₀ table : 
   pub keeps : KeepsMemory m₀ m
   pub translated : AreTrue ts m₀ → AreTrue ts m
   pub same_sizes : sizes m.swap ≡ sizes m₀.swap
+  pub ends : Ends m₀ m
 
 pub sweeps-trans : (rs : List Runner) (a b c : List Entry) → Sweeps rs a b → Sweeps rs b c → Sweeps rs a c
 sweeps-trans rs a b c p q = grind (arith, p.swept, q.swept, p.pieces, q.pieces)

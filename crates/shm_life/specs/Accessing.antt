@@ -1,5 +1,5 @@
 -- Accesses of bytes by a process.
-use Rattle.std.specs.Prelude.{ℕ, ◌≡◌, true, if◌then◌else◌, List, [], ◌∷◌, length, Option, Some, None, Result, Err, is_some, IfErr, OnOk, OnErr}
+use Rattle.std.specs.Prelude.{ℕ, ◌≡◌, Bool, true, if◌then◌else◌, List, [], ◌∷◌, length, Option, Some, None, Result, Err, is_some, IfErr, OnOk, OnErr}
 use Rattle.shm_base.specs.Access.{Place, loaded}
 use Rattle.shm_base.specs.Step.{Caller}
 use Rattle.shm_base.specs.declared.errno.Errno.{Errno}
@@ -14,6 +14,7 @@ use Rattle.shm_slots.specs.Cause.{had_cause}
 use Rattle.shm_fault.specs.Store.{StoreView}
 use Rattle.shm_segments.specs.View.{KeepsMemory}
 use Rattle.shm_life.specs.MachineView.{MachineView}
+use Rattle.shm_life.specs.Paging.{ComeIn, ComeInUpTo, spans_of}
 
 -- the span of an access to one page, if the page's frame is known
 abbrev pub sole_resident : List Span → Option Span
@@ -26,14 +27,16 @@ pub record IsBusError (e : Errno) (before after : StoreView) : Type 0 where
   pub told : e ≡ Sigbus
   pub cause : had_cause before.swap after.swap ≡ true
 
--- an access that was to leave this table: it did, or a pager failed and the flat machine is as it was
+-- an access of these pages that was to leave this table: it did, or a pager failed and the flat machine is as it was
 pub record LeavesOrFails
-    {T : Type 0} (table : List Entry) (before : MachineView) (r : Result T Errno)
+    {T : Type 0} (table : List Entry) (puts : Bool) (ps : List Span) (before : MachineView) (r : Result T Errno)
     (after : MachineView) : Type 0 where
   pub written : OnOk r (after.flat ≡ record before.flat { table = table })
   pub same : OnErr r (after.flat ≡ before.flat)
   pub keeps : KeepsMemory before.memory after.memory
   pub err : IfErr r (λ e. IsBusError e before.memory after.memory)
+  pub came : OnOk r (ComeIn puts ps before.memory after.memory)
+  pub stopped : OnErr r (ComeInUpTo ps before.memory after.memory)
 
 -- An act at these places was done, or a pager failed and no byte changed. If it was done and the place for the old bytes is as long
 -- as they are, it has them.
@@ -42,7 +45,9 @@ pub record Does
     (t : MachineView) : Type 0 where
   pub there : OnOk r (after ≡ place_after (size_of act (length before)) (loaded s.flat.table places) before)
   pub kept : OnErr r (after ≡ before)
-  pub leaves : LeavesOrFails (table_with s.flat.table places (put_by act (loaded s.flat.table places))) s r t
+  pub leaves :
+      let put = put_by act (loaded s.flat.table places) in
+      LeavesOrFails (table_with s.flat.table places put) (is_some put) (spans_of places) s r t
 
 -- nothing was done, for this reason
 abbrev pub Refuses : Errno → List ℕ → List ℕ → MachineView → Result (Unit {0}) Errno → MachineView → Type 0

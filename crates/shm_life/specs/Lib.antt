@@ -13,4 +13,5 @@ pub mod Counts
 pub mod Guest
 pub mod Mapped
 pub mod Exchanged
+pub mod Paging
 pub mod Accessing

@@ -1,5 +1,5 @@
 -- What contracts see of a machine: the flat machine, and the store that has its bytes.
-use Rattle.std.specs.Prelude.{ℕ, ◌≡◌, ◌≤◌, Bool, true, false, length, Result, Ok, Err}
+use Rattle.std.specs.Prelude.{ℕ, ◌≡◌, ◌≤◌, Bool, true, false, length, Option, Some, Result, Ok, Err}
 use Rattle.shm_base.specs.Calls.{ProcessCall}
 use Rattle.shm_base.specs.declared.call.Call.TheVariants.{Lock}
 use Rattle.shm_base.specs.declared.call.Reply.{Reply}
@@ -8,7 +8,7 @@ use Rattle.shm_base.specs.declared.errno.Errno.{Errno}
 use Rattle.shm_base.specs.declared.errno.Errno.TheVariants.{Sigbus, Eio}
 use Rattle.shm_base.specs.Bounds.{lockable}
 use Rattle.shm_base.specs.State.{Machine}
-use Rattle.shm_base.specs.Step.{Outcome, acts, step}
+use Rattle.shm_base.specs.Step.{Caller as FlatCaller, Outcome, acts, caller_of, step}
 use Rattle.shm_base.specs.History.{is_failure, is_refusal}
 use Rattle.shm_base.specs.Segments as flat
 use Rattle.shm_fault.specs.Held.{holds_locked}
@@ -20,6 +20,7 @@ use Rattle.shm_fault.specs.Sound.{IsStoreSound}
 use Rattle.shm_attach.specs.Spaces.{caller_seen}
 use Rattle.shm_attach.specs.declared.process.Caller.{Caller}
 use Rattle.shm_segments.specs.View.{ShowsTable}
+use Rattle.shm_life.specs.Paging.{Paging, Pages, paging_of}
 use Rattle.shm_life.specs.Sound.{AreProcesses}
 use Rattle.shm_base.specs.declared.bounds.TheConstants.{MOST_SHMALL}
 
@@ -70,26 +71,29 @@ abbrev pub reply_in : Reply → Result (Unit {0}) Errno → Reply
 reply_in reply result = replied (λ _. reply) result
 
 -- The machine after a call to which the flat machine gives this outcome: that reply and that state; or, if the reply reports a
--- pager's failure, the old state. Every other refusal leaves the memory unchanged, and only a lock locks a segment
-pub record Answered (o : Outcome) (names locks : Bool) (reply : Reply) (s t : MachineView) : Type 0 where
+-- pager's failure, the old state. Pages are where this paging leaves them. Every other refusal leaves the memory unchanged, and
+-- only a lock locks a segment
+pub record Answered (o : Outcome) (does : Paging) (names locks : Bool) (reply : Reply) (s t : MachineView) : Type 0 where
   pub step : names ≡ false → o ≡ record { reply = reply; state = t.flat }
   pub failed : names ≡ true → IsFailed o s t
   pub keeps : KeepsOn s.memory t.memory
   pub locked : locks ≡ false → LocksNothing s.memory t.memory
   pub still : StillIfRefused reply s.memory t.memory
+  pub paged : Pages does names reply s.memory t.memory
 
--- the machine after an answer to a call
-abbrev pub AnsweredTo : Outcome → ProcessCall → Reply → MachineView → MachineView → Type 0
-AnsweredTo o call reply s t = Answered o (is_failure call reply) (is_lock call) reply s t
+-- the machine after an answer to a call of a process, if it is live
+abbrev pub AnsweredTo : Outcome → Option FlatCaller → ProcessCall → Reply → MachineView → MachineView → Type 0
+AnsweredTo o who call reply s t = Answered o (paging_of call who) (is_failure call reply) (is_lock call) reply s t
 
 -- the machine after it served a caller's call at place n
 abbrev pub Served : MachineView → ℕ → Caller → ProcessCall → Reply → MachineView → Type 0
 Served s n caller call reply t =
-    AnsweredTo (acts s.flat n (caller_seen caller s.flat.runners) call) call reply s t
+    let seen = caller_seen caller s.flat.runners in
+    AnsweredTo (acts s.flat n seen call) (Some seen) call reply s t
 
 -- the machine after a process's call at place n, whether the process is live or not
 abbrev pub AnsweredBy : MachineView → ℕ → ℕ → ProcessCall → Reply → MachineView → Type 0
-AnsweredBy s n pid call reply t = AnsweredTo (step s.flat n pid call) call reply s t
+AnsweredBy s n pid call reply t = AnsweredTo (step s.flat n pid call) (caller_of s.flat pid) call reply s t
 
 -- the host refused memory for a call that the flat machine does not refuse, and nothing changed
 pub record IsWithoutMemory (o : Outcome) (s t : MachineView) : Type 0 where

@@ -4,11 +4,12 @@ use Rattle.shm_base.specs.declared.errno.Errno.{Errno}
 use Rattle.shm_base.specs.Guest.{left_by}
 use Rattle.shm_base.specs.Mapping.{unmaps, protects}
 use Rattle.shm_attach.specs.Mapping.{refusal_in}
+use Rattle.shm_segments.specs.Staying.{Ends}
 use Rattle.shm_life.specs.MachineView.{KeepsOn, LocksNothing}
 use Rattle.shm_life.specs.SystemState.{SystemState, time_of, most_calls}
 
--- the machine is changed by the unmap, or everything is unchanged if that is refused. It is not a call. Pages of locked segments
--- stay resident, and no segment becomes locked
+-- The machine is changed by the unmap, or everything is unchanged if that is refused. It is not a call. No page moves, and no
+-- segment becomes locked. Marked segments may end.
 pub record Unmapped
     (before : SystemState) (pid addr len : ℕ) (result : Result (Unit {0}) Errno) (after : SystemState)
     : Type 0 where
@@ -18,6 +19,7 @@ pub record Unmapped
   pub refused : OnErr result (after ≡ before)
   pub keeps : KeepsOn before.memory after.memory
   pub locked : LocksNothing before.memory after.memory
+  pub ends : Ends before.memory after.memory
 
 -- the machine is changed by the protect, up to the refusal if there is one
 pub record IsProtected

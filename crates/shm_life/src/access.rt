@@ -82,7 +82,7 @@ impl<P: Pager> Kernel<P> {
         self.act(spans.as_slice(), act, there)
     }
 
-    #[tactic(auto, using(crate::proofs::Running::kept_refl))]
+    #[tactic(auto, using(crate::proofs::Running::kept_refl, crate::proofs::Running::pages_rest))]
     /// Does an act at the bytes from an address on. If `there` is as long as they are, it gets the old bytes.
     /// Sigsegv: an address has no piece, or a read-only one and the act needs more. Sigbus: a pager failed. If
     /// it is refused, neither a byte nor `there` changed.

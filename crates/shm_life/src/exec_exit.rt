@@ -11,7 +11,7 @@ use shm_attach::Caller;
 use shm_pager::Pager;
 
 impl<P: Pager> Kernel<P> {
-    #[tactic(auto, using(crate::proofs::Running::kept_refl))]
+    #[tactic(auto, using(crate::proofs::Running::kept_refl, crate::proofs::Running::pages_ended))]
     /// Detaches every piece (shmop(2)).
     #[inline(never)]
     pub(crate) fn exec(&mut self, time: u64, caller: &Caller)
@@ -28,7 +28,7 @@ impl<P: Pager> Kernel<P> {
         );
     }
 
-    #[tactic(auto, using(crate::proofs::Running::kept_refl))]
+    #[tactic(auto, using(crate::proofs::Running::kept_refl, crate::proofs::Running::pages_ended))]
     /// Detaches every piece, and ends the process.
     #[inline(never)]
     pub(crate) fn exit(&mut self, time: u64, caller: &Caller)

@@ -46,7 +46,7 @@ fn note_inherited<P: Pager>(
 }
 
 impl<P: Pager> Kernel<P> {
-    #[tactic(auto, using(crate::proofs::Running::kept_refl))]
+    #[tactic(auto, using(crate::proofs::Running::kept_refl, crate::proofs::Running::pages_rest))]
     /// A declared child is born, with the caller's credentials and pieces (fork(2)). Eagain: the process is
     /// not such a child. Under `Rules::FORK_MARKS` each segment that the child inherits gets an attach time,
     /// and the caller as last pid.

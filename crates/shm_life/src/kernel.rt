@@ -52,7 +52,7 @@ impl<P: Pager> Model for Kernel<P> {
 }
 
 impl<P: Pager> Kernel<P> {
-    #[tactic(auto, using(crate::proofs::Running::kept_refl))]
+    #[tactic(auto, using(crate::proofs::Running::kept_refl, crate::proofs::Running::pages_rest))]
     /// One step of the flat machine. A process that is not live is refused before anything else.
     pub(crate) fn call(
         &mut self,

@@ -4,6 +4,7 @@ ghost use Rattle.std.specs.Prelude.{◌≡◌, ◌<◌, OnErr};
 ghost use Rattle.shm_base.specs.Guest.{left_by};
 ghost use Rattle.shm_base.specs.Mapping.{unmaps, protects, unmapped_to};
 ghost use Rattle.shm_attach.specs.Mapping.{refusal_in};
+ghost use Rattle.shm_segments.specs.Staying.{Ends};
 ghost use Rattle.shm_segments.specs.View.{KeepsMemory};
 ghost use Rattle.shm_life.specs.Mapped.{Unmapped, IsProtected};
 ghost use Rattle.shm_life.specs.SystemState.{most_calls};
@@ -26,11 +27,12 @@ fn unmapped_to(addr: u64, len: u64) -> Result<u64, Errno>
 }
 
 impl<P: Pager> Kernel<P> {
-    #[tactic(auto, using(crate::proofs::Running::kept_refl))]
+    #[tactic(auto, using(crate::proofs::Running::kept_refl, crate::proofs::Running::ends_refl))]
     fn unmap(&mut self, time: u64, pid: u32, addr: u64, len: u64) -> Result<(), Errno>
         ensures outcome { unmaps self.old.flat time pid addr len ≡ left_by result self.new.flat }
         ensures refused { OnErr result (self.new ≡ self.old) }
         ensures keeps { KeepsMemory self.old.memory self.new.memory }
+        ensures ends { Ends self.old.memory self.new.memory }
     {
         let caller = self.spaces.caller(pid).ok_or(Errno::Esrch)?;
         let to = unmapped_to(addr, len)?;

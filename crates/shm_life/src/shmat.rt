@@ -114,7 +114,7 @@ impl<P: Pager> Kernel<P> {
         Ok(Placed { seg, pages, base })
     }
 
-    #[tactic(auto, using(crate::proofs::Running::kept_refl))]
+    #[tactic(auto, using(crate::proofs::Running::kept_refl, crate::proofs::Running::pages_rest))]
     /// Attaches a segment. Segments whose pieces are replaced are detached. Marked ones that lose their last
     /// piece are destroyed after the new piece is in.
     pub(crate) fn shmat(

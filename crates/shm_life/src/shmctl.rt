@@ -121,7 +121,7 @@ impl<P: Pager> Kernel<P> {
         self.limits.rules().contains(Rules::NO_LAST_USER) && (uid == u32::MAX || gid == u32::MAX)
     }
 
-    #[tactic(auto, using(crate::proofs::Running::kept_refl))]
+    #[tactic(auto, using(crate::proofs::Running::kept_refl, crate::proofs::Running::pages_rest))]
     /// Gives a segment another owner and other permission bits (IPC_SET). Under `Rules::NO_LAST_USER`, Einval
     /// for user or group 2^32 - 1.
     pub(crate) fn set(
@@ -143,7 +143,7 @@ impl<P: Pager> Kernel<P> {
         Ok(())
     }
 
-    #[tactic(auto, using(crate::proofs::Running::kept_refl))]
+    #[tactic(auto, using(crate::proofs::Running::kept_refl, crate::proofs::Running::pages_rest))]
     /// Destroys a segment without pieces, and marks one that has pieces for removal (IPC_RMID).
     pub(crate) fn rmid(&mut self, caller: &Caller, id: ShmId) -> Result<(), Errno>
         ensures { (n : ℕ) → Served self.old n caller.now (call.Rmid id) (replied done result) self.new }
@@ -192,7 +192,7 @@ impl<P: Pager> Kernel<P> {
         None
     }
 
-    #[tactic(auto, using(crate::proofs::Running::kept_refl))]
+    #[tactic(auto, using(crate::proofs::Running::kept_refl, crate::proofs::Running::pages_rest))]
     /// Locks a segment's pages (SHM_LOCK). Enomem: all locked segments would have more than MEMLOCK pages.
     ///
     /// Under `Rules::LOCKS_BY_USER` MEMLOCK limits each user but 0. Eperm: MEMLOCK is 0. Enomem: the caller's
@@ -208,7 +208,7 @@ impl<P: Pager> Kernel<P> {
         Ok(())
     }
 
-    #[tactic(auto, using(crate::proofs::Running::kept_refl))]
+    #[tactic(auto, using(crate::proofs::Running::kept_refl, crate::proofs::Running::pages_rest))]
     /// Unlocks a segment's pages (SHM_UNLOCK).
     pub(crate) fn unlock(&mut self, caller: &Caller, id: ShmId) -> Result<(), Errno>
         ensures { (n : ℕ) → Served self.old n caller.now (call.Unlock id) (replied done result) self.new }

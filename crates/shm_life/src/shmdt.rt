@@ -10,7 +10,7 @@ use shm_base::Errno;
 use shm_pager::Pager;
 
 impl<P: Pager> Kernel<P> {
-    #[tactic(auto, using(crate::proofs::Running::kept_refl))]
+    #[tactic(auto, using(crate::proofs::Running::kept_refl, crate::proofs::Running::pages_rest))]
     /// Detaches what is left of an attach (shmop(2)). The lowest piece with this origin names the segment,
     /// and all pieces of that segment with this origin are removed (the origin is this profile's). Einval: no
     /// piece has this origin.

@@ -13,6 +13,7 @@ ghost use Rattle.shm_attach.specs.Spaces.{caller_seen};
 ghost use Rattle.shm_segments.specs.Joined.{head_of};
 ghost use Rattle.shm_segments.specs.Table.{IsFound, look_of};
 ghost use Rattle.shm_life.specs.MachineView.{Answered, IsWithoutMemory, Served, replied};
+ghost use Rattle.shm_life.specs.Paging.Paging.{Rests};
 
 use crate::kernel::Kernel;
 use bitflags::Flags;
@@ -86,7 +87,7 @@ fn get(
 }
 
 impl<P: Pager> Kernel<P> {
-    #[tactic(auto, using(crate::proofs::Running::kept_refl))]
+    #[tactic(auto, using(crate::proofs::Running::kept_refl, crate::proofs::Running::pages_rest))]
     /// The segment with a key; or a new one, if the key is IPC_PRIVATE (0), or if no segment has it and
     /// IPC_CREAT is set (shmget(2)).
     pub(crate) fn shmget(
@@ -116,7 +117,7 @@ impl<P: Pager> Kernel<P> {
         }
     }
 
-    #[tactic(auto, using(crate::proofs::Running::kept_refl))]
+    #[tactic(auto, using(crate::proofs::Running::kept_refl, crate::proofs::Running::pages_rest))]
     // A new segment. Einval: the size is 0 or above SHMMAX. Enospc: SHMALL is reached. Then the refusal of
     // huge pages, and those of `create_small`.
     fn create(
@@ -131,7 +132,7 @@ impl<P: Pager> Kernel<P> {
         requires absent { key ≢ 0 → flat_ids.find_key self.old.flat.table key ≡ flat_ids.Invalid }
         ensures created { let seen = caller_seen caller.now self.old.flat.runners in
             let outcome = flat.creates self.old.flat time seen key size mode flags in
-            IfOk result (λ r. Answered outcome false false (replied Id r) self.old self.new) }
+            IfOk result (λ r. Answered outcome Rests false false (replied Id r) self.old self.new) }
         ensures memory { let seen = caller_seen caller.now self.old.flat.runners in
             let outcome = flat.creates self.old.flat time seen key size mode flags in
             OnErr result (IsWithoutMemory outcome self.old self.new) }
@@ -169,7 +170,7 @@ impl<P: Pager> Kernel<P> {
         }
     }
 
-    #[tactic(auto, using(crate::proofs::Running::kept_refl))]
+    #[tactic(auto, using(crate::proofs::Running::kept_refl, crate::proofs::Running::pages_rest))]
     // A new segment whose pages SHMALL allows. Enospc: SHMMNI is reached, or no identifier is left. Enomem:
     // the swap areas could not take all pages.
     fn create_small(
@@ -185,7 +186,7 @@ impl<P: Pager> Kernel<P> {
         requires shmall { reserved self.old.flat.table + pages_of size ≤ self.old.flat.limits.shmall }
         ensures created { let seen = caller_seen caller.now self.old.flat.runners in
             let outcome = flat.creates_small self.old.flat time seen key size mode None in
-            IfOk result (λ r. Answered outcome false false (replied Id r) self.old self.new) }
+            IfOk result (λ r. Answered outcome Rests false false (replied Id r) self.old self.new) }
         ensures memory { let seen = caller_seen caller.now self.old.flat.runners in
             let outcome = flat.creates_small self.old.flat time seen key size mode None in
             OnErr result (IsWithoutMemory outcome self.old self.new) }

@@ -9,7 +9,7 @@ use shm_base::Errno;
 use shm_pager::Pager;
 
 impl<P: Pager> Kernel<P> {
-    #[tactic(auto, using(crate::proofs::Running::kept_refl))]
+    #[tactic(auto, using(crate::proofs::Running::kept_refl, crate::proofs::Running::pages_refused))]
     /// Takes a swap area away (swapoff(2)).
     ///
     /// - Eperm: the user is not 0.

@@ -7,6 +7,7 @@ ghost use Rattle.shm_base.specs.Segments.{attach_all, attach_count, detach_all, 
 ghost use Rattle.shm_attach.specs.Spaces.{Translation, AreTrue};
 ghost use Rattle.shm_slots.specs.View.{sizes};
 ghost use Rattle.shm_segments.specs.Table.{IsLive};
+ghost use Rattle.shm_segments.specs.Staying.{Ends};
 ghost use Rattle.shm_segments.specs.View.{KeepsMemory};
 ghost use Rattle.shm_life.specs.Sound.{MakesWell};
 ghost use Rattle.shm_life.specs.Orphans.{OrphansAmong, Sweeps};
@@ -71,6 +72,7 @@ fn sweep_one<P: Pager>(segments: &mut Segments<P>, spaces: &Spaces, seg: u32)
     ensures fewer { (rest : List ℕ) → OrphansAmong (seg ∷ rest) spaces.now.runners segments.old.table
         → OrphansAmong rest spaces.now.runners segments.new.table }
     ensures keeps { KeepsMemory segments.old.memory segments.new.memory }
+    ensures ends { Ends segments.old.memory segments.new.memory }
     ensures sizes { sizes segments.new.memory.swap ≡ sizes segments.old.memory.swap }
     ensures translated { AreTrue spaces.now.translations segments.old.memory
         → AreTrue spaces.now.translations segments.new.memory }
@@ -90,6 +92,7 @@ pub(crate) fn sweep<P: Pager>(segments: &mut Segments<P>, spaces: &Spaces, lost:
     ensures swept { segments.new.table ≡ swept spaces.now.runners segments.old.table }
     ensures well { MakesWell lost.now spaces.now segments.old segments.new }
     ensures keeps { KeepsMemory segments.old.memory segments.new.memory }
+    ensures ends { Ends segments.old.memory segments.new.memory }
     ensures sizes { sizes segments.new.memory.swap ≡ sizes segments.old.memory.swap }
 {
     for seg in lost {
@@ -113,6 +116,7 @@ pub(crate) fn after_detach<P: Pager>(
         ≡ swept spaces.now.runners (detach_all time pid segments.old.table lost.now) }
     ensures well { MakesWell lost.now spaces.now segments.old segments.new }
     ensures keeps { KeepsMemory segments.old.memory segments.new.memory }
+    ensures ends { Ends segments.old.memory segments.new.memory }
     ensures sizes { sizes segments.new.memory.swap ≡ sizes segments.old.memory.swap }
 {
     note_detached(segments, lost, time, pid);

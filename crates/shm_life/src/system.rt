@@ -198,7 +198,7 @@ impl<P: Pager> System<P> {
         Ok(reply)
     }
 
-    #[tactic(auto, using(crate::proofs::Running::kept_refl))]
+    #[tactic(auto, using(crate::proofs::Running::kept_refl, crate::proofs::Running::pages_rest))]
     /// As [`System::call`], but writes the reply to `reply`, which is unknown after HostMemory. A reply has
     /// 80 bytes, which every function that returns it would clear and copy.
     #[inline(always)]

@@ -1,11 +1,10 @@
 //! Accesses without a call's record: bytes go straight between the frames and the caller's buffer. Each is
 //! the step of the call, and is counted as one. Exchanges are no calls of the script language.
 ghost use Rattle.std.specs.Prelude.{◌≡◌, ◌<◌, ◌≤◌, length, OnErr};
-ghost use Rattle.shm_base.specs.Exchange.{compares, exchanges};
 ghost use Rattle.shm_base.specs.declared.call.Call.TheVariants as call;
 ghost use Rattle.shm_base.specs.declared.call.Reply.TheVariants.{Bytes, Number};
 ghost use Rattle.shm_base.specs.declared.paging.TheConstants.{PAGE_SIZE};
-ghost use Rattle.shm_life.specs.Exchanged.{Exchanged};
+ghost use Rattle.shm_life.specs.Exchanged.{Exchanged, comparing, exchanging};
 ghost use Rattle.shm_life.specs.MachineView.{done, replied, reply_in};
 ghost use Rattle.shm_life.specs.SystemState.{Replied, most_calls};
 
@@ -84,7 +83,7 @@ impl<P: Pager> System<P> {
         requires size { (1 ≤ length bytes.now) × (length bytes.now ≤ PAGE_SIZE) }
         requires before { length before.old ≡ length bytes.now }
         ensures exchanged { let reply = reply_in (Bytes before.new) result in
-            Exchanged (exchanges self.old.machine pid addr bytes.now) self.old reply self.new }
+            Exchanged (exchanging self.old.machine pid addr bytes.now) self.old reply self.new }
         ensures kept { OnErr result (before.new ≡ before.old) }
     {
         let exchanged = self.kernel.access_by(pid, addr, Act::Put(bytes), before);
@@ -106,7 +105,7 @@ impl<P: Pager> System<P> {
         requires size { (1 ≤ length bytes.now) × (length bytes.now ≤ PAGE_SIZE) }
         requires before { length before.old ≡ length bytes.now }
         ensures compared { let reply = reply_in (Bytes before.new) result in
-            Exchanged (compares self.old.machine pid addr expected.now bytes.now) self.old reply self.new }
+            Exchanged (comparing self.old.machine pid addr expected.now bytes.now) self.old reply self.new }
         ensures kept { OnErr result (before.new ≡ before.old) }
     {
         let act = Act::PutIfEqual { expected, bytes };

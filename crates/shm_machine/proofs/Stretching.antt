@@ -174,6 +174,12 @@ pub record ReadSo (before : SystemState) (pid addr : ℕ) (old : List ℕ) (done
   pub machine : now.machine ≡ before.machine
   pub locked : KeepsLocked before.memory now.memory
 
+-- one more part was read
+read-one : (m : Machine) (first now pid addr room done len : ℕ) (new xs : List ℕ) → (0 < done → (step m first pid (Load addr done)).reply ≡ Bytes (take done new)) → (step m now pid (Load (addr + done) len)).reply ≡ Bytes xs
+    → take (done + len) (put_mid done room new xs) ≡ take done new ++ xs → (step m first pid (Load addr (done + len))).reply ≡ Bytes (take (done + len) (put_mid done room new xs))
+read-one m first now pid addr room zero len new xs before next front = grind (arith, common_steps, load-any m now first pid addr len xs)
+read-one m first now pid addr room (suc d) len new xs before next front = grind (arith, read_more m first now pid addr (suc d) len (take (suc d) new) xs)
+
 pub read_next : (before now after : SystemState) (pid addr : ℕ) (old new xs : List ℕ) (done len room : ℕ) → ReadSo before pid addr old done new now → done < length old → len ≡ next_len (addr + done) (length old - done) → room ≡ len
     → Replied now pid (Load (addr + done) len) (Bytes xs) after → length xs ≡ len → ReadSo before pid addr old (done + len) (put_mid done room new xs) after
 read_next before now after pid addr old new xs done len room so lt len-is room-is moves size =
@@ -187,7 +193,7 @@ read_next before now after pid addr old new xs done len room so lt len-is room-i
       whole = rw len-is (whole-next addr done (length old) so.whole lt);
       size = length-put_mid done room new xs fits held ∙ so.size;
       rest = drop-put_mid done room new xs (done + len) (omega (arith, room-is)) within held ∙ drop_on done len new old so.rest;
-      bytes = λ some. one done len (so.bytes) next front;
+      bytes = λ some. read-one before.machine (time_of before) (time_of now) pid addr room done len new xs so.bytes next front;
       reached = reached-next before now after addr done len pid (Load (addr + done) len) (Bytes xs) so.reached moves (so.whole.1 lt) (omega (arith, lt, len-is)) (omega (arith, len-is));
       machine = l.state ∙ so.machine;
       locked = locked-trans before.memory now.memory after.memory so.locked (record { kept = moves.keeps.kept; locks = moves.locked refl });
@@ -195,11 +201,6 @@ read_next before now after pid addr old new xs done len room so lt len-is room-i
   where
     drop_on : (done len : ℕ) (xs ys : List ℕ) → drop done xs ≡ drop done ys → drop (done + len) xs ≡ drop (done + len) ys
     drop_on done len xs ys same = grind (arith, drop-drop {A = ℕ} len done)
-
-    one : (done len : ℕ) → (0 < done → (step before.machine (time_of before) pid (Load addr done)).reply ≡ Bytes (take done new)) → (step before.machine (time_of now) pid (Load (addr + done) len)).reply ≡ Bytes xs
-        → take (done + len) (put_mid done room new xs) ≡ take done new ++ xs → (step before.machine (time_of before) pid (Load addr (done + len))).reply ≡ Bytes (take (done + len) (put_mid done room new xs))
-    one zero len first next front = grind (arith, common_steps, load-any before.machine (time_of now) (time_of before) pid addr len xs)
-    one (suc d) len first next front = grind (arith, read_more before.machine (time_of before) (time_of now) pid addr (suc d) len (take (suc d) new) xs)
 
 pub record WrittenSo (before : SystemState) (pid addr : ℕ) (bytes : List ℕ) (done : ℕ) (now : SystemState) : Type 0 where
   pub whole : AreWhole addr done (length bytes)

@@ -1,10 +1,10 @@
 //! Loads, stores, additions and exchanges: the bytes go straight between the machine's memory and the
 //! caller's buffer.
 ghost use Rattle.std.specs.Prelude.{◌≡◌, ◌≤◌, length, OnErr};
-ghost use Rattle.shm_base.specs.Exchange.{compares, exchanges};
 ghost use Rattle.shm_base.specs.declared.call.Call.TheVariants as call;
 ghost use Rattle.shm_base.specs.declared.call.Reply.TheVariants as reply;
 ghost use Rattle.shm_base.specs.declared.paging.TheConstants.{PAGE_SIZE};
+ghost use Rattle.shm_life.specs.Exchanged.{comparing, exchanging};
 ghost use Rattle.shm_machine.specs.Answered.{Answered, as_reply, done};
 ghost use Rattle.shm_machine.specs.Exchanged.{ExchangedBy};
 
@@ -68,8 +68,8 @@ impl Machine {
     ) -> Result<(), Refusal>
         requires size { (1 ≤ length bytes.now) × (length bytes.now ≤ PAGE_SIZE) }
         requires before { length before.old ≡ length bytes.now }
-        ensures exchanged { let o = exchanges self.old.system.machine pid addr bytes.now in
-            ExchangedBy o self.old.system before.new result self.new.system }
+        ensures exchanged { let exchange = exchanging self.old.system.machine pid addr bytes.now in
+            ExchangedBy exchange self.old.system before.new result self.new.system }
         ensures kept { OnErr result (before.new ≡ before.old) }
     {
         if self.system.calls() == u64::MAX {
@@ -92,8 +92,8 @@ impl Machine {
     ) -> Result<(), Refusal>
         requires size { (1 ≤ length bytes.now) × (length bytes.now ≤ PAGE_SIZE) }
         requires before { length before.old ≡ length bytes.now }
-        ensures compared { let o = compares self.old.system.machine pid addr expected.now bytes.now in
-            ExchangedBy o self.old.system before.new result self.new.system }
+        ensures compared { let exchange = comparing self.old.system.machine pid addr expected.now bytes.now in
+            ExchangedBy exchange self.old.system before.new result self.new.system }
         ensures kept { OnErr result (before.new ≡ before.old) }
     {
         if self.system.calls() == u64::MAX {

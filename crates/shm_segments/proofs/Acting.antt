@@ -9,6 +9,8 @@ use Rattle.shm_fault.specs.declared.touched.PagerFailed.{PagerFailed}
 use Rattle.shm_fault.specs.declared.touched.Touched.{Touched}
 use Rattle.shm_segments.specs.Acted.{Acted}
 use Rattle.shm_segments.specs.Table.{table_with}
+use Rattle.shm_fault.proofs.Spans.{fits-has}
+use Rattle.std.proofs.Common.{get_or}
 use Rattle.shm_segments.proofs.Remembered.{Wrote, wrote, memory-same}
 use Rattle.shm_segments.proofs.Shown.{load_shown}
 use Rattle.shm_segments.proofs.Spanning.{spans-fit}
@@ -74,5 +76,8 @@ acted r put s n rows pages locks ps size before after answer w a long e =
         same = all.same;
         access = e.access;
         keeps = all.keeps;
+        has = λ k d lt. fits-has s w.sound (get_or ps k d) (spans-fit (held s) rows ps w.kept.agree a.fit k d lt);
+        places = e.places;
+        stopped = e.stopped;
       },
     )

@@ -14,4 +14,6 @@ pub mod Keeping
 pub mod Making
 pub mod Spanning
 pub mod Remembered
+pub mod Staying
+pub mod Again
 pub mod Acting

@@ -1,5 +1,5 @@
 -- What holds after a segment is made, destroyed, locked or written.
-use Rattle.shm_segments.proofs.Names.{locked_in_row, pages_in_row, ◌≡◌, ◌≢◌, ◌⊎◌, ℕ, pos, ℤ, ◌+◌, ◌-◌, ◌*◌, ◌/◌, ◌%◌, ◌<◌, ◌≤◌, Bool, false, if◌then◌else◌, List, Option, Some, None, refl, sym, ap, ◌∙◌, inl, inr, arith, cases_eq, none-some, pages_of, change, Row, entry_at, identifier, key_at, look, with_value, with_row, without_row, free_index-flat, destroyed_at-flat, Held, find_held, is_held, IsIndexFree, held_pages, pages_if_locked, with_zeros, without, with_lock, apart-zeros, apart-without, apart-lock, Head, joined_table, Agree, SizesFit, AreSegmentsSound, made, created, destroyed, nat_tests, common_steps, replicate, slice_set, Ok, option_map, Entry, free_index, id_at, live_row, relocked, relocked_head, is_some, Segment, segment_of, bytes_of, MOST_SHMMAX, MOST_SHMALL}
+use Rattle.shm_segments.proofs.Names.{locked_in_row, pages_in_row, ◌≡◌, ◌≢◌, ◌⊎◌, ℕ, pos, ℤ, ◌+◌, ◌-◌, ◌/◌, ◌%◌, ◌<◌, ◌≤◌, Bool, false, if◌then◌else◌, List, Option, Some, None, refl, sym, ap, ◌∙◌, inl, inr, arith, cases_eq, none-some, pages_of, change, Row, entry_at, identifier, key_at, look, with_value, with_row, without_row, free_index-flat, destroyed_at-flat, Held, find_held, is_held, IsIndexFree, held_pages, pages_if_locked, with_zeros, without, with_lock, apart-zeros, apart-without, apart-lock, Head, joined_table, Agree, SizesFit, AreSegmentsSound, made, created, destroyed, nat_tests, common_steps, slice_set, Ok, option_map, Entry, free_index, id_at, live_row, relocked, relocked_head, is_some, Segment, segment_of, bytes_of, MOST_SHMMAX, MOST_SHMALL}
 use Rattle.shm_base.specs.Identifier as flat
 use Rattle.shm_segments.proofs.Joins.{LiveAt, live-at, held-as}
 use Rattle.shm_segments.proofs.Edits.{look-live, other-value, agree-lock, joined-locked}

@@ -1,5 +1,5 @@
 -- The memory's invariant, and that it shows the table.
-use Rattle.shm_segments.proofs.Names.{◌≡◌, ◌≢◌, ℕ, ◌==◌, false, List, [], ◌∷◌, ◌++◌, length, Option, None, refl, sym, ap, ◌∙◌, arith, eq-eqb, not, append-nil, All, Result, OnOk, OnErr, sum_by, Span, Held, find_held, is_held, holds_locked, with_zeros, without, FitsPage, written, find_held-id, find-without_same, find-without_other, find-zeros_same, find-zeros_other, but-inserted, StoreView, frame_of, fresh_store, Frame, SwapView, SegRec, find_seg, but, new_seg, with_seg, rec_in, IsBlank, not-held, rec-added, LockedPagesStay, IsStoreSound, GoesOn-refl, GoesOn-trans, GoesOn, Head, joined_table, Agree, SegmentsView, ShowsTable, KeepsMemory, AreSegmentsSound, IsWhole, stored, span_places, SpanFits, common_steps, is_some, option_map, Ok, Err, FlatEntry, Entry, live_row}
+use Rattle.shm_segments.proofs.Names.{◌≡◌, ◌≢◌, ℕ, false, List, [], length, Option, None, refl, sym, ap, ◌∙◌, arith, All, Result, OnOk, OnErr, sum_by, Span, Held, find_held, is_held, holds_locked, with_zeros, without, FitsPage, written, find_held-id, find-without_same, find-without_other, find-zeros_same, find-zeros_other, but-inserted, StoreView, frame_of, fresh_store, Frame, SwapView, SegRec, find_seg, but, new_seg, with_seg, rec_in, IsBlank, not-held, rec-added, LockedPagesStay, IsStoreSound, GoesOn-refl, GoesOn-trans, GoesOn, Head, joined_table, Agree, SegmentsView, ShowsTable, KeepsMemory, AreSegmentsSound, IsWhole, stored, span_places, SpanFits, common_steps, is_some, option_map, Ok, Err, FlatEntry, Entry, live_row}
 use Rattle.shm_fault.specs.Store.{held}
 use Rattle.shm_segments.proofs.Finding.{live-joined}
 use Rattle.shm_segments.proofs.Shown.{agree-written, store_shown}

@@ -1,5 +1,5 @@
 -- Loads and stores over spans, as the flat machine's table shows them.
-use Rattle.shm_segments.proofs.Names.{◌≡◌, ℕ, zero, suc, ◌+◌, ◌%◌, ◌≤◌, Bool, true, false, List, [], ◌∷◌, ◌++◌, length, set, map, Option, Some, refl, sym, ap, ◌∙◌, arith, nat_tests, common_steps, set-get_or, sum_by, All, Place, set_in, with_byte, entry_byte_set, stored, loaded, bytes_at, Span, identifier, unused, entry_at, flat_entry, at-table, run, span_places, Held, bytes_of, pasted, written, FitsPage, read_from, find_held-id, find-map, Head, segment_of, whole, joined_table, Agree, is_some, slice_index, slice_set, Entry, live_row}
+use Rattle.shm_segments.proofs.Names.{◌≡◌, ℕ, zero, suc, ◌+◌, ◌%◌, ◌≤◌, Bool, true, List, [], ◌∷◌, ◌++◌, length, set, map, Option, Some, refl, sym, ap, ◌∙◌, arith, nat_tests, common_steps, set-get_or, sum_by, All, Place, set_in, with_byte, entry_byte_set, stored, loaded, bytes_at, Span, identifier, unused, entry_at, flat_entry, at-table, run, span_places, Held, bytes_of, pasted, written, FitsPage, read_from, find_held-id, find-map, Head, segment_of, whole, joined_table, Agree, is_some, slice_index, slice_set, Entry, live_row}
 use Rattle.shm_segments.proofs.Bytes.{put, puts, get, bytes_of-put_same, bytes_of-put_other, Each, each, written-keeps, len_of, written-same, get-spans}
 use Rattle.shm_segments.proofs.Joins.{live-at, joined-same, set-joined, same-held}
 

@@ -4,3 +4,4 @@ pub mod Sound
 pub mod Orphan
 pub mod View
 pub mod Acted
+pub mod Staying

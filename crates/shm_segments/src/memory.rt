@@ -1,16 +1,16 @@
 //! The bytes of the segments, and the pages that have them.
-ghost use Rattle.std.specs.Prelude.{◌≡◌, ◌≤◌, ◌+◌, OnOk, OnErr, length, set, None, true, false};
+ghost use Rattle.std.specs.Prelude.{◌≡◌, ◌≤◌, ◌+◌, length, true, false};
 ghost use Rattle.shm_base.specs.Access.{loaded};
 ghost use Rattle.shm_base.specs.Segments.{reserved};
 ghost use Rattle.shm_base.specs.Spans.{span_places};
 ghost use Rattle.shm_fault.specs.Allowed.{IsAccess};
 ghost use Rattle.shm_slots.specs.View.{swap_slots, sizes, area_at};
-ghost use Rattle.shm_slots.specs.Cause.{had_cause};
 ghost use Rattle.shm_fault.specs.Store.{Still};
 ghost use Rattle.shm_fault.specs.Access.{NameFrames, IsUntouched, answer_of};
 ghost use Rattle.shm_fault.specs.Acting.{FitsRoom, put_by, size_of};
 ghost use Rattle.shm_segments.specs.Acted.{Acted};
 ghost use Rattle.shm_fault.specs.Flushing.{IsFlushed};
+ghost use Rattle.shm_fault.specs.Moving.{MovesOff};
 ghost use Rattle.shm_segments.specs.Table.{SpanFits};
 ghost use Rattle.shm_segments.specs.View.{IsTableExact, KeepsMemory};
 
@@ -67,11 +67,8 @@ impl<P: Pager> Segments<P> {
         requires there { (area_at self.old.memory.swap area).here ≡ true }
         requires room { reserved self.old.table + length (area_at self.old.memory.swap area).pages
             ≤ swap_slots self.old.memory.swap }
+        ensures moves { MovesOff area self.old.memory self.new.memory result }
         ensures table { self.new.table ≡ self.old.table }
-        ensures gone { OnOk result (sizes self.new.memory.swap ≡ set (sizes self.old.memory.swap) area None) }
-        ensures still { Still self.old.memory self.new.memory }
-        ensures cause { OnErr result (had_cause self.old.memory.swap self.new.memory.swap ≡ true) }
-        ensures sizes { OnErr result (sizes self.new.memory.swap ≡ sizes self.old.memory.swap) }
         ensures keeps { KeepsMemory self.old.memory self.new.memory }
     {
         self.store.move_off(area)

@@ -8,6 +8,7 @@ ghost use Rattle.shm_base.specs.Segments.{locked as locked_pages, locked_by_user
 ghost use Rattle.shm_slots.specs.View.{sizes, owner_of};
 ghost use Rattle.shm_fault.specs.Segs.{with_seg_lock};
 ghost use Rattle.shm_fault.specs.Store.{Still, fresh_store, frame_of};
+ghost use Rattle.shm_segments.specs.Staying.{Ends, MovesNone};
 ghost use Rattle.shm_segments.specs.View.{KeepsMemory, MayCreate};
 ghost use Rattle.shm_segments.specs.Table.{IsFound, IsLive, look_of, refused_look, live, segment_in, next_id, made, destroyed, reowned, relocked};
 ghost use Rattle.shm_segments.specs.Joined.{relocked_head, locked_of_rows, locked_by_of_rows};
@@ -253,6 +254,7 @@ impl<P: Pager> Segments<P> {
         ensures keeps { OnOk result (KeepsMemory self.old.memory self.new.memory) }
         ensures swap { OnOk result (self.new.memory.swap ≡ self.old.memory.swap) }
         ensures still { Still self.old.memory self.new.memory }
+        ensures moves { MovesNone self.old.memory self.new.memory }
         ensures err { OnErr result (self.new ≡ self.old) }
     {
         let pages = pages_of(head.size);
@@ -274,6 +276,7 @@ impl<P: Pager> Segments<P> {
         requires { IsLive self.old.table seg }
         ensures table { self.new.table ≡ destroyed self.old.table seg }
         ensures keeps { KeepsMemory self.old.memory self.new.memory }
+        ensures ends { Ends self.old.memory self.new.memory }
         ensures sizes { sizes self.new.memory.swap ≡ sizes self.old.memory.swap }
         ensures still { (s page : ℕ) → s ≢ seg →
             frame_of self.new.memory s page ≡ frame_of self.old.memory s page }
@@ -337,6 +340,7 @@ impl<P: Pager> Segments<P> {
         ensures only { self.new.memory ≡
             record self.old.memory { segs = map (with_seg_lock seg (is_some locker)) self.old.memory.segs } }
         ensures still { Still self.old.memory self.new.memory }
+        ensures moves { MovesNone self.old.memory self.new.memory }
     {
         let head = self.table.value_mut(seg);
         let unlocked = self.locked - pages_locked(head);

@@ -19,4 +19,5 @@ returns g c =
     let e = c.access-done.ensures in
     let r = c.access-done.result in
     rw (← c.self.view_is, c.or.ensures)
-    (did c.args.act c.args.spans.now _ _ _ _ c.requires.spans.sum r e.there e.kept (told r _ _ _ _ _ _ _ _ _ c.access-done.new.touched e.written e.same c.note.ensures.runners e.keeps e.access))
+    (did c.args.act c.args.spans.now _ _ _ _ c.requires.spans.sum r e.there e.kept
+    (told r _ _ _ _ _ _ _ _ c.args.spans.now c.access-done.new.touched c.requires.spans.few (λ k d lt. (c.requires.spans.fit k d lt).0) c.note.ensures.runners e))

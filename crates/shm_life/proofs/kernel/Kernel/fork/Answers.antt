@@ -6,6 +6,7 @@ use Rattle.shm_base.specs.Rules.{fork_marks}
 use Rattle.shm_life.specs.Inherited.{segments_in}
 use Rattle.shm_life.proofs.Going.{renewed, renewed-same}
 use Rattle.shm_life.proofs.Inheriting.{segments-bare}
+use Rattle.shm_segments.proofs.Staying.{moves-refl}
 use Rattle.shm_life.proofs.Running.{granted, keeps_refl}
 use Rattle.shm_life.proofs.Settled.{caller-fits, lives-map, still-well}
 use Rattle.shm_life.proofs.Peopled.{forked-apart}
@@ -53,4 +54,4 @@ pub returns : goal.returns
 returns g c =
     let noted = noted g (goal.at.returns g c).After-pieces in
     let table = rw (c.rules.ensures.value, noted) at c.note_inherited.ensures in
-    granted _ _ _ _ _ (search (rules, table)) refl (search (rules, keeps_refl))
+    granted _ _ _ _ _ _ (search (rules, table)) refl (search (rules, keeps_refl)) (search (rules, moves-refl))

@@ -1,7 +1,7 @@
 use Rattle.shm_life.proofs.Names.{arith, rules, ◌≡◌, ◌%◌, ◌≤◌, length, List, [], Some, None, refl, sym, ap, ◌∙◌, to_z, of_z, w32, Entry, change, locked, lockable, locks, gives, Done, IsFound, relocked, segment_seen, caller_seen, change-index, Head, whole, StoreView}
 use Rattle.shm_life.specs.Looking.{lock_refusal}
 use Rattle.shm_life.proofs.Changed.{relocked-well, lock-few, lock-granted, lock-outcome, locked_outcome}
-use Rattle.shm_life.proofs.Running.{answered_as, keeps_refl, locking}
+use Rattle.shm_life.proofs.Running.{refused_as, keeps_refl, locking}
 use Rattle.shm_life.proofs.kernel.Kernel.lock.Given.{Over}
 use Rattle.shm_life.proofs.kernel.Kernel.lock.Goals as goal
 use Rattle.shm_life.proofs.kernel.Kernel.lock.Goals.{In_default}
@@ -22,7 +22,7 @@ returns-in-Some g c = λ n.
     let k = caller_seen c.args.caller.now m.runners in
     let refusal : lock_refusal m.limits k.cred m.table (segment_seen m.table f) ≡ Some c.in-Some.errno = sym c.lock_refusal.ensures ∙ c.in-Some.is in
     let signed : to_z w32 (of_z w32 c.args.id) ≡ c.args.id = search rules in
-    answered_as _ _ _ _
+    refused_as _ _ _ _ _
     (rw signed at (c.in_ok-found.ensures.ok (locks m k)) ∙ lock-outcome m k (f.seg % 32768) (segment_seen m.table f) ∙ ap (locked_outcome m k (f.seg % 32768)) refusal)
 
 pub set_locked-requires-clause-few : goal.set_locked-requires-clause-few
@@ -48,4 +48,4 @@ returns g c = λ n.
     ∙ ap (λ (t : List Entry). gives (record m { table = t }) Done) (change-index {T = Head} (whole []) m.table f.seg (relocked (Some k.cred.uid))) in
     let signed : to_z w32 (of_z w32 c.args.id) ≡ c.args.id = search rules in
     let step = rw signed at (c.in_ok-found.ensures.ok (locks m k)) ∙ act ∙ rw (← c.self.view_is, c.set_locked.ensures.table, c.set_locked.ensures.only) refl in
-    locking _ _ _ _ step refl (search (rules, keeps_refl))
+    locking _ _ _ _ step refl (search (rules, keeps_refl)) (rw (← c.self.view_is) c.set_locked.ensures.moves)

@@ -73,7 +73,8 @@ returns-clause-served g c =
     let step = rw (c.in-Ok.is, ← c.self.view_is) at (outcome g (goal.at.returns-clause-served g c).After-place_for) in
     let gone = rw (c.lost.ensures.value, c.in_ok-attach.ensures.lost, c.in_ok-attach.ensures.runners, c.contains-writable.ensures tt) at c.after_detach.ensures.table in
     let kept = kept g (goal.at.returns-clause-served g c).After-segments in
-    granted _ _ _ _ _ (rw (← c.self.view_is) (step ∙ rw (c.after_detach.ensures.sizes, gone, c.attached.ensures, c.attach_rests.ensures, attached-first, renewed-first, kept, c.rules.ensures.value, c.in_ok-attach.ensures.runners, c.contains-writable.ensures tt) refl)) refl (search (rules, kept_refl))
+    let same : c.attached.new.self.memory ≡ c.self.inside.segments.memory = ap (λ (v : SegmentsView). v.memory) c.attached.ensures ∙ ap (λ (v : SegmentsView). v.memory) c.attach_rests.ensures in
+    granted _ _ _ _ _ _ (rw (← c.self.view_is) (step ∙ rw (c.after_detach.ensures.sizes, gone, c.attached.ensures, c.attach_rests.ensures, attached-first, renewed-first, kept, c.rules.ensures.value, c.in_ok-attach.ensures.runners, c.contains-writable.ensures tt) refl)) refl (search (rules, kept_refl)) (rw (← c.self.view_is) (rw same at c.after_detach.ensures.ends).moves)
 
 pub returns-in-Err-clause-served : goal.returns-in-Err-clause-served
 returns-in-Err-clause-served g c = answered_as _ _ _ _ (rw c.in-Err.is at (outcome g (goal.at.returns-in-Err-clause-served g c).After-place_for))

@@ -37,4 +37,4 @@ returns g c =
     let rs = c.self.inside.spaces.runners in
     let m : Machine = record { limits = c.self.inside.limits; areas = sizes c.self.inside.segments.memory.swap; table = c.self.inside.segments.table; runners = rs } in
     let step = shmdt-named m c.args.time (caller_seen c.args.caller.now rs) c.args.addr c.in-Some.seg (named g (goal.at.returns g c).In-Some) in
-    granted _ _ _ _ _ (rw (← c.self.view_is) (step ∙ rw (c.after_detach.ensures.sizes, c.after_detach.ensures.table, c.in-Some.ensures.gone) refl)) refl (search (rules, kept_refl))
+    granted _ _ _ _ _ _ (rw (← c.self.view_is) (step ∙ rw (c.after_detach.ensures.sizes, c.after_detach.ensures.table, c.in-Some.ensures.gone) refl)) refl (search (rules, kept_refl)) (rw (← c.self.view_is) c.after_detach.ensures.ends.moves)

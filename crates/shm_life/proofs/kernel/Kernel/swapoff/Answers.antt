@@ -2,7 +2,7 @@ use Rattle.shm_life.proofs.Names.{rules, ◌≡◌, None, sym, ap, refl, ◌∙�
 use Rattle.std.proofs.Common.{slice_set}
 use Rattle.shm_base.specs.Segments.{slots}
 use Rattle.shm_life.proofs.Swapping.{IsThere, is_there, off-few, off-done}
-use Rattle.shm_life.proofs.Running.{failing, granted, kept_refl, answered_as, ok_fact, err_fact}
+use Rattle.shm_life.proofs.Running.{failing, granted, kept_refl, refused_as, ok_fact, err_fact}
 use Rattle.shm_life.proofs.kernel.Kernel.swapoff.Given.{Over}
 use Rattle.shm_life.proofs.kernel.Kernel.swapoff.Goals as goal
 use Rattle.shm_life.proofs.kernel.Kernel.swapoff.Goals.{After-from, After-is_err}
@@ -18,7 +18,7 @@ returns-then-capacity-reserved g c = λ n.
     let rs = c.self.inside.spaces.runners in
     let m : Machine = record { limits = c.self.inside.limits; areas = sizes c.self.inside.segments.memory.swap; table = c.self.inside.segments.table; runners = rs } in
     let at = there g (goal.at.returns-then-capacity-reserved g c).After-from in
-    answered_as _ _ _ _ (rw (← c.self.view_is) (off-few m (caller_seen c.args.caller.now rs) c.args.area c.in-Some.size c.if-caller-ne0.false at.0 (omega (arith, c.if-capacity-reserved.true, c.from.ensures, c.reserved.ensures, at.1))))
+    refused_as _ _ _ _ _ (rw (← c.self.view_is) (off-few m (caller_seen c.args.caller.now rs) c.args.area c.in-Some.size c.if-caller-ne0.false at.0 (omega (arith, c.if-capacity-reserved.true, c.from.ensures, c.reserved.ensures, at.1))))
 
 -- the flat machine takes it away
 done : (g : Over) (c : After-is_err g) → IsThere (sizes c.self.inside.segments.memory.swap) c.args.area c.in-Some.size × (c.capacity.result ≡ slots (sizes c.self.inside.segments.memory.swap))
@@ -33,15 +33,17 @@ returns-then-is_err g c = λ n.
     let at = goal.at.returns-then-is_err g c in
     let failed = sym c.is_err.ensures.value ∙ c.if-is_err.true in
     let e = c.move_off.ensures in
-    failing _ _ _ _ _ refl (record {
+    failing _ _ _ _ _ _ refl (record {
       instead = ap (λ (o : Outcome). is_refusal o.reply) (done g at.After-is_err (there g at.After-from));
-      unchanged = rw (← c.self.view_is, err_fact c.move_off.result _ failed e.sizes, e.table) refl;
-      cause = rw (← c.self.view_is) (err_fact c.move_off.result _ failed e.cause);
-    }) (search (rules, kept_refl))
+      unchanged = rw (← c.self.view_is, err_fact c.move_off.result _ failed e.moves.kept_sizes, e.table) refl;
+      cause = rw (← c.self.view_is) (err_fact c.move_off.result _ failed e.moves.cause);
+    }) (search (rules, kept_refl)) (rw (← c.self.view_is) (record { uncounted = e.moves.rest; stopped = err_fact c.move_off.result _ failed e.moves.stopped }))
 
 pub returns : goal.returns
 returns g c = λ n.
     let at = goal.at.returns g c in
     let e = c.move_off.ensures in
-    let gone = ok_fact c.move_off.result _ (sym c.is_err.ensures.value ∙ c.if-is_err.false) e.gone in
-    granted _ _ _ _ _ (done g at.After-is_err (there g at.After-from) ∙ rw (← c.self.view_is, gone, e.table) refl) refl (search (rules, kept_refl))
+    let went = sym c.is_err.ensures.value ∙ c.if-is_err.false in
+    let gone = ok_fact c.move_off.result _ went e.moves.gone in
+    granted _ _ _ _ _ _ (done g at.After-is_err (there g at.After-from) ∙ rw (← c.self.view_is, gone, e.table) refl) refl (search (rules, kept_refl))
+    (rw (← c.self.view_is) (record { uncounted = e.moves.rest; places = ok_fact c.move_off.result _ went e.moves.moves }))

@@ -22,4 +22,4 @@ returns g c = λ n.
     let signed : to_z w32 (of_z w32 c.args.id) ≡ c.args.id = search rules in
     let step = rw signed at (c.in_ok-found.ensures.ok (unlocks m)) ∙ act ∙ rw (← c.self.view_is, c.set_locked.ensures.table, c.set_locked.ensures.only) refl in
     let keeps = unlock_keeps c.self.inside.segments.memory c.set_locked.new.self.memory f.seg c.set_locked.ensures.only c.set_locked.ensures.still in
-    granted _ _ _ _ _ step refl (rw (← c.self.view_is) keeps)
+    granted _ _ _ _ _ _ step refl (rw (← c.self.view_is) keeps) (rw (← c.self.view_is) c.set_locked.ensures.moves)

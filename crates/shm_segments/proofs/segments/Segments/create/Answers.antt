@@ -1,7 +1,8 @@
-use Rattle.shm_segments.proofs.Names.{◌≡◌, pos, List, [], ◌∷◌, ◌++◌, refl, Some, sym, ap, ◌∙◌, arith, to_z, of_z, w32, pages_of, reserved, with_row, with_zeros, with_seg, StoreView, held, find-zeros_same, find_key-absent, whole, common_steps, is_some, rules, FlatEntry, subst, ℤ, joined_table, AreSegmentsSound, ◌+◌}
+use Rattle.shm_segments.proofs.Names.{◌≡◌, pos, List, refl, Some, sym, ap, ◌∙◌, arith, to_z, of_z, w32, pages_of, reserved, with_row, with_zeros, with_seg, StoreView, held, find-zeros_same, find_key-absent, whole, common_steps, is_some, rules, FlatEntry, subst, ℤ, joined_table, AreSegmentsSound, ◌+◌}
 use Rattle.shm_segments.proofs.Rows.{id_of}
 use Rattle.shm_segments.proofs.Looking.{next-joined}
 use Rattle.shm_segments.proofs.Making.{kept-made, made-joined, IsNext, next-free}
+use Rattle.shm_segments.proofs.Staying.{moves-added, moves-refl}
 use Rattle.shm_segments.proofs.Sums.{reserved-joined}
 use Rattle.shm_segments.proofs.Remembered.{undone, memory-zeros}
 use Rattle.shm_segments.proofs.segments.Segments.create.Given.{Over}
@@ -97,3 +98,23 @@ returns-in-Ok-clause-keeps g c =
     let rest = c.in_ok-add_segment.ensures.rest in
     rw (← c.self.view_is)
     (memory-zeros c.self.inside.store c.add_segment.new.self (id_of c.self.inside.table n.i) (pages_of c.args.head.size) n.new (zeros g at.In_ok-add_segment n) (ap (λ (v : StoreView). v.swap) rest) (ap (λ (v : StoreView). v.frames) rest) c.add_segment.ensures.still)
+
+-- pages that are nowhere were added
+added : (g : Over) (c : In_ok-add_segment g) (n : IsNext (held c.self.inside.store) c.self.inside.table (to_z w32 (of_z w32 c.args.id)))
+    → c.add_segment.new.self ≡ record c.self.inside.store { segs = with_seg c.self.inside.store.segs (id_of c.self.inside.table n.i) (pages_of c.args.head.size) }
+added g c n = rw (n.is, c.pages_of-pages.ensures.value) at c.in_ok-add_segment.ensures.rest
+
+pub returns-in-Ok-clause-moves : goal.returns-in-Ok-clause-moves
+returns-in-Ok-clause-moves g c =
+    let at = goal.at.returns-in-Ok-clause-moves g c in
+    let n = next g at.After-self in
+    rw (← c.self.view_is)
+    (moves-added c.self.inside.store c.add_segment.new.self (id_of c.self.inside.table n.i) (pages_of c.args.head.size) c.self.invariant.sound n.new (added g at.In_ok-add_segment n))
+
+pub returns-in-Err-clause-moves : goal.returns-in-Err-clause-moves
+returns-in-Err-clause-moves g c =
+    let at = goal.at.returns-in-Err-clause-moves g c in
+    rw (dropped g at.After-drop_segment (next g at.After-self), ← c.self.view_is) (moves-refl c.self.inside.store)
+
+pub returns-in_err-add_segment-clause-moves : goal.returns-in_err-add_segment-clause-moves
+returns-in_err-add_segment-clause-moves g c = rw (← c.self.view_is, c.in_err-add_segment.ensures.err) (moves-refl c.self.inside.store)

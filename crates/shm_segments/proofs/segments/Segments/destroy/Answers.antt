@@ -1,6 +1,7 @@
 use Rattle.shm_segments.proofs.Names.{ap, ◌∙◌, arith, destroyed, held, SegmentsView, common_steps}
 use Rattle.shm_segments.proofs.Finding.{is_live-look, live-held}
 use Rattle.shm_segments.proofs.Making.{kept-without}
+use Rattle.shm_segments.proofs.Staying.{ends-dropped}
 use Rattle.shm_segments.proofs.Remembered.{memory-without}
 use Rattle.shm_segments.proofs.segments.Segments.destroy.Goals as goal
 
@@ -28,3 +29,9 @@ returns-clause-sizes g c = rw (← c.self.view_is) c.drop_segment.ensures.sizes
 
 pub returns-clause-still : goal.returns-clause-still
 returns-clause-still g c = rw (← c.self.view_is) c.drop_segment.ensures.still
+
+pub returns-clause-ends : goal.returns-clause-ends
+returns-clause-ends g c =
+    let m = c.self.inside.store in
+    let there = live-held m c.self.inside.table c.args.seg c.self.invariant.kept.agree (rw (← c.self.view_is) at c.requires) in
+    rw (← c.self.view_is) (ends-dropped c.args.seg m c.self.invariant.sound c.drop_segment.new.self there c.drop_segment.ensures)

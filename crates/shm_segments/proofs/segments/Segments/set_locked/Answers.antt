@@ -2,6 +2,7 @@ use Rattle.shm_segments.proofs.Names.{◌≡◌, ◌≤◌, ◌+◌, ◌%◌, le
 use Rattle.shm_segments.proofs.Edits.{look-live}
 use Rattle.shm_segments.proofs.Finding.{is_live-look, live-held}
 use Rattle.shm_segments.proofs.Making.{kept-locked, few-pages, relocked-size, relocked-locked}
+use Rattle.shm_segments.proofs.Staying.{moves-locked}
 use Rattle.shm_segments.proofs.Sums.{locked-joined}
 use Rattle.shm_segments.proofs.segments.Segments.set_locked.Goals as goal
 
@@ -44,3 +45,6 @@ pub returns-clause-table : goal.returns-clause-table
 returns-clause-table g c =
     let k = kept-locked (held c.self.inside.store) c.self.inside.table c.self.inside.reserved c.self.inside.locked c.args.seg c.value_mut-head.result.now c.args.locker c.self.invariant.kept c.value_mut-head.ensures.value in
     rw (c.set_locked.ensures.held, c.is_some.ensures, c.relock.ensures) (k.is ∙ ap (λ (v : SegmentsView). change v.table c.args.seg (relocked c.args.locker)) c.self.view_is)
+
+pub returns-clause-moves : goal.returns-clause-moves
+returns-clause-moves g c = rw (← c.self.view_is) (moves-locked c.self.inside.store c.set_locked.new.self c.args.seg _ c.self.invariant.sound c.set_locked.ensures.only c.set_locked.ensures.held)

@@ -1,0 +1,179 @@
+-- The pages of an access: those of its spans are those of its bytes.
+use Rattle.shm_life.proofs.Names.{◌≡◌, ℕ, zero, suc, ◌+◌, ◌*◌, ◌/◌, ◌≤◌, Bool, true, false, List, [], ◌∷◌, length, None, refl, sym, ap, ◌∙◌, arith, inl, inr, All, Place, Span, InPage, page_of, span_places, PageRef, StoreView, eq-eqb, subst}
+use Rattle.std.proofs.Common.{◌++◌, if◌then◌else◌, is_some}
+use Rattle.std.proofs.lemmas.Bool.{false≢true}
+use Rattle.std.specs.Prelude.{map, ◌&&◌, ◌⊎◌}
+use Rattle.shm_base.specs.Spans.{run}
+use Rattle.shm_fault.specs.Acting.{left_by}
+use Rattle.shm_fault.specs.Placing.{Places, after_access, after_visit, dirtied, places, with_dirty, Stops, StopsAt}
+use Rattle.shm_fault.specs.Segs.{HasPage, rec_by}
+use Rattle.shm_fault.specs.Store.{IsResident, frame_of, is_page, is_swapped, pages_among, rec_of, ref_of, same_page, swapped_among}
+use Rattle.shm_fault.proofs.Pages.{same-self, same-true}
+use Rattle.shm_segments.proofs.Again.{again, dirtied-again, visited}
+use Rattle.shm_fault.specs.Access.{Paged}
+use Rattle.shm_fault.specs.declared.touched.Touched.{Touched}
+use Rattle.std.proofs.lemmas.List.Elements.{All-cons, All-nil}
+use Rattle.shm_life.specs.Paging.{page_at, pages_after, pages_of, whole_page, ComeIn, ComeInUpTo, Transfers}
+
+-- WHICH PAGES
+
+-- spans have these pages: one each, or two spans have one
+pub data HavePages : List Span → List PageRef → Type 0 where
+  none : HavePages [] []
+  one : {p : Span} → HavePages (p ∷ []) (ref_of p ∷ [])
+  two : {p q : Span} → HavePages (p ∷ q ∷ []) (ref_of p ∷ ref_of q ∷ [])
+  twice : {p q : Span} → ref_of p ≡ ref_of q → HavePages (p ∷ q ∷ []) (ref_of p ∷ [])
+
+-- bytes of the last page add none
+run-within : (seg n at : ℕ) (r : PageRef) (rest : List Place) → r.seg ≡ seg → 4096 * r.page ≤ at → at + n ≤ 4096 * r.page + 4096 → pages_after r (run seg at n false ++ rest) ≡ pages_after r rest
+run-within seg zero at r rest same low high = refl
+run-within seg (suc n) at r rest same low high =
+    let page : r.page ≡ at / 4096 = omega (arith, low, high) in
+    rw (eq-eqb r.seg seg same, eq-eqb r.page (at / 4096) page) (run-within seg n (at + 1) r rest same (omega (arith, low)) (omega (arith, high)))
+
+-- the bytes of a span are in its page
+span-within : (p : Span) (rest : List Place) → InPage p → pages_after (ref_of p) (run p.seg p.at p.len false ++ rest) ≡ pages_after (ref_of p) rest
+span-within p rest fit = run-within p.seg p.len p.at (ref_of p) rest refl (omega arith) (omega (arith, fit.1))
+
+span-first : (n : ℕ) (p : Span) (rest : List Place) → n ≡ p.len → InPage p → pages_of (run p.seg p.at n false ++ rest) ≡ ref_of p ∷ pages_after (ref_of p) rest
+span-first zero p rest is fit = absurd (omega (arith, is, fit.0))
+span-first (suc n) p rest is fit = ap (λ rs. ref_of p ∷ rs) (run-within p.seg n (p.at + 1) (ref_of p) rest refl (omega arith) (omega (arith, is, fit.1)))
+
+-- those of a later span are one page more, unless it is the last one
+span-next : (n : ℕ) (r : PageRef) (p : Span) → n ≡ p.len → InPage p → pages_after r (run p.seg p.at n false ++ []) ≡ (if is_page r p.seg (page_of p) then [] else ref_of p ∷ [])
+span-next zero r p is fit = absurd (omega (arith, is, fit.0))
+span-next (suc n) r p is fit = by (is_page r p.seg (page_of p)) refl
+  where
+    by : (b : Bool) → is_page r p.seg (page_of p) ≡ b → (if b then pages_after r (run p.seg (p.at + 1) n false ++ []) else page_at (record { seg = p.seg; at = p.at; writable = false }) ∷ pages_after (ref_of p) (run p.seg (p.at + 1) n false ++ [])) ≡ (if b then [] else ref_of p ∷ [])
+    by true here = rw (same-true r (ref_of p) here) (run-within p.seg n (p.at + 1) (ref_of p) [] refl (omega arith) (omega (arith, is, fit.1)))
+    by false other = ap (λ rs. ref_of p ∷ rs) (run-within p.seg n (p.at + 1) (ref_of p) [] refl (omega arith) (omega (arith, is, fit.1)))
+
+pub have-pages : (ps : List Span) → length ps ≤ 2 → All InPage ps → HavePages ps (pages_of (span_places false ps))
+have-pages [] few fit = none
+have-pages (p ∷ []) few fit =
+    let at = fit 0 p (omega arith) in
+    rw (span-first p.len p [] refl at) one
+have-pages (p ∷ q ∷ []) few fit = by (is_page (ref_of p) q.seg (page_of q)) refl
+  where
+    at : InPage p × InPage q
+    at = (fit 0 p (omega arith), fit 1 p (omega arith))
+
+    by : (b : Bool) → is_page (ref_of p) q.seg (page_of q) ≡ b → HavePages (p ∷ q ∷ []) (pages_of (run p.seg p.at p.len false ++ (run q.seg q.at q.len false ++ [])))
+    by true same = rw (span-first p.len p (run q.seg q.at q.len false ++ []) refl at.0, span-next q.len (ref_of p) q refl at.1, same) (twice (same-true (ref_of p) (ref_of q) same))
+    by false other = rw (span-first p.len p (run q.seg q.at q.len false ++ []) refl at.0, span-next q.len (ref_of p) q refl at.1, other) two
+have-pages (p ∷ q ∷ r ∷ ps) few fit = absurd (omega (arith, few))
+
+-- WHAT THE PAGES DETERMINE
+
+whole-page : (n : ℕ) → 4096 * n / 4096 ≡ n
+whole-page n = omega arith
+
+whole-ref : (r : PageRef) → ref_of (whole_page r) ≡ r
+whole-ref r = ap (λ n. record { seg = r.seg; page = n }) (whole-page r.page)
+
+same-span : (p q : Span) → ref_of p ≡ ref_of q → same_page p q ≡ true
+same-span p q same = ap (λ (r : PageRef). is_page r q.seg (page_of q)) same ∙ same-self (ref_of q)
+
+-- each span's page exists
+abbrev pub AllHave : Places → List Span → Type 0
+AllHave s ps = All (λ (p : Span). HasPage s.segs (ref_of p)) ps
+
+-- two visits, two pages that become dirty, and a stop at one of two pages
+abbrev visits : PageRef → PageRef → Places → Places
+visits r q s = let first = after_visit r None s in after_visit q (rec_by first.segs r).frame first
+
+abbrev dirties : PageRef → PageRef → Places → Places
+dirties r q s = let first = dirtied (rec_by s.segs r).frame s in dirtied (rec_by first.segs q).frame first
+
+abbrev StopsAtOne : PageRef → PageRef → Places → Places → Type 0
+StopsAtOne r q s t = let first = after_visit r None s in StopsAt r None s t ⊎ StopsAt q (rec_by first.segs r).frame first t
+
+pub came-pages : (s : Places) {ps : List Span} {rs : List PageRef} → HavePages ps rs → AllHave s ps → after_access ps s ≡ after_access (map whole_page rs) s
+unfolding after_access
+came-pages s none has = refl
+came-pages s (one {p}) has = rw (whole-ref (ref_of p)) refl
+came-pages s (two {p} {q}) has = ap (λ r. visits r (ref_of q) s) (sym (whole-ref (ref_of p))) ∙ ap (λ r. visits (ref_of (whole_page (ref_of p))) r s) (sym (whole-ref (ref_of q)))
+came-pages s (twice {p} {q} same) has =
+    ap (λ r. visits (ref_of p) r s) (sym same) ∙ again (ref_of p) s (has 0 p (omega arith)) ∙ ap (λ r. after_visit r None s) (sym (whole-ref (ref_of p)))
+
+pub dirty-pages : (s : Places) {ps : List Span} {rs : List PageRef} → HavePages ps rs → with_dirty ps s ≡ with_dirty (map whole_page rs) s
+unfolding with_dirty
+dirty-pages s none = refl
+dirty-pages s (one {p}) = ap (λ r. dirtied (rec_by s.segs r).frame s) (sym (whole-ref (ref_of p)))
+dirty-pages s (two {p} {q}) = ap (λ r. dirties r (ref_of q) s) (sym (whole-ref (ref_of p))) ∙ ap (λ r. dirties (ref_of (whole_page (ref_of p))) r s) (sym (whole-ref (ref_of q)))
+dirty-pages s (twice {p} {q} same) =
+    ap (λ r. dirties (ref_of p) r s) (sym same) ∙ dirtied-again (ref_of p) s (rec_by s.segs (ref_of p)).frame refl ∙ ap (λ r. dirtied (rec_by s.segs r).frame s) (sym (whole-ref (ref_of p)))
+
+pub left-pages : (puts : Bool) (s : Places) {ps : List Span} {rs : List PageRef} → HavePages ps rs → AllHave s ps → left_by puts ps (after_access ps s) ≡ left_by puts (map whole_page rs) (after_access (map whole_page rs) s)
+left-pages true s have has = dirty-pages _ have ∙ ap (with_dirty _) (came-pages s have has)
+left-pages false s have has = came-pages s have has
+
+pub stop-pages : (s t : Places) {ps : List Span} {rs : List PageRef} → HavePages ps rs → AllHave s ps → Stops ps s t → Stops (map whole_page rs) s t
+unfolding Stops
+stop-pages s t none has stops = stops
+stop-pages s t (one {p}) has stops = rw (whole-ref (ref_of p)) stops
+stop-pages s t (two {p} {q}) has stops =
+    subst (λ r. StopsAtOne (ref_of (whole_page (ref_of p))) r s t) (sym (whole-ref (ref_of q))) (subst (λ r. StopsAtOne r (ref_of q) s t) (sym (whole-ref (ref_of p))) stops)
+stop-pages s t (twice {p} {q} same) has (inl first) = rw (whole-ref (ref_of p)) first
+stop-pages s t (twice {p} {q} same) has (inr second) =
+    let away = subst (λ r. (rec_by (after_visit (ref_of p) None s).segs r).frame ≡ None) (sym same) second.away in
+    absurd (false≢true (ap is_some (sym away) ∙ visited (ref_of p) s (has 0 p (omega arith))))
+
+pub among-pages : {ps : List Span} {rs : List PageRef} → HavePages ps rs → pages_among ps ≡ pages_among (map whole_page rs)
+among-pages none = refl
+among-pages (one {p}) = refl
+among-pages (two {p} {q}) = rw (whole-page (page_of p), whole-page (page_of q)) refl
+among-pages (twice {p} {q} same) = rw (same-span p q same) refl
+
+pub swapped-pages : (s : StoreView) {ps : List Span} {rs : List PageRef} → HavePages ps rs → swapped_among s ps ≡ swapped_among s (map whole_page rs)
+swapped-pages s none = refl
+swapped-pages s (one {p}) = rw (whole-page (page_of p)) refl
+swapped-pages s (two {p} {q}) = rw (whole-page (page_of p), whole-page (page_of q)) refl
+swapped-pages s (twice {p} {q} same) =
+    let at : rec_of s q.seg (page_of q) ≡ rec_of s p.seg (page_of p) = ap (λ (r : PageRef). rec_of s r.seg r.page) (sym same) in
+    rw (same-span p q same, at, whole-page (page_of p)) (by (is_swapped (rec_of s p.seg (page_of p))))
+  where
+    by : (b : Bool) → (if b && false then 1 else 0) + ((if b && true then 1 else 0) + 0) ≡ (if b && true then 1 else 0) + 0
+    by true = refl
+    by false = refl
+
+resident-at : (s : StoreView) (p q : Span) → ref_of p ≡ ref_of q → IsResident s p → IsResident s q
+resident-at s p q same is = ap (λ (r : PageRef). is_some (frame_of s r.seg r.page)) (sym same) ∙ is
+
+resident-whole : (s : StoreView) (p : Span) → IsResident s (whole_page (ref_of p)) → IsResident s p
+resident-whole s p is = resident-at s (whole_page (ref_of p)) p (whole-ref (ref_of p)) is
+
+pub resident-pages : (s : StoreView) {ps : List Span} {rs : List PageRef} → HavePages ps rs → All (IsResident s) (map whole_page rs) → All (IsResident s) ps
+resident-pages s none all = All-nil (IsResident s)
+resident-pages s (one {p}) all = All-cons (IsResident s) p [] (resident-whole s p (all 0 p (omega arith))) (All-nil (IsResident s))
+resident-pages s (two {p} {q}) all =
+    All-cons (IsResident s) p (q ∷ []) (resident-whole s p (all 0 p (omega arith)))
+    (All-cons (IsResident s) q [] (resident-whole s q (all 1 p (omega arith))) (All-nil (IsResident s)))
+resident-pages s (twice {p} {q} same) all =
+    let at = resident-whole s p (all 0 p (omega arith)) in
+    All-cons (IsResident s) p (q ∷ []) at (All-cons (IsResident s) q [] (resident-at s p q same at) (All-nil (IsResident s)))
+
+-- WHAT AN ACCESS DOES TO THEM
+
+transfers : (s t : StoreView) (u : Touched) (ok : Bool) (ps : List Span) (rs : List PageRef) → HavePages ps rs → Paged ps s t u ok → Transfers (map whole_page rs) s t ok
+transfers s t u ok ps rs have p = record {
+  reads = u.ins;
+  writes = u.outs;
+  read_in = p.read_in;
+  written_out = p.written_out;
+  few_reads = rw (among-pages have) at p.ins_few;
+  few_writes = rw (among-pages have) at p.outs_few;
+  swapped = λ is. rw (swapped-pages s have) at (p.swapped is);
+  quiet = λ all. let q = p.quiet (resident-pages s have all) in (q.1, (q.2, q.3));
+}
+
+has-places : (s : StoreView) (ps : List Span) → All (λ (p : Span). HasPage s.segs (ref_of p)) ps → AllHave (places s) ps
+unfolding places
+has-places s ps has = has
+
+pub comes-in : (puts : Bool) (s t : StoreView) (u : Touched) (ps : List Span) (rs : List PageRef) → HavePages ps rs → All (λ (p : Span). HasPage s.segs (ref_of p)) ps → Paged ps s t u true
+    → places t ≡ left_by puts ps (after_access ps (places s)) → ComeIn puts (map whole_page rs) s t
+comes-in puts s t u ps rs have has p came = record { transfers = transfers s t u true ps rs have p; places = came ∙ left-pages puts (places s) have (has-places s ps has) }
+
+pub comes-up-to : (s t : StoreView) (u : Touched) (ps : List Span) (rs : List PageRef) → HavePages ps rs → All (λ (p : Span). HasPage s.segs (ref_of p)) ps → Paged ps s t u false → Stops ps (places s) (places t) → ComeInUpTo (map whole_page rs) s t
+comes-up-to s t u ps rs have has p stops = record { transfers = transfers s t u false ps rs have p; stopped = stop-pages (places s) (places t) have (has-places s ps has) stops }

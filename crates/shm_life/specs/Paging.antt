@@ -1,0 +1,131 @@
+-- What calls do to pages: an access brings in the pages of its bytes, a swapoff moves those of an area, and no other call moves one.
+use Rattle.std.specs.Prelude.{ℕ, ◌≡◌, ◌≤◌, ◌*◌, ◌/◌, Bool, true, false, if◌then◌else◌, List, [], ◌∷◌, map, length, Option, Some, None, All}
+use Rattle.shm_base.specs.Access.{Place, loaded}
+use Rattle.shm_base.specs.Calls.{ProcessCall}
+use Rattle.shm_base.specs.Exchange.{same_bytes}
+use Rattle.shm_base.specs.History.{is_refusal}
+use Rattle.shm_base.specs.State.{Entry}
+use Rattle.shm_base.specs.Step.{Caller}
+use Rattle.shm_base.specs.declared.call.Call.TheVariants.{Load, Store, Xadd, Swapoff}
+use Rattle.shm_base.specs.declared.call.Reply.{Reply}
+use Rattle.shm_base.specs.declared.paging.PageRef.{PageRef}
+use Rattle.shm_base.specs.declared.paging.Span.{Span}
+use Rattle.shm_base.specs.declared.paging.TheConstants.{PAGE_SIZE}
+use Rattle.shm_attach.specs.Spans.{wanted_in}
+use Rattle.shm_fault.specs.Acting.{left_by}
+use Rattle.shm_fault.specs.Counting.{IsUncounted, raised}
+use Rattle.shm_fault.specs.Placing.{after_access, after_moves, places, without_area, Stops, StopsMoving}
+use Rattle.shm_fault.specs.Store.{IsResident, StoreView, is_page, pages_among, swapped_among}
+use Rattle.shm_slots.specs.View.{area_at}
+use Rattle.shm_segments.specs.Staying.{MovesNone}
+
+-- THE PAGES OF BYTES
+
+abbrev pub page_at : Place → PageRef
+page_at p = record { seg = p.seg; page = p.at / PAGE_SIZE }
+
+-- the pages of bytes that follow those of one page
+abbrev pub pages_after : PageRef → List Place → List PageRef
+pages_after last [] = []
+pages_after last (p ∷ ps) =
+    if is_page last p.seg (p.at / PAGE_SIZE)
+    then pages_after last ps
+    else page_at p ∷ pages_after (page_at p) ps
+
+-- the pages of bytes, in their order; each page counts once while bytes of it follow each other
+abbrev pub pages_of : List Place → List PageRef
+pages_of [] = []
+pages_of (p ∷ ps) = page_at p ∷ pages_after (page_at p) ps
+
+abbrev pub whole_page : PageRef → Span
+whole_page r = record { seg = r.seg; at = PAGE_SIZE * r.page; len = PAGE_SIZE; frame = None }
+
+-- the same pages, each as the span of all its bytes
+abbrev pub spans_of : List Place → List Span
+spans_of ps = map whole_page (pages_of ps)
+
+-- WHAT A CALL DOES TO PAGES
+
+-- it brings in the pages of some bytes, and may put bytes there; it takes an area away; or no page moves
+pub data Paging : Type 0 where
+  Touches : (puts : Bool) → (bytes : List Place) → Paging
+  TakesAway : (area : ℕ) → Paging
+  Rests : Paging
+
+-- an access, unless an address denotes no byte
+abbrev pub touching : Bool → Option (List Place) → Paging
+touching puts None = Rests
+touching puts (Some bytes) = Touches puts bytes
+
+abbrev pub paging_by : ProcessCall → Caller → Paging
+paging_by (Load addr len) c = touching false (wanted_in false c.pieces addr len)
+paging_by (Store new addr) c = touching true (wanted_in true c.pieces addr (length new))
+paging_by (Xadd addr add) c = touching true (wanted_in true c.pieces addr 8)
+paging_by (Swapoff area) c = TakesAway area
+paging_by _ c = Rests
+
+-- what a call of a process does, if the process is live
+abbrev pub paging_of : ProcessCall → Option Caller → Paging
+paging_of call None = Rests
+paging_of call (Some c) = paging_by call c
+
+abbrev pub exchange_by : List ℕ → ℕ → Option Caller → Paging
+exchange_by new addr None = Rests
+exchange_by new addr (Some c) = touching true (wanted_in true c.pieces addr (length new))
+
+-- a compare and exchange puts bytes only if the old ones are the expected ones
+abbrev pub comparing : List Entry → List ℕ → Option (List Place) → Paging
+comparing table expected None = Rests
+comparing table expected (Some bytes) = Touches (same_bytes (loaded table bytes) expected) bytes
+
+abbrev pub compare_by : List Entry → List ℕ → List ℕ → ℕ → Option Caller → Paging
+compare_by table expected new addr None = Rests
+compare_by table expected new addr (Some c) = comparing table expected (wanted_in true c.pieces addr (length new))
+
+-- WHERE THE PAGES ARE AFTERWARDS
+
+-- how many pages an access read and wrote; each was counted
+pub record Transfers (ps : List Span) (s t : StoreView) (ok : Bool) : Type 0 where
+  pub reads : ℕ
+  pub writes : ℕ
+  pub read_in : t.ins ≡ raised s.ins reads
+  pub written_out : t.outs ≡ raised s.outs writes
+  pub few_reads : reads ≤ pages_among ps
+  pub few_writes : writes ≤ pages_among ps
+  pub swapped : ok ≡ true → swapped_among s ps ≤ reads
+  pub quiet : All (IsResident s) ps → (t.swap ≡ s.swap) × ((reads ≡ 0) × (writes ≡ 0))
+
+-- the pages came in, one after the other, and became dirty if bytes were put there
+pub record ComeIn (puts : Bool) (ps : List Span) (s t : StoreView) : Type 0 where
+  pub transfers : Transfers ps s t true
+  pub places : places t ≡ left_by puts ps (after_access ps (places s))
+
+-- a pager failed for one of the pages
+pub record ComeInUpTo (ps : List Span) (s t : StoreView) : Type 0 where
+  pub transfers : Transfers ps s t false
+  pub stopped : Stops ps (places s) (places t)
+
+-- the pages in the area's slots moved, in order of their slots, and the area has no slots any more
+pub record MoveOff (area : ℕ) (s t : StoreView) : Type 0 where
+  pub uncounted : IsUncounted s t
+  pub places : places t ≡ without_area area (after_moves area (length (area_at s.swap area).pages) (places s))
+
+-- a pager failed for one of those pages
+pub record MoveOffUpTo (area : ℕ) (s t : StoreView) : Type 0 where
+  pub uncounted : IsUncounted s t
+  pub stopped : StopsMoving area (places s) (places t)
+
+abbrev pub Did : Paging → StoreView → StoreView → Type 0
+Did Rests s t = MovesNone s t
+Did (Touches puts bytes) s t = ComeIn puts (spans_of bytes) s t
+Did (TakesAway area) s t = MoveOff area s t
+
+abbrev pub DidUpTo : Paging → StoreView → StoreView → Type 0
+DidUpTo Rests s t = ⊥
+DidUpTo (Touches puts bytes) s t = ComeInUpTo (spans_of bytes) s t
+DidUpTo (TakesAway area) s t = MoveOffUpTo area s t
+
+-- the pages after a call that was done, and after one in which a pager failed
+pub record Pages (does : Paging) (failed : Bool) (reply : Reply) (s t : StoreView) : Type 0 where
+  pub done : is_refusal reply ≡ false → Did does s t
+  pub stopped : failed ≡ true → DidUpTo does s t
