@@ -258,10 +258,10 @@ uint32_t nog_close(nog_machine *machine);
 
 /* ---- the calls of a process ---- */
 
-/* shmget(2): the segment with this key, or a new one. A new one has the caller's user and group, the nine low bits of
-   `mode`, and all bytes zero. A key of NOG_PRIVATE always makes a new segment, whatever the flags. Another key makes
+/* shmget(2): the segment with this key, or a new one. A new one has the caller's user and group, this mode (0 to 0777),
+   and all bytes zero. A key of NOG_PRIVATE always makes a new segment, whatever the flags. Another key makes
    one if no segment has the key and NOG_CREAT is set.
-   NOG_OUT_OF_RANGE: the mode or the flags have more than 16 bits.
+   NOG_OUT_OF_RANGE: the mode is above 0777, or the flags have more than 16 bits.
    If a segment is found: NOG_EEXIST, NOG_CREAT and NOG_EXCL are set; NOG_EINVAL, it has fewer bytes than
    `size`; NOG_EACCES, a permission is missing. Any read bit of `mode` asks for reading, and any write bit for writing.
    If none is found: NOG_ENOENT, the key is not NOG_PRIVATE and NOG_CREAT is not set; NOG_EINVAL, the size is 0 or above

@@ -256,7 +256,7 @@ static void test_other_bits(nog_machine *m) {
     uint64_t at = 0;
     int32_t id = -1;
     ANSWER(open_usual(m), NOG_DONE);
-    ANSWER(nog_get(m, USER, NOG_PRIVATE, 1, 0177640, 0xffff, &id), NOG_DONE);
+    ANSWER(nog_get(m, USER, NOG_PRIVATE, 1, 0640, 0xffff, &id), NOG_DONE);
     ANSWER(nog_get(m, USER, NOG_PRIVATE, 1, 0600, NOG_CREAT | NOG_EXCL, &id), NOG_DONE);
     TEST(id == 1);
     ANSWER(nog_stat(m, USER, 0, &s), NOG_DONE);
@@ -304,7 +304,7 @@ static void test_out_of_range(nog_machine *m) {
     nog_tally before, after;
     ANSWER(open_usual(m), NOG_DONE);
     ANSWER(nog_tally_of(m, &before), NOG_DONE);
-    ANSWER(nog_get(m, USER, NOG_PRIVATE, 1, 0x10000, 0, &out.id), NOG_OUT_OF_RANGE);
+    ANSWER(nog_get(m, USER, NOG_PRIVATE, 1, 01000, 0, &out.id), NOG_OUT_OF_RANGE);
     ANSWER(nog_get(m, USER, NOG_PRIVATE, 1, 0600, 0x10000, &out.id), NOG_OUT_OF_RANGE);
     ANSWER(nog_attach(m, USER, 0, 0, 0x10000, &out.number), NOG_OUT_OF_RANGE);
     ANSWER(nog_set(m, USER, 0, 0, 0, 0x10000), NOG_OUT_OF_RANGE);

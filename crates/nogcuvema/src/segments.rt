@@ -14,6 +14,9 @@ use shm_base::{AtFlags, GetFlags, index_of};
 use shm_machine::Machine;
 use std::alloc::Global;
 
+// The most that a mode can be: read, write and execute for user, group and others.
+const MODE_BITS: u32 = 0o777;
+
 fn get(
     machine: &mut Machine,
     pid: u32,
@@ -36,7 +39,8 @@ fn get(
     }
 }
 
-/// shmget(2): the identifier of the segment that has the key, or of a new one. Mode and flags are below 65536.
+/// shmget(2): the identifier of the segment that has the key, or of a new one. The mode is at most 0777, and the flags
+/// are below 65536.
 #[unsafe(no_mangle)]
 pub extern "C" fn nog_get(
     alloc: Global,
@@ -48,11 +52,11 @@ pub extern "C" fn nog_get(
     flags: u32,
     id: &mut i32,
 ) -> u32
-    ensures answers { AnswersWhere (nat_lt mode 65536 && nat_lt flags 65536) handle.old.kept.value pid
+    ensures answers { AnswersWhere (nat_lt mode 512 && nat_lt flags 65536) handle.old.kept.value pid
         (call.Shmget key size mode (record { 0 = flags })) (reply.Id id.new) result handle.new.kept.value }
     ensures id { result ≢ 0 → id.new ≡ id.old }
 {
-    if mode > u32::from(u16::MAX) || flags > u32::from(u16::MAX) {
+    if mode > MODE_BITS || flags > u32::from(u16::MAX) {
         return OUT_OF_RANGE;
     }
     with_machine!(

@@ -1,5 +1,5 @@
 -- What an event does to the lives of processes.
-use Rattle.std.specs.Prelude.{◌≡◌, ◌≢◌, ℕ, Bool, true, false, List, Option, Some, MatchBool}
+use Rattle.std.specs.Prelude.{◌≡◌, ◌≢◌, ℕ, true, false, List, Some, MatchBool}
 use Rattle.shm_base.specs.State.{Ended, Live, Runner, Unborn}
 use Rattle.shm_base.specs.declared.call.Event.{Event}
 use Rattle.shm_base.specs.declared.owner.Cred.{Cred}

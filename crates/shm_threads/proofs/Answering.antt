@@ -1,18 +1,18 @@
 -- A process that is live is never answered ESRCH.
-use Rattle.std.specs.Prelude.{◌≡◌, ◌≢◌, ◌+◌, ◌-◌, ◌*◌, ◌%◌, ◌==◌, ◌&&◌, ℕ, ℤ, pos, negsuc, Bool, true, false, not, nat_lt, nat_le, List, length, Option, Some, None, is_some, if◌then◌else◌}
-use Rattle.std.proofs.Common.{subst, sym, ap, ◌∙◌, refl, arith, inl, inr, true≢false}
+use Rattle.std.specs.Prelude.{◌≡◌, ◌≢◌, ◌+◌, ◌-◌, ◌%◌, ◌==◌, ◌&&◌, ℕ, ℤ, Bool, true, false, not, nat_lt, length, Option, Some, None, is_some, if◌then◌else◌}
+use Rattle.std.proofs.Common.{sym, ap, ◌∙◌, refl, arith, inl, inr, true≢false}
 use Rattle.std.proofs.lemmas.Grind.{common_steps}
 use Rattle.shm_base.specs.Bounds.{within}
 use Rattle.shm_base.specs.Calls.{ProcessCall}
 use Rattle.shm_base.specs.History.{IsMove, is_failure}
-use Rattle.shm_base.specs.Identifier.{Found, Invalid, Look, Removed, destroyed_at, find_key, free_index, identifier, look}
+use Rattle.shm_base.specs.Identifier.{Found, Invalid, Look, Removed, find_key, free_index, look}
 use Rattle.shm_base.specs.Permission.{grants, wish_of}
-use Rattle.shm_base.specs.Rules.{end_errno, end_is_enomem, pieces_are_enomem, pieces_errno, removed_errno, removed_is_invalid}
-use Rattle.shm_base.specs.Segments.{reserved, segment_count, slots}
-use Rattle.shm_base.specs.Space.{choose, end_address, inside, origin_of}
-use Rattle.shm_base.specs.State.{Machine, Piece, Segment, pages_in, pages_of}
-use Rattle.shm_base.specs.Step.{Caller, Outcome, acts, at_wish, attaches, attaches_chosen, attaches_fixed, attaches_found, caller_of, controls, creates, creates_at, creates_small, detaches, forks, gets, huge_errno, is_full, is_rnd, is_taken, outside_errno, pieces_with, remaps_null, shmat, shmget, stat, step_by, swapoff, takes_away, unborn_from, wants_creation, wants_no_other}
-use Rattle.shm_base.specs.declared.call.Call.TheVariants.{Fork, Lock, Rmid, Set, Shmat, Shmdt, Shmget, Stat, Swapoff, Unlock}
+use Rattle.shm_base.specs.Rules.{pieces_are_enomem, removed_is_invalid}
+use Rattle.shm_base.specs.Segments.{reserved, slots}
+use Rattle.shm_base.specs.Space.{choose, inside}
+use Rattle.shm_base.specs.State.{Machine, Segment, pages_in, pages_of}
+use Rattle.shm_base.specs.Step.{Caller, Outcome, acts, at_wish, attaches, attaches_chosen, attaches_fixed, attaches_found, caller_of, creates, creates_at, creates_small, gets, huge_errno, is_full, is_rnd, is_taken, pieces_with, remaps_null, shmat, step_by, wants_creation, wants_no_other}
+use Rattle.shm_base.specs.declared.call.Call.TheVariants.{Shmat, Shmget}
 use Rattle.shm_base.specs.declared.call.Event.{Event}
 use Rattle.shm_base.specs.declared.call.Reply.{Reply}
 use Rattle.shm_base.specs.declared.call.Reply.TheVariants.{Refused}

@@ -1,6 +1,6 @@
 -- One more entry of a strand, and one more event of the history.
 use Rattle.std.specs.Prelude.{◌≡◌, ◌≢◌, ◌<◌, ◌≤◌, ◌+◌, ◌++◌, ◌==◌, ℕ, Bool, true, false, List, [], ◌∷◌, Option, length, drop, MatchBool}
-use Rattle.std.proofs.Common.{subst, sym, ap, ◌∙◌, refl, arith, append-nil, append_assoc, eq-eqb, ne_eqb}
+use Rattle.std.proofs.Common.{subst, sym, ap, ◌∙◌, refl, append-nil, append_assoc, eq-eqb, ne_eqb}
 use Rattle.std.proofs.Math.ListN.{get_or}
 use Rattle.std.proofs.lemmas.Bool.{or_from, or_parts}
 use Rattle.std.proofs.lemmas.List.{drop_all, drop_more, length_push}

@@ -1,6 +1,8 @@
 pub mod Ages
 mod Answering
 mod Entries
+mod Idle
+mod Least
 pub mod Lives
 mod Noting
 mod Over

@@ -1,12 +1,11 @@
 -- What events make of the lives of processes: who has ended stays ended, a child is not born before a fork of it, and a live
 -- process lives until it exits.
-use Rattle.std.proofs.Common.{◌≡◌, ◌≢◌, ◌⊎◌, ℕ, zero, suc, ◌+◌, ◌==◌, ◌&&◌, Bool, true, false, not, List, [], ◌∷◌, map, Option, Some, None, if◌then◌else◌, is_some, MatchBool, slice_set, inl, inr, refl, sym, ap, subst, ◌∙◌, arith, eq-eqb, ne_eqb, eqb-true, true≢false}
+use Rattle.std.proofs.Common.{◌≡◌, ◌≢◌, ℕ, zero, suc, ◌+◌, ◌==◌, Bool, true, false, List, [], ◌∷◌, Option, Some, None, if◌then◌else◌, is_some, MatchBool, slice_set, inl, inr, refl, sym, ap, subst, ◌∙◌, arith, eq-eqb, ne_eqb, eqb-true, true≢false}
 use Rattle.std.proofs.lemmas.Bool.{cases_eq}
 use Rattle.std.proofs.lemmas.Option.{none-some, same_Some}
-use Rattle.std.specs.Prelude.{filter}
 use Rattle.shm_base.specs.History.{IsMove, is_refusal}
 use Rattle.shm_base.specs.State.{Ended, Life, Live, Machine, Piece, Runner, Unborn}
-use Rattle.shm_base.specs.Step.{Caller, Outcome, acts, caller_by, caller_from, caller_of, detaches, exec, exit, is_unborn, pieces_with, unborn_from, with_pieces}
+use Rattle.shm_base.specs.Step.{Caller, Outcome, acts, caller_by, caller_from, caller_of, detaches, is_unborn, pieces_with, unborn_from}
 use Rattle.shm_base.specs.Calls.{ProcessCall}
 use Rattle.shm_base.specs.declared.call.Call.TheVariants.{Exec, Exit, Shmdt}
 use Rattle.shm_base.specs.declared.call.Event.{Event}

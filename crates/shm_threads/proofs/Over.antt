@@ -1,5 +1,5 @@
 -- The end of a run: no process can continue, so each transcript is whole.
-use Rattle.std.specs.Prelude.{◌≡◌, ◌<◌, ◌≤◌, ◌&&◌, ◌⊎◌, ℕ, Bool, true, false, List, [], ◌∷◌, Option, Some, None, length, map, nat_lt, is_some, All}
+use Rattle.std.specs.Prelude.{◌≡◌, ◌≤◌, ℕ, false, List, [], ◌∷◌, Option, Some, None, length, map, nat_lt, is_some, All}
 use Rattle.std.proofs.Common.{subst, sym, ap, ◌∙◌, refl, arith, inl, inr}
 use Rattle.std.proofs.Math.ListN.{get_or}
 use Rattle.std.proofs.lemmas.Bool.{and_cases, ltb-false, true≢false}

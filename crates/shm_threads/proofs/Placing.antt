@@ -1,14 +1,13 @@
 -- One strand of several that is changed.
-use Rattle.std.specs.Prelude.{◌≡◌, ◌≢◌, ◌<◌, ◌≤◌, ◌+◌, ◌-◌, ◌&&◌, ℕ, zero, suc, Bool, true, false, not, List, [], ◌∷◌, length, map, All}
+use Rattle.std.specs.Prelude.{◌≡◌, ◌≢◌, ◌<◌, ◌≤◌, ◌+◌, ℕ, zero, suc, true, false, List, [], ◌∷◌, length, All}
 use Rattle.std.proofs.Common.{subst, sym, ap, ◌∙◌, refl, arith, inl, inr, eq-eqb, true≢false}
 use Rattle.std.proofs.Math.ListN.{get_or, set}
-use Rattle.std.proofs.lemmas.Bool.{and_parts, cases_eq, not-true, or_left, or_right}
-use Rattle.std.proofs.lemmas.List.{get_or-map, get_or-set_other, get_or-set_same, length-set}
+use Rattle.std.proofs.lemmas.Bool.{cases_eq, or_left, or_right}
+use Rattle.std.proofs.lemmas.List.{get_or-set_other, get_or-set_same, length-set}
 use Rattle.shm_base.specs.Processes.{has_pid}
 use Rattle.shm_base.specs.declared.call.Process.{Process}
 use Rattle.shm_life.specs.Start.{are_pids}
-use Rattle.shm_threads.specs.Strands.{left_in, left_of, pid_of_strand}
-use Rattle.shm_threads.specs.Transcripts.{pid_in}
+use Rattle.shm_threads.specs.Strands.{left_in, left_of}
 use Rattle.shm_threads.specs.declared.strand.Strand.{Strand}
 
 -- what holds of each, once one is changed

@@ -1,13 +1,13 @@
 -- The invariant of a run before its first call.
-use Rattle.std.specs.Prelude.{◌≡◌, ◌≢◌, ◌<◌, ◌≤◌, ◌+◌, ◌-◌, ◌==◌, ◌&&◌, ℕ, zero, suc, Bool, true, false, not, List, [], ◌∷◌, Option, Some, None, is_some, length, map, All}
+use Rattle.std.specs.Prelude.{◌≡◌, ◌≢◌, ◌<◌, ◌≤◌, ◌+◌, ◌==◌, ◌&&◌, ℕ, zero, suc, true, false, not, List, [], ◌∷◌, Option, Some, None, is_some, length, map, All}
 use Rattle.std.proofs.Common.{subst, sym, ap, ◌∙◌, refl, arith, inl, inr, eq-eqb, ne_eqb, true≢false}
 use Rattle.std.proofs.Math.ListN.{get_or}
-use Rattle.std.proofs.lemmas.Bool.{cases_eq, or_left, or_right, and_from, not_from_false, or_parts}
+use Rattle.std.proofs.lemmas.Bool.{cases_eq, or_left, or_right, and_from, or_parts}
 use Rattle.std.proofs.lemmas.List.{length-map}
 use Rattle.std.proofs.lemmas.List.Elements.{All-head, All-nil, All-tail}
-use Rattle.shm_base.specs.History.{IsHistory, LeadsFrom, own_part}
+use Rattle.shm_base.specs.History.{IsHistory, LeadsFrom}
 use Rattle.shm_base.specs.Processes.{has_pid}
-use Rattle.shm_base.specs.State.{Live, Machine, Opening, Unborn, life_at_start, runner_at_start, start_of}
+use Rattle.shm_base.specs.State.{Machine, life_at_start, runner_at_start, start_of}
 use Rattle.shm_base.specs.declared.call.Event.{Event}
 use Rattle.shm_base.specs.declared.call.Process.{Process}
 use Rattle.shm_base.specs.declared.owner.Cred.{Cred}
@@ -18,12 +18,11 @@ use Rattle.shm_slots.specs.Cause.{GoesOn}
 use Rattle.shm_slots.proofs.Causes.{GoesOn-refl}
 use Rattle.shm_text.specs.Form.{CommandView}
 use Rattle.shm_text.specs.Script.{ScriptView}
-use Rattle.shm_text.specs.Variables.{no_values}
 use Rattle.shm_text.specs.declared.script.Line.{Line}
 use Rattle.shm_text.specs.declared.script.Line.TheVariants.{Command, Flush}
 use Rattle.shm_threads.specs.Outcomes.{IsOpened}
 use Rattle.shm_threads.specs.Running.{IsRunning}
-use Rattle.shm_threads.specs.Strands.{IsFresh, IsStrand, IsUnderway, StandsAt, left_in, life_from, now_of, pid_of_strand}
+use Rattle.shm_threads.specs.Strands.{IsFresh, IsStrand, StandsAt, left_in, life_from, now_of, pid_of_strand}
 use Rattle.shm_threads.specs.Transcripts.{IsAdmitted, IsMarkAllowed, commands_of, is_child, pid_in, transcript_events}
 use Rattle.shm_threads.specs.declared.strand.Strand.{Strand}
 use Rattle.shm_threads.specs.declared.transcript.Entry.{Entry}

@@ -1,24 +1,19 @@
 -- A step of a run: one strand has one more entry, and the others stay as they are.
-use Rattle.std.specs.Prelude.{◌≡◌, ◌≢◌, ◌<◌, ◌≤◌, ◌+◌, ◌-◌, ◌++◌, ◌==◌, ◌&&◌, ◌⊎◌, ℕ, Bool, true, false, List, [], ◌∷◌, Option, Some, None, length, map, drop, nat_lt, is_some, MatchBool, All, vec_capacity}
-use Rattle.std.proofs.Common.{subst, sym, ap, ◌∙◌, refl, arith, inl, inr, append-nil}
-use Rattle.std.proofs.Math.ListN.{get_or, set}
-use Rattle.std.proofs.lemmas.Bool.{and_parts, cases_Bool, ltb-true, true≢false}
-use Rattle.std.proofs.lemmas.List.{get_or-map, length-map, length_push, map-set, same_lists, set-get_or, get_or_default}
-use Rattle.std.proofs.lemmas.List.Elements.{All-get_or, All-push}
-use Rattle.shm_base.specs.Calls.{ProcessCall}
+use Rattle.std.specs.Prelude.{◌≡◌, ◌≢◌, ◌<◌, ◌++◌, ℕ, Bool, true, false, List, [], ◌∷◌, Option, Some, None, length, MatchBool, All, vec_capacity}
+use Rattle.std.proofs.Common.{subst, sym, ap, ◌∙◌, refl, arith, inl, inr}
+use Rattle.std.proofs.Math.ListN.{get_or}
+use Rattle.std.proofs.lemmas.Bool.{cases_Bool}
+use Rattle.std.proofs.lemmas.List.{length-map}
+use Rattle.std.proofs.lemmas.List.Elements.{All-push}
 use Rattle.shm_base.specs.History.{own_part}
-use Rattle.shm_base.specs.State.{Ended, Life, Live, Machine, Opening, Runner, Unborn}
+use Rattle.shm_base.specs.State.{Ended, Life, Live, Machine, Runner, Unborn}
 use Rattle.shm_base.specs.declared.call.Event.{Event}
-use Rattle.shm_base.specs.declared.call.Process.{Process}
-use Rattle.shm_base.specs.declared.call.Reply.{Reply}
-use Rattle.shm_base.specs.declared.owner.Cred.{Cred}
 use Rattle.shm_text.specs.Form.{CommandView}
 use Rattle.shm_text.specs.Script.{ScriptView}
 use Rattle.shm_text.specs.Variables.{call_of, no_values, values_after}
-use Rattle.shm_threads.specs.Strands.{IsMade, IsStrand, IsUnderway, StandsAt, life_from, lines_of, now_of, pid_of_strand}
-use Rattle.shm_threads.specs.Transcripts.{Follows, IsMarkAllowed, commands_of, is_child, is_end, is_fork_of, is_forked, reply_in, transcript_events}
+use Rattle.shm_threads.specs.Strands.{IsStrand, IsUnderway, StandsAt, life_from, lines_of, now_of}
+use Rattle.shm_threads.specs.Transcripts.{Follows, IsMarkAllowed, commands_of, is_end, is_fork_of, reply_in, transcript_events}
 use Rattle.shm_threads.specs.declared.strand.Strand.{Strand}
-use Rattle.shm_threads.specs.declared.transcript.Answer.TheVariants.{Reply as Replied, HostMemory}
 use Rattle.shm_threads.specs.declared.transcript.Entry.{Entry}
 use Rattle.shm_threads.proofs.Ages.{Ages, IsLive}
 use Rattle.shm_threads.proofs.Entries.{events-append, own-other, underway-ends, underway-next, unforked-more}

@@ -1,25 +1,21 @@
 -- The invariant of a run after a turn of one of its strands.
-use Rattle.std.specs.Prelude.{◌≡◌, ◌≢◌, ◌<◌, ◌≤◌, ◌+◌, ◌-◌, ◌++◌, ◌&&◌, ℕ, Bool, true, false, List, [], ◌∷◌, Option, Some, length, map, nat_lt, is_some, MatchBool, All}
+use Rattle.std.specs.Prelude.{◌≡◌, ◌≢◌, ◌<◌, ◌≤◌, ◌+◌, ◌++◌, ℕ, Bool, true, false, List, [], ◌∷◌, Some, length, map, nat_lt, is_some, MatchBool, All}
 use Rattle.std.proofs.Common.{subst, sym, ap, ◌∙◌, refl, arith, append-nil}
 use Rattle.std.proofs.Math.ListN.{get_or, set}
 use Rattle.std.proofs.lemmas.Bool.{and_parts, ltb-true}
-use Rattle.std.proofs.lemmas.List.{ext_get_or, get_or-map, get_or_default, length-map, length_push, map-set, set-get_or}
+use Rattle.std.proofs.lemmas.List.{ext_get_or, get_or-map, length-map, length_push, map-set, set-get_or}
 use Rattle.std.proofs.lemmas.List.Elements.{All-push}
 use Rattle.shm_base.specs.Calls.{ProcessCall}
-use Rattle.shm_base.specs.History.{IsMove, own_part}
+use Rattle.shm_base.specs.History.{own_part}
 use Rattle.shm_base.specs.Processes.{has_pid}
 use Rattle.shm_base.specs.State.{Ended, Machine, Opening}
 use Rattle.shm_base.specs.Step.{caller_of}
 use Rattle.shm_base.specs.declared.call.Event.{Event}
 use Rattle.shm_base.specs.declared.call.Process.{Process}
-use Rattle.shm_base.specs.declared.call.Reply.{Reply}
-use Rattle.shm_base.specs.declared.call.Reply.TheVariants.{Refused}
-use Rattle.shm_base.specs.declared.errno.Errno.TheVariants.{Esrch}
-use Rattle.shm_base.specs.declared.owner.Cred.{Cred}
 use Rattle.shm_slots.specs.Cause.{GoesOn}
 use Rattle.shm_slots.specs.View.{SwapView}
 use Rattle.shm_slots.proofs.Causes.{GoesOn-trans}
-use Rattle.shm_history.specs.WorldState.{IsCalled, WorldState, event}
+use Rattle.shm_history.specs.WorldState.{WorldState, event}
 use Rattle.shm_text.specs.Script.{ScriptView}
 use Rattle.shm_threads.specs.Outcomes.{StartedFrom}
 use Rattle.shm_threads.specs.Running.{IsRunning}
@@ -29,7 +25,7 @@ use Rattle.shm_threads.specs.declared.strand.Made.{Made}
 use Rattle.shm_threads.specs.declared.strand.Strand.{Strand}
 use Rattle.shm_threads.specs.declared.transcript.Answer.{Answer}
 use Rattle.shm_threads.specs.declared.transcript.Answer.TheVariants.{Reply as Replied, HostMemory}
-use Rattle.shm_threads.proofs.Ages.{Ages, IsLive}
+use Rattle.shm_threads.proofs.Ages.{IsLive}
 use Rattle.shm_threads.proofs.Answering.{found}
 use Rattle.shm_threads.proofs.Entries.{own-same}
 use Rattle.shm_threads.proofs.Lives.{ages-move, lives}

@@ -1,22 +1,24 @@
--- The error that a run returns if it has several.
-use Rattle.std.specs.Prelude.{◌≡◌, ℕ, Bool, true, false, Option, Some, None, min}
+-- Why a run with threads has no outcome.
+use Rattle.std.specs.Prelude.{◌≡◌, ◌⊎◌, ℕ, Bool, true, Option, Some, None, min}
+use Rattle.shm_base.specs.Processes.{has_pid}
+use Rattle.shm_text.specs.Script.{ScriptView}
 use Rattle.shm_threads.specs.declared.outcome.RunError.{RunError}
 use Rattle.shm_threads.specs.declared.outcome.RunError.TheVariants.{HostMemory, GateExpired, HistoryMismatch, ThreadRefused}
 
--- the order of precedence of a run that started: a refused thread; the pid of a worker that the gate ended
-abbrev pub IsFirst : Bool → Option ℕ → RunError → Type 0
-IsFirst refused expired ThreadRefused = refused ≡ true
-IsFirst refused expired (GateExpired pid) = (refused ≡ false) × (expired ≡ Some pid)
-IsFirst refused expired (HistoryMismatch pid) = ⊥
-IsFirst refused expired HostMemory = ⊥
+-- the gate ended the thread of a process of the script, or the flusher, whose pid is 0
+pub record IsExpired (ends : ℕ → ℕ → Bool) (script : ScriptView) (pid : ℕ) : Type 0 where
+  pub thread : (pid ≡ 0) ⊎ (has_pid pid script.processes ≡ true)
+  pub call : ℕ
+  pub ended : ends pid call ≡ true
 
--- a run ends for want of memory, by its gate, or for want of a thread
-abbrev pub CanEnd : RunError → Type 0
-CanEnd (HistoryMismatch pid) = ⊥
-CanEnd _ = Unit {0}
+-- a run has no outcome for want of memory or of a thread, or because its gate ended one
+abbrev pub CanEnd : (ℕ → ℕ → Bool) → ScriptView → RunError → Type 0
+CanEnd ends script HostMemory = Unit {0}
+CanEnd ends script ThreadRefused = Unit {0}
+CanEnd ends script (GateExpired pid) = IsExpired ends script pid
+CanEnd ends script (HistoryMismatch pid) = ⊥
 
 -- the lesser of two pids, if there are two
-abbrev pub least_pid : Option ℕ → Option ℕ → Option ℕ
-least_pid None other = other
-least_pid (Some one) None = Some one
-least_pid (Some one) (Some other) = Some (min one other)
+abbrev pub least : ℕ → Option ℕ → ℕ
+least pid None = pid
+least pid (Some other) = min pid other

@@ -37,6 +37,8 @@ pub record RunView : Type 0 where
   pub strands : List Strand
   pub processes : List ProcessState
   pub keeper : Option Seat
+  -- the least pid of a thread that the gate ended
+  pub expired : Option ℕ
 
 -- the process has not ended by this call
 abbrev pub goes_on_by : Made → Bool
@@ -53,6 +55,7 @@ pub record IsTurn (before : RunView) (index : ℕ) (goes_on news : Bool) (after 
   pub strands : after.strands ≡ slice_set before.strands index next
   pub births : after.processes ≡ births_after effect before.processes
   pub keeper : after.keeper ≡ before.keeper
+  pub expired : after.expired ≡ before.expired
   pub noted : news ≡ is_birth effect
   pub more : goes_on ≡ goes_on_by effect
 

@@ -1,5 +1,5 @@
 -- Where the processes of a run are in their lines.
-use Rattle.std.specs.Prelude.{◌≡◌, ◌≤◌, ◌<◌, ◌+◌, ◌-◌, ◌++◌, ◌==◌, ◌&&◌, ℕ, Bool, true, false, List, [], ◌∷◌, length, map, drop, slice_index_or, vec_capacity, nat_lt, is_some, if◌then◌else◌, Option, Some, None, All}
+use Rattle.std.specs.Prelude.{◌≡◌, ◌≤◌, ◌+◌, ◌-◌, ◌++◌, ◌==◌, ◌&&◌, ℕ, Bool, true, false, List, [], ◌∷◌, length, map, drop, slice_index_or, vec_capacity, nat_lt, is_some, if◌then◌else◌, Option, Some, None, All}
 use Rattle.std.specs.Borrow.{Bor}
 use Rattle.shm_base.specs.Calls.{ProcessCall}
 use Rattle.shm_base.specs.History.{own_part}
@@ -32,6 +32,11 @@ now_of c = c.now
 -- the commands of a strand
 abbrev pub lines_of : Strand → List CommandView
 lines_of s = map now_of s.commands.items
+
+-- how many lines a strand has, if there is one
+abbrev pub lines_in : Option Strand → ℕ
+lines_in None = 0
+lines_in (Some s) = length s.commands.items
 
 -- how many lines a strand has left
 abbrev pub left_of : Strand → ℕ

@@ -1,9 +1,9 @@
 -- How transcripts match a history.
-use Rattle.std.specs.Prelude.{◌≡◌, ◌≢◌, ◌<◌, ◌↔◌, ◌⊎◌, ◌==◌, ℕ, List, [], ◌∷◌, map, Bool, true, false, not, ◌&&◌, is_some, if◌then◌else◌, Option, Some, None, IsNone, MatchBool, All, min}
+use Rattle.std.specs.Prelude.{◌≡◌, ◌≢◌, ◌⊎◌, ◌==◌, ℕ, List, [], ◌∷◌, map, Bool, true, false, not, ◌&&◌, is_some, if◌then◌else◌, Option, Some, None, MatchBool, All}
 use Rattle.std.specs.List.{list_any}
 use Rattle.shm_base.specs.History.{own_part}
 use Rattle.shm_base.specs.Calls.{ProcessCall}
-use Rattle.shm_base.specs.declared.call.Call.TheVariants.{Fork, Exec, Exit}
+use Rattle.shm_base.specs.declared.call.Call.TheVariants.{Fork, Exit}
 use Rattle.shm_base.specs.declared.call.Reply.{Reply}
 use Rattle.shm_base.specs.declared.call.Reply.TheVariants.{Done, Refused}
 use Rattle.shm_base.specs.declared.call.Event.{Event}

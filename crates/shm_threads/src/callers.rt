@@ -1,4 +1,7 @@
 //! What the threads of a run use: the gate, without the lock, and what they share, under the lock.
+ghost use Rattle.std.specs.Prelude.{◌≡◌, true};
+ghost use Rattle.shm_base.specs.Processes.{has_pid};
+
 use crate::flusher::{Flusher, flush_all};
 use crate::gate::Gate;
 use crate::origin::Origin;
@@ -15,6 +18,8 @@ struct ProcessCaller<'a, 'l, R: Wait, G: Gate, P: Pager, O: Origin> {
     gate: &'a G,
     index: usize,
     pid: u32,
+    ghost of_run: { G.ends gate.now ≡ O.ends },
+    ghost declared: { has_pid pid O.script.processes ≡ true },
 }
 
 impl<R: Wait, G: Gate, P: Pager, O: Origin> Caller for ProcessCaller<'_, '_, R, G, P, O> {
@@ -25,7 +30,11 @@ impl<R: Wait, G: Gate, P: Pager, O: Origin> Caller for ProcessCaller<'_, '_, R, 
     }
 
     fn before(&mut self, n: u64) -> bool {
-        self.gate.before(self.pid, n)
+        let may = self.gate.before(self.pid, n);
+        if !may {
+            self.shared.expire(self.rt, self.pid);
+        }
+        may
     }
 
     fn step(&mut self) -> bool {
@@ -41,14 +50,17 @@ impl<R: Wait, G: Gate, P: Pager, O: Origin> Caller for ProcessCaller<'_, '_, R, 
     }
 }
 
-/// Runs the process at an index of a run, from its birth to its end. Returns its pid if the gate ended it.
+/// Runs the process at an index of a run, from its birth to its end, or until the gate ends its thread.
 pub(crate) fn run_process<R: Wait, G: Gate, P: Pager, O: Origin>(
     rt: &R,
     shared: &Shared<'_, P, O>,
     gate: &G,
     index: usize,
     pid: u32,
-) -> Option<u32> {
+)
+    requires gate { G.ends gate.now ≡ O.ends }
+    requires process { has_pid pid O.script.processes ≡ true }
+{
     let mut caller = ProcessCaller {
         rt,
         shared,
@@ -56,7 +68,7 @@ pub(crate) fn run_process<R: Wait, G: Gate, P: Pager, O: Origin>(
         index,
         pid,
     };
-    if work(&mut caller) { None } else { Some(pid) }
+    work(&mut caller);
 }
 
 #[derive(Drop)]
@@ -64,13 +76,18 @@ struct RoundFlusher<'a, 'l, R: Wait, G: Gate, P: Pager, O: Origin> {
     rt: &'a R,
     shared: &'a Shared<'l, P, O>,
     gate: &'a G,
+    ghost of_run: { G.ends gate.now ≡ O.ends },
 }
 
 impl<R: Wait, G: Gate, P: Pager, O: Origin> Flusher for RoundFlusher<'_, '_, R, G, P, O> {
     ghost asked = { λ _ _. Unit {0} };
 
     fn before(&mut self, n: u64) -> bool {
-        self.gate.before(0, n)
+        let may = self.gate.before(0, n);
+        if !may {
+            self.shared.expire(self.rt, 0);
+        }
+        may
     }
 
     fn round(&mut self, pages: u32) {
@@ -82,13 +99,15 @@ impl<R: Wait, G: Gate, P: Pager, O: Origin> Flusher for RoundFlusher<'_, '_, R, 
     }
 }
 
-/// Runs the flush lines of a run in order. True if the gate ended the flusher.
+/// Runs the flush lines of a run in order, or until the gate ends the flusher.
 pub(crate) fn run_rounds<R: Wait, G: Gate, P: Pager, O: Origin>(
     rt: &R,
     shared: &Shared<'_, P, O>,
     gate: &G,
     lines: &[Line],
-) -> bool {
+)
+    requires { G.ends gate.now ≡ O.ends }
+{
     let mut flusher = RoundFlusher { rt, shared, gate };
-    !flush_all(&mut flusher, lines)
+    flush_all(&mut flusher, lines);
 }

@@ -16,7 +16,8 @@ pub struct Outcome<P: Pager> {
 ///
 /// - `HostMemory`: the host refused memory before a worker was started.
 /// - `ThreadRefused`: the host refused a thread.
-/// - `GateExpired`: the gate ended a worker: the least such pid, 0 for the flusher.
+/// - `GateExpired`: the gate ended a thread: the least such pid, 0 for the flusher. A gate that never does, as
+///   `OpenGate`, never causes it.
 /// - `HistoryMismatch`: no run ends with it.
 ///
 /// `ThreadRefused` takes precedence over `GateExpired`.

@@ -1,6 +1,7 @@
 //! A run with threads: it starts them, joins them, and takes out what they share.
-ghost use Rattle.std.specs.Prelude.{◌≡◌, ◌≤◌, [], false, IfErr, IfOk, IfNone, IfSome, length, vec_capacity};
-ghost use Rattle.shm_threads.specs.Ends.{CanEnd, IsFirst, least_pid};
+ghost use Rattle.std.specs.Prelude.{◌≡◌, ◌≤◌, [], true, IfErr, IfOk, length, vec_capacity};
+ghost use Rattle.shm_base.specs.Processes.{has_pid};
+ghost use Rattle.shm_threads.specs.Ends.{CanEnd};
 ghost use Rattle.shm_threads.specs.Keepers.{cell_of, IsCaughtUp};
 ghost use Rattle.shm_threads.specs.Outcomes.{IsOpened, IsOutcome};
 ghost use Rattle.shm_threads.specs.Plans.{HaveRoom};
@@ -11,7 +12,7 @@ use crate::callers::{run_process, run_rounds};
 use crate::gate::Gate;
 use crate::origin::Origin;
 use crate::outcome::{Outcome, RunError};
-use crate::shared::{Shared, transcripts_of};
+use crate::shared::{Left, Shared, transcripts_of};
 use crate::strand::{Strand, strands};
 use crate::transcript::Transcript;
 use shm_base::{HostMemory, Process};
@@ -53,7 +54,7 @@ pub fn run_threads<R: Threads + Wait + Sync, G: Gate, P: Pager + Send>(
     requires { IsOpened script.now world }
     ensures outcome { let swap = world.memory.swap in
         IfOk result (λ o. IsOutcome script.now world.opening swap o.world o.transcripts.items) }
-    ensures error { IfErr result CanEnd }
+    ensures error { IfErr result (CanEnd (G.ends gate.now) script.now) }
 {
     let (outcome, _) = run_with(rt, alloc, world, None, script, gate)?;
     Ok(outcome)
@@ -76,7 +77,7 @@ pub fn run_threads_gauged<R: Threads + Wait + Sync, G: Gate, P: Pager + Send>(
         IfOk result (λ r. IsOutcome script.now world.opening swap r.0.world r.0.transcripts.items) }
     ensures cell { IfOk result (λ r. r.1.cell ≡ keeper.cell) }
     ensures numbers { IfOk result (λ r. IsCaughtUp r.0.world r.1.numbers) }
-    ensures error { IfErr result CanEnd }
+    ensures error { IfErr result (CanEnd (G.ends gate.now) script.now) }
 {
     let (outcome, keeper) = run_with(rt, alloc, world, Some(keeper), script, gate)?;
     let mut keeper = keeper.unwrap();
@@ -97,7 +98,7 @@ fn run_with<R: Threads + Wait + Sync, G: Gate, P: Pager + Send>(
     ensures outcome { let swap = world.memory.swap in
         IfOk result (λ r. IsOutcome script.now world.opening swap r.0.world r.0.transcripts.items) }
     ensures cell { IfOk result (λ r. cell_of r.1 ≡ cell_of keeper) }
-    ensures error { IfErr result CanEnd }
+    ensures error { IfErr result (CanEnd (G.ends gate.now) script.now) }
 {
     let start = match prepared(alloc, &mut world, script) {
         Ok(start) => start,
@@ -119,9 +120,11 @@ fn run_from<O: Origin + Send + Sync, R: Threads + Wait + Sync, G: Gate, P: Pager
     requires room { HaveRoom script.now.processes start.handles start.transcripts }
     requires running { IsRunning O.script O.opening O.swap world start.strands.items }
     requires cell { cell_of keeper ≡ O.cell }
-    ensures outcome { IfOk result (λ r. IsOutcome O.script O.opening O.swap r.0.world r.0.transcripts.items) }
+    requires gate { G.ends gate.now ≡ O.ends }
+    ensures outcome {
+        IfOk result (λ r. IsOutcome O.script O.opening O.swap r.0.world r.0.transcripts.items) }
     ensures cell { IfOk result (λ r. cell_of r.1 ≡ O.cell) }
-    ensures error { IfErr result CanEnd }
+    ensures error { IfErr result (CanEnd O.ends O.script) }
 {
     let Start {
         strands,
@@ -130,11 +133,14 @@ fn run_from<O: Origin + Send + Sync, R: Threads + Wait + Sync, G: Gate, P: Pager
         transcripts,
     } = start;
     let shared: Shared<'_, P, O> = Shared::new(world, strands, processes, keeper);
-    let run = run_all(rt, &shared, script, gate, handles);
-    if let Some(error) = run_error(&run) {
-        return Err(error);
+    if run_all(rt, &shared, script, gate, handles) {
+        return Err(RunError::ThreadRefused);
     }
-    let (world, strands, keeper) = shared.finish(rt);
+    let Left {
+        world,
+        strands,
+        keeper,
+    } = shared.finish(rt)?;
     // What the world promises: its history is legal.
     prove!({
         let _ = world.history();
@@ -184,57 +190,39 @@ fn prepared<'a, P: Pager>(
     })
 }
 
-// The result of the joins: the least pid of a worker that the gate ended, and whether a thread was refused.
-#[derive(Clone, Copy)]
-struct Joined {
-    expired: Option<u32>,
-    is_refused: bool,
-}
+type WorkerHandle = JoinHandle<()>;
 
-// If the flusher's thread is refused, no worker is started.
-const REFUSED: Joined = Joined {
-    expired: None,
-    is_refused: true,
-};
-
-// Why a run has no outcome, if so.
-fn run_error(run: &Joined) -> Option<RunError>
-    ensures started { IfNone result (run.now.is_refused ≡ false) }
-    ensures first { IfSome result (IsFirst run.now.is_refused run.now.expired) }
-{
-    if run.is_refused {
-        return Some(RunError::ThreadRefused);
-    }
-    match run.expired {
-        Some(pid) => Some(RunError::GateExpired { pid }),
-        None => None,
-    }
-}
-
-// A worker returns the pid of its process if the gate ended it.
-type WorkerHandle = JoinHandle<Option<u32>>;
-
-// Starts the flusher and a worker for each process, and joins them all. After a refused thread it starts no other.
+// Starts the flusher and a worker for each process, and joins them all. After a refused thread it starts no other, and
+// returns true.
 fn run_all<O: Origin + Send + Sync, R: Threads + Wait + Sync, G: Gate, P: Pager + Send>(
     rt: &R,
     shared: &Shared<'_, P, O>,
     script: &Script,
     gate: &G,
     handles: Vec<WorkerHandle>,
-) -> Joined
+) -> bool
+    requires script { O.script ≡ script.now }
+    requires gate { G.ends gate.now ≡ O.ends }
     requires none { handles.items ≡ [] }
     requires room { length script.now.processes ≤ vec_capacity handles }
 {
     thread::scope(
         thread::scope_env(),
         rt,
-        move |scope| -> Joined
+        move |scope| -> bool
+            requires script { O.script ≡ script.now }
+            requires gate { G.ends gate.now ≡ O.ends }
             requires none { handles.items ≡ [] }
             requires room { length script.now.processes ≤ vec_capacity handles }
         {
-            let Ok(flusher) = scope.spawn(move || run_rounds(rt, shared, gate, &script.lines))
-            else {
-                return REFUSED;
+            let Ok(flusher) = scope.spawn(
+                move ||
+                    requires { G.ends gate.now ≡ O.ends }
+                {
+                    run_rounds(rt, shared, gate, &script.lines)
+                },
+            ) else {
+                return true;
             };
             let (handles, is_refused) = start_all(
                 scope,
@@ -244,12 +232,11 @@ fn run_all<O: Origin + Send + Sync, R: Threads + Wait + Sync, G: Gate, P: Pager 
                 gate,
                 handles,
             );
-            let has_expired = flusher.join(rt);
-            let expired = join_all(rt, handles);
-            Joined {
-                expired: if has_expired { Some(0) } else { expired },
-                is_refused,
+            flusher.join(rt);
+            for handle in handles {
+                handle.join(rt);
             }
+            is_refused
         },
     )
 }
@@ -264,6 +251,8 @@ fn start_all<'s, E, O: Origin + Send + Sync, R: Threads + Wait + Sync, G: Gate, 
     gate: &'s G,
     mut handles: Vec<WorkerHandle>,
 ) -> (Vec<WorkerHandle>, bool)
+    requires script { O.script.processes ≡ processes.now }
+    requires gate { G.ends gate.now ≡ O.ends }
     requires none { handles.items ≡ [] }
     requires room { length processes.now ≤ vec_capacity handles }
 {
@@ -274,7 +263,14 @@ fn start_all<'s, E, O: Origin + Send + Sync, R: Threads + Wait + Sync, G: Gate, 
             shared.end(rt, pid);
             continue;
         }
-        match scope.spawn(move || run_process(rt, shared, gate, index, pid)) {
+        match scope.spawn(
+            move ||
+                requires gate { G.ends gate.now ≡ O.ends }
+                requires process { has_pid pid O.script.processes ≡ true }
+            {
+                run_process(rt, shared, gate, index, pid)
+            },
+        ) {
             Ok(handle) => handles.push_reserved(handle),
             Err(_refused) => {
                 is_refused = true;
@@ -283,24 +279,4 @@ fn start_all<'s, E, O: Origin + Send + Sync, R: Threads + Wait + Sync, G: Gate, 
         }
     }
     (handles, is_refused)
-}
-
-// Joins the workers. Returns the least pid of one that the gate ended.
-fn join_all<R: Threads + Wait>(rt: &R, handles: Vec<WorkerHandle>) -> Option<u32> {
-    let mut expired = None;
-    for handle in handles {
-        expired = least(expired, handle.join(rt));
-    }
-    expired
-}
-
-// The smaller of two pids, if there are two.
-fn least(one: Option<u32>, other: Option<u32>) -> Option<u32>
-    ensures { result ≡ least_pid one other }
-{
-    match (one, other) {
-        (Some(one), Some(other)) => Some(one.min(other)),
-        (Some(pid), None) | (None, Some(pid)) => Some(pid),
-        (None, None) => None,
-    }
 }

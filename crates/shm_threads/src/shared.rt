@@ -2,17 +2,17 @@
 //!
 //! The run's guarantees are invariants of the type under the lock, so they hold whenever the lock is free. Threads only
 //! say whose turn it is. Noting a birth or an end returns news, which can only be used up by waking the waiting threads.
-ghost use Rattle.std.specs.Prelude.{◌≡◌, ◌≤◌, ◌<◌, ◌⊎◌, [], false, length, map, All, IfNone, is_some, vec_len, vec_capacity};
-ghost use Rattle.std.specs.List.{HoldsAt};
-ghost use Rattle.shm_base.specs.Step.{caller_of};
+ghost use Rattle.std.specs.Prelude.{◌≡◌, ◌≤◌, ◌<◌, ◌⊎◌, [], length, map, position, slice_get, Some, IfOk, IfErr, is_some, vec_len, vec_capacity};
 ghost use Rattle.shm_history.specs.WorldState.{IsRound};
 ghost use Rattle.shm_threads.specs.Births.{births_after, is_birth, with_end};
+ghost use Rattle.shm_threads.specs.Ends.{CanEnd, IsExpired, least};
 ghost use Rattle.shm_threads.specs.Keepers.{cell_of, HasPublished};
 ghost use Rattle.shm_threads.specs.Running.{IsIdle, IsOver, IsRunning, IsTurn};
-ghost use Rattle.shm_threads.specs.Strands.{can_go, transcript_of};
+ghost use Rattle.shm_threads.specs.Strands.{can_go, lines_in, transcript_of};
 
 use crate::births::{News, ProcessState, is_born, may_fork, note_birth, note_end};
 use crate::origin::Origin;
+use crate::outcome::RunError;
 use crate::strand::{Made, Strand, make};
 use crate::transcript::Transcript;
 use shm_base::FlushReport;
@@ -22,18 +22,21 @@ use std::marker::{Model, PhantomData};
 use std::sync::{Condvar, Mutex, MutexGuard, Wait};
 use std::thread::yield_now;
 
-/// The world, a strand for each process, which processes are born and have left, and the keeper of a gauged run.
+/// The world, a strand for each process, which processes are born and have left, the keeper of a gauged run, and the
+/// least pid of a thread that the gate ended.
 #[derive(Drop)]
 pub(crate) struct RunState<'a, P: Pager, O: Origin> {
     world: World<P>,
     strands: Vec<Strand<'a>>,
     processes: Vec<ProcessState>,
     keeper: Option<Keeper>,
+    expired: Option<u32>,
     of: PhantomData<O>,
 }
 
 impl<'a, P: Pager, O: Origin> Model for RunState<'a, P, O> {
-    ghost use Rattle.std.specs.Prelude.{◌≡◌};
+    ghost use Rattle.std.specs.Prelude.{◌≡◌, IfSome};
+    ghost use Rattle.shm_threads.specs.Ends.{IsExpired};
     ghost use Rattle.shm_threads.specs.Keepers.{cell_of};
     ghost use Rattle.shm_threads.specs.Running.{IsRunning, RunView};
 
@@ -44,16 +47,19 @@ impl<'a, P: Pager, O: Origin> Model for RunState<'a, P, O> {
       strands = s.strands.items;
       processes = s.processes.items;
       keeper = s.keeper;
+      expired = s.expired;
     } };
 
     ghost invariant = { λ s. IsRunning O.script O.opening O.swap s.world s.strands.items
-        × (cell_of s.keeper ≡ O.cell) };
+        × ((cell_of s.keeper ≡ O.cell) × IfSome s.expired (IsExpired O.ends O.script)) };
 }
 
-fn is_live<P: Pager>(world: &World<P>, pid: u32) -> bool
-    ensures { result ≡ is_some (caller_of world.now.machine pid) }
+// Whether a strand can go on: its process is live, and has a line left.
+fn goes<P: Pager>(world: &World<P>, strand: &Strand<'_>) -> bool
+    ensures { result ≡ can_go world.now.machine strand.now }
 {
-    world.system().spaces().caller(pid).is_some()
+    strand.entries.len() < strand.commands.len()
+        && world.system().spaces().caller(strand.pid).is_some()
 }
 
 // What a turn of a process left: whether it may have more of them, and news of a birth.
@@ -63,21 +69,12 @@ struct Turn {
 }
 
 impl<P: Pager, O: Origin> RunState<'_, P, O> {
-    // Whether the strand at an index can go on: its process is live, and has a line left.
-    fn can_go(&self, index: usize) -> bool
-        requires { index < length self.now.strands }
-        ensures { HoldsAt (λ s. result ≡ can_go self.now.world.machine s) self.now.strands index }
-    {
-        let strand = &self.strands[index];
-        strand.entries.len() < strand.commands.len() && is_live(&self.world, strand.pid)
-    }
-
     // Makes the call of the next line of a strand, if it can go on.
     fn step(&mut self, index: usize) -> Turn
         ensures { IsIdle self.old index result.goes_on (is_some result.news) self.new
             ⊎ IsTurn self.old index result.goes_on (is_some result.news) self.new }
     {
-        if index >= self.strands.len() || !self.can_go(index) {
+        if index >= self.strands.len() || !goes(&self.world, &self.strands[index]) {
             return Turn {
                 goes_on: false,
                 news: None,
@@ -92,18 +89,17 @@ impl<P: Pager, O: Origin> RunState<'_, P, O> {
 
     // The first strand that can go on.
     fn next(&self) -> Option<usize>
-        ensures none { IfNone result (All (λ s. can_go self.now.world.machine s ≡ false) self.now.strands) }
+        ensures { result ≡ position (can_go self.now.world.machine) self.now.strands }
     {
-        for index in 0..self.strands.len() {
-            if self.can_go(index) {
-                return Some(index);
-            }
-        }
-        None
+        self.strands
+            .iter()
+            .position(|strand| goes(&self.world, strand))
     }
 
     // How many lines a process has.
-    fn lines(&self, index: usize) -> usize {
+    fn lines(&self, index: usize) -> usize
+        ensures { result ≡ lines_in (slice_get self.now.strands index) }
+    {
         match self.strands.get(index) {
             Some(strand) => strand.commands.len(),
             None => 0,
@@ -114,6 +110,7 @@ impl<P: Pager, O: Origin> RunState<'_, P, O> {
     fn flush<R: Wait>(&mut self, rt: &R, pages: u32) -> FlushReport
         ensures round { IsRound self.old.world pages result self.new.world }
         ensures published { HasPublished self.new.world self.new.keeper }
+        ensures rest { self.new ≡ record self.old { world = self.new.world; keeper = self.new.keeper } }
     {
         let report = self.world.flush(u64::from(pages));
         publish(rt, &self.world, &mut self.keeper);
@@ -122,11 +119,27 @@ impl<P: Pager, O: Origin> RunState<'_, P, O> {
 
     // Notes that a process has left, and returns it as news.
     fn end(&mut self, pid: u32) -> News
-        ensures ended { self.new.processes ≡ map (with_end pid) self.old.processes }
-        ensures world { self.new.world ≡ self.old.world }
-        ensures strands { self.new.strands ≡ self.old.strands }
+        ensures { self.new ≡ record self.old { processes = map (with_end pid) self.old.processes } }
     {
         note_end(&mut self.processes, pid)
+    }
+
+    // Notes that the gate ended the thread of a process, or the flusher.
+    fn expire(&mut self, pid: u32)
+        requires { IsExpired O.ends O.script pid }
+        ensures { self.new ≡ record self.old { expired = Some (least pid self.old.expired) } }
+    {
+        self.expired = Some(least(pid, self.expired));
+    }
+}
+
+// The lesser of two pids, if there are two.
+fn least(pid: u32, other: Option<u32>) -> u32
+    ensures { result ≡ least pid other }
+{
+    match other {
+        Some(other) => pid.min(other),
+        None => pid,
     }
 }
 
@@ -188,6 +201,7 @@ impl<'a, P: Pager, O: Origin> Shared<'a, P, O> {
                 strands,
                 processes,
                 keeper,
+                expired: None,
                 of: PhantomData,
             }),
             changed: Condvar::new(),
@@ -240,14 +254,25 @@ impl<'a, P: Pager, O: Origin> Shared<'a, P, O> {
         news.announce(&self.changed);
     }
 
-    /// The world, the strands and the keeper, once no thread is left. It makes the calls of lines that are left: there are
-    /// none, as each worker has run its lines.
-    pub(crate) fn finish<R: Wait>(self, rt: &R) -> (World<P>, Vec<Strand<'a>>, Option<Keeper>)
-        ensures over { IsOver O.script O.opening O.swap result.0 result.1.items }
-        ensures cell { cell_of result.2 ≡ O.cell }
+    /// Notes that the gate ended the thread of a process, or the flusher.
+    pub(crate) fn expire<R: Wait>(&self, rt: &R, pid: u32)
+        requires { IsExpired O.ends O.script pid }
+    {
+        self.state.lock(rt).expire(pid);
+    }
+
+    /// What a run left, once no thread is left. It makes the calls of lines that are left: there are none, as each
+    /// worker has run its lines. GateExpired: the gate ended a thread.
+    pub(crate) fn finish<R: Wait>(self, rt: &R) -> Result<Left<'a, P>, RunError>
+        ensures over { IfOk result (λ l. IsOver O.script O.opening O.swap l.world l.strands.items) }
+        ensures cell { IfOk result (λ l. cell_of l.keeper ≡ O.cell) }
+        ensures error { IfErr result (CanEnd O.ends O.script) }
     {
         let Shared { state, changed } = self;
         let mut state = state.into_inner();
+        if let Some(pid) = state.expired {
+            return Err(RunError::GateExpired { pid });
+        }
         for _ in rt.forever() {
             let Some(index) = state.next() else {
                 let RunState {
@@ -256,13 +281,25 @@ impl<'a, P: Pager, O: Origin> Shared<'a, P, O> {
                     keeper,
                     ..
                 } = state;
-                return (world, strands, keeper);
+                return Ok(Left {
+                    world,
+                    strands,
+                    keeper,
+                });
             };
             let Turn { goes_on: _, news } = state.step(index);
             announce(news, &changed);
         }
         unreachable!()
     }
+}
+
+/// What a run left: the world, the strands and the keeper.
+#[derive(Drop)]
+pub(crate) struct Left<'a, P: Pager> {
+    pub(crate) world: World<P>,
+    pub(crate) strands: Vec<Strand<'a>>,
+    pub(crate) keeper: Option<Keeper>,
 }
 
 fn announce(news: Option<News>, changed: &Condvar) {

@@ -1,6 +1,6 @@
 use Prim.Native.Nat.{suc}
-use Rattle.std.proofs.Common.{◌≡◌, ◌+◌, ◌-◌, ◌∷◌, [], ℕ, Bool, true, false, List, subst, sym, refl, arith, rules}
-use Rattle.shm_threads.specs.Asked.{After, Asked, Before, Stepped, Adds, GoTo, RunsLines, asks_of}
+use Rattle.std.proofs.Common.{◌≡◌, ◌+◌, ◌-◌, ◌∷◌, [], ℕ, Bool, true, false, List, subst, sym, refl, arith}
+use Rattle.shm_threads.specs.Asked.{Asked, Before, Stepped, Adds, GoTo, RunsLines, asks_of}
 use Rattle.shm_threads.proofs.Steps.{adds_none, last_asked, line_asked}
 use Rattle.shm_threads.proofs.worker.run_lines.Goals as goal
 

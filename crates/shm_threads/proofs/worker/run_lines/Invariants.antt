@@ -1,4 +1,4 @@
-use Rattle.std.proofs.Common.{◌+◌, ◌-◌, ◌≤◌, Bool, List}
+use Rattle.std.proofs.Common.{◌+◌, ◌-◌, Bool, List}
 use Rattle.shm_threads.specs.Asked.{Adds, GoTo, RunsLines, asks_of}
 use Rattle.shm_threads.proofs.worker.run_lines.Given as goal
 
