@@ -18,11 +18,12 @@ use std::{error, fmt};
 ///   written; nothing says how much.
 /// - `HostMemory`: the host refused memory.
 ///
-/// Only a run with threads has the others:
+/// - `ThreadRefused`: the host refused a thread. Only a run with threads has it.
 ///
-/// - `Gate`: the gate ended a worker; it has the least such pid.
-/// - `Mismatch`: a worker's calls and the history disagree; it has the least such pid, or 0.
-/// - `ThreadRefused`: the host refused a thread.
+/// No run of the programs has the others:
+///
+/// - `Gate`: a gate ended a thread; it has the least such pid, or 0 for the flusher. Their gates are open.
+/// - `Mismatch`: no run has it.
 #[derive(Clone, Copy, Debug, PartialEq, Eq)]
 pub enum RunFault {
     Script(ScriptFault),

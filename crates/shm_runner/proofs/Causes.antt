@@ -1,5 +1,5 @@
 -- What the errors of a run with threads say of the input.
-use Rattle.std.proofs.Common.{◌≡◌, ℕ, true, List, Ok, Option}
+use Rattle.std.proofs.Common.{◌≡◌, ℕ, true, false, false≢true, List, Ok, Option}
 use Rattle.std.proofs.KnownBytes.{Keeps-refl}
 use Rattle.std.specs.Prelude.{Err, IfErr, Result}
 use Rattle.shm_text.specs.Script.{ScriptView}
@@ -8,8 +8,8 @@ use Rattle.shm_threads.specs.declared.outcome.RunError.TheVariants as errors
 use Rattle.shm_threads.specs.Ends.{CanEnd}
 use Rattle.shm_program.specs.Runs.{IsCauseIn, IsSilent, is_serial}
 use Rattle.shm_program.specs.declared.fault.RunFault.{RunFault}
-use Rattle.shm_program.specs.declared.fault.RunFault.TheVariants.{Mismatch}
-use Rattle.shm_runner.specs.Faults.{CanFail, ended_as}
+use Rattle.shm_program.specs.declared.fault.RunFault.TheVariants.{Gate, Mismatch}
+use Rattle.shm_runner.specs.Faults.{CanFail, IsUngated, ended_as}
 
 -- why a run with threads ended
 pub ended_cause : (error : RunError) (areas : List ℕ) (script : ScriptView) → IsCauseIn (ended_as error) areas script
@@ -25,15 +25,23 @@ ended_silent IsText (errors.GateExpired pid) kept = Keeps-refl kept
 ended_silent IsText (errors.HistoryMismatch pid) kept = Keeps-refl kept
 ended_silent IsText errors.ThreadRefused kept = Keeps-refl kept
 
-pub ended_fails : (error : RunError) → CanEnd error → CanFail (ended_as error)
+-- an open gate ends no thread
+pub ungated : (script : ScriptView) (error : RunError) → CanEnd (λ pid n. false) script error → IsUngated error
+ungated script errors.HostMemory can = tt
+ungated script (errors.GateExpired pid) can = absurd (false≢true can.ended)
+ungated script (errors.HistoryMismatch pid) can = can
+ungated script errors.ThreadRefused can = tt
+
+pub ended_fails : (error : RunError) → IsUngated error → CanFail (ended_as error)
 ended_fails errors.HostMemory can = tt
-ended_fails (errors.GateExpired pid) can = tt
+ended_fails (errors.GateExpired pid) can = can
 ended_fails (errors.HistoryMismatch pid) can = can
 ended_fails errors.ThreadRefused can = tt
 
--- no fault of a run without threads is a mismatch
+-- no fault of a run without threads is a mismatch, or a gate's
 pub serial_fails : (fault : RunFault) → is_serial fault ≡ true → CanFail fault
 serial_fails (Mismatch pid) serial = absurd (cc serial)
+serial_fails (Gate pid) serial = absurd (cc serial)
 serial_fails fault serial = tt
 
 pub serials_fail : (result : Result (Unit {0}) RunFault) → IfErr result (λ f. is_serial f ≡ true) → IfErr result CanFail

@@ -11,7 +11,14 @@ ended_as (errors.GateExpired pid) = Gate pid
 ended_as (errors.HistoryMismatch pid) = Mismatch pid
 ended_as errors.ThreadRefused = ThreadRefused
 
--- no run ends with a mismatch
+-- a run with an open gate has no outcome for want of memory or of a thread
+abbrev pub IsUngated : RunError → Type 0
+IsUngated errors.HostMemory = Unit {0}
+IsUngated errors.ThreadRefused = Unit {0}
+IsUngated _ = ⊥
+
+-- no run ends with a mismatch, or by a gate: its gate is open
 abbrev pub CanFail : RunFault → Type 0
 CanFail (Mismatch pid) = ⊥
+CanFail (Gate pid) = ⊥
 CanFail _ = Unit {0}

@@ -174,6 +174,10 @@ impl Drop for Ruled {
 }
 
 impl Gate for Ruled {
+    ghost use Rattle.std.specs.Prelude.{true};
+
+    ghost ends = { λ gate pid n. true };
+
     fn before(&self, pid: u32, n: u64) -> bool {
         self.note(self.turn(pid).ask(n));
         match self.rule {

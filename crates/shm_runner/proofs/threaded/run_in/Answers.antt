@@ -3,7 +3,7 @@ use Rattle.shm_base.specs.State.{Opening}
 use Rattle.shm_program.specs.Runs.{IsOpening, IsWorldOf}
 use Rattle.shm_laws.specs.Worlds.{IsWorldSound}
 use Rattle.shm_program.proofs.Causes.{world_causes, world_serials}
-use Rattle.shm_runner.proofs.Causes.{ended_cause, ended_silent, ended_fails, serials_fail}
+use Rattle.shm_runner.proofs.Causes.{ended_cause, ended_silent, ended_fails, serials_fail, ungated}
 use Rattle.shm_runner.proofs.Opened.{opens}
 use Rattle.shm_runner.proofs.Texts.{began_from, threaded_text, marked_text}
 use Rattle.shm_runner.proofs.threaded.run_in.Goals as goal
@@ -28,6 +28,9 @@ returns-in-Ok-clause-written g c =
     let began = began_from c.args.world.memory.swap c.in-Ok.outcome.world c.requires.untouched c.write_outcome.ensures.sound o.started.began in
     marked_text g.P.Pager.failed c.args.world.memory.swap c.args.script.now c.args.world.opening.areas c.write_outcome.result c.in-Ok.outcome.world c.in-Ok.outcome.transcripts.items (g.W.Write.contents c.args.writer.now) (g.W.Write.contents c.write_outcome.new.writer) (record { is_world = is; counted = c.write_outcome.ensures.counted }) began o.transcripts c.write_outcome.ensures.written
 
+pub run_fault-requires : goal.run_fault-requires
+run_fault-requires g c = ungated c.args.script.now c.in-Err.error c.in-Err.ensures.error
+
 pub returns-in-Err-clause-cause : goal.returns-in-Err-clause-cause
 returns-in-Err-clause-cause g c = rw c.run_fault.ensures (ended_cause c.in-Err.error c.args.world.opening.areas c.args.script.now)
 
@@ -38,4 +41,4 @@ pub returns-in-Ok-clause-ended : goal.returns-in-Ok-clause-ended
 returns-in-Ok-clause-ended g c = serials_fail c.write_outcome.result (world_serials c.write_outcome.result c.write_outcome.ensures.fault)
 
 pub returns-in-Err-clause-ended : goal.returns-in-Err-clause-ended
-returns-in-Err-clause-ended g c = rw c.run_fault.ensures (ended_fails c.in-Err.error c.in-Err.ensures.error)
+returns-in-Err-clause-ended g c = rw c.run_fault.ensures (ended_fails c.in-Err.error (ungated c.args.script.now c.in-Err.error c.in-Err.ensures.error))
