@@ -4,9 +4,9 @@ use Rattle.shm_base.specs.declared.call.Event.{Event}
 use Rattle.shm_base.specs.State.{Machine, Opening, start_of}
 use Rattle.shm_base.specs.Step.{Outcome, step}
 use Rattle.shm_base.specs.History.{LeadsFrom}
-use Rattle.shm_slots.specs.View.{AreCountsOf}
-use Rattle.shm_slots.specs.Cause.{total}
-use Rattle.shm_slots.proofs.Causes.{unfailing}
+use Rattle.shm_slots.specs.View.{AreCountsOf, SwapView, are_finite}
+use Rattle.shm_slots.specs.Cause.{GoesOn, total, most_total}
+use Rattle.shm_slots.proofs.Causes.{unfailing, total-most, never_spent-most}
 use Rattle.shm_history.specs.WorldState.{WorldState, AreCounted, event, failures_in, tally_of}
 use Rattle.shm_print.specs.Text.{events_text}
 use Rattle.shm_print.specs.Usage.{usage_text}
@@ -73,3 +73,19 @@ pub none_unfailing : {P : Type 0} (failed : P → ℕ) (script : ScriptView) (ar
 none_unfailing failed script areas w is counted never =
     let clear = clear_counts failed w is counted never in
     omega (arith, no_failures w is clear.0, clear.1)
+
+-- a history names no more failures than the areas' pagers may still have counted from the start
+pub few_failures : (swap : SwapView) {script : ScriptView} {areas : List ℕ} (w : WorldState) → IsWorldOf IsWorldSound script areas w → GoesOn swap w.memory.swap
+    → are_finite swap ≡ true → failures_in w.events ≤ most_total swap
+few_failures swap w is began few =
+    let sound = is.sound.exact.sound.swap in
+    let unspent = never_spent-most swap w.memory.swap sound began few in
+    omega (arith, no_failures w is unspent, total-most swap w.memory.swap sound began)
+
+-- the output for a world whose pagers can count no more failures
+pub flat_bounded : (swap : SwapView) (script : ScriptView) (areas : List ℕ) (w : WorldState) → IsWorldOf IsWorldSound script areas w → GoesOn swap w.memory.swap → RunsInOrder (map fresh_holder script.processes) script.lines w.events
+    → are_finite swap ≡ true → most_total swap ≡ 0 → world_text w ≡ flat_text script areas ++ usage_text (tally_of w)
+flat_bounded swap script areas w is began follows few none =
+    let sound = is.sound.exact.sound.swap in
+    let clear : total w.memory.swap ≡ 0 = omega (arith, total-most swap w.memory.swap sound began, none) in
+    flat_printed script areas w is follows (never_spent-most swap w.memory.swap sound began few) clear

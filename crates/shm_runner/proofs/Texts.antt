@@ -2,9 +2,8 @@
 use Rattle.std.proofs.Common.{◌≡◌, refl, ap, sym, subst, inl, inr, ℕ, Bool, true, false, List, Option, map, Ok}
 use Rattle.std.specs.Prelude.{IfSome, OnOk, IfErr, Result, Err}
 use Rattle.std.specs.Io.KnownBytes.{Appends, IsAtEnd}
-use Rattle.shm_slots.specs.View.{SwapView, AreCountsOf, AreUntouched, first_counts}
+use Rattle.shm_slots.specs.View.{SwapView, AreCountsOf}
 use Rattle.shm_slots.specs.Cause.{GoesOn}
-use Rattle.shm_slots.proofs.Starts.{goes_on_from}
 use Rattle.shm_history.specs.WorldState.{WorldState, failures_in}
 use Rattle.shm_text.specs.Script.{ScriptView}
 use Rattle.shm_text.specs.Reading.{script_of}
@@ -14,7 +13,7 @@ use Rattle.shm_base.specs.State.{Opening}
 use Rattle.shm_program.specs.Runs.{IsOpening, IsWorldOf, IsTextFor, IsWritten, Prints}
 use Rattle.shm_laws.specs.Worlds.{IsWorldSound}
 use Rattle.shm_runner.specs.Output.{IsOutput, RunsInOrder, world_text}
-use Rattle.shm_runner.proofs.Flatness.{flat_printed, flat_unfailing, none_unfailing}
+use Rattle.shm_runner.proofs.Flatness.{flat_printed, flat_unfailing, flat_bounded, few_failures, none_unfailing}
 use Rattle.shm_program.proofs.Causes.{silent_as, text_for}
 use Rattle.shm_program.proofs.Texts.{shown}
 use Rattle.shm_threads.specs.Transcripts.{AreTranscripts}
@@ -35,17 +34,15 @@ serial_text failed script before w opened same sound counted began follows =
     let is : IsWorldOf IsWorldSound script before.opening.areas w = record { opened = subst (IsOpening script) (sym same) opened; over = ap (λ (o : Opening). o.areas) same; sound = sound } in
     let flat = flat_printed script before.opening.areas w is follows in
     let unfailing = flat_unfailing failed script before.opening.areas w is counted follows in
-    record { world = w; is_world = is; began = began; counted = counted; follows = follows; printed = refl; invisible = flat; unfailing = unfailing }
-
--- the areas of a world whose counts began as they were passed in
-pub began_from : (swap : SwapView) (w : WorldState) → AreUntouched swap → IsWorldSound w → first_counts w.memory.swap ≡ first_counts swap → GoesOn swap w.memory.swap
-began_from swap w untouched sound same = goes_on_from swap w.memory.swap untouched sound.exact.sound.swap same
+    let bounded = few_failures before.memory.swap w is began in
+    let bounded_flat = flat_bounded before.memory.swap script before.opening.areas w is began follows in
+    record { world = w; is_world = is; began = began; counted = counted; follows = follows; printed = refl; invisible = flat; unfailing = unfailing; bounded = bounded; flat = bounded_flat }
 
 module _ {P : Type 0} (failed : P → ℕ) (swap : SwapView) (script : ScriptView) (areas : List ℕ) where
   text_of : (marked : Bool) (w : WorldState) (transcripts : List Transcript) → Known failed script areas w → GoesOn swap w.memory.swap → AreTranscripts script w.events transcripts → have_mark transcripts ≡ marked → IsThreadedOutput failed swap marked script areas (world_text w)
   text_of marked w transcripts k began run marks =
       let unfailing = none_unfailing failed script areas w k.is_world k.counted in
-      record { world = w; transcripts = transcripts; is_world = k.is_world; began = began; counted = k.counted; unfailing = unfailing; is_run = run; marks = marks; printed = refl }
+      record { world = w; transcripts = transcripts; is_world = k.is_world; began = began; counted = k.counted; unfailing = unfailing; bounded = few_failures swap w k.is_world began; is_run = run; marks = marks; printed = refl }
 
   pub threaded_text : (result : Result (Unit {0}) RunFault) (w : WorldState) (transcripts : List Transcript) (old new : Option (List ℕ)) → Known failed script areas w → GoesOn swap w.memory.swap → AreTranscripts script w.events transcripts → OnOk result ((have_mark transcripts ≡ false) × Appends old new (world_text w))
       → OnOk result (IsWritten (IsThreadedOutput failed swap false script areas) old new)

@@ -1,14 +1,14 @@
 -- The output of a run.
-use Rattle.std.specs.Prelude.{◌≡◌, ◌⊎◌, ℕ, List, [], ◌∷◌, ◌++◌, map, true, Option, Some, Result, OnOk, IfErr}
+use Rattle.std.specs.Prelude.{◌≡◌, ◌≤◌, ◌⊎◌, ℕ, List, [], ◌∷◌, ◌++◌, map, true, Option, Some, Result, OnOk, IfErr}
 use Rattle.std.specs.Io.KnownBytes.{Appends}
 use Rattle.shm_base.specs.declared.call.Event.{Event}
 use Rattle.shm_text.specs.Script.{ScriptView}
 use Rattle.shm_program.specs.Listing.{listing_of}
 use Rattle.shm_print.specs.Text.{events_text}
 use Rattle.shm_print.specs.Usage.{usage_text}
-use Rattle.shm_slots.specs.View.{SwapView, AreCountsOf}
-use Rattle.shm_slots.specs.Cause.{GoesOn, total}
-use Rattle.shm_history.specs.WorldState.{WorldState, tally_of}
+use Rattle.shm_slots.specs.View.{SwapView, AreCountsOf, are_finite}
+use Rattle.shm_slots.specs.Cause.{GoesOn, total, most_total}
+use Rattle.shm_history.specs.WorldState.{WorldState, failures_in, tally_of}
 use Rattle.shm_text.specs.Variables.{call_of}
 use Rattle.shm_text.specs.declared.script.Line.{Line}
 use Rattle.shm_text.specs.declared.script.Line.TheVariants.{Command, Flush}
@@ -55,7 +55,8 @@ NeverFails {P = P} failed = (p : P) → failed p ≡ 0
 
 -- The text of a world whose history the script's lines made, over the swap areas as they were passed in. Its counts began there,
 -- and each is a count of a pager. If no failure was counted and no area was spent, its event lines and its listing are those of
--- the flat machine, which the script and the areas' sizes determine. That is always so with pagers that never fail
+-- the flat machine, which the script and the areas' sizes determine. That is always so with pagers that never fail, and over areas
+-- whose counts can't rise. No more replies name a failure than the pagers may still count
 pub record IsOutput {P : Type 0} (failed : P → ℕ) (swap : SwapView) (script : ScriptView) (areas : List ℕ) (text : List ℕ) : Type 0 where
   pub world : WorldState
   pub is_world : IsWorldOf IsWorldSound script areas world
@@ -65,3 +66,5 @@ pub record IsOutput {P : Type 0} (failed : P → ℕ) (swap : SwapView) (script 
   pub printed : text ≡ world_text world
   pub invisible : world.memory.swap.never_spent ≡ true → total world.memory.swap ≡ 0 → text ≡ flat_text script areas ++ usage_text (tally_of world)
   pub unfailing : NeverFails failed → text ≡ flat_text script areas ++ usage_text (tally_of world)
+  pub bounded : are_finite swap ≡ true → failures_in world.events ≤ most_total swap
+  pub flat : are_finite swap ≡ true → most_total swap ≡ 0 → text ≡ flat_text script areas ++ usage_text (tally_of world)

@@ -1,8 +1,8 @@
 -- The output of a run with threads, and what its faults say about its input.
-use Rattle.std.specs.Prelude.{◌≡◌, ◌⊎◌, ℕ, Bool, true, false, List, Option, Result, OnOk, IfErr, IfSome}
+use Rattle.std.specs.Prelude.{◌≡◌, ◌≤◌, ◌⊎◌, ℕ, Bool, true, false, List, Option, Result, OnOk, IfErr, IfSome}
 use Rattle.std.specs.Io.KnownBytes.{IsAtEnd}
-use Rattle.shm_slots.specs.View.{SwapView, AreCountsOf}
-use Rattle.shm_slots.specs.Cause.{GoesOn}
+use Rattle.shm_slots.specs.View.{SwapView, AreCountsOf, are_finite}
+use Rattle.shm_slots.specs.Cause.{GoesOn, most_total}
 use Rattle.shm_history.specs.WorldState.{WorldState, failures_in}
 use Rattle.shm_text.specs.Script.{ScriptView}
 use Rattle.shm_threads.specs.Transcripts.{AreTranscripts}
@@ -16,8 +16,8 @@ use Rattle.shm_program.specs.declared.fault.RunFault.{RunFault}
 use Rattle.shm_program.specs.declared.fault.RunFault.TheVariants.{HostMemory}
 
 -- The text of the world of a run of the script's processes, each in its own order, over the swap areas as they were passed in;
--- and whether one of its calls is marked as out of memory. Its counts began there, and each is a count of a pager. With pagers
--- that never fail, no reply reports a failure
+-- and whether one of its calls is marked as out of memory. Its counts began there, and each is a count of a pager. No more
+-- replies name a failure than the pagers may still count, and none does with pagers that never fail
 pub record IsThreadedOutput {P : Type 0} (failed : P → ℕ) (swap : SwapView) (marked : Bool) (script : ScriptView) (areas : List ℕ) (text : List ℕ) : Type 0 where
   pub world : WorldState
   pub transcripts : List Transcript
@@ -25,6 +25,7 @@ pub record IsThreadedOutput {P : Type 0} (failed : P → ℕ) (swap : SwapView) 
   pub began : GoesOn swap world.memory.swap
   pub counted : AreCountsOf failed world.memory.swap
   pub unfailing : NeverFails failed → failures_in world.events ≡ 0
+  pub bounded : are_finite swap ≡ true → failures_in world.events ≤ most_total swap
   pub is_run : AreTranscripts script world.events transcripts
   pub marks : have_mark transcripts ≡ marked
   pub printed : text ≡ world_text world

@@ -1,7 +1,7 @@
 //! A run with threads: reads a script, runs each of its processes in its own thread, and writes their history.
 ghost use Rattle.std.specs.Prelude.{◌≡◌, ◌⊎◌, ℕ, List, [], true, false, length, map, OnOk, IfErr};
 ghost use Rattle.std.specs.Io.KnownBytes.{Appends};
-ghost use Rattle.shm_slots.specs.View.{AreCountsOf, AreUntouched};
+ghost use Rattle.shm_slots.specs.View.{AreCountsOf};
 ghost use Rattle.shm_program.specs.Runs.{IsCauseIn, IsOpening, IsWritten, handed_in};
 ghost use Rattle.shm_laws.specs.Worlds.{IsWorldSound};
 ghost use Rattle.shm_runner.specs.Faults.{CanFail};
@@ -35,7 +35,7 @@ pub fn run_threaded<T: Threads + Wait + Sync, R: Read, W: Write, P: Pager + Send
     writer: &mut W,
     pagers: Vec<P>,
 ) -> Result<(), RunFault>
-    ensures { let swap = handed_in P.content P.failed pagers.items in
+    ensures { let swap = handed_in P.content P.failed P.most pagers.items in
         let ended = IsThreadedRun P.failed swap result (R.remaining reader.old) (R.remaining reader.new) in
         ended (W.contents writer.old) (W.contents writer.new) (map (λ p. length (P.content p)) pagers.items) }
 {
@@ -53,14 +53,14 @@ fn run_script<T: Threads + Wait + Sync, W: Write, P: Pager + Send>(
     script: &Script,
     pagers: Vec<P>,
 ) -> Result<(), RunFault>
-    ensures ok { let swap = handed_in P.content P.failed pagers.items in
+    ensures ok { let swap = handed_in P.content P.failed P.most pagers.items in
         let text = IsThreadedOutput P.failed swap false script.now in
         let areas = map (λ p. length (P.content p)) pagers.items in
         OnOk result (IsWritten (text areas) (W.contents writer.old) (W.contents writer.new)) }
     ensures cause { IfErr result
         (λ f. IsCauseIn f (map (λ p. length (P.content p)) pagers.items) script.now) }
     ensures ended { IfErr result CanFail }
-    ensures written { let swap = handed_in P.content P.failed pagers.items in
+    ensures written { let swap = handed_in P.content P.failed P.most pagers.items in
         let text = IsThreadedOutput P.failed swap true script.now in
         let areas = map (λ p. length (P.content p)) pagers.items in
         let marked = IsWritten (text areas) (W.contents writer.old) (W.contents writer.new) in
@@ -83,7 +83,6 @@ fn run_in<T: Threads + Wait + Sync, W: Write, P: Pager + Send>(
 ) -> Result<(), RunFault>
     requires opened { IsOpening script.now world.opening }
     requires events { world.events ≡ [] }
-    requires untouched { AreUntouched world.memory.swap }
     ensures ok { let areas = world.opening.areas in
         let text = IsThreadedOutput P.failed world.memory.swap false script.now areas in
         OnOk result (IsWritten text (W.contents writer.old) (W.contents writer.new)) }

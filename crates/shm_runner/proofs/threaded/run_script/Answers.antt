@@ -1,21 +1,13 @@
-use Rattle.std.proofs.Common.{◌≡◌, ap, sym, subst, inl, map, length}
-use Rattle.shm_pager.specs.Pages.{pager_seen}
-use Rattle.shm_slots.specs.View.{AreUntouched}
-use Rattle.shm_slots.proofs.Starts.{untouched_new}
+use Rattle.std.proofs.Common.{◌≡◌, ap, inl, map, length}
 use Rattle.shm_fault.specs.Store.{StoreView}
 use Rattle.shm_program.specs.Runs.{handed_in}
 use Rattle.shm_program.proofs.Causes.{stop_cause, stop_serial, stop_silent}
 use Rattle.shm_runner.proofs.Causes.{serial_fails}
 use Rattle.shm_runner.proofs.threaded.run_script.Goals as goal
 
-pub run_in-requires-clause-untouched : goal.run_in-requires-clause-untouched
-run_in-requires-clause-untouched g c = λ _ _.
-    let swap = ap (λ (m : StoreView). m.swap) c.in-Ok.ensures.memory in
-    subst AreUntouched (sym swap) (untouched_new (pager_seen g.P.Pager.content g.P.Pager.failed) c.args.pagers.items)
-
 pub returns-in-Ok-clause-ok : goal.returns-in-Ok-clause-ok
 returns-in-Ok-clause-ok g c =
-    let swap : c.in-Ok.world.memory.swap ≡ handed_in g.P.Pager.content g.P.Pager.failed c.args.pagers.items = ap (λ (m : StoreView). m.swap) c.in-Ok.ensures.memory in
+    let swap : c.in-Ok.world.memory.swap ≡ handed_in g.P.Pager.content g.P.Pager.failed g.P.Pager.most c.args.pagers.items = ap (λ (m : StoreView). m.swap) c.in-Ok.ensures.memory in
     rw (← c.in-Ok.ensures.areas, ← swap) c.run_in.ensures.ok
 
 pub returns-in-Ok-clause-cause : goal.returns-in-Ok-clause-cause
@@ -23,7 +15,7 @@ returns-in-Ok-clause-cause g c = rw (← c.in-Ok.ensures.areas) c.run_in.ensures
 
 pub returns-in-Ok-clause-written : goal.returns-in-Ok-clause-written
 returns-in-Ok-clause-written g c =
-    let swap : c.in-Ok.world.memory.swap ≡ handed_in g.P.Pager.content g.P.Pager.failed c.args.pagers.items = ap (λ (m : StoreView). m.swap) c.in-Ok.ensures.memory in
+    let swap : c.in-Ok.world.memory.swap ≡ handed_in g.P.Pager.content g.P.Pager.failed g.P.Pager.most c.args.pagers.items = ap (λ (m : StoreView). m.swap) c.in-Ok.ensures.memory in
     rw (← c.in-Ok.ensures.areas, ← swap) c.run_in.ensures.written
 
 pub returns-in-Err-clause-cause : goal.returns-in-Err-clause-cause
