@@ -28,7 +28,7 @@ use Rattle.shm_life.specs.Accessing.{Does, DoesAt, DoesBy, LeavesOrFails}
 use Rattle.shm_segments.specs.Acted.{Acted}
 use Rattle.shm_life.specs.Exchanged.{IsExchange, is_bus_error}
 use Rattle.shm_life.specs.MachineView.{Answered, AnsweredTo, MachineView, done, replied, reply_in}
-use Rattle.shm_life.specs.Paging.{exchange_by, compare_by, spans_of}
+use Rattle.shm_life.specs.Paging.{exchange_by, compare_by, page_spans}
 use Rattle.shm_life.specs.Paging.Paging.{Touches}
 use Rattle.shm_life.proofs.Touching.{comes-in, comes-up-to, have-pages}
 use Rattle.shm_life.proofs.Running.{answered_as, failing, granted}
@@ -39,7 +39,7 @@ IsGrant names reply = (names reply ≡ false) × (is_refusal reply ≡ false)
 
 accessed : {T : Type 0} (o : Outcome) (table : List Entry) (puts : Bool) (bytes : List Place) (names : Reply → Bool) (reply : T → Reply) (s t : MachineView) (r : Result T Errno)
     → names (Refused Sigbus) ≡ true → is_refusal o.reply ≡ false → ((x : T) → IsGrant names (reply x))
-    → IfOk r (λ x. o ≡ gives (record s.flat { table = table }) (reply x)) → LeavesOrFails table puts (spans_of bytes) s r t → Answered o (Touches puts bytes) (names (replied reply r)) false (replied reply r) s t
+    → IfOk r (λ x. o ≡ gives (record s.flat { table = table }) (reply x)) → LeavesOrFails table puts (page_spans bytes) s r t → Answered o (Touches puts bytes) (names (replied reply r)) false (replied reply r) s t
 accessed o table puts bytes names reply s t (Ok x) fails none grant step leaves =
     rw (grant x).0 (granted o (Touches puts bytes) (reply x) false s t (step ∙ ap (λ (m : Machine). gives m (reply x)) (sym leaves.written)) (grant x).1 leaves.keeps leaves.came)
 accessed o table puts bytes names reply s t (Err e) fails none grant step leaves =
@@ -51,7 +51,7 @@ view_with limits t rs m = record { flat = record { limits = limits; areas = size
 -- an access of the segments, as one of the machine
 pub told : {A E : Type 0} (r : Result A E) (limits : Bounds) (put : Option (List ℕ)) (before after : List ℕ) (rs rest : List Runner) (s t : SegmentsView) (ps : List Span) (touched : Touched) → length ps ≤ 2 → All InPage ps → rest ≡ rs
     → Acted put ps before after s t r (answer_of touched r)
-    → LeavesOrFails (table_with s.table (span_places false ps) put) (is_some put) (spans_of (span_places false ps)) (view_with limits s.table rs s.memory) (result_or r (Err Sigbus)) (view_with limits t.table rest t.memory)
+    → LeavesOrFails (table_with s.table (span_places false ps) put) (is_some put) (page_spans (span_places false ps)) (view_with limits s.table rs s.memory) (result_or r (Err Sigbus)) (view_with limits t.table rest t.memory)
 told (Ok a) limits put before after rs rest s t ps touched few fit runners acted =
     let have = have-pages ps few fit in
     record {
@@ -91,7 +91,7 @@ noted (Some bytes) ps t = stored-same ps bytes t
 pub did : {E : Type 0} (act : Act) (ps : List Span) (before after : List ℕ) (s t : MachineView) → bytes_in ps ≡ size_of act (length before) → (r : Result (Unit {0}) E)
     → OnOk r (after ≡ place_after (bytes_in ps) (loaded s.flat.table (span_places false ps)) before) → OnErr r (after ≡ before)
     → (let put = put_by act (loaded s.flat.table (span_places false ps)) in
-    LeavesOrFails (table_with s.flat.table (span_places false ps) put) (is_some put) (spans_of (span_places false ps)) s (result_or r (Err Sigbus)) t)
+    LeavesOrFails (table_with s.flat.table (span_places false ps) put) (is_some put) (page_spans (span_places false ps)) s (result_or r (Err Sigbus)) t)
     → Does act (span_places false ps) before after s (result_or r (Err Sigbus)) t
 did act ps before after s t sum (Ok a) there kept leaves = record { there = rw sum at there; kept = tt; leaves = leaves }
 did act ps before after s t sum (Err e) there kept leaves = record { there = tt; kept = kept; leaves = leaves }

@@ -94,16 +94,20 @@ unlock-few t f most found few = let sum = relocked-sum t f found None in omega (
 
 -- MARKED
 
+-- only a segment that was marked may be without pieces
+pub marked-left : (rs : List Runner) (t : List Entry) (f : Found) → IsFound t f → OrphansAmong [] rs t → OrphansAmong (f.seg ∷ []) rs (change t f.seg marked)
+marked-left rs t f found none = λ i h.
+    let y : Entry = record { destroyed = f.seg / 32768; segment = Some (marked (table.segment_seen t f)) } in
+    let here = get-set_same t (f.seg % 32768) y _ found.entry in
+    grind (arith, nat_tests, found.entry, cases_eq (f.seg % 32768) i, here, get-set_other t (f.seg % 32768) i y, none i, h)
+
 -- marked segments may be without pieces
 pub marked-well : (limits : Bounds) (t : List Entry) (rs : List Runner) (ts : List Translation) (m : StoreView) (f : Found) → IsFound t f → IsWell limits t rs ts m → IsWellBut (f.seg ∷ []) limits (change t f.seg marked) rs ts m
 marked-well limits t rs ts m f found w =
     let same = change-pages marked (λ s. refl) t f.seg in
     let locks = change-locked marked (λ s. refl) (λ s. refl) t f.seg in
-    let y : Entry = record { destroyed = f.seg / 32768; segment = Some (marked (table.segment_seen t f)) } in
-    let here = get-set_same t (f.seg % 32768) y _ found.entry in
     let fit = fit-same t (change t f.seg marked) rs same w.kept.pieces in
-    let left : OrphansAmong (f.seg ∷ []) rs (change t f.seg marked) = λ i h.
-    grind (arith, nat_tests, found.entry, cases_eq (f.seg % 32768) i, here, get-set_other t (f.seg % 32768) i y, w.kept.orphans i, h) in
+    let left = marked-left rs t f found w.kept.orphans in
     grind (arith, same.size, same.reserved, locks, w.kept.locked, fit, left)
 
 -- SPANS

@@ -18,6 +18,7 @@ pub mod Reserved
 pub mod Joining
 pub mod Peopled
 pub mod Pids
+pub mod Removing
 pub mod Touching
 pub mod Accessing
 mod Indexed

@@ -13,7 +13,7 @@ use Rattle.shm_segments.proofs.Again.{again, dirtied-again, visited}
 use Rattle.shm_fault.specs.Access.{Paged}
 use Rattle.shm_fault.specs.declared.touched.Touched.{Touched}
 use Rattle.std.proofs.lemmas.List.Elements.{All-cons, All-nil}
-use Rattle.shm_life.specs.Paging.{page_at, pages_after, pages_of, whole_page, ComeIn, ComeInUpTo, Transfers}
+use Rattle.shm_life.specs.Paging.{page_of_byte, pages_after, pages_of_bytes, whole_page, ComeIn, ComeInUpTo, Transfers}
 
 -- WHICH PAGES
 
@@ -35,7 +35,7 @@ run-within seg (suc n) at r rest same low high =
 span-within : (p : Span) (rest : List Place) → InPage p → pages_after (ref_of p) (run p.seg p.at p.len false ++ rest) ≡ pages_after (ref_of p) rest
 span-within p rest fit = run-within p.seg p.len p.at (ref_of p) rest refl (omega arith) (omega (arith, fit.1))
 
-span-first : (n : ℕ) (p : Span) (rest : List Place) → n ≡ p.len → InPage p → pages_of (run p.seg p.at n false ++ rest) ≡ ref_of p ∷ pages_after (ref_of p) rest
+span-first : (n : ℕ) (p : Span) (rest : List Place) → n ≡ p.len → InPage p → pages_of_bytes (run p.seg p.at n false ++ rest) ≡ ref_of p ∷ pages_after (ref_of p) rest
 span-first zero p rest is fit = absurd (omega (arith, is, fit.0))
 span-first (suc n) p rest is fit = ap (λ rs. ref_of p ∷ rs) (run-within p.seg n (p.at + 1) (ref_of p) rest refl (omega arith) (omega (arith, is, fit.1)))
 
@@ -44,11 +44,11 @@ span-next : (n : ℕ) (r : PageRef) (p : Span) → n ≡ p.len → InPage p → 
 span-next zero r p is fit = absurd (omega (arith, is, fit.0))
 span-next (suc n) r p is fit = by (is_page r p.seg (page_of p)) refl
   where
-    by : (b : Bool) → is_page r p.seg (page_of p) ≡ b → (if b then pages_after r (run p.seg (p.at + 1) n false ++ []) else page_at (record { seg = p.seg; at = p.at; writable = false }) ∷ pages_after (ref_of p) (run p.seg (p.at + 1) n false ++ [])) ≡ (if b then [] else ref_of p ∷ [])
+    by : (b : Bool) → is_page r p.seg (page_of p) ≡ b → (if b then pages_after r (run p.seg (p.at + 1) n false ++ []) else page_of_byte (record { seg = p.seg; at = p.at; writable = false }) ∷ pages_after (ref_of p) (run p.seg (p.at + 1) n false ++ [])) ≡ (if b then [] else ref_of p ∷ [])
     by true here = rw (same-true r (ref_of p) here) (run-within p.seg n (p.at + 1) (ref_of p) [] refl (omega arith) (omega (arith, is, fit.1)))
     by false other = ap (λ rs. ref_of p ∷ rs) (run-within p.seg n (p.at + 1) (ref_of p) [] refl (omega arith) (omega (arith, is, fit.1)))
 
-pub have-pages : (ps : List Span) → length ps ≤ 2 → All InPage ps → HavePages ps (pages_of (span_places false ps))
+pub have-pages : (ps : List Span) → length ps ≤ 2 → All InPage ps → HavePages ps (pages_of_bytes (span_places false ps))
 have-pages [] few fit = none
 have-pages (p ∷ []) few fit =
     let at = fit 0 p (omega arith) in
@@ -58,7 +58,7 @@ have-pages (p ∷ q ∷ []) few fit = by (is_page (ref_of p) q.seg (page_of q)) 
     at : InPage p × InPage q
     at = (fit 0 p (omega arith), fit 1 p (omega arith))
 
-    by : (b : Bool) → is_page (ref_of p) q.seg (page_of q) ≡ b → HavePages (p ∷ q ∷ []) (pages_of (run p.seg p.at p.len false ++ (run q.seg q.at q.len false ++ [])))
+    by : (b : Bool) → is_page (ref_of p) q.seg (page_of q) ≡ b → HavePages (p ∷ q ∷ []) (pages_of_bytes (run p.seg p.at p.len false ++ (run q.seg q.at q.len false ++ [])))
     by true same = rw (span-first p.len p (run q.seg q.at q.len false ++ []) refl at.0, span-next q.len (ref_of p) q refl at.1, same) (twice (same-true (ref_of p) (ref_of q) same))
     by false other = rw (span-first p.len p (run q.seg q.at q.len false ++ []) refl at.0, span-next q.len (ref_of p) q refl at.1, other) two
 have-pages (p ∷ q ∷ r ∷ ps) few fit = absurd (omega (arith, few))

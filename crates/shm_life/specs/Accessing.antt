@@ -14,7 +14,7 @@ use Rattle.shm_slots.specs.Cause.{had_cause}
 use Rattle.shm_fault.specs.Store.{StoreView}
 use Rattle.shm_segments.specs.View.{KeepsMemory}
 use Rattle.shm_life.specs.MachineView.{MachineView}
-use Rattle.shm_life.specs.Paging.{ComeIn, ComeInUpTo, spans_of}
+use Rattle.shm_life.specs.Paging.{ComeIn, ComeInUpTo, page_spans}
 
 -- the span of an access to one page, if the page's frame is known
 abbrev pub sole_resident : List Span → Option Span
@@ -47,7 +47,7 @@ pub record Does
   pub kept : OnErr r (after ≡ before)
   pub leaves :
       let put = put_by act (loaded s.flat.table places) in
-      LeavesOrFails (table_with s.flat.table places put) (is_some put) (spans_of places) s r t
+      LeavesOrFails (table_with s.flat.table places put) (is_some put) (page_spans places) s r t
 
 -- nothing was done, for this reason
 abbrev pub Refuses : Errno → List ℕ → List ℕ → MachineView → Result (Unit {0}) Errno → MachineView → Type 0

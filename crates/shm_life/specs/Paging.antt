@@ -21,8 +21,8 @@ use Rattle.shm_segments.specs.Staying.{MovesNone}
 
 -- THE PAGES OF BYTES
 
-abbrev pub page_at : Place → PageRef
-page_at p = record { seg = p.seg; page = p.at / PAGE_SIZE }
+abbrev pub page_of_byte : Place → PageRef
+page_of_byte p = record { seg = p.seg; page = p.at / PAGE_SIZE }
 
 -- the pages of bytes that follow those of one page
 abbrev pub pages_after : PageRef → List Place → List PageRef
@@ -30,19 +30,19 @@ pages_after last [] = []
 pages_after last (p ∷ ps) =
     if is_page last p.seg (p.at / PAGE_SIZE)
     then pages_after last ps
-    else page_at p ∷ pages_after (page_at p) ps
+    else page_of_byte p ∷ pages_after (page_of_byte p) ps
 
 -- the pages of bytes, in their order; each page counts once while bytes of it follow each other
-abbrev pub pages_of : List Place → List PageRef
-pages_of [] = []
-pages_of (p ∷ ps) = page_at p ∷ pages_after (page_at p) ps
+abbrev pub pages_of_bytes : List Place → List PageRef
+pages_of_bytes [] = []
+pages_of_bytes (p ∷ ps) = page_of_byte p ∷ pages_after (page_of_byte p) ps
 
 abbrev pub whole_page : PageRef → Span
 whole_page r = record { seg = r.seg; at = PAGE_SIZE * r.page; len = PAGE_SIZE; frame = None }
 
--- the same pages, each as the span of all its bytes
-abbrev pub spans_of : List Place → List Span
-spans_of ps = map whole_page (pages_of ps)
+-- the same pages, as spans: each has all bytes of its page
+abbrev pub page_spans : List Place → List Span
+page_spans ps = map whole_page (pages_of_bytes ps)
 
 -- WHAT A CALL DOES TO PAGES
 
@@ -74,13 +74,13 @@ exchange_by new addr None = Rests
 exchange_by new addr (Some c) = touching true (wanted_in true c.pieces addr (length new))
 
 -- a compare and exchange puts bytes only if the old ones are the expected ones
-abbrev pub comparing : List Entry → List ℕ → Option (List Place) → Paging
-comparing table expected None = Rests
-comparing table expected (Some bytes) = Touches (same_bytes (loaded table bytes) expected) bytes
+abbrev pub compare_at : List Entry → List ℕ → Option (List Place) → Paging
+compare_at table expected None = Rests
+compare_at table expected (Some bytes) = Touches (same_bytes (loaded table bytes) expected) bytes
 
 abbrev pub compare_by : List Entry → List ℕ → List ℕ → ℕ → Option Caller → Paging
 compare_by table expected new addr None = Rests
-compare_by table expected new addr (Some c) = comparing table expected (wanted_in true c.pieces addr (length new))
+compare_by table expected new addr (Some c) = compare_at table expected (wanted_in true c.pieces addr (length new))
 
 -- WHERE THE PAGES ARE AFTERWARDS
 
@@ -117,12 +117,12 @@ pub record MoveOffUpTo (area : ℕ) (s t : StoreView) : Type 0 where
 
 abbrev pub Did : Paging → StoreView → StoreView → Type 0
 Did Rests s t = MovesNone s t
-Did (Touches puts bytes) s t = ComeIn puts (spans_of bytes) s t
+Did (Touches puts bytes) s t = ComeIn puts (page_spans bytes) s t
 Did (TakesAway area) s t = MoveOff area s t
 
 abbrev pub DidUpTo : Paging → StoreView → StoreView → Type 0
 DidUpTo Rests s t = ⊥
-DidUpTo (Touches puts bytes) s t = ComeInUpTo (spans_of bytes) s t
+DidUpTo (Touches puts bytes) s t = ComeInUpTo (page_spans bytes) s t
 DidUpTo (TakesAway area) s t = MoveOffUpTo area s t
 
 -- the pages after a call that was done, and after one in which a pager failed

@@ -14,7 +14,7 @@ ghost use Rattle.shm_life.specs.MachineView.{Served, replied, done};
 ghost use Rattle.shm_life.specs.Looking.{refused_by, lock_refusal};
 
 use crate::kernel::Kernel;
-use crate::sweep::sweep;
+use crate::sweep::remove;
 use bitflags::Flags;
 use shm_attach::Caller;
 use shm_base::{Cred, Errno, Perm, Rules, ShmId, ShmidDs, Status, Want, grants};
@@ -143,14 +143,13 @@ impl<P: Pager> Kernel<P> {
         Ok(())
     }
 
-    #[tactic(auto, using(crate::proofs::Running::kept_refl, crate::proofs::Running::pages_rest))]
+    #[tactic(auto, using(crate::proofs::Running::kept_refl, crate::proofs::Running::pages_rest, crate::proofs::Running::pages_ended))]
     /// Destroys a segment without pieces, and marks one that has pieces for removal (IPC_RMID).
     pub(crate) fn rmid(&mut self, caller: &Caller, id: ShmId) -> Result<(), Errno>
         ensures { (n : ℕ) → Served self.old n caller.now (call.Rmid id) (replied done result) self.new }
     {
         let found = self.controlled(caller, id)?;
-        self.segments.mark(found.seg);
-        sweep(&mut self.segments, &self.spaces, &[found.seg]);
+        remove(&mut self.segments, &self.spaces, &found);
         Ok(())
     }
 

@@ -1,12 +1,12 @@
 //! What follows when pieces are removed: times and pids are noted, and marked segments are destroyed with
 //! their last piece.
-ghost use Rattle.std.specs.Prelude.{◌≡◌, ◌≢◌, true, ◌≤◌, ◌==◌, ◌&&◌, if◌then◌else◌, ℕ, List, ◌∷◌, length, All};
+ghost use Rattle.std.specs.Prelude.{◌≡◌, ◌≢◌, true, ◌≤◌, ◌==◌, ◌&&◌, if◌then◌else◌, ℕ, List, [], ◌∷◌, length, All};
 ghost use Rattle.shm_base.specs.Rules.{rest_is_attached};
 ghost use Rattle.shm_base.specs.declared.bounds.TheConstants.{INDEXES};
-ghost use Rattle.shm_base.specs.Segments.{attach_all, attach_count, detach_all, swept};
+ghost use Rattle.shm_base.specs.Segments.{attach_all, attach_count, change, detach_all, marked, swept};
 ghost use Rattle.shm_attach.specs.Spaces.{Translation, AreTrue};
 ghost use Rattle.shm_slots.specs.View.{sizes};
-ghost use Rattle.shm_segments.specs.Table.{IsLive};
+ghost use Rattle.shm_segments.specs.Table.{IsFound, IsLive};
 ghost use Rattle.shm_segments.specs.Staying.{Ends};
 ghost use Rattle.shm_segments.specs.View.{KeepsMemory};
 ghost use Rattle.shm_life.specs.Sound.{MakesWell};
@@ -85,8 +85,27 @@ fn sweep_one<P: Pager>(segments: &mut Segments<P>, spaces: &Spaces, seg: u32)
     }
 }
 
-/// Destroys those of these segments that are marked and have no pieces. All such segments are among them.
-pub(crate) fn sweep<P: Pager>(segments: &mut Segments<P>, spaces: &Spaces, lost: &[u32])
+/// Destroys a segment that has no pieces, and marks one that has some.
+pub(crate) fn remove<P: Pager>(segments: &mut Segments<P>, spaces: &Spaces, found: &Found)
+    requires found { IsFound segments.old.table found.now }
+    requires few { length segments.old.table ≤ INDEXES }
+    requires orphans { OrphansAmong [] spaces.now.runners segments.old.table }
+    ensures table { segments.new.table
+        ≡ swept spaces.now.runners (change segments.old.table found.now.seg marked) }
+    ensures well { MakesWell [] spaces.now segments.old segments.new }
+    ensures keeps { KeepsMemory segments.old.memory segments.new.memory }
+    ensures ends { Ends segments.old.memory segments.new.memory }
+    ensures sizes { sizes segments.new.memory.swap ≡ sizes segments.old.memory.swap }
+{
+    if spaces.count(found.seg) == 0 {
+        segments.destroy(found.seg);
+    } else {
+        segments.mark(found.seg);
+    }
+}
+
+// Destroys those of these segments that are marked and have no pieces. All such segments are among them.
+fn sweep<P: Pager>(segments: &mut Segments<P>, spaces: &Spaces, lost: &[u32])
     requires few { length segments.old.table ≤ INDEXES }
     requires orphans { OrphansAmong lost.now spaces.now.runners segments.old.table }
     ensures swept { segments.new.table ≡ swept spaces.now.runners segments.old.table }
