@@ -58,18 +58,28 @@ static bool has_many_pieces(const struct guest *space) {
     return nog_piece_at(&machine, space->pid, (uint32_t)options.limits.most_pieces - CUT, &piece) == NOG_DONE;
 }
 
+/* The memory can be accessed only when its holes are watched. */
+static int64_t guard(struct call *call, const struct attach *a, uint64_t at, uint64_t rights) {
+    if (watch(a->space, at, a->length) && !is_error(run_in(call, SYS_mprotect, at, a->length, rights, 0, 0, 0))) return (int64_t)at;
+    run_in(call, SYS_munmap, at, a->length, 0, 0, 0, 0);
+    if (a->flags & NOG_REMAP) forget_range(a->space, at, at + a->length);
+    return -ENOMEM;
+}
+
 static int64_t map_in(struct call *call, const struct attach *a) {
     bool is_readonly = a->flags & NOG_RDONLY;
-    int file = is_readonly ? file_for_reading(&a->segment) : file_of(&a->segment);
+    bool is_guarded = options.frames != 0;  /* userfaultfd watches only what could be made writable */
+    if (is_guarded && !open_faults(call)) return -ENOMEM;
+    int file = is_readonly && !is_guarded ? file_for_reading(&a->segment) : file_of(&a->segment);
     if (file == -1) return errno == EMFILE ? -ENFILE : -errno;
     int64_t there = give_file(call, file, O_CLOEXEC);
-    if (is_readonly) close(file);
+    if (is_readonly && !is_guarded) close(file);
     if (there < 0) return there == -EMFILE ? -ENOMEM : there;
     uint64_t rights = PROT_READ | (is_readonly ? 0u : PROT_WRITE) | (a->flags & NOG_EXEC ? PROT_EXEC : 0u);
     uint64_t kind = MAP_SHARED | (a->flags & NOG_REMAP ? MAP_FIXED : a->asked ? MAP_FIXED_NOREPLACE : 0);
-    int64_t at = run_in(call, SYS_mmap, a->address, a->length, rights, kind, (uint64_t)there, 0);
+    int64_t at = run_in(call, SYS_mmap, a->address, a->length, is_guarded ? PROT_NONE : rights, kind, (uint64_t)there, 0);
     run_in(call, SYS_close, (uint64_t)there, 0, 0, 0, 0, 0);
-    return at;
+    return is_guarded && !is_error(at) ? guard(call, a, (uint64_t)at, rights) : at;
 }
 
 /* Linux looks for other memory in the range before it looks at the range itself, unless the address is rounded to 0. */
@@ -268,6 +278,12 @@ static void dispatch(struct call *call) {
     case SYS_open:
     case SYS_openat:
     case SYS_openat2: do_open(call); break;
+    case SYS_futex: do_futex(call); break;
+    case SYS_fcntl: do_set_flags(call); break;
+    case SYS_process_vm_readv:
+    case SYS_process_vm_writev: do_copy_memory(call); break;
+    case SYS_remap_file_pages: do_remap_pages(call); break;
+    case SYS_process_madvise: answer(call, -EINVAL); break;  /* only MADV_REMOVE comes here */
     default:  /* the user of the thread changes */
         call->task->is_user_known = false;
         let_pass(call);

@@ -4,13 +4,14 @@
 #include <fcntl.h>
 #include <linux/audit.h>
 #include <linux/filter.h>
+#include <linux/futex.h>
 #include <linux/seccomp.h>
 #include <sys/mman.h>
 #include <sys/prctl.h>
 #include <sys/syscall.h>
 #include <unistd.h>
 
-enum { MOST = 160, X32 = 0x40000000 };
+enum { MOST = 256, X32 = 0x40000000 };
 /* of 32-bit programs: ipc(2), and the four calls of shared memory */
 enum { IPC_32 = 117, SHMGET_32 = 395, SHMDT_32 = 398 };
 /* an open that can be one of /proc/sysvipc/shm: of a file that exists, for reading */
@@ -47,6 +48,43 @@ static void trace_masked(long number, int argument, uint32_t mask, uint32_t valu
     finish(SECCOMP_RET_ALLOW);
 }
 
+/* a call stops if its argument is from `low` to `high` */
+static void trace_range(long number, int argument, uint32_t low, uint32_t high) {
+    unless_equal((uint32_t)number, 5);
+    load(low_word(argument));
+    put(BPF_JMP | BPF_JGE | BPF_K, low, 0, 2);
+    put(BPF_JMP | BPF_JGT | BPF_K, high, 1, 0);
+    finish(SECCOMP_RET_TRACE);
+    finish(SECCOMP_RET_ALLOW);
+}
+
+/* an open that may be one of /proc/sysvipc/shm, and one with a flag of `others` */
+static void trace_open(long number, int argument, uint32_t others) {
+    unless_equal((uint32_t)number, 6);
+    load(low_word(argument));
+    put(BPF_JMP | BPF_JSET | BPF_K, others, 2, 0);
+    put(BPF_ALU | BPF_AND | BPF_K, OTHER_OPEN, 0, 0);
+    unless_equal(0, 1);
+    finish(SECCOMP_RET_TRACE);
+    finish(SECCOMP_RET_ALLOW);
+}
+
+static void refuse_number(long number) {
+    unless_equal((uint32_t)number, 1);
+    finish(SECCOMP_RET_ERRNO | ENOSYS);
+}
+
+/* with --frames: what would reach a page by another way than its address, and so miss it when it has left */
+static void trace_ways_past_tables(void) {
+    trace_masked(SYS_futex, 1, FUTEX_PRIVATE_FLAG, 0);
+    trace_masked(SYS_fcntl, 1, UINT32_MAX, F_SETFL);
+    trace_masked(SYS_process_madvise, 3, UINT32_MAX, MADV_REMOVE);
+    trace_number(SYS_process_vm_readv);
+    trace_number(SYS_process_vm_writev);
+    trace_number(SYS_remap_file_pages);
+    refuse_number(SYS_io_uring_setup);
+}
+
 /* getpid with the secret as its argument, which only we can make, asks for a file */
 static void notify_secret(uint64_t number) {
     unless_equal(SYS_getpid, 6);
@@ -79,10 +117,11 @@ static void build(uint64_t number) {
     length = 0;
     refuse_other_machines();
     for (size_t i = 0; i < sizeof traced / sizeof *traced; i++) trace_number(traced[i]);
-    trace_masked(SYS_openat, 2, OTHER_OPEN, 0);
-    trace_masked(SYS_open, 1, OTHER_OPEN, 0);
+    trace_open(SYS_openat, 2, options.frames ? O_DIRECT : 0);
+    trace_open(SYS_open, 1, options.frames ? O_DIRECT : 0);
     trace_masked(SYS_mmap, 3, MAP_FIXED | OF_LINKER, MAP_FIXED);
-    trace_masked(SYS_madvise, 2, ~(uint32_t)(MADV_DONTFORK ^ MADV_DOFORK), MADV_DONTFORK & MADV_DOFORK);
+    trace_range(SYS_madvise, 2, options.frames ? MADV_REMOVE : MADV_DONTFORK, MADV_DOFORK);
+    if (options.frames) trace_ways_past_tables();
     notify_secret(number);
     finish(SECCOMP_RET_ALLOW);
 }

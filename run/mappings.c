@@ -66,6 +66,16 @@ static void protect_pieces(struct guest *space, uint64_t begin, uint64_t end, ui
     }
 }
 
+/* With --frames every attachment could be made writable, so the kernel does not refuse it for one that is for reading. */
+static uint64_t begin_of_readonly(const struct guest *space, uint64_t begin, uint64_t end) {
+    nog_piece piece;
+    while (find_piece(space, begin, end, &piece)) {
+        if (!piece.may_write) return most(begin, piece.base);
+        begin = end_of(&piece);
+    }
+    return end;
+}
+
 /* If the range has other memory too, the kernel's answer comes first. If it refuses, it has changed what lies below. */
 void do_protect(struct call *call) {
     uint64_t begin = call->args[0], length = pages_of(call->args[1]), hole;
@@ -73,11 +83,12 @@ void do_protect(struct call *call) {
     if (begin < END_OF_ADDRESSES && length <= UINT64_MAX - begin) length = least(length, END_OF_ADDRESSES - begin);
     struct guest *space = space_with(call, begin, length);
     if (!space) return let_pass(call);
-    bool is_whole = nog_failed_at(&machine, space->pid, begin, length, 0, &hole) == NOG_OUT_OF_RANGE;
-    int64_t result = is_whole ? 0 : run_as_made(call);
-    protect_pieces(space, begin, result == 0 ? begin + length : hole, is_writable);
-    if (is_whole) let_pass(call);
-    else answer(call, result);
+    uint64_t end = options.frames && is_writable ? begin_of_readonly(space, begin, begin + length) : begin + length;
+    bool is_whole = nog_failed_at(&machine, space->pid, begin, end - begin, 0, &hole) == NOG_OUT_OF_RANGE, is_cut = end != begin + length;
+    int64_t result = is_whole && !is_cut ? 0 : run_in(call, call->number, begin, end - begin, call->args[2], call->args[3], 0, 0);
+    protect_pieces(space, begin, result == 0 ? end : hole, is_writable);
+    if (is_whole && !is_cut) let_pass(call);
+    else answer(call, result == 0 && is_cut ? -EACCES : result);
 }
 
 /* ---- madvise: what a child does not inherit ---- */
@@ -102,9 +113,16 @@ void forget_advice(struct guest *guest, uint64_t begin, uint64_t end) {
 void do_advise(struct call *call) {
     uint64_t begin = call->args[0], length = pages_of(call->args[1]);
     struct guest *space = space_with(call, begin, length);
+    if (space && call->args[2] == MADV_REMOVE) return answer(call, -EINVAL);  /* a hole of which the machine would not know */
     if (space) forget_advice(space, begin, begin + length);
     if (space && call->args[2] == MADV_DONTFORK) add_range(space, begin, begin + length);
     let_pass(call);
+}
+
+/* Only with --frames: other pages of the file at the same addresses. */
+void do_remap_pages(struct call *call) {
+    if (space_with(call, call->args[0] / PAGE * PAGE, pages_of(call->args[1]))) answer(call, -EINVAL);
+    else let_pass(call);
 }
 
 /* ---- mremap ---- */
@@ -129,6 +147,7 @@ static int64_t move(struct call *call, const nog_piece *piece, const nog_segment
     bool is_whole = from == piece->base && from == origin_of(piece) && end_of(piece) == from + size && new_length == size;
     bool is_moved = flags & (MREMAP_FIXED | MREMAP_DONTUNMAP) || old_length == 0;
     if (from + old_length > end_of(piece)) return -EFAULT;
+    if (is_moved && options.frames) return -ENOMEM;  /* what is moved would not be watched */
     if (is_moved ? !is_whole || (old_length && old_length != new_length) : new_length > old_length) return -ENOMEM;
     int64_t result = run_as_made(call);
     if (is_error(result)) return result;

@@ -22,7 +22,7 @@ _Static_assert(NOG_LINUX == (1 << LINUX) - 1 && NOG_HUGE_IS_REFUSED == 1 << (LIN
 
 /* As what --help of the start script shows; the program itself says only this. */
 static const char usage[] = "usage: shmrun [--limits SHMMAX,SHMMNI,SHMALL,MEMLOCK] [--rules NAME,..] [--fail CALL:N=ERRNO].. "
-                            "[--seed S] [--record RUN] COMMAND ARG..";
+                            "[--seed S] [--record RUN] [--frames N] [--swap AREA].. COMMAND ARG..";
 
 static void read_rules(const char *text) {
     options.limits.rules = 0;
@@ -67,6 +67,44 @@ static void read_seed(const char *text) {
     if (*end || text[0] < '0' || text[0] > '9') stop(CANNOT_START, "--seed: %s is not a number", text);
 }
 
+static void read_frames(const char *text) {
+    enum { MOST_FRAMES = 1 << 24 };
+    char *end;
+    options.frames = strtoull(text, &end, 0);
+    if (*end || text[0] < '0' || text[0] > '9' || options.frames < 2 || options.frames > MOST_FRAMES)
+        stop(CANNOT_START, "--frames: %s is not a number from 2 to %d", text, MOST_FRAMES);
+}
+
+/* What follows the slots of a fuse: one or more of :rK and :wK, its reads and writes that fail. Null: it is not right. */
+static const char *read_fuse(const char *text) {
+    if (*text != ':') return NULL;
+    while (*text == ':') {
+        char *end;
+        nog_failure failure = {.area = (uint32_t)options.area_count, .is_write = text[1] == 'w'};
+        bool is_right = (text[1] == 'r' || text[1] == 'w') && text[2] >= '1' && text[2] <= '9' && options.failure_count < MOST_FAILURES;
+        if (!is_right) return NULL;
+        failure.call = strtoull(text + 2, &end, 10);
+        options.failures[options.failure_count++] = failure;
+        text = end;
+    }
+    return text;
+}
+
+static void read_area(const char *text) {
+    static const struct { const char *name; uint32_t kind; } kinds[] = {
+        {"ram:", NOG_RAM}, {"sparse:", NOG_SPARSE}, {"mirror:", NOG_MIRROR}, {"fuse:", NOG_RAM}};
+    enum { KINDS = sizeof kinds / sizeof *kinds, FUSE = KINDS - 1, MOST_SLOTS = 1 << 28 };
+    int i = 0;
+    while (i < KINDS && strncmp(text, kinds[i].name, strlen(kinds[i].name)) != 0) i++;
+    const char *number = i < KINDS ? text + strlen(kinds[i].name) : "", *end = number + strspn(number, "0123456789");
+    uint64_t slots = end == number ? 0 : strtoull(number, NULL, 10);
+    if (i == FUSE) end = read_fuse(end);
+    if (!end || *end || slots < 1 || slots > MOST_SLOTS || options.area_count == MOST_AREAS)
+        stop(CANNOT_START, "--swap: %s is not ram:N, sparse:N, mirror:N, fuse:N:rK or fuse:N:wK, with N from 1 to %d; %d areas at most", text,
+             MOST_SLOTS, MOST_AREAS);
+    options.areas[options.area_count++] = (nog_area){kinds[i].kind, (uint32_t)slots};
+}
+
 /* The record is written at the end, but what can't be written is said at once. */
 static void read_record(const char *name) {
     char path[4096];
@@ -83,6 +121,8 @@ static void read_option(const char *name, const char *value) {
     else if (strcmp(name, "--rules") == 0) read_rules(value);
     else if (strcmp(name, "--seed") == 0) read_seed(value);
     else if (strcmp(name, "--record") == 0) read_record(value);
+    else if (strcmp(name, "--frames") == 0) read_frames(value);
+    else if (strcmp(name, "--swap") == 0) read_area(value);
     else if (strcmp(name, "--fail") == 0) wrong = add_failure(value);
     else stop(CANNOT_START, "no such option: %s; %s", name, usage);
     if (wrong) stop(CANNOT_START, "--fail: %s: %s", value, wrong);
@@ -109,6 +149,7 @@ void read_options(int argc, char **argv) {
         read_option(name, is_joined ? argv[i] + length + 1 : argv[i + 1]);
         i += !is_joined;
     }
+    if (options.area_count && !options.frames) stop(CANNOT_START, "--swap needs --frames");
     if (i == argc) stop(CANNOT_START, "there is no command; %s", usage);
     options.command = argv + i;
 }

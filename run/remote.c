@@ -30,6 +30,7 @@ void begin_call(struct call *call, struct task *task) {
     call->number = (long)r->orig_rax;
     const uint64_t args[6] = {r->rdi, r->rsi, r->rdx, r->r10, r->r8, r->r9};
     memcpy(call->args, args, sizeof args);
+    call->instruction = r->rip - SYSCALL_BYTES;
 }
 
 /* ---- system calls that the thread makes ---- */
@@ -95,7 +96,7 @@ static void set_call(struct call *call, long number, const uint64_t *args) {
     r.rdi = args[0], r.rsi = args[1], r.rdx = args[2], r.r10 = args[3], r.r8 = args[4], r.r9 = args[5];
     if (call->where == AT_EXIT) {
         block_signals(call);
-        r.rip -= SYSCALL_BYTES;
+        r.rip = call->instruction;
     }
     ptrace(PTRACE_SETREGS, call->tid, 0, &r);
 }
@@ -159,10 +160,10 @@ int64_t give_file(struct call *call, int file, uint32_t flags) {
 
 /* ---- its end ---- */
 
-static void release(struct call *call) {
+static void release(struct call *call, int signal) {
     if (call->is_masked) ptrace(PTRACE_SETSIGMASK, call->tid, sizeof call->old_mask, &call->old_mask);
     if (call->has_missed_stop) syscall(SYS_tgkill, call->tgid, call->tid, SIGSTOP);
-    resume(call->tid, PTRACE_CONT, 0);
+    resume(call->tid, PTRACE_CONT, signal);
 }
 
 void answer(struct call *call, int64_t result) {
@@ -171,23 +172,38 @@ void answer(struct call *call, int64_t result) {
     r.rax = (unsigned long long)result;
     r.orig_rax = ~0ull;  /* no call is made, and none is begun again */
     ptrace(PTRACE_SETREGS, call->tid, 0, &r);
-    release(call);
+    release(call, 0);
 }
 
 void let_pass(struct call *call) {
-    if (call->where != GONE) release(call);
+    if (call->where != GONE) release(call, 0);
+}
+
+void leave_call(struct call *call, siginfo_t *signal) {
+    if (call->where == GONE) return;
+    ptrace(PTRACE_SETREGS, call->tid, 0, &call->regs);
+    if (signal) ptrace(PTRACE_SETSIGINFO, call->tid, 0, signal);
+    release(call, signal ? signal->si_signo : 0);
 }
 
 /* ---- its memory ---- */
 
-bool read_memory(const struct call *call, uint64_t from, void *to, size_t size) {
-    struct iovec here = {to, size}, there = {(void *)(uintptr_t)from, size};
-    return process_vm_readv(call->tid, &here, 1, &there, 1, 0) == (ssize_t)size;
+/* One page at a time is brought if pages may be absent: it stays until the next one comes. */
+static bool copy_memory(const struct call *call, uint64_t address, void *bytes, size_t size, bool is_write) {
+    for (size_t part; size > 0; size -= part, address += part, bytes = (char *)bytes + part) {
+        part = options.frames ? least(size, PAGE - address % PAGE) : size;
+        struct iovec here = {bytes, part}, there = {(void *)(uintptr_t)address, part};
+        if (!is_there(call->space, address)) return false;
+        ssize_t done = is_write ? process_vm_writev(call->tid, &here, 1, &there, 1, 0) : process_vm_readv(call->tid, &here, 1, &there, 1, 0);
+        if (done != (ssize_t)part) return false;
+    }
+    return true;
 }
 
+bool read_memory(const struct call *call, uint64_t from, void *to, size_t size) { return copy_memory(call, from, to, size, false); }
+
 bool write_memory(const struct call *call, uint64_t to, const void *from, size_t size) {
-    struct iovec here = {(void *)(uintptr_t)from, size}, there = {(void *)(uintptr_t)to, size};
-    return process_vm_writev(call->tid, &here, 1, &there, 1, 0) == (ssize_t)size;
+    return copy_memory(call, to, (void *)(uintptr_t)from, size, true);
 }
 
 bool read_text(const struct call *call, uint64_t from, char *to, size_t size) {

@@ -29,12 +29,18 @@ static int make_file(const nog_segment *segment) {
     return file;
 }
 
+static void close_file(uint32_t index) {
+    if (options.frames) forget_pages(files[index].id);
+    close(files[index].file);
+    files[index].file = 0;
+}
+
 int file_of(const nog_segment *segment) {
     uint32_t index = segment->index;
     if (files[index].file && files[index].id == segment->id) return files[index].file;
     int file = make_file(segment);
     if (file == -1) return -1;
-    if (files[index].file) close(files[index].file);
+    if (files[index].file) close_file(index);
     files[index].id = segment->id;
     files[index].file = file;
     return file;
@@ -65,8 +71,7 @@ void close_destroyed(void) {
     if (tally.segments < before) reply_of(nog_indexes(&machine, &count));
     for (uint32_t i = 0; i < count; i++) {
         if (!files[i].file || segment_of(files[i].id, &segment)) continue;
-        close(files[i].file);
-        files[i].file = 0;
+        close_file(i);
     }
     before = tally.segments;
 }

@@ -7,6 +7,9 @@
    remote.c    what a stopped thread does and has                   record.c, replay.c, script.c
    calls.c     shmget, shmat, shmdt and shmctl                                  what was called, as a script and a log
    mappings.c  munmap, mremap, mprotect, mmap and madvise
+   With --frames, few pages of segments are in memory:
+   paging.c    how a page comes and leaves                          faults.c    accesses to pages that are not there
+   past.c      system calls that go past the page tables            pages.c     which pages are in frames
 
    One thread, the tracer, handles one stop at a time, so each call is one step of the machine. An attach is made in the program
    first and then in the machine, and a detach in the machine first. So whatever the machine has attached is mapped, also while
@@ -15,6 +18,7 @@
 #define SHMRUN_H
 
 #include <nogcuvema.h>
+#include <signal.h>
 #include <stdbool.h>
 #include <stddef.h>
 #include <stdint.h>
@@ -22,6 +26,7 @@
 #include <sys/types.h>
 #include <sys/user.h>
 
+enum { MOST_AREAS = 8, MOST_FAILURES = 1024 };
 enum { PAGE = 4096, CANNOT_START = 125, CANNOT_RUN = 126, NOT_FOUND = 127 };
 #define END_OF_ADDRESSES UINT64_C(0x7ffffffff000)
 #define LOWEST_ADDRESS UINT64_C(0x10000)
@@ -39,6 +44,10 @@ extern struct options {
     bool has_limits;     /* they were given */
     const char *record;  /* the beginning of the names of the record's files, or null */
     uint64_t seed;       /* of failures by chance */
+    uint64_t frames;     /* the most pages of segments in memory; 0: any number, and the options below do not matter */
+    nog_area areas[MOST_AREAS];
+    nog_failure failures[MOST_FAILURES];  /* of the areas */
+    size_t area_count, failure_count;
     char **command;
 } options;
 void read_options(int argc, char **argv);
@@ -48,6 +57,8 @@ __attribute__((noreturn, format(printf, 2, 3))) void stop(int status, const char
 __attribute__((format(printf, 1, 2))) void complain(const char *format, ...);
 void *allocate(size_t size);
 void check_command(pid_t pid);
+/* A descriptor of ours for a file that a process has open; -1 and errno. */
+int take_file(pid_t tgid, int number);
 extern nog_machine machine;
 /* 0 or the negative number of an error, as a system call answers. A code that is no errno ends shmrun. */
 int64_t reply_of(uint32_t code);
@@ -60,6 +71,12 @@ struct guest {
     uint32_t uid, gid;     /* as the machine has them */
     struct range { uint64_t begin, end; } *not_inherited;  /* MADV_DONTFORK */
     int range_count;
+    /* with --frames */
+    int faults;            /* the userfaultfd of its attachments; 0: none */
+    bool is_to_be_watched; /* a fork made it, and its first thread has not yet stopped */
+    uint64_t instruction;  /* the address of an instruction in its memory that makes a system call */
+    pid_t failing;         /* the thread that is at a page which an area failed to bring; 0: none */
+    uint64_t failed_page;  /* the page's address */
 };
 struct process {
     pid_t tgid;
@@ -72,6 +89,10 @@ struct task {
     struct process *process;  /* null: it stopped before its maker's stop was seen */
     bool is_user_known;       /* false: uid and gid, the effective ones, must be read anew */
     uint32_t uid, gid;
+    /* a call that is to stop at its exit: two arguments, to put back */
+    bool is_watched;
+    unsigned long long second, third;
+    int repeats;
     struct task *next;
 };
 
@@ -98,6 +119,7 @@ struct call {
     struct user_regs_struct regs;  /* as the program has them */
     long number;
     uint64_t args[6], old_mask;
+    uint64_t instruction;          /* one that makes a system call */
     enum { AT_ENTRY, AT_EXIT, GONE } where;
     bool has_threads, is_masked, has_missed_stop;
 };
@@ -113,6 +135,8 @@ int64_t give_file(struct call *call, int file, uint32_t flags);
 /* Lets the program go on: with a result, or with the call that it made. */
 void answer(struct call *call, int64_t result);
 void let_pass(struct call *call);
+/* As it was before the call, with a signal or none. */
+void leave_call(struct call *call, siginfo_t *signal);
 bool read_memory(const struct call *call, uint64_t from, void *to, size_t size);
 bool write_memory(const struct call *call, uint64_t to, const void *from, size_t size);
 /* A text of the program, ended by a zero and cut to `size` - 1 bytes. */
@@ -126,6 +150,7 @@ void resume(pid_t tid, enum __ptrace_request request, int signal);
 void handle_status(pid_t tid, int status);
 /* Handles the ends of a process's threads that can be seen now. */
 void take_ends(pid_t tgid);
+struct task *find_task(pid_t tid);
 
 /* calls.c, mappings.c, views.c */
 void handle_call(struct task *task);
@@ -135,6 +160,7 @@ void do_move(struct call *call);
 void do_protect(struct call *call);
 void do_advise(struct call *call);
 void do_open(struct call *call);
+void do_remap_pages(struct call *call);
 /* Takes a range out of the machine's attachments, or out of what children do not inherit. */
 void forget_range(struct guest *guest, uint64_t begin, uint64_t end);
 void forget_advice(struct guest *guest, uint64_t begin, uint64_t end);
@@ -147,6 +173,44 @@ int file_for_reading(const nog_segment *segment);
 uint64_t pages_in_memory(int32_t id);
 /* Closes the files of segments that the machine has no more. */
 void close_destroyed(void);
+
+/* paging.c */
+void open_paging(void);
+/* A thread at a page that is not there, or we (0) for it, and since when. */
+struct fault { const struct guest *space; pid_t tid; uint64_t address, since; };
+/* Brings the page. LOST: the address has just gone, or its memory changes: try
+   again. LATER: its frame is that of another thread, which may not have used it yet. FAILED: an area failed. */
+enum brought { CAME, WAS_THERE, NOT_ATTACHED, LOST, LATER, FAILED };
+enum brought bring(const struct fault *fault);
+uint64_t now_us(void);
+/* Brings the page that an address shows, if it is attached: false if an area failed. It stays until another page is brought. */
+bool is_there(const struct guest *space, uint64_t address);
+/* The segment is destroyed. */
+void forget_pages(int32_t id);
+
+/* faults.c */
+void check_faults(void);
+pid_t start_keeper(void);
+void open_poller(void);
+/* Waits until a thread has stopped or ended, and answers faults until then. */
+void serve_faults(void);
+/* The caller's address space has a userfaultfd from now on: false if it can't. */
+bool open_faults(struct call *call);
+void close_faults(struct guest *space);
+/* From now on a hole in a range of the space is a fault. */
+bool watch(const struct guest *space, uint64_t begin, uint64_t length);
+/* If the thread is the first of a child of a fork: watches its attachments and lets it go on. */
+bool watch_child(struct task *task);
+/* If an area failed the thread: its access ends in SIGBUS, its system call in EFAULT. It goes on. */
+bool end_failed_access(struct task *task);
+bool end_failed_call(struct task *task);
+
+/* past.c */
+void do_futex(struct call *call);
+void do_set_flags(struct call *call);
+void open_without_cache(struct call *call, int argument);
+void do_copy_memory(struct call *call);
+void end_watched_call(struct task *task);
 
 /* failures.c: adds a rule such as shmat:3=ENOMEM; the answer is what is wrong with it, or null */
 const char *add_failure(const char *rule);

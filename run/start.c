@@ -78,6 +78,21 @@ static void open_machine(void) {
     reply_of(code);
 }
 
+/* At most so many pages are in memory: the areas have the others. */
+static void open_machine_with_frames(void) {
+    nog_limits *l = &options.limits;
+    if (!options.area_count) options.areas[options.area_count++] = (nog_area){NOG_SPARSE, (uint32_t)l->shmall};
+    for (size_t i = 0; i < options.area_count; i++) l->most_slots = most(l->most_slots, options.areas[i].slots);
+    l->frames = options.frames;
+    if (options.has_limits && l->memlock + 2 > l->frames)
+        stop(CANNOT_START, "--frames %lu: MEMLOCK is %lu; two frames at least are for pages that are not locked", l->frames, l->memlock);
+    l->memlock = least(l->memlock, l->frames - 2);
+    uint32_t code = nog_open(&machine, l, options.areas, options.area_count, options.failures, options.failure_count, NULL, 0);
+    if (code == NOG_NO_MEMORY) stop(CANNOT_START, "there is not enough memory for the frames and the swap areas");
+    reply_of(code);
+    open_paging();
+}
+
 /* ---- what can't run ---- */
 
 /* After the command's exec, before its first instruction. */
@@ -116,11 +131,12 @@ __attribute__((noreturn)) static void become_command(int in, int out) {
     _exit(status);
 }
 
-static int take_listener(pid_t child, int number) {
-    int pid_file = (int)syscall(SYS_pidfd_open, child, 0);
+int take_file(pid_t tgid, int number) {
+    int pid_file = (int)syscall(SYS_pidfd_open, tgid, 0);
     int made = (int)syscall(SYS_pidfd_getfd, pid_file, number, 0);
-    if (made == -1) stop(CANNOT_START, "the filter's listener can't be reached: %s", strerror(errno));
+    int error = errno;
     close(pid_file);
+    errno = error;
     return made;
 }
 
@@ -142,7 +158,8 @@ static pid_t start_command(void) {
              strerror(errno));
     if (write(to[1], "t", 1) != 1 || read(from[0], &news, sizeof news) != sizeof news || news.error)
         stop(CANNOT_START, "the filter can't be installed: %s; Linux 5.14 or later is needed", strerror(news.error));
-    listener = take_listener(child, news.listener);
+    listener = take_file(child, news.listener);
+    if (listener == -1) stop(CANNOT_START, "the filter's listener can't be reached: %s", strerror(errno));
     if (write(to[1], "g", 1) != 1) stop(CANNOT_START, "the command has ended before its start");
     close(to[0]), close(to[1]), close(from[0]);
     return child;
@@ -193,12 +210,15 @@ int main(int argc, char **argv) {
     while ((file = open("/dev/null", O_RDWR | O_CLOEXEC)) >= 0 && file <= STDERR_FILENO) continue;  /* none of ours is 0, 1 or 2 */
     close(file);
     read_options(argc, argv);
-    open_machine();
+    if (options.frames) check_faults(), open_machine_with_frames();
+    else open_machine();
     if (getrandom(&secret, sizeof secret, 0) != sizeof secret) stop(CANNOT_START, "getrandom: %s", strerror(errno));
     first = start_command();
     prepare_signals();
     raise_file_limit();
+    pid_t keeper = options.frames ? start_keeper() : 0;
     int status = trace_all(first);
+    if (keeper) kill(keeper, SIGKILL);
     write_record();
     return status_of(status);
 }

@@ -9,7 +9,7 @@
 #include <time.h>
 #include <unistd.h>
 
-enum { ROWS = 4096 };
+enum { ROWS = 4096, SYSCALL_STOP = SIGTRAP | 0x80 };
 static struct task *tasks[ROWS];
 static pid_t first_process;
 static int first_status;
@@ -19,6 +19,8 @@ static struct task **place_of(pid_t tid) {
     while (*at && (*at)->tid != tid) at = &(*at)->next;
     return at;
 }
+
+struct task *find_task(pid_t tid) { return *place_of(tid); }
 
 static struct task *task_of(pid_t tid) {
     struct task **at = place_of(tid);
@@ -65,6 +67,7 @@ static void note_end(pid_t tid, int status) {
     struct task *task = *place_of(tid);
     if (tid == first_process) first_status = status;
     if (!task) return;
+    if (task->process && task->process->space && task->process->space->failing == tid) task->process->space->failing = 0;
     if (task->process && task->process->tgid == tid) end_process(task->process);
     forget_task(tid);
 }
@@ -96,7 +99,7 @@ static void note_birth(struct task *maker, int event) {
         if (!is_shared) inherit(maker, space, child->process->self);
     }
     child->process->threads++;
-    if (has_stopped) resume(child->tid, PTRACE_CONT, 0);
+    if (has_stopped && !watch_child(child)) resume(child->tid, PTRACE_CONT, 0);
 }
 
 static void detach_all(const struct guest *guest) {
@@ -116,6 +119,7 @@ static void note_exec(struct task *task) {
     has_begun = true;
     if (process->space == process->self && process->self->uses == 2) {
         if (has_pieces(process->self)) detach_all(process->self);
+        close_faults(process->self);
         return;
     }
     /* others have the old memory: this process gets a new one */
@@ -146,8 +150,8 @@ static void handle_event(struct task *task, int event, int signal) {
     case PTRACE_EVENT_CLONE: note_birth(task, event); break;
     case PTRACE_EVENT_EXEC: note_exec(task); break;
     case PTRACE_EVENT_STOP:
-        if (!is_group_stop(signal)) break;
-        handle_group_stop(task, signal);
+        if (is_group_stop(signal)) handle_group_stop(task, signal);
+        else if (!watch_child(task) && !end_failed_call(task)) break;
         return;
     default: break;
     }
@@ -159,7 +163,8 @@ static void handle_stop(pid_t tid, int status) {
     int event = status >> 16;
     if (!task->process) return;  /* it waits for its maker's stop */
     if (event) handle_event(task, event, WSTOPSIG(status));
-    else resume(tid, PTRACE_CONT, WSTOPSIG(status));
+    else if (WSTOPSIG(status) == SYSCALL_STOP) end_watched_call(task);
+    else if (WSTOPSIG(status) != SIGBUS || !end_failed_access(task)) resume(tid, PTRACE_CONT, WSTOPSIG(status));
 }
 
 void handle_status(pid_t tid, int status) {
@@ -189,9 +194,11 @@ int trace_all(pid_t first) {
     struct task *task = task_of(first);
     task->process = new_process(first, NULL);
     task->process->threads = 1;
+    if (options.frames) open_poller();
     for (;;) {
-        pid_t tid = waitpid(-1, &status, __WALL);
-        if (tid == -1 && errno == EINTR) continue;
+        pid_t tid = waitpid(-1, &status, options.frames ? WNOHANG : __WALL);  /* without __WALL the keeper is not waited for */
+        if (tid == 0) serve_faults();
+        if (tid == 0 || (tid == -1 && errno == EINTR)) continue;
         if (tid == -1) return first_status;
         nog_set_time(&machine, (uint64_t)time(NULL));
         handle_status(tid, status);

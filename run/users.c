@@ -21,6 +21,7 @@ static void leave(struct guest *guest) {
 void release_guest(struct guest *guest) {
     if (--guest->uses > 0) return;
     if (guest->is_admitted) leave(guest);
+    close_faults(guest);
     free(guest->not_inherited);
     free(guest);
 }
@@ -101,6 +102,8 @@ void inherit(struct task *maker, struct guest *parent, struct guest *child) {
     admit(child, false);
     reply_of(nog_fork(&machine, parent->pid, child->pid));
     record((struct event){.kind = FORK, .pid = parent->pid, .child = child->pid});
+    child->is_to_be_watched = parent->faults != 0;
+    child->instruction = parent->instruction;
     for (int i = 0; i < parent->range_count; i++)
         forget_range(child, parent->not_inherited[i].begin, parent->not_inherited[i].end);
 }

@@ -74,6 +74,7 @@ void do_open(struct call *call) {
     uint64_t path = call->args[call->number == SYS_open ? 0 : 1], flags = call->args[call->number == SYS_open ? 1 : 2];
     struct open_how how;
     if (call->number == SYS_openat2) flags = read_memory(call, call->args[2], &how, sizeof how) ? how.flags : O_WRONLY;
+    if (options.frames && flags & O_DIRECT) return open_without_cache(call, call->number == SYS_open ? 1 : 2);
     const struct view *view = flags & (O_ACCMODE | O_DIRECTORY | O_PATH | O_CREAT) ? NULL : view_of(call, folder, path);
     if (!view) return let_pass(call);
     int file = make_view(view);

@@ -1,0 +1,230 @@
+/* Faults at pages that are not there. Each address space that has attachments has a userfaultfd, which it makes itself, because a
+   userfaultfd is one of the process that makes it; we take it over. A child of a fork gets its own before its first instruction.
+   Each event is answered: the page comes, or the thread is woken and repeats its access, which then finds the page or ends as it
+   would without us. */
+#include "shmrun.h"
+#include <errno.h>
+#include <fcntl.h>
+#include <linux/userfaultfd.h>
+#include <sched.h>
+#include <signal.h>
+#include <stdlib.h>
+#include <string.h>
+#include <sys/epoll.h>
+#include <sys/ioctl.h>
+#include <sys/mman.h>
+#include <sys/signalfd.h>
+#include <sys/syscall.h>
+#include <unistd.h>
+
+#ifndef UFFDIO_POISON
+struct uffdio_poison { struct uffdio_range range; uint64_t mode; int64_t updated; };
+#define UFFDIO_POISON _IOWR(UFFDIO, 8, struct uffdio_poison)
+#define UFFD_FEATURE_POISON (1 << 14)
+#endif
+enum { FEATURES = UFFD_FEATURE_THREAD_ID | UFFD_FEATURE_EXACT_ADDRESS | UFFD_FEATURE_MISSING_SHMEM | UFFD_FEATURE_POISON };
+static int device, poller, children;
+/* Threads that wait for a page which comes later. */
+enum { MOST_WAITING = 4096 };
+static struct fault waiting[MOST_WAITING];
+static size_t waiting_count;
+
+/* ---- the start ---- */
+
+static bool set_up(int file) {
+    struct uffdio_api api = {.api = UFFD_API, .features = FEATURES};
+    return ioctl(file, UFFDIO_API, &api) == 0;
+}
+
+static void add_to_poller(int file, void *what) {
+    struct epoll_event event = {.events = EPOLLIN, .data.ptr = what};
+    if (epoll_ctl(poller, EPOLL_CTL_ADD, file, &event) == -1) stop(CANNOT_START, "epoll: %s", strerror(errno));
+}
+
+void check_faults(void) {
+    device = open("/dev/userfaultfd", O_RDWR | O_CLOEXEC);
+    if (device == -1)
+        stop(CANNOT_START, "--frames needs /dev/userfaultfd, which can't be opened: %s; root may, or whom root lets", strerror(errno));
+    int file = ioctl(device, USERFAULTFD_IOC_NEW, O_CLOEXEC);
+    if (file == -1 || !set_up(file)) stop(CANNOT_START, "--frames needs Linux 6.6 or later: userfaultfd: %s", strerror(errno));
+    close(file);
+}
+
+/* The keeper has the same table of open files. If shmrun is killed, the kernel closes its files before it kills the programs; a
+   userfaultfd that is closed would let them go on, with zeros. So the table has to live a little longer than they do. */
+static int keep_files(void *parent) {
+    enum { UNTIL_KILLED = 2 };
+    sigset_t all;
+    sigfillset(&all);
+    sigprocmask(SIG_BLOCK, &all, NULL);
+    setsid();
+    while (getppid() == *(pid_t *)parent) usleep(10000);
+    sleep(UNTIL_KILLED);
+    _exit(0);
+}
+
+pid_t start_keeper(void) {
+    static char stack[65536] __attribute__((aligned(16)));
+    static pid_t parent;
+    parent = getpid();
+    pid_t made = clone(keep_files, stack + sizeof stack, CLONE_FILES, &parent);
+    if (made == -1) stop(CANNOT_START, "clone: %s", strerror(errno));
+    return made;
+}
+
+void open_poller(void) {
+    sigset_t child;
+    sigemptyset(&child);
+    sigaddset(&child, SIGCHLD);
+    sigprocmask(SIG_BLOCK, &child, NULL);
+    children = signalfd(-1, &child, SFD_CLOEXEC | SFD_NONBLOCK);
+    poller = epoll_create1(EPOLL_CLOEXEC);
+    if (children == -1 || poller == -1) stop(CANNOT_START, "epoll: %s", strerror(errno));
+    add_to_poller(children, NULL);
+}
+
+/* ---- an address space is watched ---- */
+
+bool open_faults(struct call *call) {
+    struct guest *space = call->space;
+    if (space->faults) return true;
+    int64_t there = give_file(call, device, O_CLOEXEC);
+    if (there < 0) return false;
+    int64_t made = run_in(call, SYS_ioctl, (uint64_t)there, USERFAULTFD_IOC_NEW, O_CLOEXEC | O_NONBLOCK, 0, 0, 0);
+    run_in(call, SYS_close, (uint64_t)there, 0, 0, 0, 0, 0);
+    if (is_error(made)) return false;
+    int file = take_file(call->tgid, (int)made);
+    run_in(call, SYS_close, (uint64_t)made, 0, 0, 0, 0, 0);
+    if (file == -1) return false;
+    if (!set_up(file)) stop(CANNOT_START, "userfaultfd of process %d: %s", call->tgid, strerror(errno));
+    space->faults = file;
+    space->instruction = call->instruction;
+    add_to_poller(file, space);
+    return true;
+}
+
+void close_faults(struct guest *space) {
+    for (size_t i = 0; i < waiting_count; i++)
+        if (waiting[i].space == space) waiting[i--] = waiting[--waiting_count];
+    if (space->faults) close(space->faults);
+    space->faults = 0;
+}
+
+bool watch(const struct guest *space, uint64_t begin, uint64_t length) {
+    struct uffdio_register range = {.range = {begin, length}, .mode = UFFDIO_REGISTER_MODE_MISSING};
+    return ioctl(space->faults, UFFDIO_REGISTER, &range) == 0;
+}
+
+/* At the first stop of a child, which has its parent's attachments: they are not watched yet. */
+bool watch_child(struct task *task) {
+    struct call call;
+    struct guest *space = task->process->space;
+    nog_piece piece;
+    if (!space->is_to_be_watched) return false;
+    space->is_to_be_watched = false;
+    begin_call(&call, task);
+    call.self = call.space = space;
+    if (call.where != GONE) call.where = AT_EXIT;
+    if (!open_faults(&call) && call.where != GONE) stop(CANNOT_START, "process %d has no descriptor left for its userfaultfd", call.tgid);
+    for (uint32_t i = 0; call.where != GONE && nog_piece_at(&machine, space->pid, i, &piece) == NOG_DONE; i++)
+        if (!watch(space, piece.base, (uint64_t)piece.pages * PAGE) && errno != ESRCH && errno != ENOMEM)
+            stop(CANNOT_START, "process %d: its attachment at %lx is not watched: %s", call.tgid, piece.base, strerror(errno));
+    leave_call(&call, NULL);
+    return true;
+}
+
+/* ---- an area that fails ---- */
+
+/* The page is poisoned for the process: an access gets SIGBUS, a system call EFAULT. When the thread stops on its way, the poison
+   is taken away. Until then no other page is brought for the process. */
+static void fail(const struct fault *fault) {
+    struct uffdio_poison poison = {.range = {fault->address / PAGE * PAGE, PAGE}};
+    struct task *task = find_task(fault->tid);
+    if (!task || !task->process || task->process->space != fault->space) return;
+    struct guest *space = task->process->space;
+    space->failing = fault->tid;
+    space->failed_page = poison.range.start;
+    ptrace(PTRACE_INTERRUPT, fault->tid, 0, 0);
+    if (ioctl(space->faults, UFFDIO_POISON, &poison) == -1) space->failing = 0;
+}
+
+static void take_poison(struct task *task, uint64_t page, siginfo_t *signal) {
+    struct call call;
+    struct guest *space = task->process->space;
+    begin_call(&call, task);
+    call.self = call.space = space;
+    call.instruction = space->instruction;
+    if (call.where != GONE) call.where = AT_EXIT;
+    run_in(&call, SYS_madvise, page, PAGE, MADV_DONTNEED, 0, 0, 0);
+    space->failing = 0;
+    leave_call(&call, signal);
+}
+
+/* Some kernels show poison as broken memory; here it is a page that can't be read. */
+bool end_failed_access(struct task *task) {
+    siginfo_t info;
+    nog_piece piece;
+    const struct guest *space = task->process->space;
+    if (!space->faults || ptrace(PTRACE_GETSIGINFO, task->tid, 0, &info) == -1 || info.si_code <= 0) return false;  /* sent by a process */
+    uint64_t address = (uint64_t)(uintptr_t)info.si_addr;
+    if (!find_piece(space, address, address + 1, &piece)) return false;
+    info.si_code = BUS_ADRERR;
+    take_poison(task, address / PAGE * PAGE, &info);
+    return true;
+}
+
+/* A thread outside of a system call is still on its way to its SIGBUS. */
+bool end_failed_call(struct task *task) {
+    struct user_regs_struct r;
+    const struct guest *space = task->process->space;
+    if (space->failing != task->tid || ptrace(PTRACE_GETREGS, task->tid, 0, &r) == -1 || r.orig_rax == ~0ull) return false;
+    take_poison(task, space->failed_page, NULL);
+    return true;
+}
+
+/* ---- events ---- */
+
+static void wake(const struct guest *space, uint64_t address) {
+    struct uffdio_range range = {address / PAGE * PAGE, PAGE};
+    ioctl(space->faults, UFFDIO_WAKE, &range);
+}
+
+static void handle_fault(struct fault *fault) {
+    enum brought brought = fault->space->failing ? LOST : bring(fault);
+    if (brought == CAME) return;
+    if (brought == FAILED) fail(fault);
+    if (brought == LATER && waiting_count < MOST_WAITING) waiting[waiting_count++] = *fault;
+    else wake(fault->space, fault->address);
+}
+
+static void handle_faults(const struct guest *space) {
+    struct uffd_msg event;
+    if (read(space->faults, &event, sizeof event) != sizeof event || event.event != UFFD_EVENT_PAGEFAULT) return;
+    handle_fault(&(struct fault){space, (pid_t)event.arg.pagefault.feat.ptid, event.arg.pagefault.address, now_us()});
+}
+
+/* Those that waited longest are tried first. */
+static void try_waiting(void) {
+    size_t count = waiting_count;
+    for (size_t i = 0; i < count && waiting_count > 0; i++) {
+        struct fault first = waiting[0];
+        memmove(waiting, waiting + 1, --waiting_count * sizeof *waiting);
+        handle_fault(&first);
+    }
+}
+
+void serve_faults(void) {
+    enum { PAUSE_US = 20, LONG_US = 2000 };
+    struct epoll_event event;
+    struct signalfd_siginfo signal;
+    for (;;) {
+        int ready = epoll_wait(poller, &event, 1, waiting_count ? 0 : -1);
+        if (ready == 0) usleep(PAUSE_US);
+        if (ready == 1 && event.data.ptr) handle_faults(event.data.ptr);
+        if (ready == 0 || (waiting_count && now_us() - waiting[0].since > LONG_US)) try_waiting();
+        if (ready != 1 || event.data.ptr) continue;
+        while (read(children, &signal, sizeof signal) == sizeof signal) continue;
+        return;
+    }
+}
+

@@ -1,0 +1,180 @@
+/* The pages that programs have. With --frames, a page is in the file of its segment only while it is lent: then every program
+   finds it, at no cost. A page that is not in the file is a hole, which userfaultfd shows to us before the program gets a zero.
+
+   To take a page, it is spliced into a pipe, which refers to the page and does not copy it. Then a hole is punched, which takes
+   the page out of the file and out of each page table. What is read from the pipe after that are the bytes after the last store
+   that a program could make. No program is stopped for it: a store after the punch faults, and finds its page brought in.
+
+   A page that the clock's hand passes loses its referenced bit, so it is taken too: its next use is a fault, which sets the bit
+   again. A page stays with the thread that asked for it for STAY_US, and other threads wait for their pages until then, or TURN_US: so an
+   access to two pages gets both, also if there are few frames. */
+#include "pages.h"
+#include "shmrun.h"
+#include <errno.h>
+#include <fcntl.h>
+#include <linux/userfaultfd.h>
+#include <stdlib.h>
+#include <string.h>
+#include <sys/ioctl.h>
+#include <time.h>
+#include <unistd.h>
+
+enum { STAY_US = 100, TURN_US = 2000, NANO = 1000, SECOND_US = 1000000 };
+/* A page that is in a frame, as far as it is known here, and its bytes as they were lent. */
+static struct held {
+    int32_t id;
+    uint32_t page;
+    bool is_lent;
+    uint64_t since;            /* when it was lent, in microseconds */
+    pid_t user;                /* the thread for which it was lent */
+    struct held *next;         /* in its row, or among the unused ones */
+} *held, *unused, **rows;
+static uint8_t *bytes_of_held; /* a page for each of them */
+static int pipe_ends[2];
+
+static uint8_t *bytes_of(const struct held *it) { return bytes_of_held + (size_t)(it - held) * PAGE; }
+
+uint64_t now_us(void) {
+    struct timespec now;
+    clock_gettime(CLOCK_MONOTONIC, &now);
+    return (uint64_t)now.tv_sec * SECOND_US + (uint64_t)now.tv_nsec / NANO;
+}
+
+void open_paging(void) {
+    uint64_t count = options.frames;
+    open_pages(&machine);
+    rows = allocate(count * sizeof *rows);
+    held = allocate(count * sizeof *held);
+    bytes_of_held = allocate(count * PAGE);
+    for (uint64_t i = 0; i < count; i++) held[i].next = unused, unused = &held[i];
+    if (pipe2(pipe_ends, O_CLOEXEC)) stop(CANNOT_START, "pipe: %s", strerror(errno));
+}
+
+/* ---- which there are ---- */
+
+static struct held **place_of(int32_t id, uint32_t page) {
+    struct held **at = &rows[((uint64_t)(uint32_t)id * 31 + page) % options.frames];
+    while (*at && ((*at)->id != id || (*at)->page != page)) at = &(*at)->next;
+    return at;
+}
+
+static void drop(int32_t id, uint32_t page) {
+    struct held **at = place_of(id, page), *it = *at;
+    if (!it) return;
+    *at = it->next;
+    it->next = unused;
+    unused = it;
+}
+
+void forget_pages(int32_t id) {
+    for (uint64_t i = 0; i < options.frames; i++)
+        if (held[i].id == id) drop(id, held[i].page);
+}
+
+/* ---- a page is taken from all programs ---- */
+
+static void take_bytes(int file, uint32_t page, uint8_t *bytes) {
+    loff_t at = (loff_t)page * PAGE;
+    if (splice(file, &at, pipe_ends[1], NULL, PAGE, 0) != PAGE ||
+        fallocate(file, FALLOC_FL_PUNCH_HOLE | FALLOC_FL_KEEP_SIZE, (off_t)page * PAGE, PAGE) == -1 ||
+        read(pipe_ends[0], bytes, PAGE) != PAGE)
+        stop(CANNOT_START, "page %u can't be taken out of its file: %s", page, strerror(errno));
+}
+
+static void take(int32_t id, uint32_t page) {
+    uint8_t bytes[PAGE];
+    nog_segment segment;
+    struct held *it = *place_of(id, page);
+    if (!it || !it->is_lent || !segment_of(id, &segment)) stop(CANNOT_START, "page %u of segment %d is not lent", page, id);
+    take_bytes(file_of(&segment), page, bytes);
+    bool is_changed = memcmp(bytes, bytes_of(it), PAGE) != 0;
+    it->is_lent = false;
+    reply_of(nog_give_back(&machine, id, page, is_changed ? bytes : NULL, is_changed ? PAGE : 0));
+}
+
+/* Another thread got the page a moment ago, and may not have used it yet. */
+static bool is_young(const nog_frame *frame, const struct fault *fault) {
+    const struct held *it = *place_of(frame->id, frame->page);
+    uint64_t now = now_us();
+    return it && it->user != fault->tid && now - it->since < STAY_US && now - fault->since < TURN_US;
+}
+
+/* The pages that the hand passes, and the one that leaves, if a page came in now: takes them, or asks whether one is young. */
+static bool meet_passed(const nog_frame *leaver, const struct fault *fault, bool is_question) {
+    nog_frame frame;
+    for (uint64_t i = 0; nog_frame_at(&machine, i, &frame) == NOG_DONE; i++) {
+        bool is_leaver = frame.id == leaver->id && frame.page == leaver->page;
+        bool is_taken = frame.is_lent && !frame.is_locked && (frame.is_referenced || is_leaver);
+        if (is_taken && is_question && is_young(&frame, fault)) return true;
+        if (is_taken && !is_question) take(frame.id, frame.page);
+        if (is_leaver && !leaver->is_referenced) break;
+    }
+    return false;
+}
+
+/* Before a page comes into a frame for another one. Whether it may come now. */
+static bool make_room(const struct fault *fault) {
+    nog_frame leaver;
+    close_destroyed();
+    if (nog_leaver(&machine, &leaver) != NOG_DONE) return true;
+    if (meet_passed(&leaver, fault, true)) return false;
+    meet_passed(&leaver, fault, false);
+    drop(leaver.id, leaver.page);
+    return true;
+}
+
+/* ---- a page is brought ---- */
+
+static uint32_t borrow(int32_t id, uint32_t page, const struct fault *fault, struct held **borrowed) {
+    struct held *it = *place_of(id, page);
+    if (!it && !make_room(fault)) return NOG_LENT;
+    if (!it && !unused) stop(CANNOT_START, "there are more pages than frames");
+    uint32_t code = nog_lend(&machine, id, page, bytes_of(it ? it : unused), PAGE);
+    if (code != NOG_DONE) return code;
+    if (!it) {
+        it = unused;
+        unused = it->next;
+        *it = (struct held){.id = id, .page = page, .next = NULL};
+        *place_of(id, page) = it;
+    }
+    it->is_lent = true;
+    it->since = now_us();
+    it->user = fault->tid;
+    *borrowed = it;
+    return NOG_DONE;
+}
+
+/* Puts a page's bytes into the file, where the address of the program shows the page. */
+static int put_in(const struct guest *space, uint64_t address, const struct held *it) {
+    struct uffdio_copy copied = {.dst = address, .src = (uint64_t)(uintptr_t)bytes_of(it), .len = PAGE};
+    return ioctl(space->faults, UFFDIO_COPY, &copied) == 0 ? 0 : errno;
+}
+
+enum brought bring(const struct fault *fault) {
+    int32_t id;
+    uint32_t page, is_writable;
+    const struct guest *space = fault->space;
+    uint64_t address = fault->address / PAGE * PAGE;
+    if (!space->is_admitted || nog_page_at(&machine, space->pid, address, &id, &page, &is_writable) != NOG_DONE) return NOT_ATTACHED;
+    struct held *it = *place_of(id, page);
+    if (it && it->is_lent) return WAS_THERE;
+    uint32_t code = borrow(id, page, fault, &it);
+    if (code == NOG_SIGBUS) return FAILED;
+    if (code == NOG_LENT) return LATER;
+    reply_of(code);
+    int error = put_in(space, address, it);
+    if (!error) return CAME;
+    if (error != EAGAIN && error != ENOENT && error != ESRCH) stop(CANNOT_START, "page %u can't be brought: %s", page, strerror(error));
+    it->is_lent = false;
+    reply_of(nog_give_back(&machine, id, page, NULL, 0));
+    return LOST;
+}
+
+bool is_there(const struct guest *space, uint64_t address) {
+    enum { TRIES = 1000 };
+    enum brought brought = LOST;
+    if (!space->faults) return true;
+    const struct fault fault = {.space = space, .address = address, .since = now_us()};
+    for (int i = 0; i < TRIES && ((brought = bring(&fault)) == LOST || brought == LATER); i++) usleep(1);
+    return brought != FAILED;
+}

@@ -1,0 +1,137 @@
+/* System calls that go past the page tables, with --frames. Some of them hold a page while it is taken away, and write to it then:
+   what they write would be lost. Others look a page up in its file, where it may just be missing. */
+#include "shmrun.h"
+#include <errno.h>
+#include <fcntl.h>
+#include <stdio.h>
+#include <sys/stat.h>
+#include <sys/syscall.h>
+#include <sys/uio.h>
+
+/* ---- calls that are looked at again at their exit ---- */
+
+/* Makes the call with other arguments; at its exit the registers are as the program had them. */
+static void let_pass_watched(struct call *call, uint64_t second, uint64_t third) {
+    struct user_regs_struct r = call->regs;
+    struct task *task = call->task;
+    if (call->where == GONE) return;
+    task->is_watched = true;
+    task->second = r.rsi, task->third = r.rdx;
+    r.rsi = second, r.rdx = third;
+    ptrace(PTRACE_SETREGS, call->tid, 0, &r);
+    resume(call->tid, PTRACE_SYSCALL, 0);
+}
+
+/* A shared futex is found by its page's place in the file. If the page is taken away just then, the kernel answers EFAULT, and
+   the call is made again. */
+void end_watched_call(struct task *task) {
+    enum { SYSCALL_BYTES = 2, MOST_REPEATS = 100 };
+    struct user_regs_struct r;
+    if (!task->is_watched || ptrace(PTRACE_GETREGS, task->tid, 0, &r) == -1) return resume(task->tid, PTRACE_CONT, 0);
+    bool is_missed = r.orig_rax == SYS_futex && (int64_t)r.rax == -EFAULT && task->process->space->failing != task->tid;
+    task->is_watched = false;
+    r.rsi = task->second, r.rdx = task->third;
+    if (is_missed && task->repeats++ < MOST_REPEATS) {
+        r.rax = r.orig_rax;
+        r.rip -= SYSCALL_BYTES;
+    } else {
+        task->repeats = 0;
+    }
+    ptrace(PTRACE_SETREGS, task->tid, 0, &r);
+    resume(task->tid, PTRACE_CONT, 0);
+}
+
+static bool is_attached(const struct guest *space, uint64_t begin, uint64_t length) {
+    nog_piece piece;
+    return length <= END_OF_ADDRESSES && begin <= END_OF_ADDRESSES - length && find_piece(space, begin, begin + length, &piece);
+}
+
+void do_futex(struct call *call) {
+    if (is_attached(call->space, call->args[0], sizeof(uint32_t)) || is_attached(call->space, call->args[4], sizeof(uint32_t)))
+        let_pass_watched(call, call->args[1], call->args[2]);
+    else let_pass(call);
+}
+
+/* ---- O_DIRECT: a read of a file goes to the page itself ---- */
+
+void open_without_cache(struct call *call, int argument) {
+    uint64_t second = call->args[1], third = call->args[2];
+    if (call->number == SYS_openat2) return answer(call, -EINVAL);  /* as on a file system without O_DIRECT */
+    if (argument == 1) second &= ~(uint64_t)O_DIRECT;
+    else third &= ~(uint64_t)O_DIRECT;
+    let_pass_watched(call, second, third);
+}
+
+/* Of a pipe the flag means something else. */
+void do_set_flags(struct call *call) {
+    char path[64];
+    struct stat found;
+    snprintf(path, sizeof path, "/proc/%d/fd/%d", call->tid, (int)call->args[0]);
+    bool is_pipe = stat(path, &found) == 0 && S_ISFIFO(found.st_mode);
+    if (call->args[2] & O_DIRECT && !is_pipe) let_pass_watched(call, call->args[1], call->args[2] & ~(uint64_t)O_DIRECT);
+    else let_pass(call);
+}
+
+/* ---- process_vm_readv and process_vm_writev ---- */
+
+enum { MOST_PARTS = 1024 };
+struct parts { struct iovec list[MOST_PARTS]; size_t count, at; };
+
+static bool read_parts(const struct call *call, uint64_t address, uint64_t count, struct parts *parts) {
+    parts->count = count;
+    parts->at = 0;
+    return read_memory(call, address, parts->list, count * sizeof *parts->list);
+}
+
+static uint64_t address_of(const struct parts *parts) { return (uint64_t)(uintptr_t)parts->list[parts->at].iov_base; }
+
+/* What is left of the part, within one page. */
+static uint64_t left_of(struct parts *parts) {
+    while (parts->at < parts->count && parts->list[parts->at].iov_len == 0) parts->at++;
+    return parts->at == parts->count ? 0 : least(parts->list[parts->at].iov_len, PAGE - address_of(parts) % PAGE);
+}
+
+static void step(struct parts *parts, uint64_t done) {
+    parts->list[parts->at].iov_base = (char *)parts->list[parts->at].iov_base + done;
+    parts->list[parts->at].iov_len -= done;
+}
+
+/* A page that comes may take another one away, but that one then comes without taking any. */
+static bool are_there(const struct guest *space, uint64_t address, const struct guest *other, uint64_t other_address) {
+    return is_there(space, address) && is_there(other, other_address) && is_there(space, address);
+}
+
+/* The program copies from page to page, while nothing leaves: we wait for it. The words below its stack hold what it asks for. */
+static int64_t copy_part(struct call *call, const struct guest *other, uint64_t here, uint64_t there, uint64_t size) {
+    enum { RED_ZONE = 128 };
+    struct iovec asked[2] = {{(void *)(uintptr_t)here, size}, {(void *)(uintptr_t)there, size}};
+    uint64_t at = (call->regs.rsp - RED_ZONE - sizeof asked) / 16 * 16;
+    if (!write_memory(call, at, asked, sizeof asked) || !are_there(call->space, here, other, there)) return -EFAULT;
+    return run_in(call, call->number, call->args[0], at, 1, at + sizeof *asked, 1, 0);
+}
+
+static int64_t copy_parts(struct call *call, const struct guest *other, struct parts *here, struct parts *there) {
+    int64_t done = 0;
+    for (;;) {
+        uint64_t size = least(left_of(here), left_of(there));
+        if (size == 0) return done;
+        int64_t result = copy_part(call, other, address_of(here), address_of(there), size);
+        if (result > 0) done += result;
+        if (result != (int64_t)size) return done ? done : result;
+        step(here, size);
+        step(there, size);
+    }
+}
+
+void do_copy_memory(struct call *call) {
+    static struct parts here, there;
+    char below[256];
+    const uint64_t *a = call->args, at = call->regs.rsp - sizeof below;
+    const struct task *task = find_task((pid_t)a[0]);
+    if (!task || !task->process || (!has_pieces(task->process->space) && !has_pieces(call->space)) || a[2] > MOST_PARTS || a[4] > MOST_PARTS ||
+        a[5] || !read_parts(call, a[1], a[2], &here) || !read_parts(call, a[3], a[4], &there) || !read_memory(call, at, below, sizeof below))
+        return let_pass(call);
+    int64_t result = copy_parts(call, task->process->space, &here, &there);
+    write_memory(call, at, below, sizeof below);
+    answer(call, result);
+}
