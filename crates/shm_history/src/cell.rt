@@ -4,6 +4,7 @@
 use atomic_table::Split;
 use crossbeam_utils::atomic::seq_cell::{Pass, RuledSeqCell};
 use crossbeam_utils::rule::{Outcome, Protocol};
+use std::collections::LinkedList;
 
 /// Four counts of one world at one moment: events, frames in use, dirty frames, and swap slots in use.
 #[derive(Clone, Copy, PartialEq, Eq, Debug)]
@@ -14,22 +15,24 @@ pub struct Reading {
     pub used: u64,
 }
 
-/// What a seat knows: whether it is the keeper's, and four counts. The keeper's counts are those that it stored
-/// last, a reader's those that it loaded last. The program never makes a value of this type.
+/// What a seat knows: whether it is the keeper's, four counts, and all that were stored up to them. The keeper's counts
+/// are those that it stored last, a reader's those that it loaded last. The program never makes a value of this type.
 pub struct SeatView {
     pub is_keeper: bool,
     pub seen: Reading,
+    pub stored: LinkedList<Reading>,
 }
 
 /// The protocol of the cell, and what the keeper's seat knows first.
 pub struct Gauged;
 
 impl Protocol<[u64; 4], SeatView> for Gauged {
+    ghost use Rattle.std.specs.Prelude.{[]};
     ghost use Rattle.shm_history.specs.Gauges.{IsGaugeSound, keeping, zeros};
 
     ghost holds = { IsGaugeSound };
 
-    ghost first = { keeping zeros };
+    ghost first = { keeping zeros [] };
 }
 
 /// A reader's load. Afterwards its seat knows the words.
@@ -58,7 +61,7 @@ impl Split<SeatView> for NewReader {
 
     ghost left = { λ v. v };
 
-    ghost right = { λ v. having_seen v.seen };
+    ghost right = { λ v. having_seen v.seen v.stored };
 }
 
 pub type Cell = RuledSeqCell<[u64; 4], SeatView, Gauged, 4>;

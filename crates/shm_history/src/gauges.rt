@@ -1,10 +1,10 @@
 //! A gauge shows counts without the world's lock, and only its keeper stores them. Gauge, keeper and readers'
 //! seats share one cell. A reading has all four counts that the keeper stored at one moment. The events of a
 //! seat's readings never decrease. A reading may be of any age.
-ghost use Rattle.std.specs.Prelude.{◌≡◌, ◌≤◌, IfOk};
+ghost use Rattle.std.specs.Prelude.{◌≡◌, ◌≤◌, [], IfOk};
 ghost use Rattle.std.specs.Arc.{arc_value};
 ghost use Rattle.crossbeam_utils.specs.Seq.{cell_view};
-ghost use Rattle.shm_history.specs.Gauges.{zeros, keeping, cell_words, IsReading};
+ghost use Rattle.shm_history.specs.Gauges.{zeros, keeping, cell_words, last_of, stores, StartsWith, IsReading};
 
 use crate::cell::{Cell, Loads, NewReader, Reading, SeatPass, Stores};
 use shm_base::HostMemory;
@@ -34,7 +34,8 @@ impl Model for Gauge {
     ghost view = { λ g. (arc_value g.cell).table.shared.table_id };
 }
 
-/// The only seat that stores. Contracts see the name of its cell, and the counts that it stored last.
+/// The only seat that stores. Contracts see the name of its cell, the counts that it stored last, and all that it
+/// stored.
 pub struct Keeper {
     cell: Arc<Cell, Global>,
     pass: SeatPass,
@@ -61,13 +62,17 @@ impl Model for Keeper {
     ghost use Rattle.crossbeam_utils.specs.Seq.{cell_view};
     ghost use Rattle.shm_history.specs.Gauges.{keeping};
 
-    ghost view = { λ k. record { cell = k.pass.table_id; numbers = k.last } };
+    ghost view = { λ k. record {
+      cell = k.pass.table_id;
+      numbers = k.last;
+      stored = (cell_view k.pass).stored;
+    } };
 
     ghost invariant = { λ k. (k.pass.table_id ≡ (arc_value k.cell).table.shared.table_id)
-        × (cell_view k.pass ≡ keeping k.last) };
+        × (cell_view k.pass ≡ keeping k.last (cell_view k.pass).stored) };
 }
 
-/// A reader's seat. Contracts see the name of its cell, and its last reading.
+/// A reader's seat. Contracts see the name of its cell, its last reading, and what the keeper had stored up to it.
 pub struct ReaderSeat {
     pass: SeatPass,
 }
@@ -86,7 +91,11 @@ impl Model for ReaderSeat {
     ghost use Rattle.std.specs.Prelude.{◌≡◌, false};
     ghost use Rattle.crossbeam_utils.specs.Seq.{cell_view};
 
-    ghost view = { λ r. record { cell = r.pass.table_id; numbers = (cell_view r.pass).seen } };
+    ghost view = { λ r. record {
+      cell = r.pass.table_id;
+      numbers = (cell_view r.pass).seen;
+      stored = (cell_view r.pass).stored;
+    } };
 
     ghost invariant = { λ r. (cell_view r.pass).is_keeper ≡ false };
 }
@@ -100,6 +109,8 @@ impl Gauge {
         ensures cell { seat.new.cell ≡ seat.old.cell }
         ensures bounds { IsReading result }
         ensures later { seat.old.numbers.events ≤ result.events }
+        ensures last { result ≡ last_of zeros seat.new.stored }
+        ensures grows { StartsWith seat.new.stored seat.old.stored }
     {
         let words = self.cell.load_as::<Loads, R>(rt, &mut seat.pass);
         Reading {
@@ -115,7 +126,7 @@ impl Keeper {
     /// A gauge with a new cell of zeros, and its keeper. HostMemory: the host refused memory.
     pub(crate) fn new(alloc: Global) -> Result<(Gauge, Keeper), HostMemory>
         ensures cell { IfOk result (λ g. g.1.cell ≡ g.0) }
-        ensures numbers { IfOk result (λ g. g.1.numbers ≡ zeros) }
+        ensures numbers { IfOk result (λ g. (g.1.numbers ≡ zeros) × (g.1.stored ≡ [])) }
     {
         let (cell, pass) = Cell::ruled(alloc, [0, 0, 0, 0])?;
         let cell = Arc::new(alloc, cell)?;
@@ -146,7 +157,7 @@ impl Keeper {
     pub(crate) fn store<R: Wait>(&mut self, rt: &R, next: Reading)
         requires later { self.old.numbers.events ≤ next.events }
         requires bounds { IsReading next }
-        ensures { self.new ≡ record self.old { numbers = next } }
+        ensures { self.new ≡ stores self.old next }
     {
         self.cell
             .swap_as::<Stores, R>(rt, &mut self.pass, words(&next));
@@ -156,8 +167,8 @@ impl Keeper {
 
 fn of(cell: Arc<Cell, Global>, pass: SeatPass) -> Keeper
     requires cell { pass.table_id ≡ (arc_value cell).table.shared.table_id }
-    requires view { cell_view pass ≡ keeping zeros }
-    ensures { result ≡ record { cell = pass.table_id; numbers = zeros } }
+    requires view { cell_view pass ≡ keeping zeros [] }
+    ensures { result ≡ record { cell = pass.table_id; numbers = zeros; stored = [] } }
 {
     Keeper {
         cell,

@@ -1,6 +1,6 @@
 //! The gauge of a world.
-ghost use Rattle.std.specs.Prelude.{◌≡◌, ◌<◌, ◌↔◌, ◌⊎◌, false, length, IsTrue, IsFalse, IfOk, IfSome, IsNone, Err};
-ghost use Rattle.shm_history.specs.Gauges.{reading_of, has_gauge, IsReading};
+ghost use Rattle.std.specs.Prelude.{◌≡◌, ◌∷◌, [], ◌<◌, ◌↔◌, ◌⊎◌, false, length, IsTrue, IsFalse, IfOk, IfSome, IsNone, Err};
+ghost use Rattle.shm_history.specs.Gauges.{reading_of, has_gauge, stores, IsReading};
 ghost use Rattle.shm_history.specs.WorldState.{tally_of};
 ghost use Rattle.shm_history.specs.declared.publish.GaugeRefused.TheVariants.{Limits};
 
@@ -46,8 +46,7 @@ impl<P: Pager> World<P> {
     /// Stores the world's counts for the readers of the keeper's gauge. Does nothing and returns false if the
     /// keeper has stored more events than this world has, or if this world can have no gauge.
     pub fn publish<R: Wait>(&self, rt: &R, keeper: &mut Keeper) -> bool
-        ensures cell { keeper.new.cell ≡ keeper.old.cell }
-        ensures stored { IsTrue result → keeper.new.numbers ≡ reading_of (tally_of self.now) }
+        ensures stored { IsTrue result → keeper.new ≡ stores keeper.old (reading_of (tally_of self.now)) }
         ensures ahead { IsFalse result → keeper.new ≡ keeper.old }
         ensures when { IsFalse result ↔
             ((length self.now.events < keeper.old.numbers.events)
@@ -71,9 +70,10 @@ pub fn gauge<R: Wait, P: Pager>(
     alloc: Global,
     world: &World<P>,
 ) -> Result<(Gauge, Keeper, ReaderSeat), GaugeRefused>
-    ensures cell { IfOk result (λ g. (g.1.cell ≡ g.0) × (g.2.cell ≡ g.0)) }
+    ensures cell { IfOk result (λ g. g.1.cell ≡ g.0) }
     ensures stored { IfOk result (λ g. g.1.numbers ≡ reading_of (tally_of world.now)) }
-    ensures seen { IfOk result (λ g. g.2.numbers ≡ reading_of (tally_of world.now)) }
+    ensures first { IfOk result (λ g. g.1.stored ≡ reading_of (tally_of world.now) ∷ []) }
+    ensures seen { IfOk result (λ g. g.2 ≡ g.1) }
     ensures limits { (result ≡ Err Limits) ↔ (has_gauge world.now.machine.limits ≡ false) }
 {
     if world.reading().is_none() {
