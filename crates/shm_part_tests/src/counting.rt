@@ -20,6 +20,8 @@ impl Pager for CountingPager {
 
     ghost failed = { λ p. p.failures };
 
+    ghost most = { λ p. p.failures };
+
     fn slots(&self) -> u32 {
         self.inner.slots()
     }

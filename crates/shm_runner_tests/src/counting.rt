@@ -1,5 +1,5 @@
 //! Swap areas whose pagers count their calls.
-ghost use Rattle.shm_pager.specs.Areas.{area_pages, failed_in};
+ghost use Rattle.shm_pager.specs.Areas.{area_pages, failed_in, most_in};
 
 use shm_pager::{AreaPager, Pager, PagerFault};
 use std::alloc::{AllocError, Global};
@@ -64,6 +64,8 @@ impl Pager for AskedPager {
     ghost content = { λ p. area_pages p.inner };
 
     ghost failed = { λ p. failed_in p.inner };
+
+    ghost most = { λ p. most_in p.inner };
 
     fn slots(&self) -> u32 {
         self.inner.slots()

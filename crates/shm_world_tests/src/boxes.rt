@@ -1,6 +1,8 @@
 //! Boxes that count their drops: those of a start that is refused, and those of areas that a swapoff takes
 //! away. Each is dropped once, and none early. The test of starts also passes if the host refuses memory: `rt
 //! try --test --fail-alloc N -- boxes::a_refused_start` makes the N-th allocation fail.
+ghost use Rattle.shm_pager.specs.Pages.{last_count};
+
 use crate::histories::{Ask, Row, Want, answers, opened_by};
 use crate::starts::ROWS;
 use shm_base::{Errno, HostMemory, Limits, Process};
@@ -22,6 +24,8 @@ impl Pager for CountedPager {
     ghost content = { λ p. p.inner.pages };
 
     ghost failed = { λ p. p.inner.failed };
+
+    ghost most = { λ _. last_count };
 
     fn slots(&self) -> u32 {
         self.inner.slots()

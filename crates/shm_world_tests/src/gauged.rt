@@ -259,6 +259,8 @@ impl Pager for WaitingPager<'_> {
 
     ghost failed = { λ _. 0 };
 
+    ghost most = { λ _. 0 };
+
     fn slots(&self) -> u32 {
         self.inner.slots()
     }

@@ -23,6 +23,8 @@ impl Pager for AskedPager {
 
     ghost failed = { λ _. 0 };
 
+    ghost most = { λ _. 0 };
+
     fn slots(&self) -> u32 {
         self.inner.slots()
     }

@@ -27,7 +27,7 @@ pub(crate) fn view<R: Read, W: Write, P: Pager>(
     pagers: Vec<P>,
     asked: Option<Steps>,
 ) -> Result<(), Stop>
-    ensures ok { let text = IsRecord (handed_in P.content P.failed pagers.items) asked in
+    ensures ok { let text = IsRecord (handed_in P.content P.failed P.most pagers.items) asked in
         let areas = map (λ p. length (P.content p)) pagers.items in
         OnOk result (IfSome (R.remaining reader.old) (λ input.
         Prints text (W.contents writer.old) (W.contents writer.new) areas input)) }
@@ -35,7 +35,7 @@ pub(crate) fn view<R: Read, W: Write, P: Pager>(
     ensures cause { IfErr result
         (λ s. IfSome (R.remaining reader.old)
         (λ input. IsStopOf s asked (map (λ p. length (P.content p)) pagers.items) input)) }
-    ensures silent { let run = IsRecord (handed_in P.content P.failed pagers.items) asked in
+    ensures silent { let run = IsRecord (handed_in P.content P.failed P.most pagers.items) asked in
         let areas = map (λ p. length (P.content p)) pagers.items in
         let text = IsTextFor run areas (R.remaining reader.old) in
         IfErr result (λ s. WritesNothing text s (W.contents writer.old) (W.contents writer.new)) }
@@ -67,13 +67,13 @@ fn view_script<W: Write, P: Pager>(
     pagers: Vec<P>,
     asked: Option<Steps>,
 ) -> Result<(), Stop>
-    ensures ok { let text = IsRecord (handed_in P.content P.failed pagers.items) asked in
+    ensures ok { let text = IsRecord (handed_in P.content P.failed P.most pagers.items) asked in
         let areas = map (λ p. length (P.content p)) pagers.items in
         OnOk result (IsWritten (text script.now areas) (W.contents writer.old) (W.contents writer.new)) }
     ensures cause { IfErr result
         (λ s. IsStopIn s asked (map (λ p. length (P.content p)) pagers.items) script.now) }
     ensures silent { let areas = map (λ p. length (P.content p)) pagers.items in
-        let text = IsRecord (handed_in P.content P.failed pagers.items) asked script.now areas in
+        let text = IsRecord (handed_in P.content P.failed P.most pagers.items) asked script.now areas in
         IfErr result (λ s. WritesNothing text s (W.contents writer.old) (W.contents writer.new)) }
 {
     if let Some(lines) = too_many(script, asked) {

@@ -8,7 +8,7 @@ use Rattle.shmview.proofs.Stops.{stops, early_stop, nothing_as}
 use Rattle.shmview.proofs.view.view.Goals as goal
 
 pub returns-in-Ok-clause-ok : goal.returns-in-Ok-clause-ok
-returns-in-Ok-clause-ok g c = shows (IsRecord (handed_in g.P.Pager.content g.P.Pager.failed c.args.pagers.items) c.args.asked) c.view_script.result (g.R.Read.remaining c.args.reader.now) (g.W.Write.contents c.args.writer.now) (g.W.Write.contents c.view_script.new.writer) (map (λ p. length (g.P.Pager.content p)) c.args.pagers.items) c.in-Ok.script c.in-Ok.ensures.read c.view_script.ensures.ok
+returns-in-Ok-clause-ok g c = shows (IsRecord (handed_in g.P.Pager.content g.P.Pager.failed g.P.Pager.most c.args.pagers.items) c.args.asked) c.view_script.result (g.R.Read.remaining c.args.reader.now) (g.W.Write.contents c.args.writer.now) (g.W.Write.contents c.view_script.new.writer) (map (λ p. length (g.P.Pager.content p)) c.args.pagers.items) c.in-Ok.script c.in-Ok.ensures.read c.view_script.ensures.ok
 
 pub returns-in-Ok-clause-whole : goal.returns-in-Ok-clause-whole
 returns-in-Ok-clause-whole g c = anyway c.view_script.result (IsAtEnd (g.R.Read.remaining c.whole_script.new.reader)) c.in-Ok.ensures.whole
@@ -21,7 +21,7 @@ returns-in-Err-clause-cause g c = early_stop c.in-Err.fault (g.R.Read.remaining 
 
 pub returns-in-Ok-clause-silent : goal.returns-in-Ok-clause-silent
 returns-in-Ok-clause-silent g c =
-    let run = IsRecord (handed_in g.P.Pager.content g.P.Pager.failed c.args.pagers.items) c.args.asked in
+    let run = IsRecord (handed_in g.P.Pager.content g.P.Pager.failed g.P.Pager.most c.args.pagers.items) c.args.asked in
     let areas = map (λ p. length (g.P.Pager.content p)) c.args.pagers.items in
     nothing_as (run c.in-Ok.script areas) (IsTextFor run areas (g.R.Read.remaining c.args.reader.now)) c.view_script.result _ _ (text_for run areas _ c.in-Ok.script c.in-Ok.ensures.read) c.view_script.ensures.silent
 
