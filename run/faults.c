@@ -6,6 +6,7 @@
 #include <errno.h>
 #include <fcntl.h>
 #include <linux/userfaultfd.h>
+#include <poll.h>
 #include <sched.h>
 #include <signal.h>
 #include <stdlib.h>
@@ -44,7 +45,8 @@ static void add_to_poller(int file, void *what) {
 void check_faults(void) {
     device = open("/dev/userfaultfd", O_RDWR | O_CLOEXEC);
     if (device == -1)
-        stop(CANNOT_START, "--frames needs /dev/userfaultfd, which can't be opened: %s; root may, or whom root lets", strerror(errno));
+        stop(CANNOT_START, "--frames needs /dev/userfaultfd, which can't be opened: %s; root may, or whom root lets",
+             strerror(errno));
     int file = ioctl(device, USERFAULTFD_IOC_NEW, O_CLOEXEC);
     if (file == -1 || !set_up(file)) stop(CANNOT_START, "--frames needs Linux 6.6 or later: userfaultfd: %s", strerror(errno));
     close(file);
@@ -58,7 +60,8 @@ static int keep_files(void *parent) {
     sigfillset(&all);
     sigprocmask(SIG_BLOCK, &all, NULL);
     setsid();
-    while (getppid() == *(pid_t *)parent) usleep(10000);
+    struct pollfd end = {.fd = (int)syscall(SYS_pidfd_open, *(pid_t *)parent, 0), .events = POLLIN};
+    while (end.fd != -1 && poll(&end, 1, -1) != 1) continue;
     sleep(UNTIL_KILLED);
     _exit(0);
 }
@@ -125,10 +128,10 @@ bool watch_child(struct task *task) {
     begin_call(&call, task);
     call.self = call.space = space;
     if (call.where != GONE) call.where = AT_EXIT;
-    if (!open_faults(&call) && call.where != GONE) stop(CANNOT_START, "process %d has no descriptor left for its userfaultfd", call.tgid);
+    if (!open_faults(&call) && call.where != GONE)
+        stop(CANNOT_START, "process %d has no descriptor left for its userfaultfd", call.tgid);
     for (uint32_t i = 0; call.where != GONE && nog_piece_at(&machine, space->pid, i, &piece) == NOG_DONE; i++)
-        if (!watch(space, piece.base, (uint64_t)piece.pages * PAGE) && errno != ESRCH && errno != ENOMEM)
-            stop(CANNOT_START, "process %d: its attachment at %lx is not watched: %s", call.tgid, piece.base, strerror(errno));
+        if (!watch(space, piece.base, (uint64_t)piece.pages * PAGE)) kill(call.tgid, SIGKILL);  /* no memory for it; or it has ended */
     leave_call(&call, NULL);
     return true;
 }
@@ -165,7 +168,8 @@ bool end_failed_access(struct task *task) {
     siginfo_t info;
     nog_piece piece;
     const struct guest *space = task->process->space;
-    if (!space->faults || ptrace(PTRACE_GETSIGINFO, task->tid, 0, &info) == -1 || info.si_code <= 0) return false;  /* sent by a process */
+    if (!space->faults || ptrace(PTRACE_GETSIGINFO, task->tid, 0, &info) == -1) return false;
+    if (info.si_code <= 0) return false;  /* a process sent it */
     uint64_t address = (uint64_t)(uintptr_t)info.si_addr;
     if (!find_piece(space, address, address + 1, &piece)) return false;
     info.si_code = BUS_ADRERR;

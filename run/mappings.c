@@ -84,8 +84,9 @@ void do_protect(struct call *call) {
     struct guest *space = space_with(call, begin, length);
     if (!space) return let_pass(call);
     uint64_t end = options.frames && is_writable ? begin_of_readonly(space, begin, begin + length) : begin + length;
-    bool is_whole = nog_failed_at(&machine, space->pid, begin, end - begin, 0, &hole) == NOG_OUT_OF_RANGE, is_cut = end != begin + length;
-    int64_t result = is_whole && !is_cut ? 0 : run_in(call, call->number, begin, end - begin, call->args[2], call->args[3], 0, 0);
+    bool is_cut = end != begin + length, is_whole = nog_failed_at(&machine, space->pid, begin, end - begin, 0, &hole) == NOG_OUT_OF_RANGE;
+    int64_t result = 0;
+    if (!is_whole || is_cut) result = run_in(call, call->number, begin, end - begin, call->args[2], call->args[3], 0, 0);
     protect_pieces(space, begin, result == 0 ? end : hole, is_writable);
     if (is_whole && !is_cut) let_pass(call);
     else answer(call, result == 0 && is_cut ? -EACCES : result);

@@ -22,7 +22,7 @@ _Static_assert(NOG_LINUX == (1 << LINUX) - 1 && NOG_HUGE_IS_REFUSED == 1 << (LIN
 
 /* As what --help of the start script shows; the program itself says only this. */
 static const char usage[] = "usage: shmrun [--limits SHMMAX,SHMMNI,SHMALL,MEMLOCK] [--rules NAME,..] [--fail CALL:N=ERRNO].. "
-                            "[--seed S] [--record RUN] [--frames N] [--swap AREA].. COMMAND ARG..";
+                            "[--seed S] [--record RUN] [--frames N] [--swap AREA].. [--swap-file PATH] COMMAND ARG..";
 
 static void read_rules(const char *text) {
     options.limits.rules = 0;
@@ -81,8 +81,7 @@ static const char *read_fuse(const char *text) {
     while (*text == ':') {
         char *end;
         nog_failure failure = {.area = (uint32_t)options.area_count, .is_write = text[1] == 'w'};
-        bool is_right = (text[1] == 'r' || text[1] == 'w') && text[2] >= '1' && text[2] <= '9' && options.failure_count < MOST_FAILURES;
-        if (!is_right) return NULL;
+        if ((text[1] != 'r' && text[1] != 'w') || text[2] < '1' || text[2] > '9' || options.failure_count == MOST_FAILURES) return NULL;
         failure.call = strtoull(text + 2, &end, 10);
         options.failures[options.failure_count++] = failure;
         text = end;
@@ -100,8 +99,8 @@ static void read_area(const char *text) {
     uint64_t slots = end == number ? 0 : strtoull(number, NULL, 10);
     if (i == FUSE) end = read_fuse(end);
     if (!end || *end || slots < 1 || slots > MOST_SLOTS || options.area_count == MOST_AREAS)
-        stop(CANNOT_START, "--swap: %s is not ram:N, sparse:N, mirror:N, fuse:N:rK or fuse:N:wK, with N from 1 to %d; %d areas at most", text,
-             MOST_SLOTS, MOST_AREAS);
+        stop(CANNOT_START, "--swap: %s is not ram:N, sparse:N, mirror:N, fuse:N:rK or fuse:N:wK, with N from 1 to %d; %d areas at most",
+             text, MOST_SLOTS, MOST_AREAS);
     options.areas[options.area_count++] = (nog_area){kinds[i].kind, (uint32_t)slots};
 }
 
@@ -123,6 +122,7 @@ static void read_option(const char *name, const char *value) {
     else if (strcmp(name, "--record") == 0) read_record(value);
     else if (strcmp(name, "--frames") == 0) read_frames(value);
     else if (strcmp(name, "--swap") == 0) read_area(value);
+    else if (strcmp(name, "--swap-file") == 0) options.swap_file = value;
     else if (strcmp(name, "--fail") == 0) wrong = add_failure(value);
     else stop(CANNOT_START, "no such option: %s; %s", name, usage);
     if (wrong) stop(CANNOT_START, "--fail: %s: %s", value, wrong);
@@ -149,7 +149,8 @@ void read_options(int argc, char **argv) {
         read_option(name, is_joined ? argv[i] + length + 1 : argv[i + 1]);
         i += !is_joined;
     }
-    if (options.area_count && !options.frames) stop(CANNOT_START, "--swap needs --frames");
+    if ((options.area_count || options.swap_file) && !options.frames)
+        stop(CANNOT_START, "--swap%s needs --frames", options.swap_file ? "-file" : "");
     if (i == argc) stop(CANNOT_START, "there is no command; %s", usage);
     options.command = argv + i;
 }

@@ -13,7 +13,7 @@
 enum { HOST = 2147483647, INDEXES = 32768 };
 static nog_machine store = NOG_MACHINE_INITIALIZER;
 static nog_frame *frames;         /* as the store has them; id is -1: free */
-static uint64_t hand, used;       /* used: frames with a page */
+static uint64_t hand, used, lowest; /* used: frames with a page; lowest: no free frame has a lower number */
 static struct twin {
     int32_t id, own;              /* of the machine's segment, and of the store's */
     uint32_t pages;               /* 0: there is no twin */
@@ -29,12 +29,18 @@ static uint64_t after_hand(uint64_t steps) { return (hand + steps) % count(); }
 static struct twin *holder_of(const nog_frame *frame) { return &twins[(uint32_t)frame->id % INDEXES]; }
 static uint64_t address_of(const struct twin *twin, uint32_t page) { return twin->base + (uint64_t)page * PAGE; }
 
-void open_pages(nog_machine *machine) {
+uint32_t open_pages(nog_machine *machine) {
+    const struct options *o = &options;
     const nog_process host = {.pid = HOST, .is_born = 1};
-    reply_of(nog_snapshot(machine, &store));
-    if (nog_admit(&store, &host) != NOG_DONE) stop(CANNOT_START, "the store of pages has no process");
+    nog_area empty[MOST_AREAS];  /* as large as the store's, and never used */
+    for (size_t i = 0; i < o->area_count; i++) empty[i] = (nog_area){NOG_SPARSE, o->areas[i].slots};
+    uint32_t code = nog_open(machine, &o->limits, empty, o->area_count, NULL, 0, NULL, 0);
+    use_swap_file(true);
+    if (!code) code = nog_open(&store, &o->limits, o->areas, o->area_count, o->failures, o->failure_count, &host, 1);
+    use_swap_file(false);
     frames = allocate(count() * sizeof *frames);
     for (uint64_t i = 0; i < count(); i++) frames[i].id = -1;
+    return code;
 }
 
 /* ---- segments that end, and those that are locked ---- */
@@ -42,6 +48,7 @@ void open_pages(nog_machine *machine) {
 static void empty(uint64_t place) {
     holder_of(&frames[place])->frame_of[frames[place].page] = 0;
     frames[place].id = -1;
+    lowest = least(lowest, place);
     used--;
 }
 
@@ -116,10 +123,10 @@ static bool has_left(const nog_frame *frame) {
 
 /* A page comes in. If its read fails, the leaver has left; if the leaver's write fails, it has not. */
 static uint32_t come_in(struct twin *twin, uint32_t page, void *bytes) {
-    uint64_t place = 0, done;
+    uint64_t place, done;
     bool is_full = used == count();
+    for (place = lowest; !is_full && !is_free(place);) lowest = ++place;
     if (is_full) place = leaver_place();
-    else while (!is_free(place)) place++;
     if (is_full && frames[place].is_lent) return NOG_LENT;
     uint32_t code = nog_read(&store, HOST, address_of(twin, page), bytes, PAGE, &done);
     if (is_full) turn(place);

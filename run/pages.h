@@ -12,8 +12,8 @@ typedef struct nog_frame {  /* a frame with a page */
     uint32_t is_referenced, is_dirty, is_lent, is_locked;
 } nog_frame;
 
-/* After the machine was opened, and before it has a segment. */
-void open_pages(nog_machine *machine);
+/* Opens the machine with the frames and areas of the options. The codes are those of nog_open. */
+uint32_t open_pages(nog_machine *machine);
 
 /* The page comes in as by a load, and its bytes are copied out. From then on it is lent.
    NOG_EINVAL: there is no such segment. NOG_OUT_OF_RANGE: it has no such page, or `len` is not a page. NOG_LENT, NOG_SIGBUS. */

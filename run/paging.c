@@ -6,8 +6,8 @@
    that a program could make. No program is stopped for it: a store after the punch faults, and finds its page brought in.
 
    A page that the clock's hand passes loses its referenced bit, so it is taken too: its next use is a fault, which sets the bit
-   again. A page stays with the thread that asked for it for STAY_US, and other threads wait for their pages until then, or TURN_US: so an
-   access to two pages gets both, also if there are few frames. */
+   again. A page stays with the thread that asked for it for STAY_US; other threads wait for their pages until then, or TURN_US.
+   So an access to two pages gets both, also if there are few frames. */
 #include "pages.h"
 #include "shmrun.h"
 #include <errno.h>
@@ -42,7 +42,6 @@ uint64_t now_us(void) {
 
 void open_paging(void) {
     uint64_t count = options.frames;
-    open_pages(&machine);
     rows = allocate(count * sizeof *rows);
     held = allocate(count * sizeof *held);
     bytes_of_held = allocate(count * PAGE);
@@ -155,7 +154,7 @@ enum brought bring(const struct fault *fault) {
     uint32_t page, is_writable;
     const struct guest *space = fault->space;
     uint64_t address = fault->address / PAGE * PAGE;
-    if (!space->is_admitted || nog_page_at(&machine, space->pid, address, &id, &page, &is_writable) != NOG_DONE) return NOT_ATTACHED;
+    if (nog_page_at(&machine, space->pid, address, &id, &page, &is_writable) != NOG_DONE) return NOT_ATTACHED;
     struct held *it = *place_of(id, page);
     if (it && it->is_lent) return WAS_THERE;
     uint32_t code = borrow(id, page, fault, &it);
@@ -164,7 +163,8 @@ enum brought bring(const struct fault *fault) {
     reply_of(code);
     int error = put_in(space, address, it);
     if (!error) return CAME;
-    if (error != EAGAIN && error != ENOENT && error != ESRCH) stop(CANNOT_START, "page %u can't be brought: %s", page, strerror(error));
+    if (error != EAGAIN && error != ENOENT && error != ESRCH)
+        stop(CANNOT_START, "page %u of segment %d can't be brought: %s", page, id, strerror(error));
     it->is_lent = false;
     reply_of(nog_give_back(&machine, id, page, NULL, 0));
     return LOST;

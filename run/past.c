@@ -128,10 +128,12 @@ void do_copy_memory(struct call *call) {
     char below[256];
     const uint64_t *a = call->args, at = call->regs.rsp - sizeof below;
     const struct task *task = find_task((pid_t)a[0]);
-    if (!task || !task->process || (!has_pieces(task->process->space) && !has_pieces(call->space)) || a[2] > MOST_PARTS || a[4] > MOST_PARTS ||
-        a[5] || !read_parts(call, a[1], a[2], &here) || !read_parts(call, a[3], a[4], &there) || !read_memory(call, at, below, sizeof below))
-        return let_pass(call);
-    int64_t result = copy_parts(call, task->process->space, &here, &there);
+    const struct guest *other = task && task->process ? task->process->space : NULL;
+    bool is_refused = a[2] > MOST_PARTS || a[4] > MOST_PARTS || a[5];  /* by the kernel too */
+    if (!other || is_refused || (!has_pieces(other) && !has_pieces(call->space))) return let_pass(call);
+    bool is_read = read_parts(call, a[1], a[2], &here) && read_parts(call, a[3], a[4], &there) && read_memory(call, at, below, sizeof below);
+    if (!is_read) return answer(call, -EFAULT);
+    int64_t result = copy_parts(call, other, &here, &there);
     write_memory(call, at, below, sizeof below);
     answer(call, result);
 }

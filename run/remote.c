@@ -194,8 +194,7 @@ static bool copy_memory(const struct call *call, uint64_t address, void *bytes, 
         part = options.frames ? least(size, PAGE - address % PAGE) : size;
         struct iovec here = {bytes, part}, there = {(void *)(uintptr_t)address, part};
         if (!is_there(call->space, address)) return false;
-        ssize_t done = is_write ? process_vm_writev(call->tid, &here, 1, &there, 1, 0) : process_vm_readv(call->tid, &here, 1, &there, 1, 0);
-        if (done != (ssize_t)part) return false;
+        if ((is_write ? process_vm_writev : process_vm_readv)(call->tid, &here, 1, &there, 1, 0) != (ssize_t)part) return false;
     }
     return true;
 }

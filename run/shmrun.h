@@ -10,6 +10,7 @@
    With --frames, few pages of segments are in memory:
    paging.c    how a page comes and leaves                          faults.c    accesses to pages that are not there
    past.c      system calls that go past the page tables            pages.c     which pages are in frames
+   blocks.c    swap areas in a file
 
    One thread, the tracer, handles one stop at a time, so each call is one step of the machine. An attach is made in the program
    first and then in the machine, and a detach in the machine first. So whatever the machine has attached is mapped, also while
@@ -48,6 +49,7 @@ extern struct options {
     nog_area areas[MOST_AREAS];
     nog_failure failures[MOST_FAILURES];  /* of the areas */
     size_t area_count, failure_count;
+    const char *swap_file;
     char **command;
 } options;
 void read_options(int argc, char **argv);
@@ -187,6 +189,11 @@ uint64_t now_us(void);
 bool is_there(const struct guest *space, uint64_t address);
 /* The segment is destroyed. */
 void forget_pages(int32_t id);
+
+/* blocks.c */
+void open_swap_file(const char *path);
+/* Large blocks of the heap are in the file from now on, or no longer. */
+void use_swap_file(bool is_to_be_used);
 
 /* faults.c */
 void check_faults(void);

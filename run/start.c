@@ -1,4 +1,5 @@
 /* The first process, the signals that shmrun gets, and the exit status. */
+#include "pages.h"
 #include "shmrun.h"
 #include <elf.h>
 #include <errno.h>
@@ -15,7 +16,7 @@
 #include <sys/wait.h>
 #include <unistd.h>
 
-enum { MOST_FRAMES = 1 << 20, FEWEST_FRAMES = 1 << 12 };
+enum { MOST_FRAMES = 1 << 20, FEWEST_FRAMES = 1 << 12, SLOTS_IN_FILE = 1 << 16 };
 nog_machine machine = NOG_MACHINE_INITIALIZER;
 static volatile sig_atomic_t first;
 
@@ -81,13 +82,16 @@ static void open_machine(void) {
 /* At most so many pages are in memory: the areas have the others. */
 static void open_machine_with_frames(void) {
     nog_limits *l = &options.limits;
-    if (!options.area_count) options.areas[options.area_count++] = (nog_area){NOG_SPARSE, (uint32_t)l->shmall};
+    const nog_area in_file = {NOG_RAM, SLOTS_IN_FILE}, in_memory = {NOG_SPARSE, (uint32_t)l->shmall};
+    if (!options.area_count) options.areas[options.area_count++] = options.swap_file ? in_file : in_memory;
+    if (options.swap_file) open_swap_file(options.swap_file);
     for (size_t i = 0; i < options.area_count; i++) l->most_slots = most(l->most_slots, options.areas[i].slots);
     l->frames = options.frames;
     if (options.has_limits && l->memlock + 2 > l->frames)
-        stop(CANNOT_START, "--frames %lu: MEMLOCK is %lu; two frames at least are for pages that are not locked", l->frames, l->memlock);
+        stop(CANNOT_START, "--frames %lu: MEMLOCK is %lu; two frames at least are for pages that are not locked", l->frames,
+             l->memlock);
     l->memlock = least(l->memlock, l->frames - 2);
-    uint32_t code = nog_open(&machine, l, options.areas, options.area_count, options.failures, options.failure_count, NULL, 0);
+    uint32_t code = open_pages(&machine);
     if (code == NOG_NO_MEMORY) stop(CANNOT_START, "there is not enough memory for the frames and the swap areas");
     reply_of(code);
     open_paging();

@@ -21,6 +21,7 @@
 #include <sys/time.h>
 #include <sys/uio.h>
 #include <sys/wait.h>
+#include <time.h>
 #include <unistd.h>
 
 enum { PAGE = 4096, PAGES = 64, BYTES = PAGES * PAGE, FAILED = 7 };
@@ -154,6 +155,22 @@ static void counters(bool has_signals) {
 static void plain(void) { counters(false); }
 static void signals(void) { counters(true); }
 
+/* Four processes that only use seams, each of which needs all of two frames. */
+static void seams(void) {
+    pid_t children[PROCESSES];
+    static uint64_t was[PAGES];
+    make_shared();
+    for (int self = 0; self < PROCESSES; self++) {
+        if ((children[self] = fork())) continue;
+        for (int i = 0; i < atoi(word); i++) {
+            int page = self * (PAGES / PROCESSES) + i % 8 * 2;
+            use_seam(page, &was[page], (uint64_t)i);
+        }
+        exit(wrongs != 0);
+    }
+    for (int self = 0; self < PROCESSES; self++) wait_for(children[self], "seams");
+}
+
 /* ---- system calls into pages that are not there ---- */
 
 static void calls(void) {
@@ -266,6 +283,47 @@ static void detaches(void) {
     shmctl(id, IPC_RMID, NULL);
 }
 
+static void *read_fixed(void *at) {
+    int ends[2];
+    char it = 0;
+    check(pipe(ends) == 0, "pipe");
+    while (!is_over)
+        if (write(ends[1], at, 1) == 1 && read(ends[0], &it, 1) == 1) check(it == 1, "a byte is %d when it is attached", it);
+    return NULL;
+}
+
+/* A thread reads where another one attaches: it gets EFAULT or the segment's bytes. */
+static void attaches(void) {
+    int id = make(BYTES);
+    char *at = attach(id, 0);
+    pthread_t thread;
+    memset(at, 1, BYTES);
+    start_movers();
+    pthread_create(&thread, NULL, read_fixed, at + 7 * PAGE);
+    for (int round = 0; round < 500; round++) {
+        shmdt(at);
+        usleep(50);
+        check(shmat(id, at, 0) == at, "shmat");
+        usleep(50);
+    }
+    stop_movers();
+    pthread_join(thread, NULL);
+    shmctl(id, IPC_RMID, NULL);
+}
+
+/* The pages of destroyed segments make room, and those of new ones are zeros. */
+static void destroyed(void) {
+    for (int round = 0; round < 100; round++) {
+        make_shared();
+        for (int i = 0; i < BYTES; i += 64) check(shared[i] == 0, "round %d: byte %d is %d", round, i, shared[i]);
+        memset(shared, 1, BYTES);
+        pid_t child = round % 2 ? fork() : 0;
+        if (round % 2 && child == 0) exit(0);
+        shmdt(shared);
+        if (child) wait_for(child, "an end");
+    }
+}
+
 /* ---- calls past the page tables ---- */
 
 static void copies(void) {
@@ -309,17 +367,15 @@ static void direct(void) {
     stop_movers();
 }
 
-/* A wake of a shared futex finds its page in the file, or not. */
+/* A wake of a shared futex finds its page in the file, or not: one in a million, if it is not looked at again. */
 static void futexes(void) {
     make_shared();
     start_movers();
-    for (int i = 0; i < 20000; i++) {
-        uint32_t *at = (uint32_t *)(shared + i % PAGES * PAGE);
-        check(syscall(SYS_futex, at, FUTEX_WAKE, 1, NULL, NULL, 0) == 0, "futex of page %d: %s", i % PAGES, strerror(errno));
-    }
+    uint32_t *at = (uint32_t *)(shared + 9 * PAGE);
+    for (time_t end = time(NULL) + 4; time(NULL) < end;)
+        check(syscall(SYS_futex, at, FUTEX_WAKE, 1, NULL, NULL, 0) == 0, "a wake: %s", strerror(errno));
     stop_movers();
     pid_t child = fork();
-    uint32_t *at = (uint32_t *)(shared + 9 * PAGE);
     struct timespec soon = {5, 0};
     if (child == 0) _exit(syscall(SYS_futex, at, FUTEX_WAIT, 0, &soon, NULL, 0) != 0);
     while (syscall(SYS_futex, at, FUTEX_WAKE, 1, NULL, NULL, 0) != 1) usleep(100);
@@ -402,8 +458,8 @@ static void locked(void) {
     char *kept = attach(id, 0);
     make_shared();
     catch_bus();
-    check(shmctl(id, SHM_LOCK, NULL) == 0, "SHM_LOCK: %s", strerror(errno));
     for (int i = 0; i < 4; i++) kept[i * PAGE] = (char)(i + 1);
+    check(shmctl(id, SHM_LOCK, NULL) == 0, "SHM_LOCK: %s", strerror(errno));
     for (int i = 0; i < PAGES; i++) shared[i * PAGE] = 1;
     for (int i = 0; i < 4; i++) check(kept[i * PAGE] == i + 1 && bus_count == 0, "locked page %d left", i);
     check(shmctl(id, SHM_UNLOCK, NULL) == 0, "SHM_UNLOCK");
@@ -482,6 +538,7 @@ static void zeros(void) {
 
 static const struct { const char *name; void (*run)(void); } subjects[] = {
     {"counters", plain}, {"signals", signals}, {"calls", calls}, {"forks", forks}, {"readonly", readonly}, {"detaches", detaches},
+    {"seams", seams}, {"attaches", attaches}, {"destroyed", destroyed},
     {"copies", copies}, {"direct", direct}, {"futexes", futexes}, {"refused", refused}, {"bound", bound}, {"clock", clock_rule},
     {"locked", locked}, {"failing", failing}, {"fatal", fatal}, {"one_fails", one_fails}, {"zeros", zeros}};
 

@@ -21,7 +21,7 @@ returns-then-count-eq0-clause-well g c = λ limits w.
     let ts = c.args.spaces.now.translations in
     rw e.table
     (removed-well c.args.spaces.now.runners c.args.segments.now.table f c.requires.found c.requires.few (destroyed c.args.segments.now.table f.seg) limits ts m n (gone g c) e.keeps
-        (true-unnamed ts m n f.seg (c.count.ensures.unnamed c.if-count-eq0.true) e.still) e.sizes e.ends w)
+    (true-unnamed ts m n f.seg (c.count.ensures.unnamed c.if-count-eq0.true) e.still) e.sizes e.ends w)
 
 -- it has some
 stays : (g : Over) (c : After-mark g) → Removes c.args.spaces.now.runners c.args.segments.now.table c.args.found.now c.requires.found c.requires.few (change c.args.segments.now.table c.args.found.now.seg marked)
@@ -37,4 +37,4 @@ returns-else-count-eq0-clause-well g c = λ limits w.
     let m = c.args.segments.now.memory in
     rw c.mark.ensures
     (removed-well c.args.spaces.now.runners c.args.segments.now.table c.args.found.now c.requires.found c.requires.few (change c.args.segments.now.table c.args.found.now.seg marked) limits c.args.spaces.now.translations m m (stays g c)
-        (memory-refl m) (λ all. all) refl (ends-refl m) w)
+    (memory-refl m) (λ all. all) refl (ends-refl m) w)
