@@ -121,8 +121,7 @@ fn run_from<O: Origin + Send + Sync, R: Threads + Wait + Sync, G: Gate, P: Pager
     requires running { IsRunning O.script O.opening O.swap world start.strands.items }
     requires cell { cell_of keeper ≡ O.cell }
     requires gate { G.ends gate.now ≡ O.ends }
-    ensures outcome {
-        IfOk result (λ r. IsOutcome O.script O.opening O.swap r.0.world r.0.transcripts.items) }
+    ensures outcome { IfOk result (λ r. IsOutcome O.script O.opening O.swap r.0.world r.0.transcripts.items) }
     ensures cell { IfOk result (λ r. cell_of r.1 ≡ O.cell) }
     ensures error { IfErr result (CanEnd O.ends O.script) }
 {
@@ -218,9 +217,7 @@ fn run_all<O: Origin + Send + Sync, R: Threads + Wait + Sync, G: Gate, P: Pager 
             let Ok(flusher) = scope.spawn(
                 move ||
                     requires { G.ends gate.now ≡ O.ends }
-                {
-                    run_rounds(rt, shared, gate, &script.lines)
-                },
+                { run_rounds(rt, shared, gate, &script.lines) },
             ) else {
                 return true;
             };
@@ -267,9 +264,7 @@ fn start_all<'s, E, O: Origin + Send + Sync, R: Threads + Wait + Sync, G: Gate, 
             move ||
                 requires gate { G.ends gate.now ≡ O.ends }
                 requires process { has_pid pid O.script.processes ≡ true }
-            {
-                run_process(rt, shared, gate, index, pid)
-            },
+            { run_process(rt, shared, gate, index, pid) },
         ) {
             Ok(handle) => handles.push_reserved(handle),
             Err(_refused) => {
