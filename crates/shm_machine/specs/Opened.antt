@@ -52,6 +52,6 @@ pagers_made failures index [] = []
 pagers_made failures index (a ∷ more) =
     blank a.slots (most_of_kind a.kind (failing_at failures index Left)) ∷ pagers_made failures (index + 1) more
 
--- the machine at its start: areas of zeros, with no failure counted, whose pagers will fail at the listed calls
+-- the machine at its start: areas of zeros, with no failure counted, and the most failures that each may count
 abbrev pub IsOpened : Bounds → List AreaConfig → List Failure → List Process → SystemState → Type 0
 IsOpened limits areas failures processes s = IsStarted limits (sizes_of areas) (map fresh (pagers_made failures 0 areas)) processes s
