@@ -16,6 +16,8 @@ enum { MOST = 256, X32 = 0x40000000 };
 enum { IPC_32 = 117, SHMGET_32 = 395, SHMDT_32 = 398 };
 /* an open that can be one of /proc/sysvipc/shm: of a file that exists, for reading */
 enum { OTHER_OPEN = O_ACCMODE | O_CREAT | O_DIRECTORY | O_PATH | O_TRUNC | O_APPEND | O_EXCL };
+/* with --frames: of a file without cache, or of another process's memory for writing */
+enum { OPEN_PAST_TABLES = O_DIRECT | O_WRONLY | O_RDWR };
 /* the dynamic linker's mappings of a library have this flag, which the kernel ignores */
 enum { OF_LINKER = MAP_DENYWRITE };
 
@@ -117,8 +119,8 @@ static void build(uint64_t number) {
     length = 0;
     refuse_other_machines();
     for (size_t i = 0; i < sizeof traced / sizeof *traced; i++) trace_number(traced[i]);
-    trace_open(SYS_openat, 2, options.frames ? O_DIRECT : 0);
-    trace_open(SYS_open, 1, options.frames ? O_DIRECT : 0);
+    trace_open(SYS_openat, 2, options.frames ? OPEN_PAST_TABLES : 0);
+    trace_open(SYS_open, 1, options.frames ? OPEN_PAST_TABLES : 0);
     trace_masked(SYS_mmap, 3, MAP_FIXED | OF_LINKER, MAP_FIXED);
     trace_range(SYS_madvise, 2, options.frames ? MADV_REMOVE : MADV_DONTFORK, MADV_DOFORK);
     if (options.frames) trace_ways_past_tables();

@@ -19,7 +19,7 @@
 #include <time.h>
 #include <unistd.h>
 
-enum { STAY_US = 100, TURN_US = 2000, NANO = 1000, SECOND_US = 1000000 };
+enum { STAY_US = 100, TURN_US = 2000, KEPT_US = 20000, NANO = 1000, SECOND_US = 1000000 };
 /* A page that is in a frame, as far as it is known here, and its bytes as they were lent. */
 static struct held {
     int32_t id;
@@ -27,6 +27,7 @@ static struct held {
     bool is_lent;
     uint64_t since;            /* when it was lent, in microseconds */
     pid_t user;                /* the thread for which it was lent */
+    bool is_kept;              /* until the thread has ended */
     struct held *next;         /* in its row, or among the unused ones */
 } *held, *unused, **rows;
 static uint8_t *bytes_of_held; /* a page for each of them */
@@ -91,11 +92,17 @@ static void take(int32_t id, uint32_t page) {
     reply_of(nog_give_back(&machine, id, page, is_changed ? bytes : NULL, is_changed ? PAGE : 0));
 }
 
+/* It is kept for a thread that ends. */
+static bool is_kept(const nog_frame *frame) {
+    const struct held *it = *place_of(frame->id, frame->page);
+    return it && it->is_kept && now_us() - it->since < KEPT_US && find_task(it->user);
+}
+
 /* Another thread got the page a moment ago, and may not have used it yet. */
 static bool is_young(const nog_frame *frame, const struct fault *fault) {
     const struct held *it = *place_of(frame->id, frame->page);
     uint64_t now = now_us();
-    return it && it->user != fault->tid && now - it->since < STAY_US && now - fault->since < TURN_US;
+    return is_kept(frame) || (it && it->user != fault->tid && now - it->since < STAY_US && now - fault->since < TURN_US);
 }
 
 /* The pages that the hand passes, and the one that leaves, if a page came in now: takes them, or asks whether one is young. */
@@ -103,7 +110,7 @@ static bool meet_passed(const nog_frame *leaver, const struct fault *fault, bool
     nog_frame frame;
     for (uint64_t i = 0; nog_frame_at(&machine, i, &frame) == NOG_DONE; i++) {
         bool is_leaver = frame.id == leaver->id && frame.page == leaver->page;
-        bool is_taken = frame.is_lent && !frame.is_locked && (frame.is_referenced || is_leaver);
+        bool is_taken = frame.is_lent && !frame.is_locked && (is_leaver || (frame.is_referenced && !is_kept(&frame)));
         if (is_taken && is_question && is_young(&frame, fault)) return true;
         if (is_taken && !is_question) take(frame.id, frame.page);
         if (is_leaver && !leaver->is_referenced) break;
@@ -115,10 +122,13 @@ static bool meet_passed(const nog_frame *leaver, const struct fault *fault, bool
 static bool make_room(const struct fault *fault) {
     nog_frame leaver;
     close_destroyed();
-    if (nog_leaver(&machine, &leaver) != NOG_DONE) return true;
-    if (meet_passed(&leaver, fault, true)) return false;
-    meet_passed(&leaver, fault, false);
-    drop(leaver.id, leaver.page);
+    while (nog_leaver(&machine, &leaver) == NOG_DONE) {
+        if (meet_passed(&leaver, fault, true)) return false;
+        meet_passed(&leaver, fault, false);
+        if (nog_leaver(&machine, &leaver) == NOG_DONE && leaver.is_lent) continue;  /* new bytes set its bit */
+        drop(leaver.id, leaver.page);
+        break;
+    }
     return true;
 }
 
@@ -139,6 +149,7 @@ static uint32_t borrow(int32_t id, uint32_t page, const struct fault *fault, str
     it->is_lent = true;
     it->since = now_us();
     it->user = fault->tid;
+    it->is_kept = false;
     *borrowed = it;
     return NOG_DONE;
 }
@@ -177,4 +188,15 @@ bool is_there(const struct guest *space, uint64_t address) {
     const struct fault fault = {.space = space, .address = address, .since = now_us()};
     for (int i = 0; i < TRIES && ((brought = bring(&fault)) == LOST || brought == LATER); i++) usleep(1);
     return brought != FAILED;
+}
+
+void keep_there(const struct guest *space, pid_t tid, uint64_t address) {
+    int32_t id;
+    uint32_t page, is_writable;
+    if (!is_there(space, address) || nog_page_at(&machine, space->pid, address, &id, &page, &is_writable) != NOG_DONE) return;
+    struct held *it = *place_of(id, page);
+    if (!it || !it->is_lent) return;
+    it->since = now_us();
+    it->user = tid;
+    it->is_kept = true;
 }

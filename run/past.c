@@ -3,10 +3,12 @@
 #include "shmrun.h"
 #include <errno.h>
 #include <fcntl.h>
+#include <linux/futex.h>
 #include <stdio.h>
 #include <sys/stat.h>
 #include <sys/syscall.h>
 #include <sys/uio.h>
+#include <unistd.h>
 
 /* ---- calls that are looked at again at their exit ---- */
 
@@ -136,4 +138,24 @@ void do_copy_memory(struct call *call) {
     int64_t result = copy_parts(call, other, &here, &there);
     write_memory(call, at, below, sizeof below);
     answer(call, result);
+}
+
+/* ---- robust mutexes: the kernel marks those of a thread that ends, but then no page comes for it any more ---- */
+
+void keep_robust(struct task *task) {
+    enum { MOST_LINKS = 2048, OF_PRIORITY = 1 };
+    struct call call = {.task = task, .tid = task->tid, .space = task->process->space};
+    struct robust_list_head *there, head;
+    struct robust_list link;
+    size_t size;
+    if (!call.space->faults || syscall(SYS_get_robust_list, task->tid, &there, &size) == -1 || !there) return;
+    uint64_t end = (uint64_t)(uintptr_t)there;
+    if (!read_memory(&call, end, &head, sizeof head)) return;
+    uint64_t at = (uint64_t)(uintptr_t)head.list.next & ~(uint64_t)OF_PRIORITY;
+    if (head.list_op_pending) keep_there(call.space, task->tid, (uint64_t)(uintptr_t)head.list_op_pending + (uint64_t)head.futex_offset);
+    for (int i = 0; i < MOST_LINKS && at != end && read_memory(&call, at, &link, sizeof link); i++) {
+        keep_there(call.space, task->tid, at);
+        keep_there(call.space, task->tid, at + (uint64_t)head.futex_offset);
+        at = (uint64_t)(uintptr_t)link.next & ~(uint64_t)OF_PRIORITY;
+    }
 }

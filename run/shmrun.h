@@ -187,6 +187,8 @@ enum brought bring(const struct fault *fault);
 uint64_t now_us(void);
 /* Brings the page that an address shows, if it is attached: false if an area failed. It stays until another page is brought. */
 bool is_there(const struct guest *space, uint64_t address);
+/* Brings a page, which stays until the thread has ended, or for a while. */
+void keep_there(const struct guest *space, pid_t tid, uint64_t address);
 /* The segment is destroyed. */
 void forget_pages(int32_t id);
 
@@ -218,6 +220,8 @@ void do_set_flags(struct call *call);
 void open_without_cache(struct call *call, int argument);
 void do_copy_memory(struct call *call);
 void end_watched_call(struct task *task);
+/* Before a thread ends: the pages of the robust mutexes that it has are there until then. */
+void keep_robust(struct task *task);
 
 /* failures.c: adds a rule such as shmat:3=ENOMEM; the answer is what is wrong with it, or null */
 const char *add_failure(const char *rule);

@@ -157,7 +157,7 @@ static pid_t start_command(void) {
         become_command(to[0], from[1]);
     }
     close(from[1]);
-    if (ptrace(PTRACE_SEIZE, child, 0, OPTIONS) == -1)
+    if (ptrace(PTRACE_SEIZE, child, 0, OPTIONS | (options.frames ? PTRACE_O_TRACEEXIT : 0)) == -1)
         stop(CANNOT_START, "the command can't be traced: %s; another program traces it, or kernel.yama.ptrace_scope forbids it",
              strerror(errno));
     if (write(to[1], "t", 1) != 1 || read(from[0], &news, sizeof news) != sizeof news || news.error)

@@ -149,6 +149,7 @@ static void handle_event(struct task *task, int event, int signal) {
     case PTRACE_EVENT_VFORK:
     case PTRACE_EVENT_CLONE: note_birth(task, event); break;
     case PTRACE_EVENT_EXEC: note_exec(task); break;
+    case PTRACE_EVENT_EXIT: keep_robust(task); break;
     case PTRACE_EVENT_STOP:
         if (is_group_stop(signal)) handle_group_stop(task, signal);
         else if (!watch_child(task) && !end_failed_call(task)) break;
@@ -177,7 +178,8 @@ static void take_end(pid_t tid) {
     int status;
     if (waitid(P_PID, (id_t)tid, &found, WEXITED | WNOHANG | WNOWAIT | __WALL) == -1 || found.si_pid != tid) return;
     bool is_stop = found.si_code == CLD_TRAPPED || found.si_code == CLD_STOPPED;  /* shown too, whatever the options */
-    if (!is_stop && waitpid(tid, &status, __WALL | WNOHANG) == tid) note_end(tid, status);
+    bool is_exit = found.si_code == CLD_TRAPPED && found.si_status == (SIGTRAP | PTRACE_EVENT_EXIT << 8);
+    if ((!is_stop || is_exit) && waitpid(tid, &status, __WALL | WNOHANG) == tid) handle_status(tid, status);
 }
 
 void take_ends(pid_t tgid) {

@@ -69,11 +69,19 @@ static int make_view(const struct view *view) {
     return made == -1 ? -ENFILE : made;
 }
 
+/* What is written to /proc/PID/mem goes past page tables. */
+static bool is_memory(const struct call *call, uint64_t address) {
+    char path[MOST_OF_PATH];
+    const char *name = read_text(call, address, path, sizeof path) ? strrchr(path, '/') : NULL;
+    return name && strncmp(path, "/proc/", 6) == 0 && strcmp(name, "/mem") == 0;
+}
+
 void do_open(struct call *call) {
     int folder = call->number == SYS_open ? AT_FDCWD : (int)call->args[0];
     uint64_t path = call->args[call->number == SYS_open ? 0 : 1], flags = call->args[call->number == SYS_open ? 1 : 2];
     struct open_how how;
     if (call->number == SYS_openat2) flags = read_memory(call, call->args[2], &how, sizeof how) ? how.flags : O_WRONLY;
+    if (options.frames && flags & (O_WRONLY | O_RDWR) && is_memory(call, path)) return answer(call, -EACCES);
     if (options.frames && flags & O_DIRECT) return open_without_cache(call, call->number == SYS_open ? 1 : 2);
     const struct view *view = flags & (O_ACCMODE | O_DIRECTORY | O_PATH | O_CREAT) ? NULL : view_of(call, folder, path);
     if (!view) return let_pass(call);

@@ -383,6 +383,35 @@ static void futexes(void) {
     check(syscall(SYS_futex, at, FUTEX_WAIT, 1, &soon, NULL, 0) == -1 && errno == EAGAIN, "a wait for another number");
 }
 
+/* Robust mutexes in four pages, whose owner is killed or ends while the pages leave: the next one is told. */
+static void robust(void) {
+    enum { MUTEXES = 4 };
+    pthread_mutexattr_t kind;
+    pthread_mutex_t *mutexes[MUTEXES];
+    make_shared();
+    pthread_mutexattr_init(&kind);
+    pthread_mutexattr_setpshared(&kind, PTHREAD_PROCESS_SHARED);
+    pthread_mutexattr_setrobust(&kind, PTHREAD_MUTEX_ROBUST);
+    for (int i = 0; i < MUTEXES; i++) pthread_mutex_init(mutexes[i] = (void *)(shared + (i * 3 + 2) * PAGE - 16), &kind);
+    start_movers();
+    for (int round = 0; round < 50; round++) {
+        int status;
+        pid_t child = fork();
+        for (int i = 0; i < MUTEXES && child == 0; i++) pthread_mutex_lock(mutexes[i]);
+        if (child == 0) usleep(3000), round % 2 ? raise(SIGKILL) : 0, _exit(0);
+        waitpid(child, &status, 0);
+        for (int i = 0; i < MUTEXES; i++) {
+            struct timespec soon = {time(NULL) + 2, 0};
+            int answer = pthread_mutex_timedlock(mutexes[i], &soon);
+            check(answer == EOWNERDEAD, "round %d: mutex %d is answered %s", round, i, strerror(answer));
+            if (answer == EOWNERDEAD) pthread_mutex_consistent(mutexes[i]);
+            if (answer != EOWNERDEAD) exit(1);
+            pthread_mutex_unlock(mutexes[i]);
+        }
+    }
+    stop_movers();
+}
+
 static void refused(void) {
     make_shared();
     char setup[256] = {0};
@@ -391,6 +420,8 @@ static void refused(void) {
     check(madvise(shared, PAGE, MADV_REMOVE) == -1 && errno == EINVAL, "MADV_REMOVE");
     check(syscall(SYS_remap_file_pages, shared, PAGE, 0, 3, 0) == -1 && errno == EINVAL, "remap_file_pages");
     check(syscall(SYS_io_uring_setup, 4, setup) == -1 && errno == ENOSYS, "io_uring_setup");
+    check(open("/proc/self/mem", O_RDWR) == -1 && errno == EACCES, "/proc/self/mem for writing");
+    check(open("/proc/self/mem", O_RDONLY) >= 0 && open("/dev/null", O_RDWR) >= 0, "other files");
     memset(shared, 1, BYTES);
     check(madvise(shared, BYTES, MADV_DONTNEED) == 0 && shared[BYTES - 1] == 1 && shared[0] == 1, "MADV_DONTNEED");
     void *private = mmap(NULL, 2 * PAGE, PROT_READ | PROT_WRITE, MAP_PRIVATE | MAP_ANONYMOUS, -1, 0);
@@ -538,7 +569,7 @@ static void zeros(void) {
 
 static const struct { const char *name; void (*run)(void); } subjects[] = {
     {"counters", plain}, {"signals", signals}, {"calls", calls}, {"forks", forks}, {"readonly", readonly}, {"detaches", detaches},
-    {"seams", seams}, {"attaches", attaches}, {"destroyed", destroyed},
+    {"seams", seams}, {"robust", robust}, {"attaches", attaches}, {"destroyed", destroyed},
     {"copies", copies}, {"direct", direct}, {"futexes", futexes}, {"refused", refused}, {"bound", bound}, {"clock", clock_rule},
     {"locked", locked}, {"failing", failing}, {"fatal", fatal}, {"one_fails", one_fails}, {"zeros", zeros}};
 

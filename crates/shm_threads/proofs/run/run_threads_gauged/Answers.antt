@@ -16,7 +16,7 @@ module _ (w : WorldState) (was now : Seat) where
   cell_kept false new same = ap (λ (k : Seat). k.cell) (same refl)
 
 pub returns-clause-cell : goal.returns-clause-cell
-returns-clause-cell g c = cell_kept _ _ _ _ c.publish.ensures.stored c.publish.ensures.ahead ∙ search rules
+returns-clause-cell g c = cell_kept c.in_ok-outcome.outcome.world _ _ _ c.publish.ensures.stored c.publish.ensures.ahead ∙ search rules
 
 pub returns-clause-numbers : goal.returns-clause-numbers
-returns-clause-numbers g c = caught_up _ _ _ _ c.publish.ensures.stored c.publish.ensures.ahead c.publish.ensures.when
+returns-clause-numbers g c = caught_up c.in_ok-outcome.outcome.world _ _ _ c.publish.ensures.stored c.publish.ensures.ahead c.publish.ensures.when
