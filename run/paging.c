@@ -19,7 +19,7 @@
 #include <time.h>
 #include <unistd.h>
 
-enum { STAY_US = 100, TURN_US = 2000, KEPT_US = 20000, NANO = 1000, SECOND_US = 1000000 };
+enum { STAY_US = 100, TURN_US = 2000, KEPT_US = 100000, NANO = 1000, SECOND_US = 1000000 };
 /* A page that is in a frame, as far as it is known here, and its bytes as they were lent. */
 static struct held {
     int32_t id;
@@ -92,17 +92,17 @@ static void take(int32_t id, uint32_t page) {
     reply_of(nog_give_back(&machine, id, page, is_changed ? bytes : NULL, is_changed ? PAGE : 0));
 }
 
-/* It is kept for a thread that ends. */
-static bool is_kept(const nog_frame *frame) {
+/* It is kept for another thread, which ends. */
+static bool is_kept(const nog_frame *frame, const struct fault *fault) {
     const struct held *it = *place_of(frame->id, frame->page);
-    return it && it->is_kept && now_us() - it->since < KEPT_US && find_task(it->user);
+    return it && it->is_kept && it->user != fault->tid && now_us() - it->since < KEPT_US && find_task(it->user);
 }
 
 /* Another thread got the page a moment ago, and may not have used it yet. */
 static bool is_young(const nog_frame *frame, const struct fault *fault) {
     const struct held *it = *place_of(frame->id, frame->page);
     uint64_t now = now_us();
-    return is_kept(frame) || (it && it->user != fault->tid && now - it->since < STAY_US && now - fault->since < TURN_US);
+    return is_kept(frame, fault) || (it && it->user != fault->tid && now - it->since < STAY_US && now - fault->since < TURN_US);
 }
 
 /* The pages that the hand passes, and the one that leaves, if a page came in now: takes them, or asks whether one is young. */
@@ -110,7 +110,7 @@ static bool meet_passed(const nog_frame *leaver, const struct fault *fault, bool
     nog_frame frame;
     for (uint64_t i = 0; nog_frame_at(&machine, i, &frame) == NOG_DONE; i++) {
         bool is_leaver = frame.id == leaver->id && frame.page == leaver->page;
-        bool is_taken = frame.is_lent && !frame.is_locked && (is_leaver || (frame.is_referenced && !is_kept(&frame)));
+        bool is_taken = frame.is_lent && !frame.is_locked && (is_leaver || (frame.is_referenced && !is_kept(&frame, fault)));
         if (is_taken && is_question && is_young(&frame, fault)) return true;
         if (is_taken && !is_question) take(frame.id, frame.page);
         if (is_leaver && !leaver->is_referenced) break;
@@ -181,22 +181,25 @@ enum brought bring(const struct fault *fault) {
     return LOST;
 }
 
-bool is_there(const struct guest *space, uint64_t address) {
+static enum brought bring_now(const struct guest *space, pid_t tid, uint64_t address) {
     enum { TRIES = 1000 };
     enum brought brought = LOST;
-    if (!space->faults) return true;
-    const struct fault fault = {.space = space, .address = address, .since = now_us()};
+    const struct fault fault = {.space = space, .tid = tid, .address = address, .since = now_us()};
     for (int i = 0; i < TRIES && ((brought = bring(&fault)) == LOST || brought == LATER); i++) usleep(1);
-    return brought != FAILED;
+    return brought;
 }
 
-void keep_there(const struct guest *space, pid_t tid, uint64_t address) {
+bool is_there(const struct guest *space, uint64_t address) { return !space->faults || bring_now(space, 0, address) != FAILED; }
+
+bool keep_there(const struct guest *space, pid_t tid, uint64_t address) {
     int32_t id;
     uint32_t page, is_writable;
-    if (!is_there(space, address) || nog_page_at(&machine, space->pid, address, &id, &page, &is_writable) != NOG_DONE) return;
+    enum brought brought = bring_now(space, tid, address);
+    if (nog_page_at(&machine, space->pid, address, &id, &page, &is_writable) != NOG_DONE) return true;
     struct held *it = *place_of(id, page);
-    if (!it || !it->is_lent) return;
+    if (!it || !it->is_lent) return false;
     it->since = now_us();
     it->user = tid;
     it->is_kept = true;
+    return brought == WAS_THERE;
 }

@@ -142,20 +142,30 @@ void do_copy_memory(struct call *call) {
 
 /* ---- robust mutexes: the kernel marks those of a thread that ends, but then no page comes for it any more ---- */
 
-void keep_robust(struct task *task) {
+/* Whether all of their pages were there. */
+static bool keep_links(const struct call *call, uint64_t end, const struct robust_list_head *head) {
     enum { MOST_LINKS = 2048, OF_PRIORITY = 1 };
-    struct call call = {.task = task, .tid = task->tid, .space = task->process->space};
+    struct robust_list link = head->list;
+    uint64_t pending = (uint64_t)(uintptr_t)head->list_op_pending, offset = (uint64_t)head->futex_offset;
+    bool were_there = !pending || keep_there(call->space, call->tid, pending + offset);
+    for (int i = 0; i < MOST_LINKS; i++) {
+        uint64_t at = (uint64_t)(uintptr_t)link.next & ~(uint64_t)OF_PRIORITY;
+        if (at == end) break;
+        were_there &= keep_there(call->space, call->tid, at);
+        if (!read_memory(call, at, &link, sizeof link)) break;
+        were_there &= keep_there(call->space, call->tid, at + offset);
+    }
+    return were_there;
+}
+
+/* A page that comes may take another one away, so they are looked at again. */
+void keep_robust(struct task *task) {
+    enum { MOST_ROUNDS = 8 };
+    const struct call call = {.task = task, .tid = task->tid, .space = task->process->space};
     struct robust_list_head *there, head;
-    struct robust_list link;
     size_t size;
     if (!call.space->faults || syscall(SYS_get_robust_list, task->tid, &there, &size) == -1 || !there) return;
     uint64_t end = (uint64_t)(uintptr_t)there;
-    if (!read_memory(&call, end, &head, sizeof head)) return;
-    uint64_t at = (uint64_t)(uintptr_t)head.list.next & ~(uint64_t)OF_PRIORITY;
-    if (head.list_op_pending) keep_there(call.space, task->tid, (uint64_t)(uintptr_t)head.list_op_pending + (uint64_t)head.futex_offset);
-    for (int i = 0; i < MOST_LINKS && at != end && read_memory(&call, at, &link, sizeof link); i++) {
-        keep_there(call.space, task->tid, at);
-        keep_there(call.space, task->tid, at + (uint64_t)head.futex_offset);
-        at = (uint64_t)(uintptr_t)link.next & ~(uint64_t)OF_PRIORITY;
-    }
+    for (int i = 0; i < MOST_ROUNDS && read_memory(&call, end, &head, sizeof head); i++)
+        if (keep_links(&call, end, &head)) return;
 }

@@ -187,8 +187,8 @@ enum brought bring(const struct fault *fault);
 uint64_t now_us(void);
 /* Brings the page that an address shows, if it is attached: false if an area failed. It stays until another page is brought. */
 bool is_there(const struct guest *space, uint64_t address);
-/* Brings a page, which stays until the thread has ended, or for a while. */
-void keep_there(const struct guest *space, pid_t tid, uint64_t address);
+/* Brings a page, which stays until the thread has ended, or for a while. Whether it was there. */
+bool keep_there(const struct guest *space, pid_t tid, uint64_t address);
 /* The segment is destroyed. */
 void forget_pages(int32_t id);
 
