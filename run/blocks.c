@@ -1,6 +1,7 @@
 /* The memory of swap areas, with --swap-file. The library takes each area of memory as one large block of the heap; the linker
    gives us all calls for the heap (--wrap), and while the areas are made, large blocks are mapped from the file. So the kernel
-   writes them there when memory is scarce. The file has no name any more once it is open, and ends with shmrun. */
+   writes them there when memory is scarce. The file has its room on the disk from the start, because a store to a block for which
+   there is none would be a SIGBUS here. It has no name any more once it is open, and ends with shmrun. */
 #include "shmrun.h"
 #include <errno.h>
 #include <fcntl.h>
@@ -38,7 +39,10 @@ static struct block *block_of(const void *begin) {
 void *__wrap_malloc(size_t size) {
     if (!is_used || size < LARGE || block_count == MOST_BLOCKS) return __real_malloc(size);
     size_t length = pages_of(size);
-    if (ftruncate(file, file_size + (off_t)length) == -1) return NULL;
+    void (*action)(int) = signal(SIGXFSZ, SIG_IGN);  /* a file that is too large for us is an error too */
+    int error = posix_fallocate(file, file_size, (off_t)length);
+    signal(SIGXFSZ, action);
+    if (error) stop(CANNOT_START, "--swap-file: the file has no room for %lu bytes more: %s", length, strerror(error));
     void *begin = mmap(NULL, length, PROT_READ | PROT_WRITE, MAP_SHARED, file, file_size);
     if (begin == MAP_FAILED) return NULL;
     file_size += (off_t)length;

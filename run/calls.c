@@ -1,4 +1,5 @@
 /* shmget, shmat, shmdt and shmctl, in Linux's order of errors. */
+#include "pages.h"
 #include "shmrun.h"
 #include <nogcuvema_linux.h>
 #include <errno.h>
@@ -114,7 +115,7 @@ static int64_t enter_attach(struct call *call, const struct attach *a, uint64_t 
 static int64_t refuse(const struct attach *a) {
     uint64_t at;
     uint32_t code = nog_attach(&machine, a->space->pid, a->id, a->asked, a->flags, &at);
-    if (code == NOG_DONE) stop(CANNOT_START, "the machine attached segment %d at %lx, which it should refuse", a->id, at);
+    if (code == NOG_DONE) stop(CANNOT_GO_ON, "the machine attached segment %d at %lx, which it should refuse", a->id, at);
     return reply_of(code);
 }
 
@@ -181,6 +182,7 @@ static int64_t show_usage(struct call *call) {
     nog_linux_usage info = {.used_ids = (int32_t)usage.used_ids, .shm_tot = usage.pages};
     for (uint32_t i = 0; i <= usage.highest; i++)
         if (nog_segment_at(&machine, i, &segment) == NOG_DONE) info.shm_rss += pages_in_memory(segment.id);
+    if (options.frames) reply_of(nog_swapped(&machine, &info.shm_swp));
     return write_memory(call, call->args[2], &info, sizeof info) ? (int64_t)usage.highest : -EFAULT;
 }
 
@@ -278,6 +280,7 @@ static void dispatch(struct call *call) {
     case SYS_open:
     case SYS_openat:
     case SYS_openat2: do_open(call); break;
+    case SYS_open_by_handle_at: open_without_cache(call, 2); break;
     case SYS_futex: do_futex(call); break;
     case SYS_fcntl: do_set_flags(call); break;
     case SYS_process_vm_readv:

@@ -14,6 +14,8 @@
 #include <sys/epoll.h>
 #include <sys/ioctl.h>
 #include <sys/mman.h>
+#include <sys/prctl.h>
+#include <sys/resource.h>
 #include <sys/signalfd.h>
 #include <sys/syscall.h>
 #include <unistd.h>
@@ -25,7 +27,7 @@ struct uffdio_poison { struct uffdio_range range; uint64_t mode; int64_t updated
 #endif
 enum { FEATURES = UFFD_FEATURE_THREAD_ID | UFFD_FEATURE_EXACT_ADDRESS | UFFD_FEATURE_MISSING_SHMEM | UFFD_FEATURE_POISON };
 static int device, poller, children;
-/* Threads that wait for a page which comes later. */
+/* Threads that wait for a page which comes later; the one that has waited longest is first. */
 enum { MOST_WAITING = 4096 };
 static struct fault waiting[MOST_WAITING];
 static size_t waiting_count;
@@ -39,7 +41,7 @@ static bool set_up(int file) {
 
 static void add_to_poller(int file, void *what) {
     struct epoll_event event = {.events = EPOLLIN, .data.ptr = what};
-    if (epoll_ctl(poller, EPOLL_CTL_ADD, file, &event) == -1) stop(CANNOT_START, "epoll: %s", strerror(errno));
+    if (epoll_ctl(poller, EPOLL_CTL_ADD, file, &event) == -1) stop(CANNOT_GO_ON, "epoll: %s", strerror(errno));
 }
 
 void check_faults(void) {
@@ -66,12 +68,26 @@ static int keep_files(void *parent) {
     _exit(0);
 }
 
-pid_t start_keeper(void) {
+/* The keeper has a name and a command line of its own from its start, so that what kills all processes of our name does not kill
+   it too. For that we have them while it is made: the words of a command line are in one row. */
+pid_t start_keeper(int argc, char **argv) {
     static char stack[65536] __attribute__((aligned(16)));
+    static const char name[] = "page-keeper";  /* at most 15 bytes, and nothing of our own name */
     static pid_t parent;
+    char *words = argv[0], our_name[16];
+    size_t size = (size_t)(argv[argc - 1] - words) + strlen(argv[argc - 1]);
+    char *our_words = memcpy(allocate(size), words, size);
     parent = getpid();
+    prctl(PR_GET_NAME, our_name);
+    prctl(PR_SET_NAME, name);
+    memset(words, 0, size);
+    memcpy(words, name, least(size, sizeof name - 1));
     pid_t made = clone(keep_files, stack + sizeof stack, CLONE_FILES, &parent);
-    if (made == -1) stop(CANNOT_START, "clone: %s", strerror(errno));
+    int error = errno;
+    memcpy(words, our_words, size);
+    prctl(PR_SET_NAME, our_name);
+    free(our_words);
+    if (made == -1) stop(CANNOT_START, "clone: %s", strerror(error));
     return made;
 }
 
@@ -99,7 +115,10 @@ bool open_faults(struct call *call) {
     int file = take_file(call->tgid, (int)made);
     run_in(call, SYS_close, (uint64_t)made, 0, 0, 0, 0, 0);
     if (file == -1) return false;
-    if (!set_up(file)) stop(CANNOT_START, "userfaultfd of process %d: %s", call->tgid, strerror(errno));
+    if (!set_up(file)) {
+        close(file);
+        return false;
+    }
     space->faults = file;
     space->instruction = call->instruction;
     add_to_poller(file, space);
@@ -107,8 +126,10 @@ bool open_faults(struct call *call) {
 }
 
 void close_faults(struct guest *space) {
+    size_t kept = 0;
     for (size_t i = 0; i < waiting_count; i++)
-        if (waiting[i].space == space) waiting[i--] = waiting[--waiting_count];
+        if (waiting[i].space != space) waiting[kept++] = waiting[i];
+    waiting_count = kept;
     if (space->faults) close(space->faults);
     space->faults = 0;
 }
@@ -118,7 +139,21 @@ bool watch(const struct guest *space, uint64_t begin, uint64_t length) {
     return ioctl(space->faults, UFFDIO_REGISTER, &range) == 0;
 }
 
-/* At the first stop of a child, which has its parent's attachments: they are not watched yet. */
+/* The process has only one thread, which is stopped, so it does not see that it may have more descriptors for a moment. */
+static bool open_faults_above_limit(struct call *call) {
+    enum { MANY = 1 << 20 };  /* as Linux's fs.nr_open */
+    struct rlimit old, lifted = {MANY, MANY};
+    if (prlimit(call->tgid, RLIMIT_NOFILE, NULL, &old) == -1) return false;
+    const struct rlimit highest = {old.rlim_max, old.rlim_max};
+    if (prlimit(call->tgid, RLIMIT_NOFILE, &lifted, NULL) == -1 && prlimit(call->tgid, RLIMIT_NOFILE, &highest, NULL) == -1)
+        return false;
+    bool is_open = open_faults(call);
+    prlimit(call->tgid, RLIMIT_NOFILE, &old, NULL);
+    return is_open;
+}
+
+/* At the first stop of a child, which has its parent's attachments: they are not watched yet. A child that can't be watched must
+   not run, because it would find zeros. */
 bool watch_child(struct task *task) {
     struct call call;
     struct guest *space = task->process->space;
@@ -128,9 +163,12 @@ bool watch_child(struct task *task) {
     begin_call(&call, task);
     call.self = call.space = space;
     if (call.where != GONE) call.where = AT_EXIT;
-    if (!open_faults(&call) && call.where != GONE)
-        stop(CANNOT_START, "process %d has no descriptor left for its userfaultfd", call.tgid);
-    for (uint32_t i = 0; call.where != GONE && nog_piece_at(&machine, space->pid, i, &piece) == NOG_DONE; i++)
+    bool is_open = open_faults(&call) || (call.where != GONE && open_faults_above_limit(&call));
+    if (!is_open && call.where != GONE) {
+        complain("process %d is killed: it has no descriptor left for its userfaultfd", call.tgid);
+        kill(call.tgid, SIGKILL);
+    }
+    for (uint32_t i = 0; is_open && call.where != GONE && nog_piece_at(&machine, space->pid, i, &piece) == NOG_DONE; i++)
         if (!watch(space, piece.base, (uint64_t)piece.pages * PAGE)) kill(call.tgid, SIGKILL);  /* no memory for it; or it has ended */
     leave_call(&call, NULL);
     return true;
@@ -157,10 +195,12 @@ static void take_poison(struct task *task, uint64_t page, siginfo_t *signal) {
     begin_call(&call, task);
     call.self = call.space = space;
     call.instruction = space->instruction;
+    space->uses++;  /* the process may end in the middle */
     if (call.where != GONE) call.where = AT_EXIT;
     run_in(&call, SYS_madvise, page, PAGE, MADV_DONTNEED, 0, 0, 0);
     space->failing = 0;
     leave_call(&call, signal);
+    release_guest(space);
 }
 
 /* Some kernels show poison as broken memory; here it is a page that can't be read. */
@@ -207,7 +247,7 @@ static void handle_faults(const struct guest *space) {
     handle_fault(&(struct fault){space, (pid_t)event.arg.pagefault.feat.ptid, event.arg.pagefault.address, now_us()});
 }
 
-/* Those that waited longest are tried first. */
+/* Each is tried once, in turn: those that must wait on come to the end, so their order is as before. */
 static void try_waiting(void) {
     size_t count = waiting_count;
     for (size_t i = 0; i < count && waiting_count > 0; i++) {

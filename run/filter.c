@@ -80,11 +80,13 @@ static void refuse_number(long number) {
 static void trace_ways_past_tables(void) {
     trace_masked(SYS_futex, 1, FUTEX_PRIVATE_FLAG, 0);
     trace_masked(SYS_fcntl, 1, UINT32_MAX, F_SETFL);
+    trace_masked(SYS_open_by_handle_at, 2, O_DIRECT, O_DIRECT);
     trace_masked(SYS_process_madvise, 3, UINT32_MAX, MADV_REMOVE);
     trace_number(SYS_process_vm_readv);
     trace_number(SYS_process_vm_writev);
     trace_number(SYS_remap_file_pages);
     refuse_number(SYS_io_uring_setup);
+    refuse_number(SYS_io_uring_enter);
 }
 
 /* getpid with the secret as its argument, which only we can make, asks for a file */

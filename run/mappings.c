@@ -96,7 +96,7 @@ void do_protect(struct call *call) {
 
 static void add_range(struct guest *guest, uint64_t begin, uint64_t end) {
     struct range *ranges = realloc(guest->not_inherited, ((size_t)guest->range_count + 1) * sizeof *ranges);
-    if (!ranges) stop(CANNOT_START, "out of memory");
+    if (!ranges) stop(CANNOT_GO_ON, "out of memory");
     guest->not_inherited = ranges;
     ranges[guest->range_count++] = (struct range){begin, end};
 }
@@ -135,7 +135,7 @@ static void enter_moved(const struct guest *space, const nog_piece *piece, uint6
     nog_set_user(&machine, space->pid, 0, 0);
     uint32_t code = nog_attach(&machine, space->pid, (int32_t)piece->segment, to, flags, &at);
     nog_set_user(&machine, space->pid, space->uid, space->gid);
-    if (code != NOG_DONE) stop(CANNOT_START, "the machine does not attach segment %u again at %lx", piece->segment, to);
+    if (code != NOG_DONE) stop(CANNOT_GO_ON, "the machine does not attach segment %u again at %lx", piece->segment, to);
     record((struct event){.kind = ATTACH, .pid = space->pid, .id = (int32_t)piece->segment, .address = to, .flags = flags,
                           .result = (int64_t)at});
     if (!piece->is_writable) nog_protect(&machine, space->pid, to, (uint64_t)piece->pages * PAGE, 0);

@@ -23,6 +23,11 @@ static struct twin {
 } twins[INDEXES];
 static uint32_t highest;          /* no twin has a higher index */
 
+/* The store's calls do what the machine has done, so only memory can be missing. */
+static void succeed(uint32_t code) {
+    if (code != NOG_DONE) stop(CANNOT_GO_ON, "the machine that keeps the pages answered %u", code);
+}
+
 static uint64_t count(void) { return options.limits.frames; }
 static bool is_free(uint64_t place) { return frames[place].id == -1; }
 static uint64_t after_hand(uint64_t steps) { return (hand + steps) % count(); }
@@ -30,11 +35,14 @@ static struct twin *holder_of(const nog_frame *frame) { return &twins[(uint32_t)
 static uint64_t address_of(const struct twin *twin, uint32_t page) { return twin->base + (uint64_t)page * PAGE; }
 
 uint32_t open_pages(nog_machine *machine) {
+    enum { FEWEST = 2 };
     const struct options *o = &options;
     const nog_process host = {.pid = HOST, .is_born = 1};
+    nog_limits limits = o->limits;  /* of the programs' machine, whose frames bound only the locked pages of all users */
+    limits.frames = most(FEWEST, limits.frames - FEWEST);
     nog_area empty[MOST_AREAS];  /* as large as the store's, and never used */
     for (size_t i = 0; i < o->area_count; i++) empty[i] = (nog_area){NOG_SPARSE, o->areas[i].slots};
-    uint32_t code = nog_open(machine, &o->limits, empty, o->area_count, NULL, 0, NULL, 0);
+    uint32_t code = nog_open(machine, &limits, empty, o->area_count, NULL, 0, NULL, 0);
     use_swap_file(true);
     if (!code) code = nog_open(&store, &o->limits, o->areas, o->area_count, o->failures, o->failure_count, &host, 1);
     use_swap_file(false);
@@ -55,8 +63,8 @@ static void empty(uint64_t place) {
 static void end_twin(struct twin *twin) {
     for (uint64_t i = 0; i < count(); i++)
         if (frames[i].id == twin->id) empty(i);
-    reply_of(nog_detach(&store, HOST, twin->base));
-    reply_of(nog_remove(&store, HOST, twin->own));
+    succeed(nog_detach(&store, HOST, twin->base));
+    succeed(nog_remove(&store, HOST, twin->own));
     free(twin->frame_of);
     twin->pages = 0;
 }
@@ -66,7 +74,7 @@ static void follow(nog_machine *machine) {
     static uint64_t calls, segments;
     nog_tally now;
     nog_segment segment;
-    reply_of(nog_tally_of(machine, &now));
+    succeed(nog_tally_of(machine, &now));
     if (now.events == calls && now.segments == segments) return;
     calls = now.events, segments = now.segments;
     for (uint32_t i = 0; i <= highest; i++) {
@@ -74,7 +82,7 @@ static void follow(nog_machine *machine) {
         if (!twin->pages) continue;
         if (nog_segment_at(machine, i, &segment) != NOG_DONE || segment.id != twin->id) { end_twin(twin); continue; }
         bool is_locked = segment.status & NOG_LOCKED;
-        if (is_locked != twin->is_locked) reply_of((is_locked ? nog_lock : nog_unlock)(&store, HOST, twin->own));
+        if (is_locked != twin->is_locked) succeed((is_locked ? nog_lock : nog_unlock)(&store, HOST, twin->own));
         twin->is_locked = is_locked;
     }
 }
@@ -84,14 +92,14 @@ static struct twin *twin_of(int32_t id) {
     nog_segment segment;
     if (twin->pages && twin->id == id) return twin;
     if (!segment_of(id, &segment)) return NULL;
-    reply_of(nog_get(&store, HOST, NOG_PRIVATE, segment.size, 0600, 0, &twin->own));
-    reply_of(nog_attach(&store, HOST, twin->own, 0, 0, &twin->base));
+    succeed(nog_get(&store, HOST, NOG_PRIVATE, segment.size, 0600, 0, &twin->own));
+    succeed(nog_attach(&store, HOST, twin->own, 0, 0, &twin->base));
     twin->id = id;
     twin->pages = (uint32_t)(pages_of(segment.size) / PAGE);
     twin->is_locked = segment.status & NOG_LOCKED;
     twin->frame_of = allocate(twin->pages * sizeof *twin->frame_of);
     highest = segment.index > highest ? segment.index : highest;
-    if (twin->is_locked) reply_of(nog_lock(&store, HOST, twin->own));
+    if (twin->is_locked) succeed(nog_lock(&store, HOST, twin->own));
     return twin;
 }
 
@@ -132,7 +140,7 @@ static uint32_t come_in(struct twin *twin, uint32_t page, void *bytes) {
     if (is_full) turn(place);
     if (is_full && has_left(&frames[place])) empty(place);
     if (code != NOG_DONE) return code;
-    if (!is_free(place)) stop(CANNOT_START, "page %u of segment %d has not left its frame", frames[place].page, frames[place].id);
+    if (!is_free(place)) stop(CANNOT_GO_ON, "page %u of segment %d has not left its frame", frames[place].page, frames[place].id);
     frames[place] = (nog_frame){.id = twin->id, .page = page};
     twin->frame_of[page] = (uint32_t)place + 1;
     used++;
@@ -161,7 +169,7 @@ uint32_t nog_give_back(nog_machine *machine, int32_t id, uint32_t page, const vo
     if (!twin) return NOG_EINVAL;
     uint32_t place = page < twin->pages ? twin->frame_of[page] : 0;
     if (!place || !frames[place - 1].is_lent || (len != 0 && len != PAGE)) return NOG_OUT_OF_RANGE;
-    if (len) reply_of(nog_write(&store, HOST, address_of(twin, page), bytes, len, &done));
+    if (len) succeed(nog_write(&store, HOST, address_of(twin, page), bytes, len, &done));
     if (len) frames[place - 1].is_dirty = frames[place - 1].is_referenced = 1;
     frames[place - 1].is_lent = 0;
     return NOG_DONE;
@@ -178,6 +186,14 @@ uint32_t nog_frame_at(nog_machine *machine, uint64_t place, nog_frame *frame) {
 uint32_t nog_leaver(nog_machine *machine, nog_frame *frame) {
     follow(machine);
     return used < count() ? NOG_OUT_OF_RANGE : nog_frame_at(machine, (leaver_place() + count() - hand) % count(), frame);
+}
+
+uint32_t nog_swapped(nog_machine *machine, uint64_t *pages) {
+    nog_usage usage = {0};
+    follow(machine);
+    uint32_t code = nog_info(&store, &usage);
+    *pages = usage.swapped;
+    return code;
 }
 
 uint32_t nog_page_at(nog_machine *machine, uint32_t pid, uint64_t address, int32_t *id, uint32_t *page, uint32_t *is_writable) {

@@ -30,6 +30,9 @@ uint32_t nog_leaver(nog_machine *machine, nog_frame *frame);
    page comes in; if the leaver is referenced, all do. NOG_OUT_OF_RANGE: there is no such frame, or it has no page. */
 uint32_t nog_frame_at(nog_machine *machine, uint64_t place, nog_frame *frame);
 
+/* How many pages of all segments are only in slots of the areas. */
+uint32_t nog_swapped(nog_machine *machine, uint64_t *pages);
+
 /* The page that an address of a live process shows, and whether it may be written there. NOG_SIGSEGV: nothing is attached. */
 uint32_t nog_page_at(nog_machine *machine, uint32_t pid, uint64_t address, int32_t *id, uint32_t *page, uint32_t *is_writable);
 #endif

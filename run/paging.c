@@ -78,14 +78,14 @@ static void take_bytes(int file, uint32_t page, uint8_t *bytes) {
     if (splice(file, &at, pipe_ends[1], NULL, PAGE, 0) != PAGE ||
         fallocate(file, FALLOC_FL_PUNCH_HOLE | FALLOC_FL_KEEP_SIZE, (off_t)page * PAGE, PAGE) == -1 ||
         read(pipe_ends[0], bytes, PAGE) != PAGE)
-        stop(CANNOT_START, "page %u can't be taken out of its file: %s", page, strerror(errno));
+        stop(CANNOT_GO_ON, "page %u can't be taken out of its file: %s", page, strerror(errno));
 }
 
 static void take(int32_t id, uint32_t page) {
     uint8_t bytes[PAGE];
     nog_segment segment;
     struct held *it = *place_of(id, page);
-    if (!it || !it->is_lent || !segment_of(id, &segment)) stop(CANNOT_START, "page %u of segment %d is not lent", page, id);
+    if (!it || !it->is_lent || !segment_of(id, &segment)) stop(CANNOT_GO_ON, "page %u of segment %d is not lent", page, id);
     take_bytes(file_of(&segment), page, bytes);
     bool is_changed = memcmp(bytes, bytes_of(it), PAGE) != 0;
     it->is_lent = false;
@@ -105,17 +105,38 @@ static bool is_young(const nog_frame *frame, const struct fault *fault) {
     return is_kept(frame, fault) || (it && it->user != fault->tid && now - it->since < STAY_US && now - fault->since < TURN_US);
 }
 
-/* The pages that the hand passes, and the one that leaves, if a page came in now: takes them, or asks whether one is young. */
-static bool meet_passed(const nog_frame *leaver, const struct fault *fault, bool is_question) {
-    nog_frame frame;
-    for (uint64_t i = 0; nog_frame_at(&machine, i, &frame) == NOG_DONE; i++) {
-        bool is_leaver = frame.id == leaver->id && frame.page == leaver->page;
-        bool is_taken = frame.is_lent && !frame.is_locked && (is_leaver || (frame.is_referenced && !is_kept(&frame, fault)));
-        if (is_taken && is_question && is_young(&frame, fault)) return true;
-        if (is_taken && !is_question) take(frame.id, frame.page);
-        if (is_leaver && !leaver->is_referenced) break;
+/* The hand's way, if a page came in now for a fault. */
+struct way {
+    const nog_frame *leaver;
+    const struct fault *fault;
+    uint64_t place;   /* how many frames the hand has met */
+    bool is_at_end;
+    nog_frame frame;  /* the last of those whose pages must be taken */
+};
+
+/* Goes on to the next page that must be taken: the hand passes it, or it leaves. False: there is no other one. */
+static bool meet_next(struct way *way) {
+    nog_frame *frame = &way->frame;
+    while (!way->is_at_end && nog_frame_at(&machine, way->place, frame) == NOG_DONE) {
+        bool is_leaver = frame->id == way->leaver->id && frame->page == way->leaver->page;
+        way->place++;
+        way->is_at_end = is_leaver && !way->leaver->is_referenced;
+        bool is_passed = frame->is_referenced && !is_kept(frame, way->fault);
+        if (frame->is_lent && !frame->is_locked && (is_leaver || is_passed)) return true;
     }
     return false;
+}
+
+static bool meets_young(const nog_frame *leaver, const struct fault *fault) {
+    struct way way = {.leaver = leaver, .fault = fault};
+    while (meet_next(&way))
+        if (is_young(&way.frame, fault)) return true;
+    return false;
+}
+
+static void take_met(const nog_frame *leaver, const struct fault *fault) {
+    struct way way = {.leaver = leaver, .fault = fault};
+    while (meet_next(&way)) take(way.frame.id, way.frame.page);
 }
 
 /* Before a page comes into a frame for another one. Whether it may come now. */
@@ -123,8 +144,8 @@ static bool make_room(const struct fault *fault) {
     nog_frame leaver;
     close_destroyed();
     while (nog_leaver(&machine, &leaver) == NOG_DONE) {
-        if (meet_passed(&leaver, fault, true)) return false;
-        meet_passed(&leaver, fault, false);
+        if (meets_young(&leaver, fault)) return false;
+        take_met(&leaver, fault);
         if (nog_leaver(&machine, &leaver) == NOG_DONE && leaver.is_lent) continue;  /* new bytes set its bit */
         drop(leaver.id, leaver.page);
         break;
@@ -137,7 +158,7 @@ static bool make_room(const struct fault *fault) {
 static uint32_t borrow(int32_t id, uint32_t page, const struct fault *fault, struct held **borrowed) {
     struct held *it = *place_of(id, page);
     if (!it && !make_room(fault)) return NOG_LENT;
-    if (!it && !unused) stop(CANNOT_START, "there are more pages than frames");
+    if (!it && !unused) stop(CANNOT_GO_ON, "there are more pages than frames");
     uint32_t code = nog_lend(&machine, id, page, bytes_of(it ? it : unused), PAGE);
     if (code != NOG_DONE) return code;
     if (!it) {
@@ -174,22 +195,33 @@ enum brought bring(const struct fault *fault) {
     reply_of(code);
     int error = put_in(space, address, it);
     if (!error) return CAME;
-    if (error != EAGAIN && error != ENOENT && error != ESRCH)
-        stop(CANNOT_START, "page %u of segment %d can't be brought: %s", page, id, strerror(error));
     it->is_lent = false;
     reply_of(nog_give_back(&machine, id, page, NULL, 0));
-    return LOST;
+    switch (error) {
+    case EAGAIN: return LOST;
+    case ENOMEM: return FAILED;
+    case ENOENT:  /* the address has just gone */
+    case ESRCH: return NOT_ATTACHED;  /* so has the process */
+    default: stop(CANNOT_GO_ON, "page %u of segment %d can't be brought: %s", page, id, strerror(error));
+    }
 }
 
+/* No page is kept from us as long as this takes. */
 static enum brought bring_now(const struct guest *space, pid_t tid, uint64_t address) {
-    enum { TRIES = 1000 };
-    enum brought brought = LOST;
+    enum { LONGEST_US = 2 * KEPT_US };
     const struct fault fault = {.space = space, .tid = tid, .address = address, .since = now_us()};
-    for (int i = 0; i < TRIES && ((brought = bring(&fault)) == LOST || brought == LATER); i++) usleep(1);
+    enum brought brought = bring(&fault);
+    while ((brought == LOST || brought == LATER) && now_us() - fault.since < LONGEST_US) {
+        usleep(1);
+        brought = bring(&fault);
+    }
     return brought;
 }
 
-bool is_there(const struct guest *space, uint64_t address) { return !space->faults || bring_now(space, 0, address) != FAILED; }
+bool is_there(const struct guest *space, uint64_t address) {
+    enum brought brought = space->faults ? bring_now(space, 0, address) : WAS_THERE;
+    return brought == CAME || brought == WAS_THERE || brought == NOT_ATTACHED;
+}
 
 bool keep_there(const struct guest *space, pid_t tid, uint64_t address) {
     int32_t id;

@@ -1,10 +1,13 @@
 /* System calls that go past the page tables, with --frames. Some of them hold a page while it is taken away, and write to it then:
    what they write would be lost. Others look a page up in its file, where it may just be missing. */
 #include "shmrun.h"
+#include <dirent.h>
 #include <errno.h>
 #include <fcntl.h>
 #include <linux/futex.h>
 #include <stdio.h>
+#include <stdlib.h>
+#include <string.h>
 #include <sys/stat.h>
 #include <sys/syscall.h>
 #include <sys/uio.h>
@@ -62,6 +65,23 @@ void open_without_cache(struct call *call, int argument) {
     if (argument == 1) second &= ~(uint64_t)O_DIRECT;
     else third &= ~(uint64_t)O_DIRECT;
     let_pass_watched(call, second, third);
+}
+
+/* Whether a file is without cache: of a pipe the flag means something else. */
+static bool is_direct(int file, int flags) {
+    struct stat found;
+    return flags != -1 && flags & O_DIRECT && fstat(file, &found) == 0 && !S_ISFIFO(found.st_mode);
+}
+
+void give_inherited_cache(void) {
+    DIR *folder = opendir("/proc/self/fd");
+    if (!folder) stop(CANNOT_START, "/proc/self/fd: %s", strerror(errno));
+    for (struct dirent *entry; (entry = readdir(folder));) {
+        int file = atoi(entry->d_name), flags = fcntl(file, F_GETFL);
+        if (is_direct(file, flags) && fcntl(file, F_SETFL, flags & ~O_DIRECT) == -1)
+            stop(CANNOT_START, "descriptor %d has O_DIRECT, which can't be taken off: %s", file, strerror(errno));
+    }
+    closedir(folder);
 }
 
 /* Of a pipe the flag means something else. */

@@ -54,7 +54,7 @@ static bool wait_for(const struct call *call, int *status) {
 
 static bool go_on(const struct call *call) {
     bool is_gone = ptrace(call->where == AT_EXIT ? PTRACE_SINGLESTEP : PTRACE_SYSCALL, call->tid, 0, 0) == -1;
-    if (is_gone && errno != ESRCH) stop(CANNOT_START, "process %d: %s", call->tid, strerror(errno));
+    if (is_gone && errno != ESRCH) stop(CANNOT_GO_ON, "process %d: %s", call->tid, strerror(errno));
     return !is_gone;
 }
 

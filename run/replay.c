@@ -55,7 +55,7 @@ static void open_again(void) {
         processes[i] = (nog_process){recorded.processes[i].pid, !recorded.processes[i].is_child, recorded.processes[i].uid,
                                      recorded.processes[i].gid};
     uint32_t code = nog_open(&again, &limits, &area, 1, NULL, 0, processes, recorded.process_count);
-    if (code != NOG_DONE) stop(CANNOT_START, "the record's machine was not opened: %u", code);
+    if (code != NOG_DONE) stop(CANNOT_GO_ON, "the record's machine was not opened: %u", code);
 }
 
 static int64_t make(const struct event *e, nog_segment *segment) {

@@ -28,7 +28,9 @@
 #include <sys/user.h>
 
 enum { MOST_AREAS = 8, MOST_FAILURES = 1024 };
-enum { PAGE = 4096, CANNOT_START = 125, CANNOT_RUN = 126, NOT_FOUND = 127 };
+enum { PAGE = 4096 };
+/* statuses of our own: before the command runs, in the middle of a run, and of a command that does not run */
+enum { CANNOT_START = 125, CANNOT_GO_ON = 125, CANNOT_RUN = 126, NOT_FOUND = 127 };
 #define END_OF_ADDRESSES UINT64_C(0x7ffffffff000)
 #define LOWEST_ADDRESS UINT64_C(0x10000)
 
@@ -180,12 +182,12 @@ void close_destroyed(void);
 void open_paging(void);
 /* A thread at a page that is not there, or we (0) for it, and since when. */
 struct fault { const struct guest *space; pid_t tid; uint64_t address, since; };
-/* Brings the page. LOST: the address has just gone, or its memory changes: try
-   again. LATER: its frame is that of another thread, which may not have used it yet. FAILED: an area failed. */
+/* Brings the page. LOST: the program's memory changes just now: try again. LATER: its frame is that of another thread, which may
+   not have used it yet: try again. FAILED: an area failed, or there is no memory for the page. */
 enum brought { CAME, WAS_THERE, NOT_ATTACHED, LOST, LATER, FAILED };
 enum brought bring(const struct fault *fault);
 uint64_t now_us(void);
-/* Brings the page that an address shows, if it is attached: false if an area failed. It stays until another page is brought. */
+/* Brings the page that an address shows, if it is attached: false if it does not come. It stays until another page is brought. */
 bool is_there(const struct guest *space, uint64_t address);
 /* Brings a page, which stays until the thread has ended, or for a while. Whether it was there. */
 bool keep_there(const struct guest *space, pid_t tid, uint64_t address);
@@ -199,7 +201,7 @@ void use_swap_file(bool is_to_be_used);
 
 /* faults.c */
 void check_faults(void);
-pid_t start_keeper(void);
+pid_t start_keeper(int argc, char **argv);
 void open_poller(void);
 /* Waits until a thread has stopped or ended, and answers faults until then. */
 void serve_faults(void);
@@ -218,6 +220,8 @@ bool end_failed_call(struct task *task);
 void do_futex(struct call *call);
 void do_set_flags(struct call *call);
 void open_without_cache(struct call *call, int argument);
+/* Before the command starts: takes O_DIRECT off all files that it inherits. */
+void give_inherited_cache(void);
 void do_copy_memory(struct call *call);
 void end_watched_call(struct task *task);
 /* Before a thread ends: the pages of the robust mutexes that it has are there until then. */

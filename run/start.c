@@ -17,6 +17,7 @@
 #include <unistd.h>
 
 enum { MOST_FRAMES = 1 << 20, FEWEST_FRAMES = 1 << 12, SLOTS_IN_FILE = 1 << 16 };
+enum { NOT_LOCKED = 4 };  /* frames: a copy between two addresses that are not aligned needs so many pages at once */
 nog_machine machine = NOG_MACHINE_INITIALIZER;
 static volatile sig_atomic_t first;
 
@@ -45,7 +46,7 @@ void stop(int status, const char *format, ...) {
 
 void *allocate(size_t size) {
     void *made = calloc(1, size);
-    if (!made) stop(CANNOT_START, "out of memory");
+    if (!made) stop(CANNOT_GO_ON, "out of memory");
     return made;
 }
 
@@ -57,7 +58,7 @@ int64_t reply_of(uint32_t code) {
     if (code <= NOG_EIDRM) return -(int64_t)code;
     if (code == NOG_NO_MEMORY) return -ENOMEM;
     nog_text(code, text, sizeof text, &length);
-    stop(CANNOT_START, "the library answered %u, %s, which ends all programs", code, (char *)text);
+    stop(CANNOT_GO_ON, "the library answered %u, %s, which ends all programs", code, (char *)text);
 }
 
 /* Bytes are in files, so the frames stay empty. They bound only the locked pages of all users, which are at most SHMALL. */
@@ -87,10 +88,11 @@ static void open_machine_with_frames(void) {
     if (options.swap_file) open_swap_file(options.swap_file);
     for (size_t i = 0; i < options.area_count; i++) l->most_slots = most(l->most_slots, options.areas[i].slots);
     l->frames = options.frames;
-    if (options.has_limits && l->memlock + 2 > l->frames)
-        stop(CANNOT_START, "--frames %lu: MEMLOCK is %lu; two frames at least are for pages that are not locked", l->frames,
-             l->memlock);
-    l->memlock = least(l->memlock, l->frames - 2);
+    uint64_t most_locked = l->frames > NOT_LOCKED ? l->frames - NOT_LOCKED : 0;
+    if (options.has_limits && l->memlock > most_locked)
+        stop(CANNOT_START, "--frames %lu: MEMLOCK is %lu; it is at most %lu, because %d frames are for pages that are not locked",
+             l->frames, l->memlock, most_locked, NOT_LOCKED);
+    l->memlock = least(l->memlock, most_locked);
     uint32_t code = open_pages(&machine);
     if (code == NOG_NO_MEMORY) stop(CANNOT_START, "there is not enough memory for the frames and the swap areas");
     reply_of(code);
@@ -214,13 +216,13 @@ int main(int argc, char **argv) {
     while ((file = open("/dev/null", O_RDWR | O_CLOEXEC)) >= 0 && file <= STDERR_FILENO) continue;  /* none of ours is 0, 1 or 2 */
     close(file);
     read_options(argc, argv);
-    if (options.frames) check_faults(), open_machine_with_frames();
+    if (options.frames) give_inherited_cache(), check_faults(), open_machine_with_frames();
     else open_machine();
     if (getrandom(&secret, sizeof secret, 0) != sizeof secret) stop(CANNOT_START, "getrandom: %s", strerror(errno));
     first = start_command();
     prepare_signals();
     raise_file_limit();
-    pid_t keeper = options.frames ? start_keeper() : 0;
+    pid_t keeper = options.frames ? start_keeper(argc, argv) : 0;
     int status = trace_all(first);
     if (keeper) kill(keeper, SIGKILL);
     write_record();

@@ -50,7 +50,7 @@ static void admit(struct guest *guest, bool is_born) {
         code = nog_admit(&machine, &process);
     }
     if (code != NOG_DONE)
-        stop(CANNOT_START, "process %u does not fit into the machine, which has at most %lu", guest->pid,
+        stop(CANNOT_GO_ON, "process %u does not fit into the machine, which has at most %lu", guest->pid,
              options.limits.most_processes);
     guest->is_admitted = true;
     record_process(guest, !is_born);

@@ -14,6 +14,7 @@
 #include <stdlib.h>
 #include <string.h>
 #include <sys/mman.h>
+#include <sys/resource.h>
 #include <sys/shm.h>
 #include <sys/socket.h>
 #include <sys/stat.h>
@@ -235,6 +236,30 @@ static void forks(void) {
     check_bytes("after vfork and exec", shared);
 }
 
+/* A process that has no descriptor left forks: the child has all bytes and the same limit. With WORD the limit can't be lifted:
+   then only the child is killed. */
+static void descriptors(void) {
+    struct rlimit few = {64, *word ? 64 : 66}, now;
+    int status;
+    make_shared();
+    fill(expected, 6);
+    memcpy(shared, expected, BYTES);
+    check(setrlimit(RLIMIT_NOFILE, &few) == 0, "setrlimit");
+    while (dup(1) != -1) continue;
+    for (int round = 0; round < 10; round++) {
+        pid_t child = fork();
+        if (child == 0) {
+            check_bytes("a child without a descriptor", shared);
+            check(dup(1) == -1 && errno == EMFILE, "a child has a descriptor left");
+            check(getrlimit(RLIMIT_NOFILE, &now) == 0 && memcmp(&now, &few, sizeof few) == 0, "a child has another limit");
+            exit(wrongs != 0);
+        }
+        waitpid(child, &status, 0);
+        check(*word ? WIFSIGNALED(status) && WTERMSIG(status) == SIGKILL : status == 0, "a child without a descriptor ended by %x", status);
+    }
+    check_bytes("after the forks", shared);
+}
+
 static void readonly(void) {
     int id = make(BYTES);
     shared = attach(id, 0);
@@ -346,10 +371,18 @@ static void copies(void) {
     stop_movers();
 }
 
+static int open_by_handle(const char *name) {
+    union { struct file_handle handle; char room[sizeof(struct file_handle) + MAX_HANDLE_SZ]; } of = {.handle.handle_bytes = MAX_HANDLE_SZ};
+    int mount, folder = open("/tmp", O_RDONLY);
+    if (name_to_handle_at(AT_FDCWD, name, &of.handle, &mount, 0) == -1) return -1;
+    return open_by_handle_at(folder, &of.handle, O_RDWR | O_DIRECT);
+}
+
+/* A file is opened without cache: by its name, with the word `handle` by its handle, or it is the descriptor WORD. */
 static void direct(void) {
     static char aligned[BYTES] __attribute__((aligned(4096)));
     char name[] = "/tmp/paged.XXXXXX";
-    int made = mkstemp(name), file = open(name, O_RDWR | O_DIRECT);
+    int made = mkstemp(name), file = !*word ? open(name, O_RDWR | O_DIRECT) : *word == 'h' ? open_by_handle(name) : atoi(word);
     unlink(name);
     if (file == -1 || made == -1) exit(FAILED);  /* this file system has none */
     make_shared();
@@ -420,6 +453,7 @@ static void refused(void) {
     check(madvise(shared, PAGE, MADV_REMOVE) == -1 && errno == EINVAL, "MADV_REMOVE");
     check(syscall(SYS_remap_file_pages, shared, PAGE, 0, 3, 0) == -1 && errno == EINVAL, "remap_file_pages");
     check(syscall(SYS_io_uring_setup, 4, setup) == -1 && errno == ENOSYS, "io_uring_setup");
+    check(syscall(SYS_io_uring_enter, -1, 0, 0, 0, NULL, 0) == -1 && errno == ENOSYS, "io_uring_enter");
     check(open("/proc/self/mem", O_RDWR) == -1 && errno == EACCES, "/proc/self/mem for writing");
     check(open("/proc/self/mem", O_RDONLY) >= 0 && open("/dev/null", O_RDWR) >= 0, "other files");
     memset(shared, 1, BYTES);
@@ -454,6 +488,22 @@ static void bound(void) {
     for (int i = 0; i < PAGES; i++) count += is_in[i] & 1;
     check(count <= atoi(word), "%d pages are in memory at the end", count);
     shmctl(id, IPC_RMID, NULL);
+}
+
+/* WORD is the number of frames. Each page was stored to, so those that are in no frame are in slots. */
+static void swapped(void) {
+    struct shm_info info;
+    int first = make(BYTES);
+    shared = attach(first, 0);
+    make_shared();
+    for (int i = 0; i < PAGES; i++) shared[i * PAGE] = 1;
+    check(shmctl(0, SHM_INFO, (void *)&info) >= 0, "SHM_INFO");
+    check(info.shm_tot == 2 * PAGES, "%lu pages", info.shm_tot);
+    check(info.shm_swp == PAGES - (unsigned long)atoi(word), "%lu pages are swapped", info.shm_swp);
+    check(info.shm_rss > 0 && info.shm_rss <= (unsigned long)atoi(word), "%lu pages are resident", info.shm_rss);
+    shmdt(shared);
+    check(shmctl(0, SHM_INFO, (void *)&info) >= 0 && info.shm_tot == PAGES && info.shm_swp == 0, "%lu pages are swapped at the end", info.shm_swp);
+    shmctl(first, IPC_RMID, NULL);
 }
 
 static volatile int bus_count;
@@ -495,6 +545,37 @@ static void locked(void) {
     for (int i = 0; i < 4; i++) check(kept[i * PAGE] == i + 1 && bus_count == 0, "locked page %d left", i);
     check(shmctl(id, SHM_UNLOCK, NULL) == 0, "SHM_UNLOCK");
     shmctl(id, IPC_RMID, NULL);
+}
+
+/* One instruction that needs four pages at once: eight bytes from one seam to another. */
+static void copy_seam(int from, int to) {
+    const char *source = shared + from * PAGE - 4;
+    char *target = shared + to * PAGE - 3;
+    __asm__ volatile("movsq" : "+S"(source), "+D"(target) : : "memory");
+}
+
+/* WORD is the most pages that all users together may lock. They are locked, and the other frames are enough for each copy. */
+static void locked_copies(void) {
+    enum { ENOUGH = 64 };
+    char *kept[ENOUGH];
+    int ids[ENOUGH], count = 0;
+    for (; count < ENOUGH; count++) {
+        kept[count] = attach(ids[count] = make(PAGE), 0);
+        if (shmctl(ids[count], SHM_LOCK, NULL) == -1) break;
+        *kept[count] = (char)(count + 1);
+    }
+    check(count == atoi(word), "%d pages are locked", count);
+    make_shared();
+    start_movers();
+    for (int i = 0; i < 200; i++) {
+        int from = 1 + i % 20, to = 30 + i % 30;
+        memset(shared + from * PAGE - 4, i, 8);
+        copy_seam(from, to);
+        for (int k = 0; k < 8; k++) check(shared[to * PAGE - 3 + k] == (char)i, "copy %d: byte %d is %d", i, k, shared[to * PAGE - 3 + k]);
+    }
+    stop_movers();
+    for (int i = 0; i < count; i++) check(*kept[i] == i + 1, "locked page %d", i);
+    for (int i = 0; i <= count; i++) shmctl(ids[i], IPC_RMID, NULL);
 }
 
 /* ---- areas that fail ---- */
@@ -554,6 +635,29 @@ static void one_fails(void) {
     putchar(failures + bus_count ? 'f' : '-');
 }
 
+/* Under a shmrun with refuse_copies.c, which can't put some pages into programs. */
+static void uncopied(void) {
+    int ends[2], id = make(PAGE);
+    char bytes[100];
+    make_shared();
+    catch_bus();
+    check(pipe(ends) == 0, "pipe");
+    strcpy(shared + 5 * PAGE, "no memory");  /* the first copy of it fails, the third, and so on */
+    strcpy(shared + 9 * PAGE, "never");
+    shared[5 * PAGE + 123] = 5;
+    for (int i = 10; i < PAGES; i++) shared[i * PAGE] = 1;
+    check(load(5, 123) == 5 && bus_count == 1 && bus_at == shared + 5 * PAGE + 123, "SIGBUS: %d at %p", bus_count, bus_at);
+    for (int i = 10; i < PAGES; i++) shared[i * PAGE] = 1;
+    check(write(ends[1], shared + 5 * PAGE + 100, 100) == -1 && errno == EFAULT, "write(2)");
+    check(write(ends[1], shared + 5 * PAGE + 100, 100) == 100 && read(ends[0], bytes, 100) == 100 && bytes[23] == 5, "write(2) again");
+    for (int i = 10; i < PAGES; i++) shared[i * PAGE] = 1;
+    check(shmctl(id, IPC_STAT, (void *)(shared + 5 * PAGE + 200)) == -1 && errno == EFAULT, "shmctl");
+    check(shmctl(id, IPC_STAT, (void *)(shared + 5 * PAGE + 200)) == 0 && load(5, 123) == 5, "shmctl again");
+    check(shmctl(id, IPC_STAT, (void *)(shared + 9 * PAGE)) == -1 && errno == EFAULT, "shmctl at a page that never comes");
+    check(bus_count == 1, "%d times SIGBUS", bus_count);
+    shmctl(id, IPC_RMID, NULL);
+}
+
 /* ---- shmrun is killed ---- */
 
 /* WORD is a file, to which a process writes that finds a zero. It runs until it is killed. */
@@ -568,10 +672,10 @@ static void zeros(void) {
 }
 
 static const struct { const char *name; void (*run)(void); } subjects[] = {
-    {"counters", plain}, {"signals", signals}, {"calls", calls}, {"forks", forks}, {"readonly", readonly}, {"detaches", detaches},
+    {"counters", plain}, {"signals", signals}, {"calls", calls}, {"forks", forks}, {"descriptors", descriptors}, {"readonly", readonly}, {"detaches", detaches},
     {"seams", seams}, {"robust", robust}, {"attaches", attaches}, {"destroyed", destroyed},
-    {"copies", copies}, {"direct", direct}, {"futexes", futexes}, {"refused", refused}, {"bound", bound}, {"clock", clock_rule},
-    {"locked", locked}, {"failing", failing}, {"fatal", fatal}, {"one_fails", one_fails}, {"zeros", zeros}};
+    {"copies", copies}, {"direct", direct}, {"futexes", futexes}, {"refused", refused}, {"bound", bound}, {"swapped", swapped}, {"clock", clock_rule},
+    {"locked", locked}, {"locked_copies", locked_copies}, {"failing", failing}, {"fatal", fatal}, {"one_fails", one_fails}, {"uncopied", uncopied}, {"zeros", zeros}};
 
 int main(int argc, char **argv) {
     alarm(30);
