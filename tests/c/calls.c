@@ -1,6 +1,6 @@
 /* calls: each function of the interface once where it is done, and each answer that is not a call's own: a closed handle,
    numbers out of range, a process that is not there, limits and a start that are refused. The replies are those of
-   docs/MACHINE.md; that each call of a process gives them is the driver's matter. */
+   docs/MACHINE.md; that each call of a process gives them is the matter of conformance/library.c. */
 #include "testing.h"
 
 enum { CALLS = 17, UNTOUCHED = 0xa5 };
