@@ -1,7 +1,7 @@
 /* library [--rules profile|linux] serial|pieces SWAP... < SCRIPT
    makes the calls of a script through the C library, and prints what ./shmsim prints: the event lines, the listing of
    segments and the usage. It knows the words of the kit too, which ./shmsim has not. With `--rules linux` the machine has
-   Linux's rules in place of the profile's. With `pieces` loads and stores within a page are made by nog_read and nog_write,
+   Linux's rules instead of the profile's. With `pieces` loads and stores within a page are made by nog_read and nog_write,
    which make one call of each. It ends with status 3, and says why, where a refused call wrote an output, where the library counts other calls than the script makes,
    and at an unexpected code. */
 #define _POSIX_C_SOURCE 200809L

@@ -9,7 +9,7 @@
    --shared    stays in the system's own IPC namespace, under the system's own limits
    --limit S   gives each command at most S seconds (10), and each run of --at-once
    --at-once N makes N runs in which every process makes its calls alone, as at_once.h tells, and prints N logs
-   --exec W    exec runs these words in place of this program: the emulator that the peer runs under */
+   --exec W    exec runs these words instead of this program: the emulator that the peer runs under */
 #define _GNU_SOURCE
 #include <errno.h>
 #include <fcntl.h>

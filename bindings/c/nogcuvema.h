@@ -23,7 +23,7 @@
    answers NOG_ESRCH if no live process has the pid: it is unborn, has ended, or was neither declared nor admitted.
    Below, each function lists its other codes in the order in which they are tested. Of a call of a process
    NOG_OUT_OF_RANGE comes before every other code, those three included; of any other function it comes after NOG_CLOSED,
-   where it is listed. Of the codes of errno(3) the first that applies is answered. NOG_NO_MEMORY is last: it comes in
+   where it is listed. Of the codes of errno(3) the first that applies is returned. NOG_NO_MEMORY is last: it comes in
    place of 0.
 
    POINTERS point to as much memory as their types, and the counts or lengths next to them, say. A pointer may be null
@@ -115,14 +115,14 @@ typedef struct nog_limits {
 /* Rules of Linux: each makes the machine answer as Linux does in one respect in which this project's profile differs.
    The functions below say what the profile answers; docs/MACHINE.md has each rule. */
 enum nog_rule {
-    NOG_REMOVED_IS_INVALID = 1,    /* NOG_EINVAL in place of NOG_EIDRM */
+    NOG_REMOVED_IS_INVALID = 1,    /* NOG_EINVAL instead of NOG_EIDRM */
     NOG_EXECUTE_IS_ASKED = 2,      /* nog_get of an existing segment: an execute bit of the mode needs execute permission */
     NOG_FORK_MARKS = 4,            /* nog_fork: the child's segments get an attach time, and the parent as last pid */
     NOG_REST_IS_ATTACHED = 8,      /* the rest of a cut piece, and a part with another protection, are attached again */
     NOG_END_IS_ENOMEM = 16,        /* nog_attach: NOG_ENOMEM for a free range that ends above 0x7ffffffff000 */
     NOG_LOW_IS_EPERM = 32,         /* nog_attach: NOG_EPERM for a free range below 0x10000, for all but user 0 */
     NOG_NO_LAST_USER = 64,         /* nog_set: NOG_EINVAL for user or group 2^32 - 1 */
-    NOG_PIECES_ARE_ENOMEM = 128,   /* nog_attach: NOG_ENOMEM in place of NOG_EMFILE, even if a remap frees a piece */
+    NOG_PIECES_ARE_ENOMEM = 128,   /* nog_attach: NOG_ENOMEM instead of NOG_EMFILE, even if a remap frees a piece */
     NOG_LOCKS_BY_USER = 256,       /* nog_lock: MEMLOCK is a limit of each user but 0; NOG_EPERM if it is 0 */
     NOG_EXEC_IS_ASKED = 512,       /* nog_attach: NOG_EXEC needs execute permission, or else NOG_EACCES */
     NOG_HUGE_IS_REFUSED = 1024,    /* nog_get: NOG_EPERM for NOG_HUGETLB; user 0 and group 0: docs/MACHINE.md */
@@ -245,11 +245,11 @@ enum nog_key { NOG_PRIVATE = 0 };
 /* Opens a machine with 1 to 8 swap areas, numbered from 0 in their order, with a list of their reads and writes that
    fail, and with at most as many processes as the limits allow, children included. It reserves room for frames, pieces
    and slots of NOG_SPARSE, and touches none of it. A handle that is open may be opened again: on success its
-   previous machine is closed, and otherwise it is kept. The first of these that applies is answered:
+   previous machine is closed, and otherwise it is kept. The first of these that applies is returned:
    NOG_BAD_SHMMAX to NOG_BAD_RULES: the first limit that is out of its range.
    NOG_OUT_OF_RANGE: a kind does not exist, a failure names an area or a side that does not exist, or its call is 0.
    NOG_BAD_AREAS, NOG_BAD_AREA_SIZE, NOG_BAD_PROCESSES, NOG_BAD_PID: the first of these.
-   NOG_NO_MEMORY: the heap gave no memory. It comes only in place of 0, NOG_BAD_PROCESSES and NOG_BAD_PID. */
+   NOG_NO_MEMORY: the heap gave no memory. It comes only instead of 0, NOG_BAD_PROCESSES and NOG_BAD_PID. */
 uint32_t nog_open(nog_machine *machine, const nog_limits *limits, const nog_area *areas, size_t area_count,
                   const nog_failure *failures, size_t failure_count, const nog_process *processes, size_t process_count);
 
@@ -371,7 +371,7 @@ uint32_t nog_swapoff(nog_machine *machine, uint32_t pid, uint32_t area);
    gives its place to the new one. Otherwise the new one takes memory for its pieces.
    NOG_ADMIT_BAD_PID, NOG_ADMIT_TAKEN, NOG_ADMIT_MANY: the first of these. An ended process counts until it is
    dismissed.
-   NOG_NO_MEMORY: the heap gave no memory. It comes only in place of 0. */
+   NOG_NO_MEMORY: the heap gave no memory. It comes only instead of 0. */
 uint32_t nog_admit(nog_machine *machine, const nog_process *process);
 
 /* An ended process or an unborn child leaves: its pid may be admitted again, and its room is free.
@@ -403,7 +403,7 @@ uint32_t nog_unmap(nog_machine *machine, uint32_t pid, uint64_t addr, uint64_t l
    neighbour of the same attach that already has the protection: then it joins that. A whole piece never joins another,
    and a piece that already has the protection stays as it is. No time changes without NOG_REST_IS_ATTACHED. With it a
    segment that has more pieces than before gets an attach time, which is that of the next call, and the process as its
-   last pid. A length of 0 changes nothing. Before anything changes, the first of these is answered:
+   last pid. A length of 0 changes nothing. Before anything changes, the first of these is returned:
    NOG_SPENT: 2^64 - 1 calls were answered.
    NOG_ESRCH: no live process has the pid.
    NOG_EINVAL: the address is not a multiple of 4096.
@@ -465,7 +465,7 @@ uint32_t nog_stat_at(nog_machine *machine, uint32_t pid, uint32_t index, nog_seg
 uint32_t nog_info(nog_machine *machine, nog_usage *usage);
 
 /* A piece of a live process, by its place among the process's pieces, from 0 on by rising address. The first of these
-   is answered:
+   is returned:
    NOG_ESRCH: no live process has the pid.
    NOG_OUT_OF_RANGE: the process has no piece at this place. */
 uint32_t nog_piece_at(nog_machine *machine, uint32_t pid, uint32_t index, nog_piece *piece);

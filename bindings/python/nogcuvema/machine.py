@@ -41,7 +41,7 @@ class Rules(enum.IntFlag):
     END_IS_ENOMEM = 16       # ENOMEM for a range that ends above 0x7ffffffff000
     LOW_IS_EPERM = 32        # EPERM below 0x10000 for all but user 0
     NO_LAST_USER = 64        # `set`: EINVAL for user or group 2^32 - 1
-    PIECES_ARE_ENOMEM = 128  # ENOMEM in place of EMFILE, and whenever a process has as many pieces as are allowed
+    PIECES_ARE_ENOMEM = 128  # ENOMEM instead of EMFILE, and whenever a process has as many pieces as are allowed
     LOCKS_BY_USER = 256      # `memlock` is a limit of each user but 0; EPERM if it is 0
     EXEC_IS_ASKED = 512      # `attach`: Flag.EXEC needs execute permission, or EACCES
     HUGE_IS_REFUSED = 1024   # `get`: Flag.HUGETLB is EPERM, or ENOMEM for user 0 and group 0
@@ -217,7 +217,7 @@ def _number(value: Any, most: int, what: str, least: int = 0, show: Callable[[in
 
 
 def _pid(value: Any, what: str = "pid") -> int:
-    """A pid as C has it. One that no process can have is answered by the library, as ESRCH for example."""
+    """A pid as C has it. For one that no process can have the library returns a code, as ESRCH for example."""
     return _number(value, U32, what, told=(1, I32))
 
 
