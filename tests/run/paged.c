@@ -373,7 +373,7 @@ static void copies(void) {
 
 static int open_by_handle(const char *name) {
     union { struct file_handle handle; char room[sizeof(struct file_handle) + MAX_HANDLE_SZ]; } of = {.handle.handle_bytes = MAX_HANDLE_SZ};
-    int mount, folder = open("/tmp", O_RDONLY);
+    int mount, folder = open(P_tmpdir, O_RDONLY);
     if (name_to_handle_at(AT_FDCWD, name, &of.handle, &mount, 0) == -1) return -1;
     return open_by_handle_at(folder, &of.handle, O_RDWR | O_DIRECT);
 }
@@ -381,7 +381,7 @@ static int open_by_handle(const char *name) {
 /* A file is opened without cache: by its name, with the word `handle` by its handle, or it is the descriptor WORD. */
 static void direct(void) {
     static char aligned[BYTES] __attribute__((aligned(4096)));
-    char name[] = "/tmp/paged.XXXXXX";
+    char name[] = P_tmpdir "/paged.XXXXXX";
     int made = mkstemp(name), file = !*word ? open(name, O_RDWR | O_DIRECT) : *word == 'h' ? open_by_handle(name) : atoi(word);
     unlink(name);
     if (file == -1 || made == -1) exit(FAILED);  /* this file system has none */

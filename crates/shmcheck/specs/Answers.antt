@@ -1,12 +1,12 @@
 -- What the program writes for what it is asked, or why it writes nothing.
-use Rattle.std.specs.Prelude.{◌≡◌, ◌⊎◌, ℕ, Bool, true, false, List, Option, Some, Ok, Err}
+use Rattle.std.specs.Prelude.{◌≡◌, ◌⊎◌, ℕ, Bool, true, false, List, Option, Some, Ok, Err, IfSome}
 use Rattle.std.specs.Io.KnownBytes.{Keeps}
 use Rattle.shm_text.specs.Reading.{script_of}
 use Rattle.shm_text.specs.Script.{ScriptView}
 use Rattle.shm_life.specs.declared.start.StartError.{StartError}
 use Rattle.shm_life.specs.Start.{start_error, error_number}
 use Rattle.shm_program.specs.Ends.{is_reading}
-use Rattle.shm_program.specs.Runs.{IsCause, IsSilent}
+use Rattle.shm_program.specs.Runs.{IsCause, IsSilent, Prints}
 use Rattle.shm_program.specs.declared.fault.RunFault.TheVariants.{StartRefused, WriteFailed, HostMemory}
 use Rattle.shm_program.specs.declared.fault.RunFault.{RunFault}
 use Rattle.shm_schedules.specs.Schedules.{start}
@@ -46,6 +46,12 @@ rules_asked (Sample d) = d.rules
 -- the same, and the script is opened with the rules that were asked for
 abbrev pub IsRuledAnswer : Asked → List ℕ → ℕ → ScriptView → List ℕ → List ℕ → Type 0
 IsRuledAnswer asked log status script = IsAnswer asked log status (under (rules_asked asked) script)
+
+-- the input, if it is known, is a script, and its answer was written, for this exit status
+abbrev pub IsAnswered :
+    Asked → List ℕ → List ℕ → Option (List ℕ) → Option (List ℕ) → Option (List ℕ) → ℕ → Type 0
+IsAnswered asked log areas input old new status =
+    IfSome input (λ bytes. Prints (IsRuledAnswer asked log status) old new areas bytes)
 
 -- with any exit status
 abbrev pub IsAnyAnswer : Asked → List ℕ → ScriptView → List ℕ → List ℕ → Type 0

@@ -1,8 +1,8 @@
 //! A whole run: reads a script, answers what was asked about it, and writes the answer.
 ghost use Rattle.std.specs.Prelude.{◌≡◌, OnOk, IfErr, IfOk, IfSome, length, map};
 ghost use Rattle.std.specs.Io.KnownBytes.{IsAtEnd};
-ghost use Rattle.shm_program.specs.Runs.{IsTextFor, Prints};
-ghost use Rattle.shmcheck.specs.Answers.{IsAnswer, IsAnyAnswer, IsRuledAnswer, IsStopIn, IsStopOf, WritesNothing, rules_asked};
+ghost use Rattle.shm_program.specs.Runs.{IsTextFor};
+ghost use Rattle.shmcheck.specs.Answers.{IsAnswer, IsAnswered, IsAnyAnswer, IsStopIn, IsStopOf, WritesNothing, rules_asked};
 
 use crate::command::Asked;
 use crate::judging::judge_script;
@@ -34,8 +34,8 @@ pub(crate) fn run_over<R: Read, W: Write, P: ClonePager>(
     log: &[u8],
 ) -> Result<u8, Stop>
     ensures ok { let areas = map (λ p. length (P.content p)) pagers.items in
-        IfOk result (λ status. IfSome (R.remaining reader.old) (λ input.
-        Prints (IsRuledAnswer asked log.now status) (W.contents writer.old) (W.contents writer.new) areas input)) }
+        let answers = IsAnswered asked log.now areas (R.remaining reader.old) in
+        IfOk result (answers (W.contents writer.old) (W.contents writer.new)) }
     ensures whole { OnOk result (IsAtEnd (R.remaining reader.new)) }
     ensures cause { let areas = map (λ p. length (P.content p)) pagers.items in
         IfErr result (λ s. IfSome (R.remaining reader.old) (λ input. IsStopOf s asked log.now areas input)) }
