@@ -5,3 +5,4 @@ pub mod Rule
 pub mod Turning
 pub mod Eligible
 pub mod Skipping
+pub mod Asking

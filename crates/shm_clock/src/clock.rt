@@ -6,18 +6,18 @@
 //!
 //! The hand skips blocks of frames whose pages have to stay ([`Skips`]). It marks a block once it has looked
 //! through all of it and found no page that may go.
-ghost use Rattle.std.specs.Prelude.{ℕ, ◌≡◌, true, false, ◌+◌, ◌-◌, ◌*◌, ◌<◌, ◌≤◌, ◌^◌, Bool, length};
+ghost use Rattle.std.specs.Prelude.{ℕ, ◌≡◌, ◌≢◌, [], true, false, ◌+◌, ◌-◌, ◌*◌, ◌<◌, ◌≤◌, ◌^◌, Bool, length};
 ghost use Rattle.shm_base.specs.declared.paging.PageRef.{PageRef};
 ghost use Rattle.shm_frames.specs.Frame.{frame_at};
-ghost use Rattle.shm_clock.specs.Clock.{ring_at, owner_passes, may_go, candidates, Decides};
+ghost use Rattle.shm_clock.specs.Clock.{ring_at, owner_passes, may_go, candidates, victim_of, Decides};
 ghost use Rattle.shm_clock.specs.Skips.{AreSkipped};
 ghost use Rattle.shm_clock.specs.Turning.{CanTurn, Turns, FindsVictim, CountsLooks};
 
 use shm_base::{FrameNo, PageRef};
 use shm_frames::{BLOCK_FRAMES, Frames, Looks, Skips};
 
-// The frame that is this many steps after the hand, round the ring of the frames.
-fn frame_after(hand: FrameNo, step: u32, count: u32) -> FrameNo
+/// The frame that is this many steps after the hand, round the ring of the frames.
+pub fn frame_after(hand: FrameNo, step: u32, count: u32) -> FrameNo
     requires hand { hand < count }
     requires step { step < count }
     ensures number { result ≡ ring_at hand count step }
@@ -153,6 +153,40 @@ fn turn<E: Fn(PageRef) -> bool>(
         } else {
             step += stride(frames, frame, eligible, skips).min(count - step);
         }
+    }
+    match first {
+        Some(frame) => frame,
+        None => unreachable!(),
+    }
+}
+
+/// The frame that [`victim`] would choose. Nothing changes.
+pub fn next_victim<E: Fn(PageRef) -> bool>(
+    frames: &Frames,
+    hand: FrameNo,
+    eligible: &E,
+    pinned: Option<FrameNo>,
+) -> FrameNo
+    ghost passes: { PageRef → Bool }
+    requires eligible { Decides (E.IsAlwaysCallable eligible.now) (E.post eligible.now) passes }
+    requires hand { hand < length frames.now }
+    requires one { candidates passes pinned frames.now hand ≢ [] }
+    ensures there { result < length frames.now }
+    ensures victim { result ≡ victim_of frames.now (candidates passes pinned frames.now hand) }
+{
+    let count = frames.count();
+    let mut looks = Looks::new();
+    let mut first = None;
+    let mut step = 0;
+    while step < count {
+        let frame = frame_after(hand, step, count);
+        if may_go(frames, frame, eligible, pinned) {
+            if !frames.referenced(frame, &mut looks) {
+                return frame;
+            }
+            first = Some(first.unwrap_or(frame));
+        }
+        step += 1;
     }
     match first {
         Some(frame) => frame,

@@ -3,4 +3,4 @@
 
 mod clock;
 
-pub use clock::victim;
+pub use clock::{frame_after, next_victim, victim};

@@ -8,7 +8,7 @@ clock-alike may hand before victim after is f = grind (arith, nat_tests, common_
 pub next-lt : (before after : List Frame) (victim : ℕ) {hand : ℕ} → length after ≡ length before → victim < length before → hand ≡ next (length before) victim → hand < length after
 next-lt before after victim {hand} size there is = grind (arith, nat_tests)
 
-all-owned : (frames : List Frame) → OwnedBelow frames (length frames) → count_by is_owned frames ≡ length frames
+pub all-owned : (frames : List Frame) → OwnedBelow frames (length frames) → count_by is_owned frames ≡ length frames
 all-owned [] full = refl
 all-owned (x ∷ xs) full =
     let here : is_none x.owner ≡ false = full 0 (omega arith) in

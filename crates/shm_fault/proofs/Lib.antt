@@ -36,3 +36,5 @@ pub mod Accessing
 mod Copies
 mod Untouched
 pub mod Skipped
+mod Leaving
+pub mod Lending

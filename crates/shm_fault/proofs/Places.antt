@@ -102,12 +102,12 @@ pub room-made : (s t : StoreView) (pinned : Option ℕ) (f : ℕ) → position i
 room-made s t pinned f free out victim = (room-evicted s (places t) pinned free out, frame-evicted s f pinned free victim)
 
 -- a page comes into a free frame
-pub settled-is : (s t : StoreView) (r : PageRef) (f : ℕ) → (frame_at s.frames f).dirty ≡ false → t.hand ≡ s.hand → t.swap ≡ s.swap
+pub settled-is : (s t : StoreView) (r : PageRef) (f : ℕ) → (frame_at s.frames f).dirty ≡ false → (frame_at s.frames f).lent ≡ false → t.hand ≡ s.hand → t.swap ≡ s.swap
     → t.segs ≡ with_rec s.segs r (record { frame = Some f; slot = (rec_by s.segs r).slot }) → t.frames ≡ set s.frames f (record (frame_at s.frames f) { owner = Some r; referenced = true }) → places t ≡ settled r f (places s)
 unfolding places settled
-settled-is s t r f clean hand swap segs frames =
+settled-is s t r f clean home hand swap segs frames =
     let x : Frame = record (frame_at s.frames f) { owner = Some r; referenced = true } in
-    rw (hand, swap, segs, frames, bare-set s.frames f x, clean) refl
+    rw (hand, swap, segs, frames, bare-set s.frames f x, clean, home) refl
 
 -- reading bytes into a frame changes no place
 pub same-places : (s t : StoreView) (f : ℕ) (bytes : List ℕ) → t.segs ≡ s.segs → t.hand ≡ s.hand → slot_owners t.swap ≡ slot_owners s.swap → t.frames ≡ set s.frames f (record (frame_at s.frames f) { bytes = bytes }) → places t ≡ places s

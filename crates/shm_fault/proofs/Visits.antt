@@ -125,7 +125,7 @@ moves-trans ms ns os s t u a c b led = c b (a b led)
 pub visits-away : (pinned : Option ℕ) (s t : StoreView) → ((r : PageRef) → Visits r pinned s t) → StaysAway s t
 visits-away pinned s t all q e = (all (record { seg = q.seg; page = suc q.page })).away q (λ same. absurd (let h : q.page ≡ suc q.page = ap (λ (r : PageRef). r.page) same in omega arith)) e
 
-alike-set : (frames : List Frame) (f : ℕ) (x : Frame) → Alike (frame_at frames f) x → (g : ℕ) → Alike (frame_at frames g) (frame_at (set frames f x) g)
+pub alike-set : (frames : List Frame) (f : ℕ) (x : Frame) → Alike (frame_at frames f) x → (g : ℕ) → Alike (frame_at frames g) (frame_at (set frames f x) g)
 alike-set frames f x like g = grind (arith, nat_tests, common_steps, set-cases)
 
 -- a frame's referenced bit is set

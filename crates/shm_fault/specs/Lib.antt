@@ -16,3 +16,4 @@ pub mod Dropping
 pub mod Moving
 pub mod Paging
 pub mod Acting
+pub mod Loans

@@ -96,8 +96,8 @@ fn sum_with(bytes: &[u8], more: u64) -> [u8; 8]
 }
 
 impl<P: Pager> PageStore<P> {
-    // The page of a span.
-    fn page_at(&self, span: &Span) -> PageRef
+    /// The page of a span.
+    pub fn page_at(&self, span: &Span) -> PageRef
         requires { FitsPage (held self.now) span.now }
         ensures page { result ≡ ref_of span.now }
         ensures has { HasPage self.now.segs result }
@@ -215,7 +215,7 @@ impl<P: Pager> PageStore<P> {
 
     // Writes bytes into the frame that the page of a span is in.
     #[inline(always)]
-    fn store(&mut self, span: &Span, frame: FrameNo, bytes: &[u8])
+    pub(crate) fn store(&mut self, span: &Span, frame: FrameNo, bytes: &[u8])
         requires fit { FitsPage (held self.old) span.now }
         requires here { frame_by self.old (ref_of span.now) ≡ Some frame }
         requires size { span.now.len ≡ length bytes.now }

@@ -11,6 +11,7 @@ mod act;
 mod copying;
 mod dropping;
 mod flushing;
+mod loans;
 mod moving;
 mod page_table;
 mod page_tables;
@@ -20,6 +21,7 @@ mod store;
 mod touched;
 
 pub use act::Act;
+pub use loans::FrameInfo;
 pub use page_tables::PageRec;
 pub use store::PageStore;
 pub use touched::{PageMove, PageTally, PagerFailed, Touched};

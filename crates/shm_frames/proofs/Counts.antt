@@ -10,7 +10,7 @@ use Rattle.shm_base.specs.Stored.{padded}
 use Rattle.shm_base.proofs.Stored.{size-padded, get_or-padded}
 use Rattle.shm_frames.proofs.Shown.{count-padded}
 use Rattle.shm_frames.specs.declared.frames.FrameState.{FrameState}
-use Rattle.shm_frames.specs.Table.{free_entry, state_at, has_owner, has_no_owner, has_changed, UsedBelow, IsFrameTable}
+use Rattle.shm_frames.specs.Table.{free_entry, state_at, has_owner, has_no_owner, has_changed, is_on_loan, UsedBelow, IsFrameTable}
 
 -- a test that implies another passes no more often
 count_by-le : {X : Type 0} (p q : X → Bool) (d : X) (xs : List X) → ((i : ℕ) → i < length xs → p (get_or xs i d) ≡ true → q (get_or xs i d) ≡ true) → count_by p xs ≤ count_by q xs
@@ -40,13 +40,39 @@ worth : (b : Bool) → cond b 1 0 ≡ from_bool b
 worth true = refl
 worth false = refl
 
+-- a count after an edit of one entry, which was `was`
+counted-set : (p : FrameState → Bool) (table : List FrameState) {n i : ℕ} {was : FrameState} → n ≡ count_by p table → i < length table → was ≡ state_at table i → (x : FrameState) → count_by p (set table i x) + from_bool (p was) ≡ n + from_bool (p x)
+counted-set p table {n} {i} {was} count there at x = rw (← worth (p was), ← worth (p x), at, count) (sum_by-set (λ y. cond (p y) 1 0) table i x free_entry there)
+
+-- the number of pages on loan, after an edit of one entry, which was `was`
+module _ (table : List FrameState) {loans i : ℕ} {was : FrameState} (count : loans ≡ count_by is_on_loan table) (there : i < length table) (at : was ≡ state_at table i) where
+  loans-set : (x : FrameState) → count_by is_on_loan (set table i x) + from_bool was.lent ≡ loans + from_bool x.lent
+  loans-set = counted-set is_on_loan table count there at
+
+  pub loans-there : from_bool was.lent ≤ loans
+  loans-there = let e : count_by is_on_loan (set table i free_entry) + from_bool was.lent ≡ loans + 0 = loans-set free_entry in omega arith
+
+  pub loans-more : (now : Bool) → loans - from_bool was.lent + from_bool now ≤ length table
+  loans-more now =
+      let x : FrameState = record was { lent = now } in
+      let e : count_by is_on_loan (set table i x) + from_bool was.lent ≡ loans + from_bool now = loans-set x in
+      omega (arith, loans-there, count_by-le-length is_on_loan (set table i x), length-set table i x)
+
+  pub kept-loans : (x : FrameState) → loans - from_bool was.lent + from_bool x.lent ≡ count_by is_on_loan (set table i x)
+  kept-loans x = omega (arith, loans-there, loans-set x)
+
+  pub same-loans : (x : FrameState) → x.lent ≡ was.lent → loans ≡ count_by is_on_loan (set table i x)
+  same-loans x same =
+      let e : count_by is_on_loan (set table i x) + from_bool was.lent ≡ loans + from_bool was.lent = loans-set x ∙ ap (λ b. loans + from_bool b) same in
+      omega arith
+
 -- the invariant after an edit of one entry, which was `was`
 module _ {table : List FrameState} {first owned changed i : ℕ} {was : FrameState} (k : IsFrameTable table first owned changed) (there : i < length table) (at : was ≡ state_at table i) where
   owned-set : (x : FrameState) → count_by has_owner (set table i x) + from_bool (has_owner was) ≡ owned + from_bool (has_owner x)
-  owned-set x = rw (← worth (has_owner was), ← worth (has_owner x), at, k.resident) (sum_by-set (λ y. cond (has_owner y) 1 0) table i x free_entry there)
+  owned-set = counted-set has_owner table k.resident there at
 
   changed-set : (x : FrameState) → count_by has_changed (set table i x) + from_bool was.dirty ≡ changed + from_bool x.dirty
-  changed-set x = rw (← worth was.dirty, ← worth x.dirty, at, k.dirty) (sum_by-set (λ y. cond (has_changed y) 1 0) table i x free_entry there)
+  changed-set = counted-set has_changed table k.dirty there at
 
   -- it was counted if it was owned, and if it was dirty
   pub owned-there : from_bool (has_owner was) ≤ owned
@@ -100,7 +126,10 @@ kept-reach table first owned changed n k =
       clear = λ i free. same i ∙ k.clear i (sym (ap (λ (e : FrameState). e.owner) (same i)) ∙ free);
     }
 
-all-counted : {X : Type 0} (p : X → Bool) (d : X) (xs : List X) → count_by p xs ≡ length xs → (i : ℕ) → i < length xs → p (get_or xs i d) ≡ true
+pub loans-reach : (table : List FrameState) (loans n : ℕ) → loans ≡ count_by is_on_loan table → loans ≡ count_by is_on_loan (padded table n free_entry)
+loans-reach table loans n count = count ∙ sym (count-padded is_on_loan table n refl)
+
+pub all-counted : {X : Type 0} (p : X → Bool) (d : X) (xs : List X) → count_by p xs ≡ length xs → (i : ℕ) → i < length xs → p (get_or xs i d) ≡ true
 all-counted p d [] e i l = absurd (omega arith)
 all-counted p d (x ∷ xs) e i l =
     let few : count_by p xs ≤ length xs = count_by-le-length p xs in

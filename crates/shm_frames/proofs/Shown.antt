@@ -12,8 +12,8 @@ use Rattle.shm_base.specs.Page.{zero_page}
 use Rattle.shm_base.proofs.Stored.{length-padded, size-padded, fits-padded, get_or-padded, set-padded, padded-padded}
 use Rattle.shm_frames.specs.declared.frames.FrameState.{FrameState}
 use Rattle.shm_frames.specs.declared.frames.Frames.TheInside.{Inside}
-use Rattle.shm_frames.specs.Frame.{Frame, frame_at, no_frame, is_free, is_owned, is_dirty, resident_of, dirty_of, FreeAreClear, OwnedBelow}
-use Rattle.shm_frames.specs.Table.{frame_shown, frames_of, all_frames, AreUsed, free_entry, state_at, has_owner, has_changed, UsedBelow}
+use Rattle.shm_frames.specs.Frame.{Frame, frame_at, no_frame, is_free, is_owned, is_dirty, is_lent, resident_of, dirty_of, lent_of, FreeAreClear, OwnedBelow}
+use Rattle.shm_frames.specs.Table.{frame_shown, frames_of, all_frames, AreUsed, free_entry, state_at, has_owner, has_changed, is_on_loan, UsedBelow}
 use Rattle.shm_frames.proofs.First.{position_is, position-none}
 
 pub record AreFramesShown (table : List FrameState) (pages : List (List ℕ)) (count : ℕ) (frames : List Frame) : Type 0 where
@@ -130,6 +130,9 @@ module _ {table : List FrameState} {pages : List (List ℕ)} {count : ℕ} {fram
 
   pub dirty-shown : dirty_of frames ≡ count_by has_changed table
   dirty-shown = rw (← s.is) (count-frames_of is_dirty has_changed (λ x b. refl) entries bytes beside ∙ count-padded has_changed table count refl)
+
+  pub lent-shown : lent_of frames ≡ count_by is_on_loan table
+  lent-shown = rw (← s.is) (count-frames_of is_lent is_on_loan (λ x b. refl) entries bytes beside ∙ count-padded is_on_loan table count refl)
 
   pub clear-shown : ((i : ℕ) → (state_at table i).owner ≡ None → state_at table i ≡ free_entry) → FreeAreClear frames
   clear-shown clear i free = rw (frame-shown i) (ap (λ x. frame_shown x (get_or bytes i [])) (clear i (ap (λ (f : Frame). f.owner) (sym (frame-shown i)) ∙ free)))

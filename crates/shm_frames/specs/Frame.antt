@@ -2,16 +2,17 @@
 use Rattle.std.specs.Prelude.{◌≡◌, ℕ, ◌<◌, ◌≤◌, Bool, true, false, Option, None, Some, is_none, is_some, List, [], length, get_or, count_by}
 use Rattle.shm_base.specs.declared.paging.PageRef.{PageRef}
 
--- a frame: its owner, its bytes, and its two bits
+-- a frame: its owner, its bytes, its two bits, and whether its page is on loan to the host
 pub record Frame : Type 0 where
   pub owner : Option PageRef
   pub bytes : List ℕ
   pub referenced : Bool
   pub dirty : Bool
+  pub lent : Bool
 
 -- the value beyond the last frame: a free frame with no bytes
 abbrev pub no_frame : Frame
-no_frame = record { owner = None; bytes = []; referenced = false; dirty = false }
+no_frame = record { owner = None; bytes = []; referenced = false; dirty = false; lent = false }
 
 abbrev pub frame_at : List Frame → ℕ → Frame
 frame_at frames i = get_or frames i no_frame
@@ -32,6 +33,13 @@ resident_of frames = count_by is_owned frames
 -- how many frames are dirty
 abbrev pub dirty_of : List Frame → ℕ
 dirty_of frames = count_by is_dirty frames
+
+abbrev pub is_lent : Frame → Bool
+is_lent f = f.lent
+
+-- how many frames have a page on loan
+abbrev pub lent_of : List Frame → ℕ
+lent_of frames = count_by is_lent frames
 
 -- the frame has no owner, and its bits are clear
 abbrev pub IsFrameBlank : List Frame → ℕ → Type 0

@@ -6,7 +6,7 @@ use Rattle.shm_base.specs.Page.{zero_page}
 use Rattle.shm_frames.specs.Frame.{Frame}
 
 abbrev pub frame_shown : FrameState → List ℕ → Frame
-frame_shown e bytes = record { owner = e.owner; bytes = bytes; referenced = e.referenced; dirty = e.dirty }
+frame_shown e bytes = record { owner = e.owner; bytes = bytes; referenced = e.referenced; dirty = e.dirty; lent = e.lent }
 
 -- the frames of a table, each with the bytes at its index
 abbrev pub frames_of : List FrameState → List (List ℕ) → List Frame
@@ -15,7 +15,7 @@ frames_of (e ∷ es) [] = []
 frames_of (e ∷ es) (bytes ∷ pages) = frame_shown e bytes ∷ frames_of es pages
 
 abbrev pub free_entry : FrameState
-free_entry = record { owner = None; referenced = false; dirty = false }
+free_entry = record { owner = None; referenced = false; dirty = false; lent = false }
 
 -- the frames that were ever used, and then the others, each free and zeros
 abbrev pub all_frames : List FrameState → List (List ℕ) → ℕ → List Frame
@@ -38,6 +38,9 @@ has_no_owner e = is_none e.owner
 
 abbrev pub has_changed : FrameState → Bool
 has_changed e = e.dirty
+
+abbrev pub is_on_loan : FrameState → Bool
+is_on_loan e = e.lent
 
 -- no entry below n is free
 abbrev pub UsedBelow : List FrameState → ℕ → Type 0

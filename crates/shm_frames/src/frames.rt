@@ -2,8 +2,8 @@
 //!
 //! A table has an entry for each frame. The bytes of the frames are kept apart from it, so a walk over owners
 //! and bits reads no page. Entries and bytes are made when a frame is first used; memory that is reserved for
-//! other frames is not touched. The table keeps a bound below which no frame is free, and counts owned and
-//! dirty frames. A free frame has both bits clear, and arbitrary bytes.
+//! other frames is not touched. The table keeps a bound below which no frame is free, and counts
+//! frames that are owned, dirty, or on loan. A free frame has both bits clear, is not on loan, and has arbitrary bytes.
 ghost use Rattle.std.specs.Prelude.{◌≡◌, ℕ, ◌+◌, ◌-◌, ◌<◌, ◌≤◌, ◌^◌, [], ◌∷◌, ◌++◌, length, get_or, set, position, count_by, vec_capacity, None, Some, IfOk, IfSome, IsSome, MatchOption, true};
 ghost use Rattle.std.specs.Borrow.{sem};
 ghost use Rattle.shm_base.specs.Stored.{padded};
@@ -20,9 +20,11 @@ struct FrameState {
     owner: Option<PageRef>,
     referenced: bool,
     dirty: bool,
+    lent: bool,
 }
 
-/// The frames of a machine. Contracts see a list of them, each with its owner, its bytes and its two bits.
+/// The frames of a machine. Contracts see a list of them, each with its owner, its bytes, its two bits, and
+/// whether its page is on loan.
 pub struct Frames {
     // The first frames: all those that were ever used. The others are free, and zeros.
     table: Vec<FrameState>,
@@ -30,9 +32,10 @@ pub struct Frames {
     count: u32,
     // No frame below this one is free.
     first_free: FrameNo,
-    // How many frames are owned, and how many are dirty.
+    // How many frames are owned, how many are dirty, and how many have a page on loan.
     resident: u32,
     dirty: u32,
+    lent: u32,
 }
 
 impl Drop for Frames {
@@ -44,23 +47,25 @@ impl Drop for Frames {
             first_free: _,
             resident: _,
             dirty: _,
+            lent: _,
         } = self;
     }
 }
 
 impl Model for Frames {
-    ghost use Rattle.std.specs.Prelude.{◌≤◌, List, vec_capacity};
+    ghost use Rattle.std.specs.Prelude.{◌≡◌, ◌≤◌, List, count_by, vec_capacity};
     ghost use Rattle.shm_frames.specs.Frame.{Frame};
 
     ghost Value = { List Frame };
 
-    ghost use Rattle.shm_frames.specs.Table.{all_frames, AreUsed, IsFrameTable};
+    ghost use Rattle.shm_frames.specs.Table.{all_frames, AreUsed, IsFrameTable, is_on_loan};
 
     ghost view = { λ a. all_frames a.table.items a.pages.items a.count };
 
     ghost invariant = { λ a. AreUsed a.table.items a.pages.items a.count
         × (a.count ≤ vec_capacity a.table) × (a.count ≤ vec_capacity a.pages)
-        × IsFrameTable a.table.items a.first_free a.resident a.dirty };
+        × IsFrameTable a.table.items a.first_free a.resident a.dirty
+        × (a.lent ≡ count_by is_on_loan a.table.items) };
 }
 
 impl FrameState {
@@ -68,6 +73,7 @@ impl FrameState {
         owner: None,
         referenced: false,
         dirty: false,
+        lent: false,
     };
 }
 
@@ -190,7 +196,7 @@ pub(crate) fn copied<T: Copy>(items: &Vec<T>, room: u32) -> Result<Vec<T>, Alloc
 }
 
 impl Frames {
-    ghost use Rattle.shm_frames.specs.Frame.{frame_at, no_frame, is_free, resident_of, dirty_of, FreeAreClear, OwnedBelow, IsLeastFree, IsFrameBlank, IsDirtyFrom, AreCleanUpTo};
+    ghost use Rattle.shm_frames.specs.Frame.{frame_at, no_frame, is_free, resident_of, dirty_of, lent_of, FreeAreClear, OwnedBelow, IsLeastFree, IsFrameBlank, IsDirtyFrom, AreCleanUpTo};
     ghost use Rattle.shm_frames.specs.Lends.{lends_bytes};
     ghost use Rattle.shm_base.specs.declared.paging.TheConstants.{PAGE_BYTES};
 
@@ -207,6 +213,7 @@ impl Frames {
             first_free: 0,
             resident: 0,
             dirty: 0,
+            lent: 0,
         })
     }
 
@@ -222,6 +229,7 @@ impl Frames {
             first_free: self.first_free,
             resident: self.resident,
             dirty: self.dirty,
+            lent: self.lent,
         })
     }
 
@@ -247,6 +255,14 @@ impl Frames {
         ensures few { result ≤ resident_of self.now }
     {
         u64::from(self.dirty)
+    }
+
+    /// How many frames have a page on loan.
+    #[inline(always)]
+    pub fn lent(&self) -> u64
+        ensures { result ≡ lent_of self.now }
+    {
+        u64::from(self.lent)
     }
 
     /// The first free frame; none if each frame is owned. The frames do not change, only the place where the
@@ -286,7 +302,9 @@ impl Frames {
     pub fn fill(&mut self, frame: FrameNo, owner: PageRef)
         requires there { frame < length self.old }
         requires free { (frame_at self.old frame).owner ≡ None }
-        ensures { self.new ≡ set self.old frame (record (frame_at self.old frame) { owner = Some owner }) }
+        ensures given { let before = frame_at self.old frame in
+            self.new ≡ set self.old frame (record before { owner = Some owner }) }
+        ensures blank { IsFrameBlank self.old frame }
     {
         reach(&mut self.table, &mut self.pages, frame);
         let entry = &mut self.table[frame as usize];
@@ -310,6 +328,7 @@ impl Frames {
         self.table[frame as usize] = FrameState::FREE;
         self.resident -= 1;
         self.dirty -= u32::from(was.dirty);
+        self.lent -= u32::from(was.lent);
         self.first_free = self.first_free.min(frame);
     }
 
@@ -386,6 +405,26 @@ impl Frames {
         self.dirty -= u32::from(entry.dirty);
         entry.dirty = dirty;
         self.dirty += u32::from(dirty);
+    }
+
+    /// Whether the page of a frame is on loan.
+    pub fn is_lent(&self, frame: FrameNo) -> bool
+        requires { frame < length self.now }
+        ensures { result ≡ (frame_at self.now frame).lent }
+    {
+        state_of(&self.table, frame).lent
+    }
+
+    /// Notes that the page of an owned frame is on loan, or that it is not any more.
+    pub fn set_lent(&mut self, frame: FrameNo, lent: bool)
+        requires there { frame < length self.old }
+        requires owned { IsSome (frame_at self.old frame).owner }
+        ensures { self.new ≡ set self.old frame (record (frame_at self.old frame) { lent = lent }) }
+    {
+        let entry = &mut self.table[frame as usize];
+        self.lent -= u32::from(entry.lent);
+        entry.lent = lent;
+        self.lent += u32::from(lent);
     }
 
     /// The first dirty frame from one on; none if there is none.

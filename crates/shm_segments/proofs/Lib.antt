@@ -17,3 +17,4 @@ pub mod Remembered
 pub mod Staying
 pub mod Again
 pub mod Acting
+mod Marking

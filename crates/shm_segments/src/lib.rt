@@ -6,6 +6,7 @@
 
 mod copying;
 mod head;
+mod loans;
 mod memory;
 mod segments;
 

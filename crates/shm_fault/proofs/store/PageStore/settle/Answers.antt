@@ -1,4 +1,4 @@
-use Rattle.shm_fault.proofs.Names.{true, refl, Some, Frame, frame_at, unlocked}
+use Rattle.shm_fault.proofs.Names.{true, ap, refl, Some, Frame, frame_at, unlocked}
 use Rattle.shm_fault.proofs.Seen.{seen}
 use Rattle.shm_fault.proofs.Skipped.{skipped-given, skipped-with}
 use Rattle.shm_fault.proofs.Changes.{set-twice}
@@ -15,7 +15,7 @@ done g c =
     let there = rw (← c.self.view_is) at c.requires.there in
     let bytes = rw (← c.self.view_is) at c.requires.bytes in
     let x : Frame = record (frame_at i.frames c.args.frame) { owner = Some c.args.page } in
-    rw (set-twice i.frames c.args.frame x (λ y. record y { referenced = true }) there c.fill.ensures c.set_referenced.ensures, c.set_frame.ensures)
+    rw (set-twice i.frames c.args.frame x (λ y. record y { referenced = true }) there c.fill.ensures.given c.set_referenced.ensures, c.set_frame.ensures)
     (settles (seen i) c.self.invariant.0 c.args.page c.args.frame (rw (← c.self.view_is) at c.requires.has) there
     (rw (← c.self.view_is) at c.requires.free) (rw (← c.self.view_is) at c.requires.away) bytes)
 
@@ -25,7 +25,7 @@ invariant_of-self g c =
     let there = rw (← c.self.view_is) at c.requires.there in
     let x : Frame = record (frame_at i.frames c.args.frame) { owner = Some c.args.page } in (
       (done g c).sound,
-      rw (set-twice i.frames c.args.frame x (λ y. record y { referenced = true }) there c.fill.ensures c.set_referenced.ensures, c.set_frame.ensures, c.forget.ensures)
+      rw (set-twice i.frames c.args.frame x (λ y. record y { referenced = true }) there c.fill.ensures.given c.set_referenced.ensures, c.set_frame.ensures, c.forget.ensures)
           (skipped-with i.segs c.args.page _ _ _ (skipped-given (unlocked i.segs) i.frames i.skips c.self.invariant.1 c.args.frame (record x { referenced = true }))),
     )
 
@@ -41,6 +41,6 @@ returns-clause-placed g c =
     let there = rw (← c.self.view_is) at c.requires.there in
     let x : Frame = record (frame_at s.frames c.args.frame) { owner = Some c.args.page } in
     rw (← c.self.view_is)
-    (settled-is s (record s { segs = c.set_frame.new.self; frames = c.set_referenced.new.self }) c.args.page c.args.frame (c.self.invariant.0.tied.free c.args.frame (rw (← c.self.view_is) at c.requires.free)) refl refl
+    (settled-is s (record s { segs = c.set_frame.new.self; frames = c.set_referenced.new.self }) c.args.page c.args.frame (c.self.invariant.0.tied.free c.args.frame (rw (← c.self.view_is) at c.requires.free)) (ap (λ (x : Frame). x.lent) c.fill.ensures.blank) refl refl
     c.set_frame.ensures
-    (set-twice s.frames c.args.frame x (λ y. record y { referenced = true }) there c.fill.ensures c.set_referenced.ensures))
+    (set-twice s.frames c.args.frame x (λ y. record y { referenced = true }) there c.fill.ensures.given c.set_referenced.ensures))

@@ -3,7 +3,7 @@ use Rattle.std.proofs.lemmas.List.{get_or_read}
 use Rattle.shm_base.specs.Page.{zero_page}
 use Rattle.shm_base.proofs.Stored.{within-padded}
 use Rattle.shm_frames.proofs.Shown.{AreFramesShown, shown, length-shown, reach-shown, paste-shown, bytes-shown}
-use Rattle.shm_frames.proofs.Counts.{kept-reach}
+use Rattle.shm_frames.proofs.Counts.{kept-reach, loans-reach}
 use Rattle.shm_frames.proofs.frames.Frames.bytes_mut.Goals as goal
 use Rattle.shm_frames.proofs.frames.Frames.bytes_mut.Goals.{After-self, After-reach}
 
@@ -29,6 +29,7 @@ invariant_of-self-lent c =
       rw c.reach.ensures.entries c.self.invariant.1,
       rw c.reach.ensures.rooms c.self.invariant.2,
       rw c.reach.ensures.table (kept-reach c.self.inside.table.items c.self.inside.first_free c.self.inside.resident c.self.inside.dirty (c.args.frame + 1) c.self.invariant.3),
+      rw c.reach.ensures.table (loans-reach c.self.inside.table.items c.self.inside.lent (c.args.frame + 1) c.self.invariant.4),
     )
 
 pub returns : goal.returns

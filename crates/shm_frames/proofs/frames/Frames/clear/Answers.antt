@@ -4,7 +4,7 @@ use Rattle.shm_base.specs.Page.{zero_page}
 use Rattle.shm_frames.specs.Frame.{no_frame, frame_at}
 use Rattle.shm_frames.specs.Table.{all_frames}
 use Rattle.shm_frames.proofs.Shown.{shown, length-shown, reach-shown, paste-shown, bytes-shown}
-use Rattle.shm_frames.proofs.Counts.{kept-reach}
+use Rattle.shm_frames.proofs.Counts.{kept-reach, loans-reach}
 use Rattle.shm_frames.proofs.frames.Frames.clear.Goals as goal
 use Rattle.shm_frames.proofs.frames.Frames.clear.Goals.{After-self}
 
@@ -25,6 +25,7 @@ invariant_of-self c =
       rw c.reach.ensures.entries c.self.invariant.1,
       rw c.reach.ensures.rooms c.self.invariant.2,
       rw c.reach.ensures.table (kept-reach c.self.inside.table.items c.self.inside.first_free c.self.inside.resident c.self.inside.dirty (c.args.frame + 1) c.self.invariant.3),
+      rw c.reach.ensures.table (loans-reach c.self.inside.table.items c.self.inside.lent (c.args.frame + 1) c.self.invariant.4),
     )
 
 pub returns-then-frame-len : goal.returns-then-frame-len

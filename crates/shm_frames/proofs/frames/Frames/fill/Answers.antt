@@ -1,10 +1,11 @@
 use Rattle.std.proofs.Common.{◌≡◌, ◌<◌, ◌≤◌, ◌+◌, ℕ, List, length, set, None, Some, refl, sym, ap, ◌∙◌, arith}
+use Rattle.std.specs.Prelude.{count_by}
 use Rattle.shm_base.specs.Stored.{padded}
 use Rattle.shm_base.proofs.Stored.{within-padded}
 use Rattle.shm_frames.specs.declared.frames.FrameState.{FrameState}
-use Rattle.shm_frames.specs.Table.{free_entry, state_at, IsFrameTable}
-use Rattle.shm_frames.proofs.Shown.{AreFramesShown, shown, length-shown, reach-shown, edit-shown, entry-is, free-entry, used-set}
-use Rattle.shm_frames.proofs.Counts.{kept-reach, kept-fill, owned-more}
+use Rattle.shm_frames.specs.Table.{free_entry, state_at, is_on_loan, IsFrameTable}
+use Rattle.shm_frames.proofs.Shown.{AreFramesShown, clear-shown, shown, length-shown, reach-shown, edit-shown, entry-is, free-entry, used-set}
+use Rattle.shm_frames.proofs.Counts.{kept-reach, kept-fill, loans-reach, owned-more, same-loans}
 use Rattle.shm_frames.proofs.frames.Frames.fill.Goals as goal
 use Rattle.shm_frames.proofs.frames.Frames.fill.Goals.{After-self, After-index_mut-entry}
 
@@ -37,6 +38,9 @@ module _ (c : After-index_mut-entry) (in_count : c.args.frame < c.self.inside.co
   kept : IsFrameTable c.reach.new.table.items c.self.inside.first_free c.self.inside.resident c.self.inside.dirty
   kept = rw c.reach.ensures.table (kept-reach c.self.inside.table.items c.self.inside.first_free c.self.inside.resident c.self.inside.dirty (c.args.frame + 1) c.self.invariant.3)
 
+  loans : c.self.inside.lent ≡ count_by is_on_loan c.reach.new.table.items
+  loans = rw c.reach.ensures.table (loans-reach c.self.inside.table.items c.self.inside.lent (c.args.frame + 1) c.self.invariant.4)
+
 pub index_mut-entry-requires : goal.index_mut-entry-requires
 index_mut-entry-requires c = omega (arith, at_entry c.self.inside.table.items c.reach.new.table.items c.args.frame c.reach.ensures.table)
 
@@ -61,6 +65,7 @@ invariant_of-self c =
       rw c.reach.ensures.entries c.self.invariant.1,
       rw c.reach.ensures.rooms c.self.invariant.2,
       kept-fill (kept e w) (there e w) (is_at e w) c.args.owner (c.self.inside.first_free + 1) (free e w) bound (λ j lt n. (kept e w).used j (omega (arith, first))),
+      same-loans c.reach.new.table.items (loans e w) (there e w) (is_at e w) _ refl,
     )
 
 pub invariant_of-self-else-frame-self : goal.invariant_of-self-else-frame-self
@@ -72,18 +77,25 @@ invariant_of-self-else-frame-self c =
       rw c.reach.ensures.entries c.self.invariant.1,
       rw c.reach.ensures.rooms c.self.invariant.2,
       kept-fill (kept e w) (there e w) (is_at e w) c.args.owner c.self.inside.first_free (free e w) (kept e w).bound (λ j lt n. (kept e w).used j lt),
+      same-loans c.reach.new.table.items (loans e w) (there e w) (is_at e w) _ refl,
     )
 
-pub returns-then-frame-self : goal.returns-then-frame-self
-returns-then-frame-self c =
-    let o = goal.at.returns-then-frame-self c in
+pub returns-then-frame-self-clause-given : goal.returns-then-frame-self-clause-given
+returns-then-frame-self-clause-given c =
+    let o = goal.at.returns-then-frame-self-clause-given c in
     let e = o.After-index_mut-entry in
     let w = within o.After-self in
     edit-shown (reached e w) c.args.frame c.index_mut-entry.result.now (λ x. record x { owner = Some c.args.owner }) (λ f. record f { owner = Some c.args.owner }) (λ x b. refl) (there e w) (is_at e w)
 
-pub returns-else-frame-self : goal.returns-else-frame-self
-returns-else-frame-self c =
-    let o = goal.at.returns-else-frame-self c in
+pub returns-else-frame-self-clause-given : goal.returns-else-frame-self-clause-given
+returns-else-frame-self-clause-given c =
+    let o = goal.at.returns-else-frame-self-clause-given c in
     let e = o.After-index_mut-entry in
     let w = within o.After-self in
     edit-shown (reached e w) c.args.frame c.index_mut-entry.result.now (λ x. record x { owner = Some c.args.owner }) (λ f. record f { owner = Some c.args.owner }) (λ x b. refl) (there e w) (is_at e w)
+
+pub returns-then-frame-self-clause-blank : goal.returns-then-frame-self-clause-blank
+returns-then-frame-self-clause-blank c = clear-shown (shown c.self.inside c.self.invariant.0 c.self.view_is) c.self.invariant.3.clear c.args.frame c.requires.free
+
+pub returns-else-frame-self-clause-blank : goal.returns-else-frame-self-clause-blank
+returns-else-frame-self-clause-blank c = clear-shown (shown c.self.inside c.self.invariant.0 c.self.view_is) c.self.invariant.3.clear c.args.frame c.requires.free

@@ -4,7 +4,7 @@ use Rattle.shm_frames.specs.Frame.{frame_at}
 use Rattle.std.specs.Int.{from_bool}
 use Rattle.shm_frames.specs.Table.{all_frames, state_at, IsFrameTable}
 use Rattle.shm_frames.proofs.Shown.{shown, edit-shown, entry-is, owned-there, used-set, owned-entry}
-use Rattle.shm_frames.proofs.Counts.{kept-bits, changed-there, changed-more}
+use Rattle.shm_frames.proofs.Counts.{kept-bits, same-loans, changed-there, changed-more}
 use Rattle.shm_frames.proofs.frames.Frames.set_dirty.Goals as goal
 use Rattle.shm_frames.proofs.frames.Frames.set_dirty.Goals.{After-self, After-index_mut-entry, After-from-2}
 
@@ -59,6 +59,7 @@ invariant_of-self c =
       c.self.invariant.1,
       c.self.invariant.2,
       kept o.After-from-2 t (is_at o.After-index_mut-entry t),
+      same-loans c.self.inside.table.items c.self.invariant.4 t (is_at o.After-index_mut-entry t) _ refl,
     )
 
 pub returns : goal.returns

@@ -1,7 +1,7 @@
 use Rattle.std.proofs.Common.{◌<◌, ◌∙◌, length, refl, sym, ap, arith}
 use Rattle.shm_frames.specs.declared.frames.FrameState.{FrameState}
 use Rattle.shm_frames.proofs.Shown.{shown, edit-shown, entry-is, owned-there, used-set, owned-entry}
-use Rattle.shm_frames.proofs.Counts.{kept-bits}
+use Rattle.shm_frames.proofs.Counts.{kept-bits, same-loans}
 use Rattle.shm_frames.proofs.frames.Frames.set_referenced.Goals as goal
 use Rattle.shm_frames.proofs.frames.Frames.set_referenced.Goals.{After-self}
 
@@ -21,6 +21,7 @@ invariant_of-self c =
       c.self.invariant.1,
       c.self.invariant.2,
       kept-bits c.self.invariant.3 t at (record c.index_mut-entry.result.now { referenced = c.args.referenced }) c.self.inside.dirty (owned-entry s c.args.frame c.index_mut-entry.result.now at c.requires.owned) refl refl,
+      same-loans c.self.inside.table.items c.self.invariant.4 t at _ refl,
     )
 
 pub returns : goal.returns

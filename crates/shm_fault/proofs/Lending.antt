@@ -1,0 +1,191 @@
+-- A page on loan stays in its frame, unless a visit is made that was barred.
+use Rattle.shm_fault.proofs.Names.{◌≡◌, ◌∷◌, [], ℕ, Bool, true, false, true≢false, not, List, Option, Some, None, is_some, refl, sym, ap, ◌∙◌, arith, common_steps, nat_tests, get_or, PageRef, Slot, Span, Frame, no_frame, frame_at, rec_by, ref_of}
+use Rattle.std.proofs.Common.{◌≢◌, ◌⊎◌, inl, inr}
+use Rattle.std.specs.Prelude.{position, unwrap_or, set, if◌then◌else◌}
+use Rattle.std.proofs.lemmas.List.Quantifiers.{position-Some}
+use Rattle.shm_clock.specs.Clock.{candidates, passed_by, unset, unset_all}
+use Rattle.shm_fault.specs.Goes.{unlocked}
+use Rattle.shm_frames.specs.Frame.{is_free}
+use Rattle.shm_fault.specs.Loans.{LoansStay, frame_or_leaver, is_barred, leaver_in, lent_at}
+use Rattle.shm_fault.specs.Placing.{Places, Stops, StopsAt, StopsAtRead, StopsAtWrite, after_access, after_clean, after_eviction, after_page_out, after_room, after_turn, after_visit, frame_for, free_slot, keeps_or_takes, referenced, settled, slotted, slotted_for, takes, vacated, vacated_for, victim_in, visited_in, with_bit}
+use Rattle.shm_fault.proofs.Slots.{set-cases}
+
+-- the same owner, and on loan or not as before
+pub record SameLoan (x y : Frame) : Type 0 where
+  pub owner : y.owner ≡ x.owner
+  pub lent : y.lent ≡ x.lent
+
+-- the same of each frame
+abbrev pub SameLoans : List Frame → List Frame → Type 0
+SameLoans before after = (f : ℕ) → SameLoan (frame_at before f) (frame_at after f)
+
+same-loan : (x : Frame) → SameLoan x x
+same-loan x = record { owner = refl; lent = refl }
+
+loans-refl : (frames : List Frame) → SameLoans frames frames
+loans-refl frames f = same-loan (frame_at frames f)
+
+loans-trans : (xs ys zs : List Frame) → SameLoans xs ys → SameLoans ys zs → SameLoans xs zs
+loans-trans xs ys zs a b f = record { owner = (b f).owner ∙ (a f).owner; lent = (b f).lent ∙ (a f).lent }
+
+pub loans-set : (frames : List Frame) (f : ℕ) (x : Frame) → SameLoan (frame_at frames f) x → SameLoans frames (set frames f x)
+loans-set frames f x same g = elim (set-cases frames f x no_frame g) [
+  | inl here ↦ rw (here.1, here.0) same
+  | inr kept ↦ rw kept (same-loan (frame_at frames g))
+]
+
+-- THE STEPS THAT KEEP ALL LOANS
+
+loans-unset : (list : List ℕ) (frames : List Frame) → SameLoans frames (unset_all frames list)
+loans-unset [] frames = loans-refl frames
+loans-unset (i ∷ list) frames =
+    loans-trans frames (unset frames i) (unset_all (unset frames i) list)
+    (loans-set frames i (record (frame_at frames i) { referenced = false }) (record { owner = refl; lent = refl }))
+    (loans-unset list (unset frames i))
+
+loans-turn : (pinned : Option ℕ) (s : Places) → SameLoans s.frames (after_turn pinned s).frames
+unfolding after_turn
+loans-turn pinned s = loans-unset (passed_by s.frames (candidates (unlocked s.segs) pinned s.frames s.hand)) s.frames
+
+frames-takes : (r : PageRef) (slot : Option Slot) (s : Places) → (takes r slot s).frames ≡ s.frames
+frames-takes r None s = refl
+frames-takes r (Some k) s = refl
+
+frames-kept : (r : PageRef) (slot : Option Slot) (s : Places) → (keeps_or_takes r slot s).frames ≡ s.frames
+frames-kept r (Some k) s = refl
+frames-kept r None s = frames-takes r (free_slot None s.slots) s
+
+frames-slotted : (owner : Option PageRef) (s : Places) → (slotted_for owner s).frames ≡ s.frames
+frames-slotted None s = refl
+frames-slotted (Some r) s = frames-kept r (rec_by s.segs r).slot s
+
+loans-page-out : (f : ℕ) (ok : Bool) (s : Places) → SameLoans s.frames (after_page_out f ok s).frames
+unfolding after_page_out
+loans-page-out f ok s =
+    let same : (slotted f s).frames ≡ s.frames = frames-slotted (frame_at s.frames f).owner s in
+    rw same (loans-set s.frames f (record (frame_at s.frames f) { dirty = not ok }) (record { owner = refl; lent = refl }))
+
+loans-clean : (f : ℕ) (s : Places) → SameLoans s.frames (after_clean f s).frames
+unfolding after_clean
+loans-clean f s = by (frame_at s.frames f).dirty
+  where
+    by : (b : Bool) → SameLoans s.frames (if b then after_page_out f true s else s).frames
+    by true = loans-page-out f true s
+    by false = loans-refl s.frames
+
+-- STEPS THAT EMPTY OR FILL A FRAME
+
+pub stay-same : (s t : Places) → SameLoans s.frames t.frames → LoansStay s t
+stay-same s t same f r owned lent = ((same f).owner ∙ owned, (same f).lent ∙ lent)
+
+pub stay-refl : (s : Places) → LoansStay s s
+stay-refl s f r owned lent = (owned, lent)
+
+pub stay-trans : (s t u : Places) → LoansStay s t → LoansStay t u → LoansStay s u
+stay-trans s t u a b f r owned lent = let here = a f r owned lent in b f r here.0 here.1
+
+-- a frame that has no page on loan may become anything
+stay-set : (s t : Places) (f : ℕ) (x : Frame) → t.frames ≡ set s.frames f x → ((r : PageRef) → (frame_at s.frames f).owner ≡ Some r → (frame_at s.frames f).lent ≡ false) → LoansStay s t
+stay-set s t f x is home g r owned lent = elim (set-cases s.frames f x no_frame g) [
+  | inl here ↦ absurd (true≢false (sym lent ∙ rw here.0 (home r (rw (← here.0) owned))))
+  | inr kept ↦ rw (is, kept) (owned, lent)
+]
+
+-- a page leaves a frame that is not on loan
+stay-vacated : (f : ℕ) (s : Places) → (frame_at s.frames f).lent ≡ false → LoansStay s (vacated f s)
+unfolding vacated
+stay-vacated f s home = by (frame_at s.frames f).owner
+  where
+    by : (o : Option PageRef) → LoansStay s (vacated_for f o s)
+    by None = stay-refl s
+    by (Some r) = stay-set s (vacated_for f (Some r) s) f no_frame refl (λ q owned. home)
+
+stay-settled : (r : PageRef) (f : ℕ) (s : Places) → ((q : PageRef) → (frame_at s.frames f).owner ≡ Some q → (frame_at s.frames f).lent ≡ false) → LoansStay s (settled r f s)
+unfolding settled
+stay-settled r f s home = stay-set s (settled r f s) f (record no_frame { owner = Some r; referenced = true }) refl home
+
+-- the frame is not on loan after its page left it
+home-vacated : (f : ℕ) (s : Places) → (frame_at s.frames f).lent ≡ false → (frame_at (vacated f s).frames f).lent ≡ false
+unfolding vacated
+home-vacated f s home = by (frame_at s.frames f).owner
+  where
+    by : (o : Option PageRef) → (frame_at (vacated_for f o s).frames f).lent ≡ false
+    by None = home
+    by (Some r) = elim (set-cases s.frames f no_frame no_frame f) [
+      | inl here ↦ rw here.1 refl
+      | inr kept ↦ rw kept home
+    ]
+
+-- the frame that the clock chose, as the eviction finds it
+abbrev chosen : Option ℕ → Places → Places
+chosen pinned s = after_clean (victim_in pinned s) (after_turn pinned s)
+
+loans-chosen : (pinned : Option ℕ) (s : Places) → SameLoans s.frames (chosen pinned s).frames
+loans-chosen pinned s = loans-trans s.frames (after_turn pinned s).frames (chosen pinned s).frames (loans-turn pinned s) (loans-clean (victim_in pinned s) (after_turn pinned s))
+
+module _ (pinned : Option ℕ) (s : Places) (home : (frame_at s.frames (victim_in pinned s)).lent ≡ false) where
+  victim_home : (frame_at (chosen pinned s).frames (victim_in pinned s)).lent ≡ false
+  victim_home = (loans-chosen pinned s (victim_in pinned s)).lent ∙ home
+
+  stay-eviction : LoansStay s (after_eviction pinned s)
+  unfolding after_eviction
+  stay-eviction = stay-trans s (chosen pinned s) (vacated (victim_in pinned s) (chosen pinned s)) (stay-same s (chosen pinned s) (loans-chosen pinned s)) (stay-vacated (victim_in pinned s) (chosen pinned s) victim_home)
+
+  home-eviction : (frame_at (after_eviction pinned s).frames (victim_in pinned s)).lent ≡ false
+  unfolding after_eviction
+  home-eviction = home-vacated (victim_in pinned s) (chosen pinned s) victim_home
+
+-- A FRAME IS MADE FREE, AND A PAGE COMES INTO IT
+
+free-home : (s : Places) (f : ℕ) → position is_free s.frames ≡ Some f → (q : PageRef) → (frame_at s.frames f).owner ≡ Some q → (frame_at s.frames f).lent ≡ false
+free-home s f at q owned =
+    let free : is_free (frame_at s.frames f) ≡ true = (position-Some is_free s.frames f no_frame at).1 in
+    absurd (true≢false (sym free ∙ rw owned refl))
+
+leaver-home : (pinned : Option ℕ) (s : Places) → position is_free s.frames ≡ None → lent_at s (leaver_in pinned s) ≡ false → (frame_at s.frames (victim_in pinned s)).lent ≡ false
+unfolding leaver_in
+leaver-home pinned s none home = rw none at home
+
+stay-room : (pinned : Option ℕ) (s : Places) → lent_at s (leaver_in pinned s) ≡ false → LoansStay s (after_room pinned s)
+unfolding after_room
+stay-room pinned s home = by (position is_free s.frames) refl
+  where
+    by : (o : Option ℕ) → position is_free s.frames ≡ o → LoansStay s (if is_some (position is_free s.frames) then s else after_eviction pinned s)
+    by (Some f) at = rw at (stay-refl s)
+    by None at = rw at (stay-eviction pinned s (leaver-home pinned s at home))
+
+stay-comes : (r : PageRef) (pinned : Option ℕ) (s : Places) → lent_at s (leaver_in pinned s) ≡ false → LoansStay s (settled r (frame_for pinned s) (after_room pinned s))
+unfolding after_room frame_for
+stay-comes r pinned s home = by (position is_free s.frames) refl
+  where
+    by : (o : Option ℕ) → position is_free s.frames ≡ o → LoansStay s (settled r (unwrap_or (position is_free s.frames) (victim_in pinned s)) (if is_some (position is_free s.frames) then s else after_eviction pinned s))
+    by (Some f) at = rw at (stay-settled r f s (free-home s f at))
+    by None at =
+        let clear = leaver-home pinned s at home in
+        let v = victim_in pinned s in
+        let t = after_eviction pinned s in
+        rw at (stay-trans s t (settled r v t) (stay-eviction pinned s clear) (stay-settled r v t (λ q owned. home-eviction pinned s clear)))
+
+stay-referenced : (f : ℕ) (s : Places) → LoansStay s (referenced f s)
+unfolding referenced
+stay-referenced f s = stay-same s (referenced f s) (loans-set s.frames f (record (frame_at s.frames f) { referenced = true }) (record { owner = refl; lent = refl }))
+
+-- THE SENTENCE: a visit that is not barred leaves each page on loan in its frame, also if a pager fails
+
+pub stay-visit : (r : PageRef) (pinned : Option ℕ) (s : Places) → is_barred r pinned s ≡ false → LoansStay s (after_visit r pinned s)
+unfolding after_visit is_barred
+stay-visit r pinned s free = by (rec_by s.segs r).frame free
+  where
+    by : (o : Option ℕ) → lent_at s (frame_or_leaver o pinned s) ≡ false → LoansStay s (visited_in r o pinned s)
+    by (Some f) home = stay-referenced f s
+    by None home = stay-comes r pinned s home
+
+pub stay-stops : (r : PageRef) (pinned : Option ℕ) (s t : Places) → is_barred r pinned s ≡ false → StopsAt r pinned s t → LoansStay s t
+unfolding is_barred
+stay-stops r pinned s t free stop =
+    let home : lent_at s (leaver_in pinned s) ≡ false = rw stop.away at free in
+    elim stop.how [
+      | inl write ↦ let v = victim_in pinned s in let u = after_turn pinned s in
+          rw write.places (stay-same s (after_page_out v false u) (loans-trans s.frames u.frames (after_page_out v false u).frames (loans-turn pinned s) (loans-page-out v false u)))
+      | inr read ↦ rw read.places (stay-room pinned s home)
+    ]
