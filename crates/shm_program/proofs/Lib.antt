@@ -1,5 +1,6 @@
 pub mod Holders
 pub mod Causes
+pub mod Chains
 pub mod Texts
 pub mod Zipped
 pub mod Rows

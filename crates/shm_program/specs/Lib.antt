@@ -1,5 +1,6 @@
 pub mod Values
 pub mod Runs
+pub mod Running
 pub mod Options
 pub mod Faults
 pub mod Areas

@@ -1,12 +1,15 @@
 -- The output of a run with threads, and what its faults say about its input.
 use Rattle.std.specs.Prelude.{◌≡◌, ◌≤◌, ◌⊎◌, ℕ, Bool, true, false, List, Option, Result, OnOk, IfErr, IfSome}
 use Rattle.std.specs.Io.KnownBytes.{IsAtEnd}
-use Rattle.shm_slots.specs.View.{SwapView, AreCountsOf, are_finite}
-use Rattle.shm_slots.specs.Cause.{GoesOn, most_total}
+use Rattle.shm_slots.specs.View.{SwapView, are_finite}
+use Rattle.shm_slots.specs.Cause.{most_total}
 use Rattle.shm_history.specs.WorldState.{WorldState, failures_in}
 use Rattle.shm_text.specs.Script.{ScriptView}
+use Rattle.shm_threads.specs.Moves.{Moment}
+use Rattle.shm_threads.specs.Outcomes.{AreAllMoves}
 use Rattle.shm_threads.specs.Transcripts.{AreTranscripts}
 use Rattle.shm_threads.specs.declared.transcript.Transcript.{Transcript}
+use Rattle.shm_program.specs.Running.{IsStart}
 use Rattle.shm_program.specs.Runs.{IsWorldOf, IsSilent, IsTextFor, IsCause, Prints}
 use Rattle.shm_laws.specs.Worlds.{IsWorldSound}
 use Rattle.shm_runner.specs.Faults.{CanFail}
@@ -15,15 +18,18 @@ use Rattle.shm_runner.specs.Output.{NeverFails, world_text}
 use Rattle.shm_program.specs.declared.fault.RunFault.{RunFault}
 use Rattle.shm_program.specs.declared.fault.RunFault.TheVariants.{HostMemory}
 
--- The text of the world of a run of the script's processes, each in its own order, over the swap areas as they were passed in;
--- and whether one of its calls is marked as out of memory. Its counts began there, and each is a count of a pager. No more
--- replies name a failure than the pagers may still count, and none does with pagers that never fail
+-- The text of the world to which the moves of a run led, from the world that the script opened over the swap areas as they were
+-- passed in: the calls of its processes, each in its own order, and its flush rounds in theirs; and whether one of its calls is
+-- marked as out of memory. No more replies name a failure than the pagers may still count, and none does with pagers that never
+-- fail
 pub record IsThreadedOutput {P : Type 0} (failed : P → ℕ) (swap : SwapView) (marked : Bool) (script : ScriptView) (areas : List ℕ) (text : List ℕ) : Type 0 where
+  pub start : WorldState
+  pub begins : IsStart IsWorldSound swap script areas start
+  pub moments : List Moment
   pub world : WorldState
   pub transcripts : List Transcript
+  pub moves : AreAllMoves script start world transcripts moments
   pub is_world : IsWorldOf IsWorldSound script areas world
-  pub began : GoesOn swap world.memory.swap
-  pub counted : AreCountsOf failed world.memory.swap
   pub unfailing : NeverFails failed → failures_in world.events ≡ 0
   pub bounded : are_finite swap ≡ true → failures_in world.events ≤ most_total swap
   pub is_run : AreTranscripts script world.events transcripts
@@ -39,10 +45,21 @@ IsAnyOutput failed swap script areas text = (marked : Bool) × IsThreadedOutput 
 abbrev pub IsAllOrNothing : (List ℕ → Type 0) → RunFault → Option (List ℕ) → Option (List ℕ) → Type 0 → Type 0
 IsAllOrNothing IsText fault old new Marked = IsSilent IsText fault old new ⊎ ((fault ≡ HostMemory) × Marked)
 
+-- the input was read to its end, and exactly the text of its run was written, one of whose calls is marked as out of memory
+pub record IsMarkedOutput {P : Type 0} (failed : P → ℕ) (swap : SwapView) (areas : List ℕ) (input rest old new : Option (List ℕ)) : Type 0 where
+  pub whole : IsAtEnd rest
+  pub printed : IfSome input (λ bytes. Prints (IsThreadedOutput failed swap true) old new areas bytes)
+
+-- what an error leaves written
+abbrev pub IsWrittenAt : {P : Type 0} → (P → ℕ) → SwapView → List ℕ → Option (List ℕ) → Option (List ℕ) → Option (List ℕ) → Option (List ℕ) → RunFault → Type 0
+IsWrittenAt failed swap areas input rest old new fault =
+    let IsText = IsTextFor (IsAnyOutput failed swap) areas input in
+    IsAllOrNothing IsText fault old new (IsMarkedOutput failed swap areas input rest old new)
+
 -- a run with threads: the input before it and the rest after it, and the output
 pub record IsThreadedRun {P : Type 0} (failed : P → ℕ) (swap : SwapView) (result : Result (Unit {0}) RunFault) (input rest old new : Option (List ℕ)) (areas : List ℕ) : Type 0 where
   pub ok : OnOk result (IfSome input (λ bytes. Prints (IsThreadedOutput failed swap false) old new areas bytes))
   pub whole : OnOk result (IsAtEnd rest)
   pub cause : IfErr result (λ f. IfSome input (λ bytes. IsCause f areas bytes))
   pub ended : IfErr result CanFail
-  pub written : IfErr result (λ f. IsAllOrNothing (IsTextFor (IsAnyOutput failed swap) areas input) f old new (IsAtEnd rest × IfSome input (λ bytes. Prints (IsThreadedOutput failed swap true) old new areas bytes)))
+  pub written : IfErr result (IsWrittenAt failed swap areas input rest old new)

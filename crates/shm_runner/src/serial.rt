@@ -1,16 +1,19 @@
 //! A serial run: reads a script, runs its lines in file order, and writes the replies.
-ghost use Rattle.std.specs.Prelude.{◌≡◌, ◌⊎◌, [], length, true, map, OnOk, IfErr, IfSome};
+ghost use Rattle.std.specs.Prelude.{◌≡◌, ◌⊎◌, List, [], length, true, map, OnOk, IfErr, IfSome};
 ghost use Rattle.std.specs.Io.KnownBytes.{IsAtEnd};
-ghost use Rattle.shm_slots.specs.Cause.{GoesOn};
-ghost use Rattle.shm_program.specs.Runs.{Prints, IsWritten, IsCause, IsCauseIn, is_serial, IsSilent, IsTextFor, IsOpening, handed_in};
-ghost use Rattle.shm_runner.specs.Output.{IsOutput, Runs, RunsInOrder};
-ghost use Rattle.shm_program.specs.Values.{fresh_holder};
+ghost use Rattle.shm_history.specs.WorldState.{WorldState};
+ghost use Rattle.shm_laws.specs.Worlds.{IsWorldSound};
+ghost use Rattle.shm_program.specs.Running.{HaveRun, IsRunOf, IsStart, RunStep};
+ghost use Rattle.shm_program.specs.Runs.{Prints, IsWritten, IsCause, IsCauseIn, is_serial, IsSilent};
+ghost use Rattle.shm_program.specs.Runs.{IsTextFor, IsOpening, IsFresh, handed_in};
+ghost use Rattle.shm_runner.specs.Output.{IsOutput};
 
 use crate::world::write_world;
 use shm_base::HostMemory;
 use shm_history::World;
+use shm_laws::lawful;
 use shm_pager::Pager;
-use shm_program::{RunFault, Values, open_world, whole_script};
+use shm_program::{RunFault, Values, open_world, run_line, whole_script};
 use shm_text::{Line, Script};
 use std::alloc::Global;
 use std::io::{Read, Write};
@@ -76,31 +79,34 @@ fn run_in<W: Write, P: Pager>(
 ) -> Result<(), RunFault>
     requires events { world.old.events ≡ [] }
     requires opened { IsOpening script world.old.opening }
+    requires memory { IsFresh world.old.memory.swap world.old.memory }
     ensures ok { let text = IsOutput P.failed world.old.memory.swap script world.old.opening.areas in
         OnOk result (IsWritten text (W.contents writer.old) (W.contents writer.new)) }
     ensures fault { IfErr result (λ f. (f ≡ RunFault.HostMemory) ⊎ (f ≡ RunFault.WriteFailed)) }
     ensures silent { let text = IsOutput P.failed world.old.memory.swap script world.old.opening.areas in
         IfErr result (λ f. IsSilent text f (W.contents writer.old) (W.contents writer.new)) }
 {
+    // Calling this tells the proof that the laws hold for the world at the start.
+    let _sound = lawful(world);
     match run_lines(alloc, world, script) {
         Ok(()) => write_world(alloc, writer, world),
         Err(HostMemory) => Err(RunFault::HostMemory),
     }
 }
 
-// Runs the lines of a script in file order, in a world without history. It stops at the first line that is
-// out of memory. The first two thirds of the lines are freed before the others run, so the memory never holds
-// all lines and all events.
+// Runs the lines of a script in file order, in the world that it opened. It stops at the first line that is
+// out of memory. The first two thirds of the lines are freed before the others run, so the memory never
+// holds all lines and all events.
 fn run_lines<P: Pager>(
     alloc: Global,
     world: &mut World<P>,
     mut script: Script,
 ) -> Result<(), HostMemory>
-    requires { world.old.events ≡ [] }
-    ensures follows { OnOk result
-        (RunsInOrder (map fresh_holder script.processes) script.lines world.new.events) }
-    ensures opening { world.new.opening ≡ world.old.opening }
-    ensures counts { OnOk result (GoesOn world.old.memory.swap world.new.memory.swap) }
+    requires { let areas = world.old.opening.areas in
+        IsStart IsWorldSound world.old.memory.swap script areas world.old }
+    ensures { let areas = world.old.opening.areas in
+        let is_run = IsRunOf IsWorldSound world.old.memory.swap script areas in
+        OnOk result ((start : WorldState) × (steps : List RunStep) × is_run start steps world.new) }
 {
     let mut values = Values::new(alloc, &script.processes)?;
     let count = script.lines.len();
@@ -120,22 +126,11 @@ fn run_part<P: Pager>(
     values: &mut Values,
     lines: &[Line],
 ) -> Result<(), HostMemory>
-    ensures follows { OnOk result
-        (Runs lines.now values.old world.old.events values.new world.new.events) }
-    ensures opening { world.new.opening ≡ world.old.opening }
-    ensures counts { OnOk result (GoesOn world.old.memory.swap world.new.memory.swap) }
+    ensures { OnOk result
+        ((steps : List RunStep) × HaveRun values.old world.old lines.now steps values.new world.new) }
 {
     for line in lines {
-        match line {
-            Line::Command(command) => {
-                let call = values.call(command);
-                let reply = world.call(command.pid(), &call)?;
-                values.took(command, &reply);
-            }
-            Line::Flush(round) => {
-                let _report = world.flush(u64::from(round.pages()));
-            }
-        }
+        let _action = run_line(world, values, line)?;
     }
     Ok(())
 }

@@ -2,7 +2,7 @@
 ghost use Rattle.std.specs.Prelude.{◌≡◌, ◌⊎◌, ℕ, List, [], true, false, length, map, OnOk, IfErr};
 ghost use Rattle.std.specs.Io.KnownBytes.{Appends};
 ghost use Rattle.shm_slots.specs.View.{AreCountsOf};
-ghost use Rattle.shm_program.specs.Runs.{IsCauseIn, IsOpening, IsWritten, handed_in};
+ghost use Rattle.shm_program.specs.Runs.{IsCauseIn, IsFresh, IsOpening, IsWritten, handed_in};
 ghost use Rattle.shm_laws.specs.Worlds.{IsWorldSound};
 ghost use Rattle.shm_runner.specs.Faults.{CanFail};
 ghost use Rattle.shm_runner.specs.Output.{world_text};
@@ -12,6 +12,7 @@ ghost use Rattle.shm_runner.specs.Threaded.{IsAnyOutput, IsThreadedOutput, IsThr
 use crate::fault::run_fault;
 use crate::world::write_world;
 use shm_history::World;
+use shm_laws::lawful;
 use shm_pager::Pager;
 use shm_program::{RunFault, open_world, whole_script};
 use shm_text::Script;
@@ -83,6 +84,7 @@ fn run_in<T: Threads + Wait + Sync, W: Write, P: Pager + Send>(
 ) -> Result<(), RunFault>
     requires opened { IsOpening script.now world.opening }
     requires events { world.events ≡ [] }
+    requires memory { IsFresh world.memory.swap world.memory }
     ensures ok { let areas = world.opening.areas in
         let text = IsThreadedOutput P.failed world.memory.swap false script.now areas in
         OnOk result (IsWritten text (W.contents writer.old) (W.contents writer.new)) }
@@ -94,6 +96,8 @@ fn run_in<T: Threads + Wait + Sync, W: Write, P: Pager + Send>(
         let any = IsAnyOutput P.failed world.memory.swap script.now areas in
         IfErr result (λ f. IsAllOrNothing any f (W.contents writer.old) (W.contents writer.new) marked) }
 {
+    // Calling this tells the proof that the laws hold for the world at the start.
+    let _sound = lawful(&world);
     match run_threads(rt, alloc, world, script, &OpenGate) {
         Ok(outcome) => write_outcome(alloc, writer, &outcome),
         Err(error) => Err(run_fault(error)),

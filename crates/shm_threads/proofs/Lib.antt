@@ -2,7 +2,9 @@ pub mod Ages
 mod Answering
 mod Entries
 mod Idle
+mod Keeping
 mod Least
+mod Moving
 pub mod Lives
 mod Noting
 mod Over

@@ -3,16 +3,17 @@ use Rattle.std.specs.Prelude.{◌≡◌, ◌≤◌, ℕ, false, List, [], ◌∷
 use Rattle.std.proofs.Common.{subst, sym, ap, ◌∙◌, refl, arith, inl, inr}
 use Rattle.std.proofs.Math.ListN.{get_or}
 use Rattle.std.proofs.lemmas.Bool.{and_cases, ltb-false, true≢false}
-use Rattle.std.proofs.lemmas.List.{length-map}
+use Rattle.std.proofs.lemmas.List.{length-map, take_all}
 use Rattle.std.proofs.lemmas.List.Elements.{All-map}
 use Rattle.shm_base.specs.History.{IsHistory}
-use Rattle.shm_base.specs.State.{Ended, Life, Live, Machine, Opening, Unborn}
+use Rattle.shm_base.specs.State.{Ended, Life, Live, Machine, Unborn}
 use Rattle.shm_base.specs.Step.{caller_of}
 use Rattle.shm_base.specs.declared.call.Event.{Event}
 use Rattle.shm_history.specs.WorldState.{WorldState}
 use Rattle.shm_text.specs.Script.{ScriptView}
-use Rattle.shm_slots.specs.View.{SwapView}
-use Rattle.shm_threads.specs.Outcomes.{IsOutcome}
+use Rattle.shm_threads.specs.Asked.{rounds_of}
+use Rattle.shm_threads.specs.Moves.{entries_in}
+use Rattle.shm_threads.specs.Outcomes.{AreAllMoves, IsOutcome}
 use Rattle.shm_threads.specs.Running.{IsOver}
 use Rattle.shm_threads.specs.Strands.{IsStrand, StandsAt, can_go, life_from, now_of, pid_of_strand, transcript_of}
 use Rattle.shm_threads.specs.Transcripts.{HasLines, IsTranscript, commands_of, pid_of}
@@ -43,13 +44,29 @@ pids-of : (ss : List Strand) → map pid_of (map transcript_of ss) ≡ map pid_o
 pids-of [] = refl
 pids-of (s ∷ ss) = ap (λ (l : List ℕ). s.pid ∷ l) (pids-of ss)
 
-pub outcome-of : (script : ScriptView) (opening : Opening) (swap : SwapView) (w : WorldState) (ss : List Strand) (all : List Transcript)
-    → IsOver script opening swap w ss → IsHistory w.opening w.events w.machine → all ≡ map transcript_of ss → IsOutcome script opening swap w all
-outcome-of script opening swap w ss all over legal is =
+-- the moves of a run that is over are those of the whole script
+all-moves : (script : ScriptView) (start w : WorldState) (ss : List Strand) (made : ℕ) (all : List Transcript) (over : IsOver script start w ss made) → all ≡ map transcript_of ss
+    → AreAllMoves script start w all over.running.moments
+all-moves script start w ss made all over is =
+    let moves = over.running.moves in
+    let ms = over.running.moments in
+    let Has : Transcript → Type 0 = λ t. t.entries.items ≡ entries_in t.pid ms in
+    record {
+      leads = moves.leads;
+      entries = subst (All Has) (sym is) (All-map Has transcript_of ss moves.entries);
+      rounds = moves.rounds ∙ take_all made (rounds_of script.lines) over.flushed;
+    }
+
+pub outcome-of : (script : ScriptView) (passed w : WorldState) (room : ℕ) (ss : List Strand) (made : ℕ) (all : List Transcript)
+    → IsOver script (record passed { room = room }) w ss made → IsHistory w.opening w.events w.machine → all ≡ map transcript_of ss → IsOutcome script passed w all
+outcome-of script passed w room ss made all over legal is =
     let each : All (IsTranscript script w.events) (map transcript_of ss) =
     All-map (IsTranscript script w.events) transcript_of ss (λ k d lt. is-whole script w.machine w.events (get_or ss k d) (over.running.each k d lt) (over.none k d lt)) in
     record {
-      started = over.running.started;
+      room = room;
+      moments = over.running.moments;
+      moves = all-moves script (record passed { room = room }) w ss made all over is;
+      started = record { opening = over.running.started.opening; began = over.running.started.began };
       legal = legal;
       transcripts = record {
         processes = ap (map pid_of) is ∙ pids-of ss ∙ over.running.listed;
@@ -57,3 +74,9 @@ outcome-of script opening swap w ss all over legal is =
         events = over.running.events;
       };
     }
+
+-- room that was reserved before is no part of what an outcome says
+pub outcome-passed : (script : ScriptView) (old new w : WorldState) (all : List Transcript) → new ≡ record old { room = new.room } → IsOutcome script new w all → IsOutcome script old w all
+outcome-passed script old new w all same outcome =
+    let o : IsOutcome script (record old { room = new.room }) w all = subst (λ (v : WorldState). IsOutcome script v w all) same outcome in
+    record { room = o.room; moments = o.moments; moves = o.moves; started = o.started; legal = o.legal; transcripts = o.transcripts }

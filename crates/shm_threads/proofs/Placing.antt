@@ -7,6 +7,7 @@ use Rattle.std.proofs.lemmas.List.{get_or-set_other, get_or-set_same, length-set
 use Rattle.shm_base.specs.Processes.{has_pid}
 use Rattle.shm_base.specs.declared.call.Process.{Process}
 use Rattle.shm_life.specs.Start.{are_pids}
+use Rattle.shm_threads.specs.Running.{IsProcessAt}
 use Rattle.shm_threads.specs.Strands.{left_in, left_of}
 use Rattle.shm_threads.specs.declared.strand.Strand.{Strand}
 
@@ -56,3 +57,10 @@ pub left-set : (ss : List Strand) (k : ℕ) (t d : Strand) → k < length ss →
 left-set [] k t d lt is = absurd (omega (arith, lt))
 left-set (s ∷ ss) zero t d lt is = omega (arith, is)
 left-set (s ∷ ss) (suc k) t d lt is = let more = left-set ss k t d (omega (arith, lt)) is in omega (arith, more)
+
+-- THE PROCESS AT AN INDEX
+
+-- is one of the script's
+pub declared-at : (ps : List Process) (index pid : ℕ) → IsProcessAt ps index pid → has_pid pid ps ≡ true
+declared-at [] index pid (lt, own) = absurd (omega (arith, lt))
+declared-at (p ∷ ps) index pid (lt, own) = has-at (p ∷ ps) pid index p lt (own p)

@@ -13,8 +13,6 @@ use Rattle.shm_base.specs.declared.call.Process.{Process}
 use Rattle.shm_base.specs.declared.owner.Cred.{Cred}
 use Rattle.shm_history.specs.WorldState.{WorldState}
 use Rattle.shm_life.specs.Start.{are_pids}
-use Rattle.shm_slots.specs.View.{SwapView}
-use Rattle.shm_slots.specs.Cause.{GoesOn}
 use Rattle.shm_slots.proofs.Causes.{GoesOn-refl}
 use Rattle.shm_text.specs.Form.{CommandView}
 use Rattle.shm_text.specs.Script.{ScriptView}
@@ -119,9 +117,9 @@ module _ (script : ScriptView) (w : WorldState) (s : Strand) (is : IsFresh scrip
         marks = subst (All IsMarkAllowed) (sym is.entries) (All-nil IsMarkAllowed);
       }
 
-pub running-start : (script : ScriptView) (w : WorldState) (ss : List Strand) (swap : SwapView) → IsOpened script w → w.machine ≡ start_of w.opening → GoesOn swap w.memory.swap
-    → map pid_of_strand ss ≡ map pid_in script.processes → All (IsFresh script.lines) ss → length script.lines ≤ w.room → IsRunning script w.opening swap w ss
-running-start script w ss swap opened start began listed fresh room =
+pub running-start : (script : ScriptView) (w : WorldState) (ss : List Strand) → IsOpened script w → w.machine ≡ start_of w.opening
+    → map pid_of_strand ss ≡ map pid_in script.processes → All (IsFresh script.lines) ss → length script.lines ≤ w.room → IsRunning script w w ss 0
+running-start script w ss opened start listed fresh room =
     let ps = script.processes in
     let runners : w.machine.runners ≡ map runner_at_start ps = ap (λ (m : Machine). m.runners) start ∙ ap (map runner_at_start) opened.processes in
     let each : All (IsStrand script w.machine []) ss =
@@ -134,7 +132,9 @@ running-start script w ss swap opened start began listed fresh room =
     let few = total-few ps script.lines opened.pids in
     let all = left-total script.lines ss ps listed fresh in
     record {
-      started = record { opening = refl; began = began };
+      moments = [];
+      moves = record { leads = refl; entries = λ k d lt. (fresh k d lt).entries; rounds = refl };
+      started = record { opening = refl; began = GoesOn-refl w.memory.swap };
       pids = opened.pids;
       listed = listed;
       each = subst (λ (h : List Event). All (IsStrand script w.machine h) ss) (sym opened.events) each;
@@ -144,9 +144,9 @@ running-start script w ss swap opened start began listed fresh room =
 
 -- and where room was reserved in the world
 pub running-prepared : (script : ScriptView) (old new : WorldState) (ss : List Strand) → IsOpened script old → IsHistory old.opening old.events old.machine → new ≡ record old { room = new.room }
-    → map pid_of_strand ss ≡ map pid_in script.processes → All (IsFresh script.lines) ss → length script.lines ≤ new.room → IsRunning script old.opening old.memory.swap new ss
+    → map pid_of_strand ss ≡ map pid_in script.processes → All (IsFresh script.lines) ss → length script.lines ≤ new.room → IsRunning script new new ss 0
 running-prepared script old new ss opened legal rest listed fresh room =
     let begun : LeadsFrom 1 (start_of old.opening) [] old.machine = subst (λ (es : List Event). LeadsFrom 1 (start_of old.opening) es old.machine) opened.events legal in
     let full : WorldState = record old { room = new.room } in
     let here : IsOpened script full = record { events = opened.events; processes = opened.processes; pids = opened.pids } in
-    subst (λ (w : WorldState). IsRunning script old.opening old.memory.swap w ss) (sym rest) (running-start script full ss old.memory.swap here begun (GoesOn-refl old.memory.swap) listed fresh room)
+    subst (λ (w : WorldState). IsRunning script w w ss 0) (sym rest) (running-start script full ss here begun listed fresh room)

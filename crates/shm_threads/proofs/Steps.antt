@@ -1,12 +1,8 @@
 -- What is asked for one after the other, and what that makes of a line, a round, a start.
 use Prim.Native.Nat.{suc}
-use Rattle.std.specs.Prelude.{◌≡◌, ◌<◌, ◌+◌, ◌++◌, ℕ, Bool, true, false, List, [], ◌∷◌, length, drop}
-use Rattle.std.proofs.Common.{subst, sym, ap, ◌∙◌, append_assoc, append-nil, refl}
-use Rattle.std.proofs.Math.ListN.{get_or}
-use Rattle.std.proofs.lemmas.List.{drop_more}
-use Rattle.shm_text.specs.declared.script.Line.{Line}
-use Rattle.shm_text.specs.declared.script.Line.TheVariants.{Flush}
-use Rattle.shm_threads.specs.Asked.{Asked, Before, Stepped, After, Adds, asks_of, RoundAsked, May, Round, Made, rounds_of, asks_of_rounds}
+use Rattle.std.specs.Prelude.{◌+◌, ◌++◌, ℕ, Bool, true, false, List, [], ◌∷◌}
+use Rattle.std.proofs.Common.{subst, sym, append_assoc, append-nil}
+use Rattle.shm_threads.specs.Asked.{Asked, Before, Stepped, After, Adds, asks_of, RoundAsked, May, Round, Made, asks_of_rounds}
 
 pub adds_none : {X : Type 0} → (A : List X → Type 0) → Adds A [] A
 adds_none A log a = subst A (sym (append-nil log)) a
@@ -29,16 +25,10 @@ last_asked A B C D n lines before step after =
     adds_then B C D (Stepped false ∷ []) (After n ∷ []) step after)
 
 -- a round, and those after it
-pub round_asked : (A B C D E : List RoundAsked → Type 0) (n p : ℕ) (ps : List ℕ) (more : ℕ)
-    → Adds A (May n true ∷ []) B → Adds B (Round p ∷ []) C → Adds C (Made n ∷ []) D → Adds D (asks_of_rounds (n + 1) ps more) E
-    → Adds A (asks_of_rounds n (p ∷ ps) (suc more)) E
-round_asked A B C D E n p ps more may round made rest =
+pub round_asked : (A B C D E : List RoundAsked → Type 0) (n rounds more : ℕ)
+    → Adds A (May n true ∷ []) B → Adds B (Round ∷ []) C → Adds C (Made n ∷ []) D → Adds D (asks_of_rounds (n + 1) rounds more) E
+    → Adds A (asks_of_rounds n (suc rounds) (suc more)) E
+round_asked A B C D E n rounds more may round made rest =
     adds_then A B E (May n true ∷ []) _ may (
-    adds_then B C E (Round p ∷ []) _ round (
+    adds_then B C E (Round ∷ []) _ round (
     adds_then C D E (Made n ∷ []) _ made rest))
-
--- the rounds from a flush line on, and from the last line on
-pub next_round : (i : ℕ) (ls : List Line) (l : Line) (p : ℕ) → i < length ls → l ≡ get_or ls i l → l ≡ Flush p → rounds_of (drop i ls) ≡ p ∷ rounds_of (drop (i + 1) ls)
-next_round i ls l p lt is round =
-    let first : drop i ls ≡ Flush p ∷ drop (i + 1) ls = drop_more ls i l lt ∙ ap (λ x. x ∷ drop (i + 1) ls) (sym is ∙ round) in
-    rw first refl

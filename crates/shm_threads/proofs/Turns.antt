@@ -1,22 +1,24 @@
 -- The invariant of a run after a turn of one of its strands.
-use Rattle.std.specs.Prelude.{◌≡◌, ◌≢◌, ◌<◌, ◌≤◌, ◌+◌, ◌++◌, ℕ, Bool, true, false, List, [], ◌∷◌, Some, length, map, nat_lt, is_some, MatchBool, All}
+use Rattle.std.specs.Prelude.{◌≡◌, ◌≢◌, ◌<◌, ◌≤◌, ◌+◌, ◌++◌, ℕ, Bool, true, false, List, [], ◌∷◌, Some, length, map, slice_get, nat_lt, is_some, MatchBool, All}
 use Rattle.std.proofs.Common.{subst, sym, ap, ◌∙◌, refl, arith, append-nil}
 use Rattle.std.proofs.Math.ListN.{get_or, set}
 use Rattle.std.proofs.lemmas.Bool.{and_parts, ltb-true}
 use Rattle.std.proofs.lemmas.List.{ext_get_or, get_or-map, length-map, length_push, map-set, set-get_or}
 use Rattle.std.proofs.lemmas.List.Elements.{All-push}
+use Rattle.std.proofs.lemmas.Option.{get_or_from_slice_get, slice_get_within}
 use Rattle.shm_base.specs.Calls.{ProcessCall}
 use Rattle.shm_base.specs.History.{own_part}
 use Rattle.shm_base.specs.Processes.{has_pid}
-use Rattle.shm_base.specs.State.{Ended, Machine, Opening}
+use Rattle.shm_base.specs.State.{Ended, Machine}
 use Rattle.shm_base.specs.Step.{caller_of}
 use Rattle.shm_base.specs.declared.call.Event.{Event}
 use Rattle.shm_base.specs.declared.call.Process.{Process}
-use Rattle.shm_slots.specs.Cause.{GoesOn}
-use Rattle.shm_slots.specs.View.{SwapView}
 use Rattle.shm_slots.proofs.Causes.{GoesOn-trans}
-use Rattle.shm_history.specs.WorldState.{WorldState, event}
+use Rattle.shm_base.specs.declared.paging.FlushReport.{FlushReport}
+use Rattle.shm_history.specs.WorldState.{WorldState, IsRound, event}
 use Rattle.shm_text.specs.Script.{ScriptView}
+use Rattle.shm_threads.specs.Asked.{rounds_of}
+use Rattle.shm_threads.specs.Moves.{AreMoves, Moment}
 use Rattle.shm_threads.specs.Outcomes.{StartedFrom}
 use Rattle.shm_threads.specs.Running.{IsRunning}
 use Rattle.shm_threads.specs.Strands.{IsAnswered, IsMade, IsStrand, can_go, left_in, left_of, life_from, pid_of_strand}
@@ -29,15 +31,21 @@ use Rattle.shm_threads.proofs.Ages.{IsLive}
 use Rattle.shm_threads.proofs.Answering.{found}
 use Rattle.shm_threads.proofs.Entries.{own-same}
 use Rattle.shm_threads.proofs.Lives.{ages-move, lives}
+use Rattle.shm_threads.proofs.Moving.{moves-flush, moves-step}
 use Rattle.shm_threads.proofs.Placing.{apart-pids, each-set, has-at, left-set, left-some}
 use Rattle.shm_threads.proofs.Stepping.{Notes, strand-other, strand-own}
 
--- a flush round changes nothing that a run keeps
-pub running-flush : (script : ScriptView) (opening : Opening) (swap : SwapView) (before after : WorldState) (ss : List Strand) → IsRunning script opening swap before ss
-    → after ≡ record before { memory = after.memory } → GoesOn before.memory.swap after.memory.swap → IsRunning script opening swap after ss
-running-flush script opening swap before after ss running rest on =
+-- a flush round changes nothing that a run keeps, and is its next move
+pub running-flush : (script : ScriptView) (start before after : WorldState) (ss : List Strand) (made pages : ℕ) (report : FlushReport) → IsRunning script start before ss made
+    → slice_get (rounds_of script.lines) made ≡ Some pages → IsRound before pages report after → IsRunning script start after ss (made + 1)
+running-flush script start before after ss made pages report running next round =
+    let rest = round.rest in
+    let swap = start.memory.swap in
+    let lt = slice_get_within (rounds_of script.lines) made pages next in
     record {
-      started = record { opening = ap (λ (w : WorldState). w.opening) rest ∙ running.started.opening; began = GoesOn-trans swap before.memory.swap after.memory.swap running.started.began on };
+      moments = _;
+      moves = moves-flush script.lines start before after ss made running.moments running.moves pages report lt (get_or_from_slice_get (rounds_of script.lines) made pages pages next) round;
+      started = record { opening = ap (λ (w : WorldState). w.opening) rest ∙ running.started.opening; began = GoesOn-trans swap before.memory.swap after.memory.swap running.started.began round.keeps.goes_on };
       pids = running.pids;
       listed = running.listed;
       each = subst (λ (w : WorldState). All (IsStrand script w.machine w.events) ss) (sym rest) running.each;
@@ -79,8 +87,8 @@ has-place m ss k room s lt here go enough =
     let mine : left_of (get_or ss k s) ≡ left_of s = ap left_of (here s) in
     omega (arith, some, mine, has-line m s go, enough)
 
-module _ (script : ScriptView) (opening : Opening) (swap : SwapView) (before after : WorldState) (ss : List Strand) (k : ℕ) (s t : Strand) (made : Made)
-    (running : IsRunning script opening swap before ss) (lt : k < length ss) (here : (d : Strand) → get_or ss k d ≡ s) (go : can_go before.machine s ≡ true) (is : IsMade before s made after t) where
+module _ (script : ScriptView) (start before after : WorldState) (ss : List Strand) (made k : ℕ) (s t : Strand) (effect : Made)
+    (running : IsRunning script start before ss made) (lt : k < length ss) (here : (d : Strand) → get_or ss k d ≡ s) (go : can_go before.machine s ≡ true) (is : IsMade before s effect after t) where
   parts : (nat_lt (length s.entries.items) (length s.commands.items) ≡ true) × (is_some (caller_of before.machine s.pid) ≡ true)
   parts = and_parts (nat_lt (length s.entries.items) (length s.commands.items)) (is_some (caller_of before.machine s.pid)) go
 
@@ -125,7 +133,10 @@ module _ (script : ScriptView) (opening : Opening) (swap : SwapView) (before aft
       let one : left_of t + 1 ≡ left_of s = omega (arith, long, same, line) in
       left-set ss k t s lt (one ∙ ap left_of (sym (here s)))
 
-  by : (a : Answer) → is.entry.answer ≡ a → IsAnswered before s.pid is.entry.call a after → IsRunning script opening swap after (set ss k t)
+  moves : (ms : List Moment) × AreMoves script.lines start after (set ss k t) made ms
+  moves = (_, moves-step script.lines start before after ss made running.moments running.moves k s t effect lt here others is)
+
+  by : (a : Answer) → is.entry.answer ≡ a → IsAnswered before s.pid is.entry.call a after → IsRunning script start after (set ss k t) made
   by (Replied r) answer called =
       let e = event s.pid is.entry.call r in
       let n = length before.events + 1 in
@@ -139,7 +150,9 @@ module _ (script : ScriptView) (opening : Opening) (swap : SwapView) (before aft
       (λ j d less apart strand. strand-other script before.machine after.machine before.events e (get_or ss j d) ages (others j d less apart) strand) mine in
       let admitted : IsAdmitted script.processes e = record { declared = declared; live = found before.machine n e after.machine called.move_of parts.1 } in
       record {
-        started = record { opening = called.opening ∙ running.started.opening; began = GoesOn-trans swap before.memory.swap after.memory.swap running.started.began called.keeps.goes_on };
+        moments = moves.0;
+        moves = moves.1;
+        started = record { opening = called.opening ∙ running.started.opening; began = GoesOn-trans start.memory.swap before.memory.swap after.memory.swap running.started.began called.keeps.goes_on };
         pids = running.pids;
         listed = listed;
         each = subst (λ (h : List Event). All (IsStrand script after.machine h) (set ss k t)) (sym called.recorded) each;
@@ -155,7 +168,9 @@ module _ (script : ScriptView) (opening : Opening) (swap : SwapView) (before aft
       let each : All (IsStrand script before.machine before.events) (set ss k t) =
       each-set (IsStrand script before.machine before.events) (IsStrand script before.machine before.events) ss k t lt running.each (λ j d less apart strand. strand) mine in
       record {
-        started = subst (StartedFrom opening swap) (sym same) (record { opening = running.started.opening; began = running.started.began });
+        moments = moves.0;
+        moves = moves.1;
+        started = subst (StartedFrom start.opening start.memory.swap) (sym same) (record { opening = running.started.opening; began = running.started.began });
         pids = running.pids;
         listed = listed;
         each = subst (λ (w : WorldState). All (IsStrand script w.machine w.events) (set ss k t)) (sym same) each;
@@ -163,5 +178,5 @@ module _ (script : ScriptView) (opening : Opening) (swap : SwapView) (before aft
         room = omega (arith, left, running.room, grows);
       }
 
-  pub running-step : IsRunning script opening swap after (set ss k t)
+  pub running-step : IsRunning script start after (set ss k t) made
   running-step = by is.entry.answer refl is.answered

@@ -1,6 +1,6 @@
 -- The requests of a run's threads, in order.
 use Prim.Native.Nat.{zero, suc}
-use Rattle.std.specs.Prelude.{◌≡◌, ◌<◌, ◌+◌, ◌++◌, ℕ, Bool, true, false, List, [], ◌∷◌, length, Option, Some, None, MatchBool, if◌then◌else◌}
+use Rattle.std.specs.Prelude.{◌≡◌, ◌<◌, ◌≤◌, ◌+◌, ◌++◌, ℕ, Bool, true, false, List, [], ◌∷◌, length, Option, Some, None, MatchBool, if◌then◌else◌}
 use Rattle.shm_text.specs.declared.script.Line.{Line}
 use Rattle.shm_text.specs.declared.script.Line.TheVariants.{Command, Flush}
 
@@ -12,6 +12,10 @@ pub data Asked : Type 0 where
   Stepped : (goes_on : Bool) → Asked
   After : (n : ℕ) → Asked
   Left : Asked
+
+-- the n-th of this many
+abbrev pub IsWithin : ℕ → ℕ → Type 0
+IsWithin n count = (1 ≤ n) × (n ≤ count)
 
 -- these were asked next, whatever was asked before
 abbrev pub Adds : {A : Type 0} → (List A → Type 0) → List A → (List A → Type 0) → Type 0
@@ -54,10 +58,10 @@ pub record Works (before after : List Asked → Type 0) (whole : Bool) : Type 0 
   pub ends : EndsAfter lines steps whole
   pub asked : Adds before (Born lines ∷ asks_after lines steps ++ Left ∷ []) after
 
--- What the flusher asks or reports: whether it may make its n-th round; a round of at most this many pages; that it was made
+-- What the flusher asks or reports: whether it may make its n-th round; the next round; that it was made
 pub data RoundAsked : Type 0 where
   May : (n : ℕ) → (may : Bool) → RoundAsked
-  Round : (pages : ℕ) → RoundAsked
+  Round : RoundAsked
   Made : (n : ℕ) → RoundAsked
 
 -- the pages of the flush lines, in order
@@ -66,15 +70,15 @@ rounds_of [] = []
 rounds_of (Command c ∷ ls) = rounds_of ls
 rounds_of (Flush pages ∷ ls) = pages ∷ rounds_of ls
 
--- The requests of the flusher for these rounds, from the n-th on, if this many are made. Each round has three: whether it may,
--- the round, and that it was made. If one is not made, the answer to its first request was no
-abbrev pub asks_of_rounds : ℕ → List ℕ → ℕ → List RoundAsked
-asks_of_rounds n [] made = []
-asks_of_rounds n (p ∷ ps) zero = May n false ∷ []
-asks_of_rounds n (p ∷ ps) (suc made) = May n true ∷ Round p ∷ Made n ∷ asks_of_rounds (n + 1) ps made
+-- The requests of the flusher for this many rounds, from the n-th on, if so many of them are made. Each round has three: whether
+-- it may, the round, and that it was made. If one is not made, the answer to its first request was no
+abbrev pub asks_of_rounds : ℕ → ℕ → ℕ → List RoundAsked
+asks_of_rounds n zero made = []
+asks_of_rounds n (suc rounds) zero = May n false ∷ []
+asks_of_rounds n (suc rounds) (suc made) = May n true ∷ Round ∷ Made n ∷ asks_of_rounds (n + 1) rounds made
 
 -- The flusher makes all rounds in order, or those before the first that it may not make
-pub record RunsRounds (before after : List RoundAsked → Type 0) (rounds : List ℕ) (whole : Bool) : Type 0 where
+pub record RunsRounds (before after : List RoundAsked → Type 0) (rounds : ℕ) (whole : Bool) : Type 0 where
   pub made : ℕ
-  pub ends : MatchBool whole (made ≡ length rounds) (made < length rounds)
+  pub ends : MatchBool whole (made ≡ rounds) (made < rounds)
   pub asked : Adds before (asks_of_rounds 1 rounds made) after

@@ -2,6 +2,7 @@ pub mod Asked
 pub mod Births
 pub mod Ends
 pub mod Keepers
+pub mod Moves
 pub mod Outcomes
 pub mod Plans
 pub mod Running

@@ -1,14 +1,19 @@
 -- What holds of a run whenever its lock is free.
-use Rattle.std.specs.Prelude.{◌≡◌, ◌<◌, ◌≤◌, ℕ, Bool, true, false, List, [], length, map, slice_index_or, slice_set, All, Option}
+use Rattle.std.specs.Prelude.{◌≡◌, ◌<◌, ◌≤◌, ◌+◌, ℕ, Bool, true, false, List, [], length, map, slice_get, slice_index_or, slice_set, All, Option, Some}
 use Rattle.shm_base.specs.Bounds.{largest}
-use Rattle.shm_base.specs.State.{Opening}
+use Rattle.shm_base.specs.State.{Opening, start_of}
+use Rattle.shm_base.specs.declared.call.Process.{Process}
+use Rattle.shm_base.specs.declared.paging.FlushReport.{FlushReport}
 use Rattle.shm_history.specs.Gauges.{Seat}
-use Rattle.shm_history.specs.WorldState.{WorldState}
+use Rattle.shm_history.specs.WorldState.{WorldState, IsRound}
 use Rattle.shm_life.specs.Start.{are_pids}
-use Rattle.shm_slots.specs.View.{SwapView}
+use Rattle.shm_slots.specs.View.{new_swap}
 use Rattle.shm_text.specs.Script.{ScriptView}
 use Rattle.shm_threads.specs.Outcomes.{StartedFrom}
+use Rattle.shm_threads.specs.Asked.{rounds_of}
 use Rattle.shm_threads.specs.Births.{births_after, is_birth}
+use Rattle.shm_threads.specs.Keepers.{HasPublished}
+use Rattle.shm_threads.specs.Moves.{AreMoves, Moment}
 use Rattle.shm_threads.specs.Strands.{IsMade, IsStrand, can_go, left_in, pid_of_strand}
 use Rattle.shm_threads.specs.Transcripts.{IsAdmitted, pid_in}
 use Rattle.shm_threads.specs.declared.births.ProcessState.{ProcessState}
@@ -16,25 +21,36 @@ use Rattle.shm_threads.specs.declared.strand.Made.{Made}
 use Rattle.shm_threads.specs.declared.strand.Made.TheVariants.{End}
 use Rattle.shm_threads.specs.declared.strand.Strand.{Strand}
 
--- THE INVARIANT of the lock: the world began as it was passed in; each process of the script has its strand; the history has
--- only events of declared processes that were live; and there is room for an event of each line that is left
-pub record IsRunning (script : ScriptView) (opening : Opening) (swap : SwapView) (world : WorldState) (strands : List Strand) : Type 0 where
-  pub started : StartedFrom opening swap world
+-- THE INVARIANT of the lock: the moves so far lead from the world at the start to this one, with this many rounds; each process
+-- of the script has its strand; the history has only events of declared processes that were live; and there is room for an
+-- event of each line that is left
+pub record IsRunning (script : ScriptView) (start world : WorldState) (strands : List Strand) (made : ℕ) : Type 0 where
+  pub moments : List Moment
+  pub moves : AreMoves script.lines start world strands made moments
+  pub started : StartedFrom start.opening start.memory.swap world
   pub pids : are_pids script.processes ≡ true
   pub listed : map pid_of_strand strands ≡ map pid_in script.processes
   pub each : All (IsStrand script world.machine world.events) strands
   pub events : All (IsAdmitted script.processes) world.events
   pub room : left_in strands ≤ world.room
 
--- the same, and no process can continue
-pub record IsOver (script : ScriptView) (opening : Opening) (swap : SwapView) (world : WorldState) (strands : List Strand) : Type 0 where
-  pub running : IsRunning script opening swap world strands
+-- the same, and no process can continue, and no round is left
+pub record IsOver (script : ScriptView) (start world : WorldState) (strands : List Strand) (made : ℕ) : Type 0 where
+  pub running : IsRunning script start world strands made
   pub none : All (λ (s : Strand). can_go world.machine s ≡ false) strands
+  pub flushed : length (rounds_of script.lines) ≤ made
+
+-- the process at an index has this pid
+abbrev pub IsProcessAt : List Process → ℕ → ℕ → Type 0
+IsProcessAt processes index pid = (index < length processes) × ((d : Process) → (slice_index_or processes index d).pid ≡ pid)
 
 -- what contracts see of what the threads share
 pub record RunView : Type 0 where
   pub world : WorldState
   pub strands : List Strand
+  -- the pages of the script's rounds, and how many of them were made
+  pub rounds : List ℕ
+  pub made : ℕ
   pub processes : List ProcessState
   pub keeper : Option Seat
   -- the least pid of a thread that the gate ended
@@ -52,10 +68,7 @@ pub record IsTurn (before : RunView) (index : ℕ) (goes_on news : Bool) (after 
   pub effect : Made
   pub at : (d : Strand) → slice_index_or before.strands index d ≡ strand
   pub step : IsMade before.world strand effect after.world next
-  pub strands : after.strands ≡ slice_set before.strands index next
-  pub births : after.processes ≡ births_after effect before.processes
-  pub keeper : after.keeper ≡ before.keeper
-  pub expired : after.expired ≡ before.expired
+  pub rest : after ≡ record before { world = after.world; strands = slice_set before.strands index next; processes = births_after effect before.processes }
   pub noted : news ≡ is_birth effect
   pub more : goes_on ≡ goes_on_by effect
 
@@ -66,8 +79,32 @@ pub record IsIdle (before : RunView) (index : ℕ) (goes_on news : Bool) (after 
   pub noted : news ≡ false
   pub more : goes_on ≡ false
 
+-- the next round was made, and the keeper, if there is one, published the counts after it
+pub record IsFlush (before after : RunView) : Type 0 where
+  pub pages : ℕ
+  pub report : FlushReport
+  pub next : slice_get before.rounds before.made ≡ Some pages
+  pub round : IsRound before.world pages report after.world
+  pub published : HasPublished after.world after.keeper
+  pub rest : after ≡ record before { world = after.world; made = before.made + 1; keeper = after.keeper }
+
+-- no round is left; then nothing happens
+pub record IsFlushed (before after : RunView) : Type 0 where
+  pub none : length before.rounds ≤ before.made
+  pub same : after ≡ before
+
 abbrev pub no_script : ScriptView
 no_script = record { limits = largest; processes = []; lines = [] }
 
 abbrev pub no_opening : Opening
 no_opening = record { limits = largest; areas = []; processes = [] }
+
+abbrev pub no_world : WorldState
+no_world =
+    record {
+      opening = no_opening;
+      events = [];
+      machine = start_of no_opening;
+      memory = record { segs = []; frames = []; hand = 0; swap = new_swap []; ins = 0; outs = 0 };
+      room = 0;
+    }

@@ -33,11 +33,6 @@ now_of c = c.now
 abbrev pub lines_of : Strand → List CommandView
 lines_of s = map now_of s.commands.items
 
--- how many lines a strand has, if there is one
-abbrev pub lines_in : Option Strand → ℕ
-lines_in None = 0
-lines_in (Some s) = length s.commands.items
-
 -- how many lines a strand has left
 abbrev pub left_of : Strand → ℕ
 left_of s = length s.commands.items - length s.entries.items

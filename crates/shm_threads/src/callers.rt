@@ -1,6 +1,8 @@
 //! What the threads of a run use: the gate, without the lock, and what they share, under the lock.
-ghost use Rattle.std.specs.Prelude.{◌≡◌, true};
-ghost use Rattle.shm_base.specs.Processes.{has_pid};
+ghost use Rattle.std.specs.Prelude.{◌≡◌, length};
+ghost use Rattle.shm_threads.specs.Asked.{rounds_of};
+ghost use Rattle.shm_threads.specs.Running.{IsProcessAt};
+ghost use Rattle.shm_threads.specs.Transcripts.{commands_of};
 
 use crate::flusher::{Flusher, flush_all};
 use crate::gate::Gate;
@@ -8,7 +10,6 @@ use crate::origin::Origin;
 use crate::shared::Shared;
 use crate::worker::{Caller, work};
 use shm_pager::Pager;
-use shm_text::Line;
 use std::sync::Wait;
 
 #[derive(Drop)]
@@ -19,11 +20,13 @@ struct ProcessCaller<'a, 'l, R: Wait, G: Gate, P: Pager, O: Origin> {
     index: usize,
     pid: u32,
     ghost of_run: { G.ends gate.now ≡ O.ends },
-    ghost declared: { has_pid pid O.script.processes ≡ true },
+    ghost declared: { IsProcessAt O.script.processes index pid },
 }
 
 impl<R: Wait, G: Gate, P: Pager, O: Origin> Caller for ProcessCaller<'_, '_, R, G, P, O> {
     ghost asked = { λ _ _. Unit {0} };
+
+    ghost lines = { λ c. length (commands_of c.pid O.script.lines) };
 
     fn born(&mut self) -> Option<usize> {
         self.shared.wait_for_birth(self.rt, self.index, self.pid)
@@ -32,7 +35,7 @@ impl<R: Wait, G: Gate, P: Pager, O: Origin> Caller for ProcessCaller<'_, '_, R, 
     fn before(&mut self, n: u64) -> bool {
         let may = self.gate.before(self.pid, n);
         if !may {
-            self.shared.expire(self.rt, self.pid);
+            self.shared.expire(self.rt, self.pid, n);
         }
         may
     }
@@ -59,7 +62,7 @@ pub(crate) fn run_process<R: Wait, G: Gate, P: Pager, O: Origin>(
     pid: u32,
 )
     requires gate { G.ends gate.now ≡ O.ends }
-    requires process { has_pid pid O.script.processes ≡ true }
+    requires process { IsProcessAt O.script.processes index pid }
 {
     let mut caller = ProcessCaller {
         rt,
@@ -82,16 +85,18 @@ struct RoundFlusher<'a, 'l, R: Wait, G: Gate, P: Pager, O: Origin> {
 impl<R: Wait, G: Gate, P: Pager, O: Origin> Flusher for RoundFlusher<'_, '_, R, G, P, O> {
     ghost asked = { λ _ _. Unit {0} };
 
+    ghost rounds = { λ _. length (rounds_of O.script.lines) };
+
     fn before(&mut self, n: u64) -> bool {
         let may = self.gate.before(0, n);
         if !may {
-            self.shared.expire(self.rt, 0);
+            self.shared.expire(self.rt, 0, n);
         }
         may
     }
 
-    fn round(&mut self, pages: u32) {
-        self.shared.flush(self.rt, pages);
+    fn round(&mut self) {
+        self.shared.flush(self.rt);
     }
 
     fn after(&mut self, n: u64) {
@@ -99,15 +104,16 @@ impl<R: Wait, G: Gate, P: Pager, O: Origin> Flusher for RoundFlusher<'_, '_, R, 
     }
 }
 
-/// Runs the flush lines of a run in order, or until the gate ends the flusher.
+/// Makes the flush rounds of a run in order, or until the gate ends the flusher.
 pub(crate) fn run_rounds<R: Wait, G: Gate, P: Pager, O: Origin>(
     rt: &R,
     shared: &Shared<'_, P, O>,
     gate: &G,
-    lines: &[Line],
+    rounds: usize,
 )
-    requires { G.ends gate.now ≡ O.ends }
+    requires gate { G.ends gate.now ≡ O.ends }
+    requires rounds { rounds ≡ length (rounds_of O.script.lines) }
 {
     let mut flusher = RoundFlusher { rt, shared, gate };
-    flush_all(&mut flusher, lines);
+    flush_all(&mut flusher, rounds as u64);
 }

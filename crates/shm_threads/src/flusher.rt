@@ -1,42 +1,62 @@
 //! The work of the flusher's thread, independent of what makes its rounds.
-ghost use Rattle.std.specs.Prelude.{[], ◌∷◌, List};
-ghost use Rattle.shm_threads.specs.Asked.{RoundAsked, Adds, May, Round, Made, RunsRounds, rounds_of};
+ghost use Rattle.std.specs.Prelude.{◌≡◌, [], ◌∷◌, List, ℕ, IfOk};
+ghost use Rattle.shm_threads.specs.Asked.{RoundAsked, Adds, May, Round, Made};
+ghost use Rattle.shm_threads.specs.Asked.{IsWithin, RunsRounds, rounds_of};
 
+use shm_base::HostMemory;
 use shm_text::Line;
+use std::alloc::Global;
 
 /// What makes the flusher's rounds.
 pub(crate) trait Flusher {
     /// Whether these may be the rounds so far.
     ghost asked: { Self → List RoundAsked → Type 0 };
 
+    /// How many rounds there are.
+    ghost rounds: { Self → ℕ };
+
     /// Whether the n-th round may be made. False ends the flusher.
     fn before(&mut self, n: u64) -> bool
-        ensures { Adds (asked self.old) (May n result ∷ []) (asked self.new) };
+        requires { IsWithin n (rounds self.old) }
+        ensures asked { Adds (asked self.old) (May n result ∷ []) (asked self.new) }
+        ensures same { rounds self.new ≡ rounds self.old };
 
-    /// Makes a round of at most this many pages, and publishes the counts after it.
-    fn round(&mut self, pages: u32)
-        ensures { Adds (asked self.old) (Round pages ∷ []) (asked self.new) };
+    /// Makes the next round, and publishes the counts after it.
+    fn round(&mut self)
+        ensures asked { Adds (asked self.old) (Round ∷ []) (asked self.new) }
+        ensures same { rounds self.new ≡ rounds self.old };
 
     /// Called after the n-th round.
     fn after(&mut self, n: u64)
-        ensures { Adds (asked self.old) (Made n ∷ []) (asked self.new) };
+        ensures asked { Adds (asked self.old) (Made n ∷ []) (asked self.new) }
+        ensures same { rounds self.new ≡ rounds self.old };
 }
 
-/// Runs the flush lines in order. False if the gate ended the flusher.
-pub(crate) fn flush_all<F: Flusher>(flusher: &mut F, lines: &[Line]) -> bool
-    ensures { RunsRounds (F.asked flusher.old) (F.asked flusher.new) (rounds_of lines.now) result }
+/// Makes this many rounds in order. False if the gate ended the flusher.
+pub(crate) fn flush_all<F: Flusher>(flusher: &mut F, rounds: u64) -> bool
+    requires { rounds ≡ F.rounds flusher.old }
+    ensures { RunsRounds (F.asked flusher.old) (F.asked flusher.new) rounds result }
 {
-    let mut n = 0u64;
-    for line in lines {
-        let Line::Flush(round) = line else {
-            continue;
-        };
-        n += 1;
+    for made in 0..rounds {
+        let n = made + 1;
         if !flusher.before(n) {
             return false;
         }
-        flusher.round(round.pages());
+        flusher.round();
         flusher.after(n);
     }
     true
+}
+
+/// The pages of the flush lines, in order.
+pub(crate) fn rounds(alloc: Global, lines: &[Line]) -> Result<Vec<u32>, HostMemory>
+    ensures { IfOk result (λ pages. pages.items ≡ rounds_of lines.now) }
+{
+    let mut rounds = Vec::new(alloc);
+    for line in lines {
+        if let Line::Flush(round) = line {
+            rounds.push(round.pages())?;
+        }
+    }
+    Ok(rounds)
 }

@@ -2,38 +2,37 @@
 
 use std::marker::Brand;
 
-/// The script of a run, the opening and the swap areas of the world that was passed in, the cell of the keeper that was
-/// passed in, and the calls before which the gate may end a thread.
+/// The script of a run, the world at its start, the cell of the keeper that was passed in and what it had
+/// stored, and the calls before which the gate may end a thread.
 pub trait Origin {
-    ghost use Rattle.std.specs.Prelude.{Option, ℕ, Bool};
-    ghost use Rattle.shm_slots.specs.View.{SwapView};
+    ghost use Rattle.std.specs.Prelude.{Option, List, ℕ, Bool};
     ghost use Rattle.shm_history.specs.Gauges.{CellName};
-    ghost use Rattle.shm_base.specs.State.{Opening};
+    ghost use Rattle.shm_history.specs.WorldState.{WorldState};
+    ghost use Rattle.shm_history.specs.declared.cell.Reading.{Reading};
     ghost use Rattle.shm_text.specs.Script.{ScriptView};
 
     ghost script: { ScriptView };
 
-    ghost opening: { Opening };
-
-    ghost swap: { SwapView };
+    ghost start: { WorldState };
 
     ghost cell: { Option CellName };
+
+    ghost stored: { List Reading };
 
     ghost ends: { ℕ → ℕ → Bool };
 }
 
 impl Origin for Brand {
     ghost use Rattle.std.specs.Prelude.{[], None, false};
-    ghost use Rattle.shm_slots.specs.View.{new_swap};
-    ghost use Rattle.shm_threads.specs.Running.{no_script, no_opening};
+    ghost use Rattle.shm_threads.specs.Running.{no_script, no_world};
 
     ghost script = { no_script };
 
-    ghost opening = { no_opening };
-
-    ghost swap = { new_swap [] };
+    ghost start = { no_world };
 
     ghost cell = { None };
+
+    ghost stored = { [] };
 
     ghost ends = { λ pid n. false };
 }

@@ -1,4 +1,7 @@
 //! The outcome of a run, or why it has none.
+ghost use Rattle.std.specs.Prelude.{◌≡◌};
+ghost use Rattle.shm_threads.specs.Ends.{ended_by, least};
+
 use crate::transcript::Transcript;
 use shm_base::HostMemory;
 use shm_history::World;
@@ -31,6 +34,30 @@ pub enum RunError {
     HistoryMismatch { pid: u32 },
     #[error("thread refused")]
     ThreadRefused,
+}
+
+/// How a run ended, once its threads are joined: whether a thread was refused, and the least pid of a
+/// thread that the gate ended.
+pub(crate) fn ended_by(is_refused: bool, expired: Option<u32>) -> Result<(), RunError>
+    ensures { result ≡ ended_by is_refused expired }
+{
+    if is_refused {
+        return Err(RunError::ThreadRefused);
+    }
+    match expired {
+        Some(pid) => Err(RunError::GateExpired { pid }),
+        None => Ok(()),
+    }
+}
+
+/// The lesser of two pids, if there are two.
+pub(crate) fn least(pid: u32, other: Option<u32>) -> u32
+    ensures { result ≡ least pid other }
+{
+    match other {
+        Some(other) => pid.min(other),
+        None => pid,
+    }
 }
 
 impl From<HostMemory> for RunError {

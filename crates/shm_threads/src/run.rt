@@ -1,14 +1,16 @@
 //! A run with threads: it starts them, joins them, and takes out what they share.
-ghost use Rattle.std.specs.Prelude.{◌≡◌, ◌≤◌, [], true, IfErr, IfOk, length, vec_capacity};
-ghost use Rattle.shm_base.specs.Processes.{has_pid};
+ghost use Rattle.std.specs.Prelude.{◌≡◌, ◌≤◌, [], IfErr, IfOk, length, vec_capacity};
+ghost use Rattle.shm_history.specs.Gauges.{StartsWith};
+ghost use Rattle.shm_threads.specs.Asked.{rounds_of};
 ghost use Rattle.shm_threads.specs.Ends.{CanEnd};
-ghost use Rattle.shm_threads.specs.Keepers.{cell_of, IsCaughtUp};
+ghost use Rattle.shm_threads.specs.Keepers.{IsKept, cell_of, stored_of, IsCaughtUp};
 ghost use Rattle.shm_threads.specs.Outcomes.{IsOpened, IsOutcome};
 ghost use Rattle.shm_threads.specs.Plans.{HaveRoom};
-ghost use Rattle.shm_threads.specs.Running.{IsRunning};
+ghost use Rattle.shm_threads.specs.Running.{IsProcessAt, IsRunning};
 
 use crate::births::{ProcessState, states};
 use crate::callers::{run_process, run_rounds};
+use crate::flusher::rounds;
 use crate::gate::Gate;
 use crate::origin::Origin;
 use crate::outcome::{Outcome, RunError};
@@ -33,8 +35,10 @@ use std::thread::{JoinHandle, Scope, Threads};
 /// order in which threads get the lock, or that a run ends: workers wait, and the gate may wait.
 ///
 /// The clause says about an outcome:
-/// - Its world has the opening that was passed in, and its areas are those that were passed in: their counts of
-///   failures began there and never fell, and the bounds on these never rose.
+/// - Each move of the run led to the next, from the world that was passed in to this one: the calls of the
+///   transcripts, and the rounds of the flush lines, all of them and in their order.
+/// - Its world has the opening that was passed in, and its areas are those that were passed in: their
+///   counts of failures began there and never fell, and the bounds on these never rose.
 /// - Its history is legal.
 /// - It has a transcript for each process, in the script's order. A transcript follows the process's lines,
 ///   or is empty if the process is a child that was never born.
@@ -43,7 +47,7 @@ use std::thread::{JoinHandle, Scope, Threads};
 /// - The history has no other pids, and no call of a process that was not live.
 ///
 /// A run has no outcome only if the host refused memory before a worker was started, or a thread, or if the gate ended a
-/// worker. It never answers `HistoryMismatch`.
+/// thread before a call that the script has. It never answers `HistoryMismatch`.
 pub fn run_threads<R: Threads + Wait + Sync, G: Gate, P: Pager + Send>(
     rt: &R,
     alloc: Global,
@@ -52,18 +56,18 @@ pub fn run_threads<R: Threads + Wait + Sync, G: Gate, P: Pager + Send>(
     gate: &G,
 ) -> Result<Outcome<P>, RunError>
     requires { IsOpened script.now world }
-    ensures outcome { let swap = world.memory.swap in
-        IfOk result (λ o. IsOutcome script.now world.opening swap o.world o.transcripts.items) }
+    ensures outcome { IfOk result (λ o. IsOutcome script.now world o.world o.transcripts.items) }
     ensures error { IfErr result (CanEnd (G.ends gate.now) script.now) }
 {
     let (outcome, _) = run_with(rt, alloc, world, None, script, gate)?;
     Ok(outcome)
 }
 
-/// Like `run_threads`, with a gauge. The keeper publishes in each round of the flusher, under the lock.
-/// The run publishes once more when the workers have ended. So the returned keeper has stored the counts of
-/// the outcome's world, unless it had stored those of more events before. Without an outcome the keeper is
-/// dropped. Nothing is claimed about how often the gauge changes during the run.
+/// Like `run_threads`, with a gauge. The keeper publishes in each round of the flusher, under the lock. The
+/// run publishes once more when the workers have ended. So the returned keeper has stored the counts of the
+/// outcome's world, unless it had stored those of more events before. It has stored what it had stored
+/// before the run, and then those of the run. Without an outcome the keeper is dropped. Nothing is claimed
+/// about how often the gauge changes during the run.
 pub fn run_threads_gauged<R: Threads + Wait + Sync, G: Gate, P: Pager + Send>(
     rt: &R,
     alloc: Global,
@@ -73,9 +77,9 @@ pub fn run_threads_gauged<R: Threads + Wait + Sync, G: Gate, P: Pager + Send>(
     gate: &G,
 ) -> Result<(Outcome<P>, Keeper), RunError>
     requires { IsOpened script.now world }
-    ensures outcome { let swap = world.memory.swap in
-        IfOk result (λ r. IsOutcome script.now world.opening swap r.0.world r.0.transcripts.items) }
+    ensures outcome { IfOk result (λ r. IsOutcome script.now world r.0.world r.0.transcripts.items) }
     ensures cell { IfOk result (λ r. r.1.cell ≡ keeper.cell) }
+    ensures stored { IfOk result (λ r. StartsWith r.1.stored keeper.stored) }
     ensures numbers { IfOk result (λ r. IsCaughtUp r.0.world r.1.numbers) }
     ensures error { IfErr result (CanEnd (G.ends gate.now) script.now) }
 {
@@ -95,9 +99,8 @@ fn run_with<R: Threads + Wait + Sync, G: Gate, P: Pager + Send>(
     gate: &G,
 ) -> Result<(Outcome<P>, Option<Keeper>), RunError>
     requires { IsOpened script.now world }
-    ensures outcome { let swap = world.memory.swap in
-        IfOk result (λ r. IsOutcome script.now world.opening swap r.0.world r.0.transcripts.items) }
-    ensures cell { IfOk result (λ r. cell_of r.1 ≡ cell_of keeper) }
+    ensures outcome { IfOk result (λ r. IsOutcome script.now world r.0.world r.0.transcripts.items) }
+    ensures kept { IfOk result (λ r. IsKept (cell_of keeper) (stored_of keeper) r.1) }
     ensures error { IfErr result (CanEnd (G.ends gate.now) script.now) }
 {
     let start = match prepared(alloc, &mut world, script) {
@@ -118,28 +121,30 @@ fn run_from<O: Origin + Send + Sync, R: Threads + Wait + Sync, G: Gate, P: Pager
 ) -> Result<(Outcome<P>, Option<Keeper>), RunError>
     requires script { O.script ≡ script.now }
     requires room { HaveRoom script.now.processes start.handles start.transcripts }
-    requires running { IsRunning O.script O.opening O.swap world start.strands.items }
-    requires cell { cell_of keeper ≡ O.cell }
+    requires start { O.start ≡ world }
+    requires running { IsRunning O.script world world start.strands.items 0 }
+    requires rounds { start.rounds.items ≡ rounds_of script.now.lines }
+    requires kept { IsKept O.cell O.stored keeper }
     requires gate { G.ends gate.now ≡ O.ends }
-    ensures outcome { IfOk result (λ r. IsOutcome O.script O.opening O.swap r.0.world r.0.transcripts.items) }
-    ensures cell { IfOk result (λ r. cell_of r.1 ≡ O.cell) }
+    ensures outcome { IfOk result (λ r. IsOutcome script.now world r.0.world r.0.transcripts.items) }
+    ensures kept { IfOk result (λ r. IsKept O.cell O.stored r.1) }
     ensures error { IfErr result (CanEnd O.ends O.script) }
 {
     let Start {
         strands,
+        rounds,
         processes,
         handles,
         transcripts,
     } = start;
-    let shared: Shared<'_, P, O> = Shared::new(world, strands, processes, keeper);
-    if run_all(rt, &shared, script, gate, handles) {
-        return Err(RunError::ThreadRefused);
-    }
+    let count = rounds.len();
+    let shared: Shared<'_, P, O> = Shared::new(world, strands, rounds, processes, keeper);
+    let is_refused = run_all(rt, &shared, count, &script.processes, gate, handles);
     let Left {
         world,
         strands,
         keeper,
-    } = shared.finish(rt)?;
+    } = shared.finish(rt, is_refused)?;
     // What the world promises: its history is legal.
     prove!({
         let _ = world.history();
@@ -150,10 +155,11 @@ fn run_from<O: Origin + Send + Sync, R: Threads + Wait + Sync, G: Gate, P: Pager
 }
 
 // All memory that a run takes before its workers start, except the room in its world: a strand and a state for each
-// process, and empty lists with room for each worker and each transcript.
+// process, the pages of the flush rounds, and empty lists with room for each worker and each transcript.
 #[derive(Drop)]
 struct Start<'a> {
     strands: Vec<Strand<'a>>,
+    rounds: Vec<u32>,
     processes: Vec<ProcessState>,
     handles: Vec<WorkerHandle>,
     transcripts: Vec<Transcript>,
@@ -167,9 +173,9 @@ fn prepared<'a, P: Pager>(
 ) -> Result<Start<'a>, HostMemory>
     requires { IsOpened script.now world.old }
     ensures room { IfOk result (λ s. HaveRoom script.now.processes s.handles s.transcripts) }
-    ensures running { let swap = world.old.memory.swap in
-        IfOk result (λ s. IsRunning script.now world.old.opening swap world.new s.strands.items) }
-    ensures kept { IfOk result (λ _. world.new.memory ≡ world.old.memory) }
+    ensures running { IfOk result (λ s. IsRunning script.now world.new world.new s.strands.items 0) }
+    ensures rounds { IfOk result (λ s. s.rounds.items ≡ rounds_of script.now.lines) }
+    ensures rest { IfOk result (λ _. world.new ≡ record world.old { room = world.new.room }) }
 {
     // What the world promises: its history is legal, so its machine is that of the opening.
     prove!({
@@ -177,12 +183,14 @@ fn prepared<'a, P: Pager>(
         true
     });
     let strands = strands(alloc, script)?;
+    let rounds = rounds(alloc, &script.lines)?;
     let processes = states(alloc, &script.processes)?;
     let handles = Vec::with_capacity(alloc, script.processes.len())?;
     let transcripts = Vec::with_capacity(alloc, script.processes.len())?;
     world.reserve(script.lines.len())?;
     Ok(Start {
         strands,
+        rounds,
         processes,
         handles,
         transcripts,
@@ -196,39 +204,36 @@ type WorkerHandle = JoinHandle<()>;
 fn run_all<O: Origin + Send + Sync, R: Threads + Wait + Sync, G: Gate, P: Pager + Send>(
     rt: &R,
     shared: &Shared<'_, P, O>,
-    script: &Script,
+    rounds: usize,
+    processes: &[Process],
     gate: &G,
     handles: Vec<WorkerHandle>,
 ) -> bool
-    requires script { O.script ≡ script.now }
+    requires rounds { rounds ≡ length (rounds_of O.script.lines) }
+    requires processes { O.script.processes ≡ processes.now }
     requires gate { G.ends gate.now ≡ O.ends }
     requires none { handles.items ≡ [] }
-    requires room { length script.now.processes ≤ vec_capacity handles }
+    requires room { length processes.now ≤ vec_capacity handles }
 {
     thread::scope(
         thread::scope_env(),
         rt,
         move |scope| -> bool
-            requires script { O.script ≡ script.now }
+            requires rounds { rounds ≡ length (rounds_of O.script.lines) }
+            requires processes { O.script.processes ≡ processes.now }
             requires gate { G.ends gate.now ≡ O.ends }
             requires none { handles.items ≡ [] }
-            requires room { length script.now.processes ≤ vec_capacity handles }
+            requires room { length processes.now ≤ vec_capacity handles }
         {
             let Ok(flusher) = scope.spawn(
                 move ||
-                    requires { G.ends gate.now ≡ O.ends }
-                { run_rounds(rt, shared, gate, &script.lines) },
+                    requires gate { G.ends gate.now ≡ O.ends }
+                    requires rounds { rounds ≡ length (rounds_of O.script.lines) }
+                { run_rounds(rt, shared, gate, rounds) },
             ) else {
                 return true;
             };
-            let (handles, is_refused) = start_all(
-                scope,
-                rt,
-                shared,
-                &script.processes,
-                gate,
-                handles,
-            );
+            let (handles, is_refused) = start_all(scope, rt, shared, processes, gate, handles);
             flusher.join(rt);
             for handle in handles {
                 handle.join(rt);
@@ -263,7 +268,7 @@ fn start_all<'s, E, O: Origin + Send + Sync, R: Threads + Wait + Sync, G: Gate, 
         match scope.spawn(
             move ||
                 requires gate { G.ends gate.now ≡ O.ends }
-                requires process { has_pid pid O.script.processes ≡ true }
+                requires process { IsProcessAt O.script.processes index pid }
             { run_process(rt, shared, gate, index, pid) },
         ) {
             Ok(handle) => handles.push_reserved(handle),

@@ -2,32 +2,37 @@
 //!
 //! The run's guarantees are invariants of the type under the lock, so they hold whenever the lock is free. Threads only
 //! say whose turn it is. Noting a birth or an end returns news, which can only be used up by waking the waiting threads.
-ghost use Rattle.std.specs.Prelude.{◌≡◌, ◌≤◌, ◌<◌, ◌⊎◌, [], length, map, position, slice_get, Some, IfOk, IfErr, is_some, vec_len, vec_capacity};
-ghost use Rattle.shm_history.specs.WorldState.{IsRound};
+ghost use Rattle.std.specs.Prelude.{◌≡◌, ◌≤◌, ◌<◌, ◌⊎◌, [], length, map, position, true, false};
+ghost use Rattle.std.specs.Prelude.{Some, IfOk, IfErr, IfSome, OnOk, MatchBool, is_some, ℕ, vec_len, vec_capacity};
+ghost use Rattle.shm_threads.specs.Asked.{rounds_of};
 ghost use Rattle.shm_threads.specs.Births.{births_after, is_birth, with_end};
-ghost use Rattle.shm_threads.specs.Ends.{CanEnd, IsExpired, least};
-ghost use Rattle.shm_threads.specs.Keepers.{cell_of, HasPublished};
-ghost use Rattle.shm_threads.specs.Running.{IsIdle, IsOver, IsRunning, IsTurn};
-ghost use Rattle.shm_threads.specs.Strands.{can_go, lines_in, transcript_of};
+ghost use Rattle.shm_threads.specs.Ends.{CanEnd, HasCall, ended_by, least};
+ghost use Rattle.shm_threads.specs.Keepers.{IsKept, cell_of, stored_of, HasPublished};
+ghost use Rattle.shm_threads.specs.Running.{IsFlush, IsFlushed, IsIdle, IsOver, IsProcessAt};
+ghost use Rattle.shm_threads.specs.Running.{IsRunning, IsTurn};
+ghost use Rattle.shm_threads.specs.Strands.{can_go, transcript_of};
+ghost use Rattle.shm_threads.specs.Transcripts.{commands_of};
 
 use crate::births::{News, ProcessState, is_born, may_fork, note_birth, note_end};
 use crate::origin::Origin;
-use crate::outcome::RunError;
+use crate::outcome::{RunError, ended_by, least};
 use crate::strand::{Made, Strand, make};
 use crate::transcript::Transcript;
-use shm_base::FlushReport;
 use shm_history::{Keeper, World};
 use shm_pager::Pager;
 use std::marker::{Model, PhantomData};
 use std::sync::{Condvar, Mutex, MutexGuard, Wait};
 use std::thread::yield_now;
 
-/// The world, a strand for each process, which processes are born and have left, the keeper of a gauged run, and the
-/// least pid of a thread that the gate ended.
+/// The world, a strand for each process, the pages of the flush rounds and how many of them were made,
+/// which processes are born and have left, the keeper of a gauged run, and the least pid of a thread that
+/// the gate ended.
 #[derive(Drop)]
 pub(crate) struct RunState<'a, P: Pager, O: Origin> {
     world: World<P>,
     strands: Vec<Strand<'a>>,
+    rounds: Vec<u32>,
+    made: usize,
     processes: Vec<ProcessState>,
     keeper: Option<Keeper>,
     expired: Option<u32>,
@@ -36,8 +41,9 @@ pub(crate) struct RunState<'a, P: Pager, O: Origin> {
 
 impl<'a, P: Pager, O: Origin> Model for RunState<'a, P, O> {
     ghost use Rattle.std.specs.Prelude.{◌≡◌, IfSome};
+    ghost use Rattle.shm_threads.specs.Asked.{rounds_of};
     ghost use Rattle.shm_threads.specs.Ends.{IsExpired};
-    ghost use Rattle.shm_threads.specs.Keepers.{cell_of};
+    ghost use Rattle.shm_threads.specs.Keepers.{IsKept};
     ghost use Rattle.shm_threads.specs.Running.{IsRunning, RunView};
 
     ghost Value = { RunView };
@@ -45,13 +51,16 @@ impl<'a, P: Pager, O: Origin> Model for RunState<'a, P, O> {
     ghost view = { λ s. record {
       world = s.world;
       strands = s.strands.items;
+      rounds = s.rounds.items;
+      made = s.made;
       processes = s.processes.items;
       keeper = s.keeper;
       expired = s.expired;
     } };
 
-    ghost invariant = { λ s. IsRunning O.script O.opening O.swap s.world s.strands.items
-        × ((cell_of s.keeper ≡ O.cell) × IfSome s.expired (IsExpired O.ends O.script)) };
+    ghost invariant = { λ s. IsRunning O.script O.start s.world s.strands.items s.made
+        × ((s.rounds.items ≡ rounds_of O.script.lines)
+        × (IsKept O.cell O.stored s.keeper × IfSome s.expired (IsExpired O.ends O.script))) };
 }
 
 // Whether a strand can go on: its process is live, and has a line left.
@@ -87,34 +96,37 @@ impl<P: Pager, O: Origin> RunState<'_, P, O> {
         }
     }
 
-    // The first strand that can go on.
+    // The first strand that can go on. The clauses `running` and `rounds` are what the state promises.
     fn next(&self) -> Option<usize>
-        ensures { result ≡ position (can_go self.now.world.machine) self.now.strands }
+        ensures first { result ≡ position (can_go self.now.world.machine) self.now.strands }
+        ensures running { IsRunning O.script O.start self.now.world self.now.strands self.now.made }
+        ensures rounds { self.now.rounds ≡ rounds_of O.script.lines }
     {
         self.strands
             .iter()
             .position(|strand| goes(&self.world, strand))
     }
 
-    // How many lines a process has.
-    fn lines(&self, index: usize) -> usize
-        ensures { result ≡ lines_in (slice_get self.now.strands index) }
+    // How many lines the process at an index has.
+    fn lines(&self, index: usize, pid: u32) -> usize
+        requires { IsProcessAt O.script.processes index pid }
+        ensures { result ≡ length (commands_of pid O.script.lines) }
     {
-        match self.strands.get(index) {
-            Some(strand) => strand.commands.len(),
-            None => 0,
-        }
+        self.strands[index].commands.len()
     }
 
-    // A flush round of at most this many pages. If there is a keeper, it publishes the counts afterwards.
-    fn flush<R: Wait>(&mut self, rt: &R, pages: u32) -> FlushReport
-        ensures round { IsRound self.old.world pages result self.new.world }
-        ensures published { HasPublished self.new.world self.new.keeper }
-        ensures rest { self.new ≡ record self.old { world = self.new.world; keeper = self.new.keeper } }
+    // Makes the next flush round. If there is a keeper, it publishes the counts afterwards. False if no
+    // round is left.
+    fn flush<R: Wait>(&mut self, rt: &R) -> bool
+        ensures { MatchBool result (IsFlush self.old self.new) (IsFlushed self.old self.new) }
     {
-        let report = self.world.flush(u64::from(pages));
+        let Some(pages) = self.rounds.get(self.made) else {
+            return false;
+        };
+        let _report = self.world.flush(u64::from(*pages));
+        self.made += 1;
         publish(rt, &self.world, &mut self.keeper);
-        report
+        true
     }
 
     // Notes that a process has left, and returns it as news.
@@ -124,28 +136,44 @@ impl<P: Pager, O: Origin> RunState<'_, P, O> {
         note_end(&mut self.processes, pid)
     }
 
-    // Notes that the gate ended the thread of a process, or the flusher.
-    fn expire(&mut self, pid: u32)
-        requires { IsExpired O.ends O.script pid }
+    // Notes that the gate ended the thread of a process, or the flusher, before its n-th call.
+    fn expire(&mut self, pid: u32, n: u64)
+        requires has { HasCall O.script pid n }
+        requires ended { O.ends pid n ≡ true }
         ensures { self.new ≡ record self.old { expired = Some (least pid self.old.expired) } }
     {
         self.expired = Some(least(pid, self.expired));
     }
-}
 
-// The lesser of two pids, if there are two.
-fn least(pid: u32, other: Option<u32>) -> u32
-    ensures { result ≡ least pid other }
-{
-    match other {
-        Some(other) => pid.min(other),
-        None => pid,
+    // Makes the calls of lines and the rounds that are left, once no thread is left: there are none, as
+    // each thread has made its own. It makes none if the run has no outcome.
+    fn complete<R: Wait>(
+        &mut self,
+        rt: &R,
+        is_refused: bool,
+        changed: &Condvar,
+    ) -> Result<(), RunError>
+        ensures ended { result ≡ ended_by is_refused self.old.expired }
+        ensures error { IfErr result (CanEnd O.ends O.script) }
+        ensures over { OnOk result
+            (IsOver O.script O.start self.new.world self.new.strands self.new.made) }
+    {
+        ended_by(is_refused, self.expired)?;
+        for _ in rt.forever() {
+            if let Some(index) = self.next() {
+                let Turn { goes_on: _, news } = self.step(index);
+                announce(news, changed);
+            } else if !self.flush(rt) {
+                return Ok(());
+            }
+        }
+        unreachable!()
     }
 }
 
 // Has the keeper, if there is one, publish the counts of a world.
 fn publish<R: Wait, P: Pager>(rt: &R, world: &World<P>, keeper: &mut Option<Keeper>)
-    ensures cell { cell_of keeper.new ≡ cell_of keeper.old }
+    ensures kept { IsKept (cell_of keeper.old) (stored_of keeper.old) keeper.new }
     ensures published { HasPublished world.now keeper.new }
 {
     if let Some(keeper) = keeper {
@@ -189,16 +217,20 @@ impl<'a, P: Pager, O: Origin> Shared<'a, P, O> {
     pub(crate) fn new(
         world: World<P>,
         strands: Vec<Strand<'a>>,
+        rounds: Vec<u32>,
         processes: Vec<ProcessState>,
         keeper: Option<Keeper>,
     ) -> Shared<'a, P, O>
-        requires running { IsRunning O.script O.opening O.swap world strands.items }
-        requires cell { cell_of keeper ≡ O.cell }
+        requires running { IsRunning O.script O.start world strands.items 0 }
+        requires rounds { rounds.items ≡ rounds_of O.script.lines }
+        requires kept { IsKept O.cell O.stored keeper }
     {
         Shared {
             state: Mutex::new(RunState {
                 world,
                 strands,
+                rounds,
+                made: 0,
                 processes,
                 keeper,
                 expired: None,
@@ -230,19 +262,22 @@ impl<'a, P: Pager, O: Origin> Shared<'a, P, O> {
         goes_on
     }
 
-    /// Makes one flush round of at most this many pages, under the lock. A keeper publishes in it.
-    pub(crate) fn flush<R: Wait>(&self, rt: &R, pages: u32) {
-        let _report = self.state.lock(rt).flush(rt, pages);
+    /// Makes the next flush round, under the lock. A keeper publishes in it.
+    pub(crate) fn flush<R: Wait>(&self, rt: &R) {
+        let _made = self.state.lock(rt).flush(rt);
     }
 
     /// Waits until the process is born, or no process is left that could fork it. Returns how many lines it has, if it
     /// is born.
-    pub(crate) fn wait_for_birth<R: Wait>(&self, rt: &R, index: usize, pid: u32) -> Option<usize> {
+    pub(crate) fn wait_for_birth<R: Wait>(&self, rt: &R, index: usize, pid: u32) -> Option<usize>
+        requires { IsProcessAt O.script.processes index pid }
+        ensures { IfSome result (λ n. n ≡ length (commands_of pid O.script.lines)) }
+    {
         let state = self.changed.wait_while(rt, self.state.lock(rt), |state| {
             !is_born(&state.processes, pid) && may_fork(&state.processes)
         });
         if is_born(&state.processes, pid) {
-            Some(state.lines(index))
+            Some(state.lines(index, pid))
         } else {
             None
         }
@@ -254,43 +289,37 @@ impl<'a, P: Pager, O: Origin> Shared<'a, P, O> {
         news.announce(&self.changed);
     }
 
-    /// Notes that the gate ended the thread of a process, or the flusher.
-    pub(crate) fn expire<R: Wait>(&self, rt: &R, pid: u32)
-        requires { IsExpired O.ends O.script pid }
+    /// Notes that the gate ended the thread of a process, or the flusher, before its n-th call.
+    pub(crate) fn expire<R: Wait>(&self, rt: &R, pid: u32, n: u64)
+        requires has { HasCall O.script pid n }
+        requires ended { O.ends pid n ≡ true }
     {
-        self.state.lock(rt).expire(pid);
+        self.state.lock(rt).expire(pid, n);
     }
 
-    /// What a run left, once no thread is left. It makes the calls of lines that are left: there are none, as each
-    /// worker has run its lines. GateExpired: the gate ended a thread.
-    pub(crate) fn finish<R: Wait>(self, rt: &R) -> Result<Left<'a, P>, RunError>
-        ensures over { IfOk result (λ l. IsOver O.script O.opening O.swap l.world l.strands.items) }
-        ensures cell { IfOk result (λ l. cell_of l.keeper ≡ O.cell) }
+    /// What a run left, once no thread is left, or why it has no outcome.
+    pub(crate) fn finish<R: Wait>(self, rt: &R, is_refused: bool) -> Result<Left<'a, P>, RunError>
+        ensures over { IfOk result
+            (λ l. (made : ℕ) × IsOver O.script O.start l.world l.strands.items made) }
+        ensures kept { IfOk result (λ l. IsKept O.cell O.stored l.keeper) }
+        ensures joined { IfOk result (λ _. is_refused ≡ false) }
+        ensures refused { is_refused ≡ true → IfErr result (λ e. e ≡ RunError.ThreadRefused) }
         ensures error { IfErr result (CanEnd O.ends O.script) }
     {
         let Shared { state, changed } = self;
         let mut state = state.into_inner();
-        if let Some(pid) = state.expired {
-            return Err(RunError::GateExpired { pid });
-        }
-        for _ in rt.forever() {
-            let Some(index) = state.next() else {
-                let RunState {
-                    world,
-                    strands,
-                    keeper,
-                    ..
-                } = state;
-                return Ok(Left {
-                    world,
-                    strands,
-                    keeper,
-                });
-            };
-            let Turn { goes_on: _, news } = state.step(index);
-            announce(news, &changed);
-        }
-        unreachable!()
+        state.complete(rt, is_refused, &changed)?;
+        let RunState {
+            world,
+            strands,
+            keeper,
+            ..
+        } = state;
+        Ok(Left {
+            world,
+            strands,
+            keeper,
+        })
     }
 }
 

@@ -2,29 +2,38 @@
 //!
 //! A worker asks its caller for each step. The worker's contract says what it asks for and in which order;
 //! the caller may do anything.
-ghost use Rattle.std.specs.Prelude.{◌≡◌, [], ◌∷◌, List};
-ghost use Rattle.shm_threads.specs.Asked.{Asked, Adds, Born, Before, Stepped, After, Left, RunsLines, Works};
+ghost use Rattle.std.specs.Prelude.{◌≡◌, [], ◌∷◌, List, ℕ, IfSome};
+ghost use Rattle.shm_threads.specs.Asked.{Asked, Adds, Born, Before, Stepped, After, Left};
+ghost use Rattle.shm_threads.specs.Asked.{IsWithin, RunsLines, Works};
 
 /// What makes a process's calls for its worker.
 pub(crate) trait Caller {
     /// Whether these may be the requests so far.
     ghost asked: { Self → List Asked → Type 0 };
 
+    /// How many lines the process has.
+    ghost lines: { Self → ℕ };
+
     /// Waits until the process is born, and returns how many lines it has. None if it never will be.
     fn born(&mut self) -> Option<usize>
-        ensures { Adds (asked self.old) (Born result ∷ []) (asked self.new) };
+        ensures asked { Adds (asked self.old) (Born result ∷ []) (asked self.new) }
+        ensures lines { IfSome result (λ n. n ≡ lines self.new) };
 
     /// Whether the process may make its n-th call. False ends its worker.
     fn before(&mut self, n: u64) -> bool
-        ensures { Adds (asked self.old) (Before n result ∷ []) (asked self.new) };
+        requires { IsWithin n (lines self.old) }
+        ensures asked { Adds (asked self.old) (Before n result ∷ []) (asked self.new) }
+        ensures same { lines self.new ≡ lines self.old };
 
     /// Makes the call of the process's next line. False if the process can't go on.
     fn step(&mut self) -> bool
-        ensures { Adds (asked self.old) (Stepped result ∷ []) (asked self.new) };
+        ensures asked { Adds (asked self.old) (Stepped result ∷ []) (asked self.new) }
+        ensures same { lines self.new ≡ lines self.old };
 
     /// Called when the process's n-th call was answered.
     fn after(&mut self, n: u64)
-        ensures { Adds (asked self.old) (After n ∷ []) (asked self.new) };
+        ensures asked { Adds (asked self.old) (After n ∷ []) (asked self.new) }
+        ensures same { lines self.new ≡ lines self.old };
 
     /// Called when the process has left: no worker makes calls of it from now on.
     fn leave(&mut self)
@@ -45,6 +54,7 @@ pub(crate) fn work<C: Caller>(caller: &mut C) -> bool
 
 // Runs the lines of a born process. False if the gate ended it.
 fn run_lines<C: Caller>(caller: &mut C, lines: u64) -> bool
+    requires { lines ≡ C.lines caller.old }
     ensures { RunsLines (C.asked caller.old) (C.asked caller.new) lines result }
 {
     for made in 0..lines {

@@ -1,42 +1,20 @@
 //! Runs the lines of a script, and appends the record of each step to a text.
-ghost use Rattle.std.specs.Prelude.{◌≡◌, ◌≤◌, ◌++◌, List, [], ℕ, None, length, map, IfOk, OnOk, string_bytes};
+ghost use Rattle.std.specs.Prelude.{◌≡◌, ◌≤◌, ◌++◌, List, [], None, length, map};
+ghost use Rattle.std.specs.Prelude.{All, IfOk, OnOk, string_bytes};
 ghost use Rattle.shm_laws.specs.Worlds.{IsWorldSound};
-ghost use Rattle.shm_program.specs.Values.{fresh_holder};
+ghost use Rattle.shm_program.specs.Running.{HaveRun, RunStep};
+ghost use Rattle.shm_program.specs.Values.{HolderView, fresh_holder};
 ghost use Rattle.shm_program.specs.Runs.{IsOpening, IsFresh};
-ghost use Rattle.shmview.specs.Record.{HasRun, IsRecord, Leads, shown_text};
+ghost use Rattle.shmview.specs.Record.{IsRecord, IsStepSound, shown_text, steps_text};
 
 use crate::steps::Steps;
-use shm_base::{Event, HostMemory};
+use shm_base::HostMemory;
 use shm_history::World;
 use shm_laws::lawful;
 use shm_pager::Pager;
-use shm_program::{Action, Values, push_step};
-use shm_text::{Line, Script};
+use shm_program::{Action, Values, push_step, run_line};
+use shm_text::Script;
 use std::alloc::Global;
-
-// Runs a line with the variables of its process.
-fn run_line<P: Pager>(
-    world: &mut World<P>,
-    values: &mut Values,
-    line: &Line,
-) -> Result<Action, HostMemory>
-    ensures { IfOk result (λ action. HasRun values.old world.old line.now action values.new world.new) }
-{
-    match line {
-        Line::Command(command) => {
-            let call = values.call(command);
-            let pid = command.pid();
-            let reply = world.call(pid, &call)?;
-            values.took(command, &reply);
-            Ok(Action::Call(Event { pid, call, reply }))
-        }
-        Line::Flush(round) => {
-            let pages = u64::from(round.pages());
-            let report = world.flush(pages);
-            Ok(Action::Flush(pages, report))
-        }
-    }
-}
 
 // Appends the record of a step to a text, if the step is to be shown.
 fn push_shown<P: Pager>(
@@ -67,10 +45,13 @@ fn push_lines<P: Pager>(
     world: &mut World<P>,
     script: &Script,
 ) -> Result<(), HostMemory>
-    ensures { OnOk result
-        ((rest : List ℕ)
-        × Leads steps (map fresh_holder script.now.processes) 1 world.old script.now.lines rest
-        × (string_bytes text.new ≡ string_bytes text.old ++ rest)) }
+    ensures { let fresh = map fresh_holder script.now.processes in
+        OnOk result
+        ((ran : List RunStep)
+        × (later : List HolderView)
+        × HaveRun fresh world.old script.now.lines ran later world.new
+        × All IsStepSound ran
+        × (string_bytes text.new ≡ string_bytes text.old ++ steps_text steps 1 ran)) }
 {
     let mut values = Values::new(alloc, &script.processes)?;
     let mut number = 1u64;

@@ -1,10 +1,7 @@
-use Rattle.std.proofs.Common.{ap, subst, sym, inl, rules}
-use Rattle.shm_base.specs.State.{Opening}
-use Rattle.shm_program.specs.Runs.{IsOpening, IsWorldOf}
-use Rattle.shm_laws.specs.Worlds.{IsWorldSound}
+use Rattle.std.proofs.Common.{inl, rules}
 use Rattle.shm_program.proofs.Causes.{world_causes, world_serials}
 use Rattle.shm_runner.proofs.Causes.{ended_cause, ended_silent, ended_fails, serials_fail, ungated}
-use Rattle.shm_runner.proofs.Opened.{opens}
+use Rattle.shm_runner.proofs.Opened.{known-run, opens, sound-world, starts}
 use Rattle.shm_runner.proofs.Texts.{threaded_text, marked_text}
 use Rattle.shm_runner.proofs.threaded.run_in.Goals as goal
 
@@ -13,18 +10,24 @@ run_threads-requires g c = (search rules, (search rules, (search rules, opens c.
 
 pub returns-in-Ok-clause-ok : goal.returns-in-Ok-clause-ok
 returns-in-Ok-clause-ok g c =
+    let w = c.args.world in
     let o = c.in-Ok.ensures.outcome in
-    let is : IsWorldOf IsWorldSound c.args.script.now c.args.world.opening.areas c.in-Ok.outcome.world = record { opened = subst (IsOpening c.args.script.now) (sym o.started.opening) c.requires.opened; over = ap (λ (o : Opening). o.areas) o.started.opening; sound = c.write_outcome.ensures.sound } in
-    threaded_text g.P.Pager.failed c.args.world.memory.swap c.args.script.now c.args.world.opening.areas c.write_outcome.result c.in-Ok.outcome.world c.in-Ok.outcome.transcripts.items (g.W.Write.contents c.args.writer.now) (g.W.Write.contents c.write_outcome.new.writer) (record { is_world = is; counted = c.write_outcome.ensures.counted }) o.started.began o.transcripts c.write_outcome.ensures.ok
+    let law = c.lawful-sound.ensures in
+    let start = starts c.args.script.now w c.requires.opened c.requires.events c.requires.memory (sound-world w _ law.events law.legal law.counted law.exact law.laws) in
+    let known = known-run g.P.Pager.failed c.args.script.now w c.in-Ok.outcome.world c.in-Ok.outcome.transcripts.items start o c.write_outcome.ensures.sound c.write_outcome.ensures.counted in
+    threaded_text g.P.Pager.failed w.memory.swap c.args.script.now w.opening.areas c.in-Ok.outcome.world c.in-Ok.outcome.transcripts.items known c.write_outcome.result (g.W.Write.contents c.args.writer.now) (g.W.Write.contents c.write_outcome.new.writer) c.write_outcome.ensures.ok
 
 pub returns-in-Ok-clause-cause : goal.returns-in-Ok-clause-cause
 returns-in-Ok-clause-cause g c = world_causes c.write_outcome.result c.args.world.opening.areas c.args.script.now c.write_outcome.ensures.fault
 
 pub returns-in-Ok-clause-written : goal.returns-in-Ok-clause-written
 returns-in-Ok-clause-written g c =
+    let w = c.args.world in
     let o = c.in-Ok.ensures.outcome in
-    let is : IsWorldOf IsWorldSound c.args.script.now c.args.world.opening.areas c.in-Ok.outcome.world = record { opened = subst (IsOpening c.args.script.now) (sym o.started.opening) c.requires.opened; over = ap (λ (o : Opening). o.areas) o.started.opening; sound = c.write_outcome.ensures.sound } in
-    marked_text g.P.Pager.failed c.args.world.memory.swap c.args.script.now c.args.world.opening.areas c.write_outcome.result c.in-Ok.outcome.world c.in-Ok.outcome.transcripts.items (g.W.Write.contents c.args.writer.now) (g.W.Write.contents c.write_outcome.new.writer) (record { is_world = is; counted = c.write_outcome.ensures.counted }) o.started.began o.transcripts c.write_outcome.ensures.written
+    let law = c.lawful-sound.ensures in
+    let start = starts c.args.script.now w c.requires.opened c.requires.events c.requires.memory (sound-world w _ law.events law.legal law.counted law.exact law.laws) in
+    let known = known-run g.P.Pager.failed c.args.script.now w c.in-Ok.outcome.world c.in-Ok.outcome.transcripts.items start o c.write_outcome.ensures.sound c.write_outcome.ensures.counted in
+    marked_text g.P.Pager.failed w.memory.swap c.args.script.now w.opening.areas c.in-Ok.outcome.world c.in-Ok.outcome.transcripts.items known c.write_outcome.result (g.W.Write.contents c.args.writer.now) (g.W.Write.contents c.write_outcome.new.writer) c.write_outcome.ensures.written
 
 pub run_fault-requires : goal.run_fault-requires
 run_fault-requires g c = ungated c.args.script.now c.in-Err.error c.in-Err.ensures.error

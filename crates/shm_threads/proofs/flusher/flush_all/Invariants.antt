@@ -1,12 +1,11 @@
-use Rattle.std.proofs.Common.{◌≡◌, ◌+◌, ◌≤◌, ℕ, length, drop}
-use Rattle.shm_threads.specs.Asked.{Adds, asks_of_rounds, rounds_of}
+use Rattle.std.proofs.Common.{◌≡◌, ◌+◌, ◌-◌, ℕ}
+use Rattle.shm_threads.specs.Asked.{Adds, asks_of_rounds}
 use Rattle.shm_threads.proofs.flusher.flush_all.Given as goal
 
 -- the rounds that are left make, with those that were made, the whole
-abbrev pub invariant-loop-line : goal.invariant-loop-line
-invariant-loop-line g l = record {
-  counted : l.n ≤ l.line-index;
-  made : l.n + length (rounds_of (drop l.line-index l.lines)) ≡ length (rounds_of l.lines);
-  asked : (more : ℕ) (end : _) → Adds (g.F.Flusher.asked l.flusher) (asks_of_rounds (l.n + 1) (rounds_of (drop l.line-index l.lines)) more) (g.F.Flusher.asked end)
-      → Adds (g.F.Flusher.asked l.fn.flusher) (asks_of_rounds 1 (rounds_of l.lines) (l.n + more)) (g.F.Flusher.asked end);
+abbrev pub invariant-loop-made : goal.invariant-loop-made
+invariant-loop-made g l = record {
+  same : g.F.Flusher.rounds l.flusher ≡ l.rounds;
+  asked : (more : ℕ) (end : _) → Adds (g.F.Flusher.asked l.flusher) (asks_of_rounds (l.made + 1) (l.rounds - l.made) more) (g.F.Flusher.asked end)
+      → Adds (g.F.Flusher.asked l.fn.flusher) (asks_of_rounds 1 l.rounds (l.made + more)) (g.F.Flusher.asked end);
 }

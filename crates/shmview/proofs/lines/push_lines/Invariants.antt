@@ -1,11 +1,16 @@
-use Rattle.std.proofs.Common.{◌≡◌, ◌+◌, ℕ, List, ◌++◌, drop, map, string_bytes}
-use Rattle.shm_program.specs.Values.{fresh_holder}
-use Rattle.shmview.specs.Record.{Leads}
+use Rattle.std.proofs.Common.{◌≡◌, ◌+◌, List, ◌++◌, drop, map, string_bytes}
+use Rattle.std.specs.Prelude.{All}
+use Rattle.shm_history.specs.WorldState.{WorldState}
+use Rattle.shm_program.specs.Running.{HaveRun, RunStep}
+use Rattle.shm_program.specs.Values.{HolderView, fresh_holder}
+use Rattle.shmview.specs.Record.{IsStepSound, steps_text}
 use Rattle.shmview.proofs.lines.push_lines.Given as goal
 
--- if the remaining lines lead from here, all lines lead from the beginning
+-- if the lines that are left run from here, all lines have run, and the text has the records of all steps
 abbrev pub invariant-loop-line : goal.invariant-loop-line
 invariant-loop-line g l = record {
-  leads : (more : List ℕ) → Leads l.steps l.values l.number l.world (drop l.line-index l.script.lines) more → (rest : List ℕ) × Leads l.steps (map fresh_holder l.script.processes) 1 l.fn.world l.script.lines rest × (string_bytes l.text ++ more ≡ string_bytes l.fn.text ++ rest);
+  ran : (more : List RunStep) (later : List HolderView) (end : WorldState) → HaveRun l.values l.world (drop l.line-index l.script.lines) more later end → All IsStepSound more
+      → (all : List RunStep) × HaveRun (map fresh_holder l.script.processes) l.fn.world l.script.lines all later end × All IsStepSound all
+      × (string_bytes l.text ++ steps_text l.steps l.number more ≡ string_bytes l.fn.text ++ steps_text l.steps 1 all);
   count : l.number ≡ l.line-index + 1;
 }

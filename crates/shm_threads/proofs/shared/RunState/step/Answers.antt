@@ -1,9 +1,10 @@
-use Rattle.std.proofs.Common.{◌∙◌, ◌≡◌, ◌<◌, ℕ, List, Bool, true, length, arith, inr, is_some, refl, rules, slice_set, subst, sym}
+use Rattle.std.proofs.Common.{◌∙◌, ◌≡◌, ◌<◌, ℕ, List, Bool, true, length, arith, inr, ap, is_some, refl, rules, slice_set, subst, sym}
 use Rattle.std.proofs.Math.ListN.{get_or}
 use Rattle.std.proofs.lemmas.List.{get_or_read}
 use Rattle.shm_base.specs.State.{Machine}
 use Rattle.shm_threads.specs.Running.{IsTurn, RunView, goes_on_by}
 use Rattle.shm_threads.specs.Strands.{can_go}
+use Rattle.shm_threads.specs.declared.births.ProcessState.{ProcessState}
 use Rattle.shm_threads.specs.declared.strand.Strand.{Strand}
 use Rattle.shm_threads.proofs.Turns.{has-place, running-step}
 use Rattle.shm_threads.proofs.shared.RunState.step.Goals as goal
@@ -28,7 +29,7 @@ invariant_of-self g c =
     let s = c.index_mut.result.now in
     let lt : c.args.index < length items = omega (arith, c.if-index-len.false, c.len.ensures, c.self.inside.strands.ok.0) in
     let here = λ (d : Strand). sym (get_or_read items c.args.index s lt c.index_mut.ensures.value d) in (
-      running-step g.O.Origin.script g.O.Origin.opening g.O.Origin.swap c.self.inside.world c.make-made.new.world items c.args.index s c.make-made.new.strand c.make-made.result
+      running-step g.O.Origin.script g.O.Origin.start c.self.inside.world c.make-made.new.world items c.self.inside.made c.args.index s c.make-made.new.strand c.make-made.result
           c.self.invariant.0 lt here (goes c.self.inside.world.machine items c.args.index s _ _ c.if-not-goes.false c.goes.ensures c.index.ensures here) c.make-made.ensures,
       c.self.invariant.1,
     )
@@ -40,7 +41,7 @@ returns g c =
     let lt : c.args.index < length items = omega (arith, c.if-index-len.false, c.len.ensures, c.self.inside.strands.ok.0) in
     let here = λ (d : Strand). sym (get_or_read items c.args.index s lt c.index_mut.ensures.value d) in
     let more : c.ne.result ≡ goes_on_by c.make-made.result = search rules in
-    let now : RunView = record { world = c.make-made.new.world; strands = slice_set items c.args.index c.make-made.new.strand; processes = c.born_by.new.processes.items; keeper = c.self.inside.keeper; expired = c.self.inside.expired } in
+    let now : RunView = record { world = c.make-made.new.world; strands = slice_set items c.args.index c.make-made.new.strand; rounds = c.self.inside.rounds.items; made = c.self.inside.made; processes = c.born_by.new.processes.items; keeper = c.self.inside.keeper; expired = c.self.inside.expired } in
     let Turned : RunView → Type 0 = λ v. IsTurn v c.args.index c.ne.result (is_some c.born_by.result) now in
     inr (subst Turned c.self.view_is (record {
       strand = s;
@@ -48,10 +49,7 @@ returns g c =
       effect = c.make-made.result;
       at = here;
       step = c.make-made.ensures;
-      strands = refl;
-      births = c.born_by.ensures.births;
-      keeper = refl;
-      expired = refl;
+      rest = ap (λ (ps : List ProcessState). record now { processes = ps }) c.born_by.ensures.births;
       noted = c.born_by.ensures.news;
       more = more;
     }))

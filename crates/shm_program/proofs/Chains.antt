@@ -1,0 +1,39 @@
+-- What the lines of a script leave as it was, and lines that ran in parts.
+use Rattle.std.specs.Prelude.{◌≡◌, ◌++◌, List, [], ◌∷◌}
+use Rattle.std.proofs.Common.{ap, subst, sym, ◌∙◌}
+use Rattle.shm_base.specs.State.{Opening}
+use Rattle.shm_history.specs.WorldState.{WorldState}
+use Rattle.shm_slots.specs.Cause.{GoesOn}
+use Rattle.shm_slots.proofs.Causes.{GoesOn-refl, GoesOn-trans}
+use Rattle.shm_text.specs.declared.script.Line.{Line}
+use Rattle.shm_text.specs.declared.script.Line.TheVariants.{Command, Flush}
+use Rattle.shm_program.specs.Running.{HasRun, HaveRun, RunStep}
+use Rattle.shm_program.specs.Values.{HolderView}
+
+-- lines ran, and then others
+pub both-ran : (hs middle later : List HolderView) (w between end : WorldState) (ls others : List Line) (ss more : List RunStep)
+    → HaveRun hs w ls ss middle between → HaveRun middle between others more later end → HaveRun hs w (ls ++ others) (ss ++ more) later end
+both-ran hs middle later w between end [] others [] more (values, same) ran =
+    subst (λ (v : WorldState). HaveRun hs v others more later end) same (subst (λ (vs : List HolderView). HaveRun vs between others more later end) values ran)
+both-ran hs middle later w between end [] others (s ∷ ss) more one ran = absurd one
+both-ran hs middle later w between end (l ∷ ls) others [] more one ran = absurd one
+both-ran hs middle later w between end (l ∷ ls) others (s ∷ ss) more (first, rest) ran =
+    (first, both-ran s.values middle later s.world between end ls others ss more rest ran)
+
+-- the opening stays, and the counts of failures go on from where they were
+abbrev GoesOnFrom : WorldState → WorldState → Type 0
+GoesOnFrom before after = (after.opening ≡ before.opening) × GoesOn before.memory.swap after.memory.swap
+
+line-kept : (hs : List HolderView) (w : WorldState) (l : Line) (s : RunStep) → HasRun hs w l s → GoesOnFrom w s.world
+line-kept hs w (Command c) s (reply, is, called, values) = (called.opening, called.keeps.goes_on)
+line-kept hs w (Flush pages) s (report, is, round, values) = (ap (λ (v : WorldState). v.opening) round.rest, round.keeps.goes_on)
+
+pub run-kept : (hs later : List HolderView) (w end : WorldState) (ls : List Line) (ss : List RunStep) → HaveRun hs w ls ss later end → GoesOnFrom w end
+run-kept hs later w end [] [] (values, same) =
+    (ap (λ (v : WorldState). v.opening) same, subst (λ (v : WorldState). GoesOn w.memory.swap v.memory.swap) (sym same) (GoesOn-refl w.memory.swap))
+run-kept hs later w end [] (s ∷ ss) ran = absurd ran
+run-kept hs later w end (l ∷ ls) [] ran = absurd ran
+run-kept hs later w end (l ∷ ls) (s ∷ ss) (first, rest) =
+    let one = line-kept hs w l s first in
+    let more = run-kept s.values later s.world end ls ss rest in
+    (more.0 ∙ one.0, GoesOn-trans w.memory.swap s.world.memory.swap end.memory.swap one.1 more.1)
