@@ -1,10 +1,10 @@
-#!/usr/bin/env python3
-"""Writes scripts that reach each documented limit, and the output of their runs: at_the_limits.py FOLDER.
+"""Writes scripts that reach each documented limit, and the output of their runs.
 
-Each is NAME.shm with NAME.swap and NAME.out, as the stored scripts next to this file. They are too long to be stored. The
-output is worked out here from the rules of docs/MACHINE.md, each step with its reason, and without any program.
+Each is NAME.shm with NAME.swap and NAME.out, as the stored scripts next to this file. They are too long to be
+stored. The output is worked out here from the rules of docs/MACHINE.md, each step with its reason, and
+without any program.
 """
-import sys
+from typing import Any
 
 PAGE, BASE = 4096, 0x40000000
 LONGEST, MOST_LINES = 1_048_576, 100_000
@@ -14,56 +14,62 @@ SEGMENT_PAGES, ALL_PAGES, MOST_FRAMES = 4096, 65536, 4096
 class Script:
     """A script, and the lines that it prints."""
 
-    def __init__(self, limits, *processes):
+    def __init__(self, limits: str, *processes: str) -> None:
         self.lines = [f"limits {limits}", *processes]
         self.declared = len(self.lines)
-        self.events = []
+        self.events: list[str] = []
 
-    def call(self, line, call, reply):
+    def call(self, line: str, call: str, reply: int | str) -> None:
         """Adds a command line, the call that it makes, and the reply."""
         self.lines.append(line)
         pid = line.split()[0]
         self.events.append(f"{len(self.events) + 1} {pid} {call} = {reply}")
 
-    def flush(self, pages):
+    def flush(self, pages: int) -> None:
         self.lines.append(f"0 flush {pages}")
 
-    def write(self, folder, name, swap, rows, usage):
+    def write(self, folder: str, name: str, swap: str, rows: list[tuple[Any, ...]],
+              usage: tuple[int, ...]) -> None:
         text = "".join(line + "\n" for line in self.lines)
         assert len(text) <= LONGEST and len(self.lines) - self.declared <= MOST_LINES, name
         cells = ("key", "shmid", "owner", "perms", "bytes", "nattch", "status")
         table = [" ".join([*(f"{cell!s:10}" for cell in row[:6]), row[6]]) for row in [cells, *rows]]
-        counts = "usage events {} segments {} reserved {} locked {}\nusage frames {}/{} dirty {} slots {}/{}\nusage in {} out {} failures {}"
+        counts = ("usage events {} segments {} reserved {} locked {}\n"
+                  "usage frames {}/{} dirty {} slots {}/{}\nusage in {} out {} failures {}")
         out = "".join(line + "\n" for line in [*self.events, *table, counts.format(len(self.events), *usage)])
         for end, content in ((".shm", text), (".swap", swap + "\n"), (".out", out)):
             with open(f"{folder}/{name}{end}", "w", encoding="ascii") as file:
                 file.write(content)
 
 
-def row(key, shmid, size, attached, status="-", owner=100):
+def row(key: int, shmid: int, size: int, attached: int, status: str = "-",
+        owner: int = 100) -> tuple[int | str, ...]:
     return f"0x{key:08x}", shmid, owner, "600", size, attached, status
 
 
-def pair_bytes(pair, segment):
-    """Two bytes that identify the pages to which they are stored: the last of one page and the first of the next."""
+def pair_bytes(pair: int, segment: int) -> str:
+    """Two bytes that identify the pages to which they are stored: the last of one page and the first of the
+    next."""
     return f"{pair % 251 + 1:02x}{segment + 1:02x}"
 
 
-def every_page(folder, name, swap, slots):
+def every_page(folder: str, name: str, swap: str, slots: int) -> None:
     """Sixteen segments of 2^24 bytes: SHMALL to its last page, every frame and every slot in use.
 
-    Each store crosses from an even page to the next one, so every page is stored to once, in order. The first 4096 pages
-    take the frames in order. All referenced bits are set then, so the hand clears them in one round and takes frame 0;
-    from then on the frames go in order, round after round: page n is in frame n mod 4096. Each victim is dirty and has
-    no slot, so it takes the least free one: page n takes slot n. After the stores the last 4096 pages are in the frames,
-    and a flush writes them in order of their frames, to the slots that are left.
+    Each store crosses from an even page to the next one, so every page is stored to once, in order. The first
+    4096 pages take the frames in order. All referenced bits are set then, so the hand clears them in one
+    round and takes frame 0; from then on the frames go in order, round after round: page n is in frame n mod
+    4096. Each victim is dirty and has no slot, so it takes the least free one: page n takes slot n. After the
+    stores the last 4096 pages are in the frames, and a flush writes them in order of their frames, to the
+    slots that are left.
     """
     segments = ALL_PAGES // SEGMENT_PAGES
     script = Script(f"16777216 4096 {ALL_PAGES} {MOST_FRAMES} 1", "process 1 100 100")
     size = SEGMENT_PAGES * PAGE
     letters = "abcdefghijklmnop"
     for number, letter in enumerate(letters):
-        script.call(f"1 {letter} = shmget {number + 1} {size} 600,creat", f"shmget 0x{number + 1:08x} {size} 600,creat", number)
+        script.call(f"1 {letter} = shmget {number + 1} {size} 600,creat",
+                    f"shmget 0x{number + 1:08x} {size} 600,creat", number)
     # not a page is left
     script.call("1 shmget 17 1 600,creat", "shmget 0x00000011 1 600,creat", "ENOSPC")
     starts = [BASE + number * size for number in range(segments)]
@@ -72,7 +78,8 @@ def every_page(folder, name, swap, slots):
     for number, letter in enumerate(letters):
         for pair in range(SEGMENT_PAGES // 2):
             offset, data = 2 * PAGE * pair + PAGE - 1, pair_bytes(pair, number)
-            script.call(f"1 store {letter}+{offset} {data}", f"store 0x{starts[number] + offset:x} {data}", "ok")
+            script.call(f"1 store {letter}+{offset} {data}", f"store 0x{starts[number] + offset:x} {data}",
+                        "ok")
     last = size - 1
     script.call(f"1 store p+{last} ee", f"store 0x{starts[-1] + last:x} ee", "ok")
     script.flush(MOST_FRAMES)
@@ -82,17 +89,19 @@ def every_page(folder, name, swap, slots):
         script.call(f"1 load a+{offset} 2", f"load 0x{starts[0] + offset:x} 2", pair_bytes(pair, 0))
     # the last two pages come back from the last two slots: of the last page its first byte and its last
     pair = SEGMENT_PAGES // 2 - 1
-    script.call(f"1 load p+{last - PAGE} 2", f"load 0x{starts[-1] + last - PAGE:x} 2", pair_bytes(pair, segments - 1))
+    script.call(f"1 load p+{last - PAGE} 2", f"load 0x{starts[-1] + last - PAGE:x} 2",
+                pair_bytes(pair, segments - 1))
     script.call(f"1 load p+{last} 1", f"load 0x{starts[-1] + last:x} 1", "ee")
     rows = [row(number + 1, number, size, 1) for number in range(segments)]
-    script.write(folder, name, swap, rows, (segments, ALL_PAGES, 0, MOST_FRAMES, MOST_FRAMES, 0, ALL_PAGES, slots, SEGMENT_PAGES + 2, ALL_PAGES, 0))
+    script.write(folder, name, swap, rows, (segments, ALL_PAGES, 0, MOST_FRAMES, MOST_FRAMES, 0, ALL_PAGES,
+                                            slots, SEGMENT_PAGES + 2, ALL_PAGES, 0))
 
 
-def eight_areas(folder):
+def eight_areas(folder: str) -> None:
     """A page moves from the first area of 65536 slots to the eighth, as the others are taken away.
 
-    Two pages that are loaded evict it. Nothing was stored to them, so they need no slot. swapoff moves it, and counts
-    this neither as read in nor as written out.
+    Two pages that are loaded evict it. Nothing was stored to them, so they need no slot. swapoff moves it,
+    and counts this neither as read in nor as written out.
     """
     script = Script("16777216 16 65536 2 0", "process 1 0 0")
     script.call("1 s = shmget private 12288 600", "shmget 0x00000000 12288 600", 0)
@@ -106,10 +115,11 @@ def eight_areas(folder):
     script.call("1 swapoff 7", "swapoff 7", "ENOMEM")
     script.call("1 load a 1", f"load 0x{BASE:x} 1", "2a")
     rows = [row(0, 0, 12288, 1, owner=0)]
-    script.write(folder, "eight_areas", " ".join(["sparse:65536"] * 8), rows, (1, 3, 0, 2, 2, 0, 1, 65536, 1, 1, 0))
+    script.write(folder, "eight_areas", " ".join(["sparse:65536"] * 8), rows,
+                 (1, 3, 0, 2, 2, 0, 1, 65536, 1, 1, 0))
 
 
-def most_segments(folder):
+def most_segments(folder: str) -> None:
     """4096 segments under keys of their own, each found by its key again; one more is refused."""
     script = Script("4096 4096 65536 2 0", "process 1 100 100")
     for key in range(1, 4097):
@@ -126,7 +136,7 @@ def most_segments(folder):
     script.write(folder, "most_segments", "ram:4096", rows, (4096, 4096, 0, 0, 2, 0, 0, 4096, 0, 0, 0))
 
 
-def most_pieces(folder):
+def most_pieces(folder: str) -> None:
     """64 processes with 256 pieces each: the 63 children have those of the first one, by fork.
 
     The pieces are consecutive, each a page of the same segment. One more attach is refused in each process.
@@ -150,8 +160,9 @@ def most_pieces(folder):
     script.write(folder, "most_pieces", "ram:64", rows, (1, 1, 0, 1, 2, 1, 0, 64, 0, 0, 0))
 
 
-def many_attaches(folder):
-    """Five processes attach a segment 256 times each, by calls of their own: it has 1,280 attachments, all to the same page."""
+def many_attaches(folder: str) -> None:
+    """Five processes attach a segment 256 times each, by calls of their own: it has 1,280 attachments, all to
+    the same page."""
     script = Script("4096 16 64 2 0", *(f"process {pid} 100 100" for pid in range(1, 6)))
     script.call("1 shmget 7 4096 600,creat", "shmget 0x00000007 4096 600,creat", 0)
     for pid in range(1, 6):
@@ -162,8 +173,9 @@ def many_attaches(folder):
     script.write(folder, "many_attaches", "ram:64", rows, (1, 1, 0, 1, 2, 1, 0, 64, 0, 0, 0))
 
 
-def largest_twice(folder):
-    """Two processes attach a segment of 4096 pages, twice each. What one stores at the last page the other reads.
+def largest_twice(folder: str) -> None:
+    """Two processes attach a segment of 4096 pages, twice each. What one stores at the last page the other
+    reads.
 
     The two pages that are touched take the two frames.
     """
@@ -178,15 +190,16 @@ def largest_twice(folder):
     script.call(f"2 store {BASE + size} 2b", f"store 0x{BASE + size:x} 2b", "ok")
     script.call(f"1 load {BASE} 1", f"load 0x{BASE:x} 1", "2b")
     rows = [row(7, 0, size, 4)]
-    script.write(folder, "largest_twice", "sparse:4096", rows, (1, SEGMENT_PAGES, 0, 2, 2, 2, 0, 4096, 0, 0, 0))
+    script.write(folder, "largest_twice", "sparse:4096", rows,
+                 (1, SEGMENT_PAGES, 0, 2, 2, 2, 0, 4096, 0, 0, 0))
 
 
-def most_locked(folder):
+def most_locked(folder: str) -> None:
     """MEMLOCK to its last page: 4094 pages of a locked segment stay in 4096 frames, and all others share two.
 
-    Each store crosses to the next page, so the locked pages take the first 4094 frames in order. Of the four other pages
-    the first two take the last two frames; then each pair replaces the one before, which is dirty and has no
-    slot, and the first pair comes back from its two slots over the second one, which is written.
+    Each store crosses to the next page, so the locked pages take the first 4094 frames in order. Of the four
+    other pages the first two take the last two frames; then each pair replaces the one before, which is dirty
+    and has no slot, and the first pair comes back from its two slots over the second one, which is written.
     """
     script = Script("16777216 16 65536 4096 4094", "process 1 100 100")
     large, small = 4094 * PAGE, 4 * PAGE
@@ -208,10 +221,11 @@ def most_locked(folder):
         offset = 2 * PAGE * pair + PAGE - 1
         script.call(f"1 load a+{offset} 2", f"load 0x{BASE + offset:x} 2", pair_bytes(pair, 0))
     rows = [row(1, 0, large, 1, "locked"), row(2, 1, small, 1)]
-    script.write(folder, "most_locked", "ram:65536", rows, (2, 4098, 4094, 4096, 4096, 4094, 4, 65536, 2, 4, 0))
+    script.write(folder, "most_locked", "ram:65536", rows,
+                 (2, 4098, 4094, 4096, 4096, 4094, 4, 65536, 2, 4, 0))
 
 
-def most_lines(folder):
+def most_lines(folder: str) -> None:
     """100,000 commands and flush lines in a script as long as one may be: blanks fill it up."""
     script = Script("4096 16 64 2 0", "process 1 100 100")
     script.call("1 exit", "exit", "ok")
@@ -224,7 +238,7 @@ def most_lines(folder):
     script.write(folder, "most_lines", "ram:1", [], (0, 0, 0, 0, 2, 0, 0, 1, 0, 0, 0))
 
 
-def most_events(folder):
+def most_events(folder: str) -> None:
     """100,000 commands, each with its event: the last one has the number 100000."""
     script = Script("4096 16 64 2 0", "process 1 100 100")
     script.call("1 exit", "exit", "ok")
@@ -233,7 +247,13 @@ def most_events(folder):
     script.write(folder, "most_events", "ram:1", [], (0, 0, 0, 0, 2, 0, 0, 1, 0, 0, 0))
 
 
-def main(folder):
+# what `main` writes
+NAMES = ("every_slot", "every_slot_of_a_mirror", "eight_areas", "most_segments", "most_pieces", "most_locked",
+         "many_attaches",
+         "largest_twice", "most_lines", "most_events")
+
+
+def main(folder: str) -> None:
     every_page(folder, "every_slot", f"sparse:{ALL_PAGES}", ALL_PAGES)
     every_page(folder, "every_slot_of_a_mirror", f"mirror:{ALL_PAGES}", ALL_PAGES)
     eight_areas(folder)
@@ -244,7 +264,3 @@ def main(folder):
     largest_twice(folder)
     most_lines(folder)
     most_events(folder)
-
-
-if __name__ == "__main__":
-    main(sys.argv[1])

@@ -1,14 +1,14 @@
-#!/usr/bin/env python3
+#!/usr/bin/env -S python3 -B
 """The built programs. Nothing here builds one: a test starts no proof.
 
-    tools/built.py CRATE    prints where the proved program of CRATE is; status 125 if it is not built from these sources
+    tools/built.py CRATE    prints where the proved program of CRATE is; status 125 if it is not built from
+                            these sources
 """
 from __future__ import annotations
 
 import os
 import sys
 
-sys.dont_write_bytecode = True
 from crates import TOP
 
 
@@ -31,14 +31,16 @@ def newest_source() -> float:
 
 
 def program_of(crate: str, may_be_unproved: bool = False) -> str:
-    """Returns a crate's program that no source is newer than: the proved one, or else, if that will do, the one that --unproved
-    kept."""
-    places = [f"{TOP}/crates/{crate}/out/{crate}", f"{TOP}/build/unproved/{crate}"][:2 if may_be_unproved else 1]
+    """Returns a crate's program that no source is newer than: the proved one, or else, if that will do, the
+    one that --unproved kept."""
+    places = [f"{TOP}/crates/{crate}/out/{crate}",
+              f"{TOP}/build/unproved/{crate}"][:2 if may_be_unproved else 1]
     newest = newest_source()
     for path in places:
         if os.access(path, os.X_OK) and os.stat(path).st_mtime >= newest:
             return path
-    how = f"tools/build {crate} proves and builds it" + f", and ./{crate} --unproved compiles it" * may_be_unproved
+    how = (f"tools/build {crate} proves and builds it"
+           + f", and ./{crate} --unproved compiles it" * may_be_unproved)
     raise NotBuilt(f"{crate} is not built from these sources: {how}")
 
 

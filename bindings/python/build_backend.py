@@ -1,5 +1,6 @@
-"""Makes the package's wheel, for pip, without setuptools and without a network. The wheel has the shared object, if `./lib` made it:
-that of the variable NOGCUVEMA_LIBRARY, a file or a folder, or else that of the repository's build/. The version is the header's."""
+"""Makes the package's wheel, for pip, without setuptools and without a network. The wheel has the shared
+object, if `./lib` made it: that of the variable NOGCUVEMA_LIBRARY, a file or a folder, or else that of the
+repository's build/. The version is the header's."""
 import base64
 import glob
 import hashlib
@@ -48,20 +49,22 @@ def shared_object() -> str:
 
 
 def version(shared: str) -> str:
-    """The version of a wheel with this shared object, whose header must have the package's; `+unproved` marks one of
-    ./lib --unproved."""
+    """The version of a wheel with this shared object, whose header must have the package's; `+unproved` marks
+    one of ./lib --unproved."""
     header = os.path.join(os.path.dirname(shared), f"{NAME}.h")
     if not shared or not os.path.isfile(header):
         return own_version()
     number, dash, mark = found(r'^#define NOG_VERSION_TEXT "(.*)"$', text_of(header)).partition("-")
     if number != own_version():
-        raise BuildError(f"{shared} has the version {number}, and the package {own_version()}: run ./lib once more")
+        raise BuildError(f"{shared} has the version {number}, and the package {own_version()}: run ./lib "
+                         f"once more")
     return number + ("+" + mark if dash else "")
 
 
 def metadata(number: str) -> str:
     return (f"Metadata-Version: 2.1\nName: {NAME}\nVersion: {number}\n"
-            "Summary: System V shared memory calls over simulated processes\nAuthor: Nogcuvema maintainers\nRequires-Python: >=3.8\n")
+            "Summary: System V shared memory calls over simulated processes\nAuthor: Nogcuvema "
+            "maintainers\nRequires-Python: >=3.8\n")
 
 
 def contents_of(number: str, tag: str, shared: str) -> Dict[str, bytes]:
@@ -77,11 +80,13 @@ def contents_of(number: str, tag: str, shared: str) -> Dict[str, bytes]:
     info = f"{NAME}-{number}.dist-info"
     contents[f"{info}/METADATA"] = metadata(number).encode()
     is_pure = str(not shared).lower()
-    contents[f"{info}/WHEEL"] = f"Wheel-Version: 1.0\nGenerator: {NAME}\nRoot-Is-Purelib: {is_pure}\nTag: {tag}\n".encode()
+    wheel = f"Wheel-Version: 1.0\nGenerator: {NAME}\nRoot-Is-Purelib: {is_pure}\nTag: {tag}\n"
+    contents[f"{info}/WHEEL"] = wheel.encode()
     return contents
 
 
-def build_wheel(wheel_directory: str, config_settings: Optional[Dict[str, Any]] = None, metadata_directory: Optional[str] = None) -> str:
+def build_wheel(wheel_directory: str, config_settings: Optional[Dict[str, Any]] = None,
+                metadata_directory: Optional[str] = None) -> str:
     """Writes the wheel into the folder. Returns its name."""
     shared = shared_object()
     number, tag = version(shared), TAG if shared else "py3-none-any"

@@ -1,44 +1,49 @@
 """Reads the header with a parser of C in Python, cffi or else pycparser: parse_header.py HEADER LIBRARY
 
-The header is read without changes, except for comments and the preprocessor's lines, as bindgen, cgo and cffi read it. With
-cffi the sizes of the structs are compared with those that the shared object reports, and two functions are called. Prints the
-parser, the functions and the structs. Ends with status 77 if there is no parser.
+The header is read without changes, except for comments and the preprocessor's lines, as bindgen, cgo and cffi
+read it. With cffi the sizes of the structs are compared with those that the shared object reports, and two
+functions are called. Prints the parser, the functions and the structs. Ends with status 77 if there is no
+parser.
 """
+from __future__ import annotations
+
 import re
 import sys
+from typing import Any
 
 NAMES = ("machine", "limits", "area", "failure", "process", "segment", "tally", "flushed", "usage", "piece")
 TYPES = "typedef unsigned char uint8_t; typedef unsigned int uint32_t; typedef int int32_t;" \
     "typedef unsigned long uint64_t; typedef unsigned long size_t;"
 
 
-def declarations(path):
+def declarations(path: str) -> str:
     with open(path, encoding="ascii") as file:
         text = re.sub(r"/\*.*?\*/", "", file.read(), flags=re.S)
     text = re.sub(r"#ifdef __cplusplus\n.*?#endif\n", "", text, flags=re.S)
     return "".join(line + "\n" for line in text.splitlines() if not line.startswith("#"))
 
 
-def by_cffi(cffi, text, library):
+def by_cffi(cffi: Any, text: str, library: str) -> None:
     ffi = cffi.FFI()
     ffi.cdef(text)
     shared = ffi.dlopen(library)
     sizes = ffi.new("size_t *")
     for which, name in enumerate(NAMES):
         if shared.nog_layout(which, 0, sizes) != 0 or sizes[0] != ffi.sizeof(f"nog_{name}"):
-            sys.exit(f"nog_{name} has {sizes[0]} bytes in the library, and {ffi.sizeof(f'nog_{name}')} by cffi")
+            sys.exit(f"nog_{name} has {sizes[0]} bytes in the library, and {ffi.sizeof(f'nog_{name}')} by "
+                     f"cffi")
     if shared.nog_version() < 10000 or shared.nog_close(ffi.new("nog_machine *")) != shared.NOG_CLOSED:
         sys.exit("a function is answered wrongly")
 
 
-def by_pycparser(pycparser, text):
+def by_pycparser(pycparser: Any, text: str) -> None:
     nodes = pycparser.CParser().parse(TYPES + text)
     functions = [node for node in nodes.ext if type(getattr(node, "type", None)).__name__ == "FuncDecl"]
     if len(functions) != len(re.findall(r"\bnog_\w+\(", text)):
         sys.exit(f"{len(functions)} functions were read")
 
 
-def main(header, library):
+def main(header: str, library: str) -> None:
     text, parser = declarations(header), None
     try:
         import cffi

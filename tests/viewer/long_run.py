@@ -1,75 +1,92 @@
 """A long run of a large machine: 2,000 steps over 2,048 frames and 2,048 pages open within a second."""
 
+from __future__ import annotations
+
 import os
 import tempfile
+from typing import Any
+
+from viewer.browser import Session
 
 STEPS, FRAMES = 2000, 2048
 MOST_MILLISECONDS, MOST_BYTES = 1000, 2 << 20
 
 
-def block(number):
-    """A step of a record, in the layout of docs/SCRIPT.md: each store takes a frame, and is no longer referenced a page later."""
+def block(number: Any) -> Any:
+    """A step of a record, in the layout of docs/SCRIPT.md: each store takes a frame, and is no longer
+    referenced a page later."""
     address = 0x40000000 + 4096 * (number - 1)
     call = f"call {number} 1 store 0x{address:08x} 01 = ok" if number else "start"
-    lines = [f"step {number}", call, "key        shmid      owner      perms      bytes      nattch     status",
-             f"0x00000000 0          1          600        {4096 * FRAMES}    1          -", "process 1 live 1 1",
+    lines = [f"step {number}", call,
+             "key        shmid      owner      perms      bytes      nattch     status",
+             f"0x00000000 0          1          600        {4096 * FRAMES}    1          -",
+             "process 1 live 1 1",
              f"piece 0x40000000 0 0 {FRAMES} rw", f"frames {FRAMES} hand 0"]
     lines += [f"frame {at} 0 {at} {'-' if at < number - 1 else 'r'}d" for at in range(number)]
-    lines += ["area 0 4096", f"usage events {number} segments 1 reserved {FRAMES} locked 0", f"usage frames {number}/{FRAMES} dirty {number} slots 0/4096",
+    lines += ["area 0 4096", f"usage events {number} segments 1 reserved {FRAMES} locked 0",
+              f"usage frames {number}/{FRAMES} dirty {number} slots 0/4096",
               "usage in 0 out 0 failures 0"]
     return "\n".join(lines)
 
 
-def record():
+def record() -> Any:
     return "".join(block(number) + "\n\n" for number in range(STEPS + 1))
 
 
 WHERE = "document.getElementById('where').textContent"
 
 
-def check_long_run(count, session, page_of):
+def check_long_run(session: Session, page_of: Any) -> None:
     made = page_of(record())
-    count.take(len(made) < MOST_BYTES, f"a long run: the page has {len(made)} bytes")
+    assert len(made) < MOST_BYTES
     with tempfile.TemporaryDirectory(prefix="viewer.") as folder:
         path = os.path.join(folder, "long.html")
         with open(path, "w", encoding="utf-8") as file:
             file.write(made)
-        took = []
+        took: list[float] = []
         # other programs may use the processor, so the best of five counts
         while len(took) < 5 and min(took, default=MOST_MILLISECONDS) >= MOST_MILLISECONDS:
             session.open(f"file://{path}", 1280, 900)
             took.append(session.value("performance.timing.loadEventEnd - performance.timing.navigationStart"))
-        count.take(min(took) < MOST_MILLISECONDS, f"a long run: it opens in {took} ms")
-        check_steps(count, session)
-        check_sheets(count, session)
+        assert min(took) < MOST_MILLISECONDS
+        check_steps(session)
+        check_sheets(session)
 
 
-def check_steps(count, session):
-    """The lines of some steps are those of the record; boxes are built where they are looked at, and lie where they did."""
+def check_steps(session: Session) -> None:
+    """The lines of some steps are those of the record; boxes are built where they are looked at, and lie
+    where they did."""
     for number in (0, 1, 2, 777, STEPS):
         seen = session.value(f"steps[{number}].lines.join('\\n')")
-        count.take(seen == block(number), f"a long run: step {number} has other lines")
+        assert seen == block(number)
     session.press("End")
     boxes = "document.querySelectorAll('#frames .cell')"
-    built = session.value(f"new Promise((done) => setTimeout(() => done([...{boxes}].filter((it) => it.firstChild).length), 300))")
-    texts = session.value(f"[{WHERE}, {boxes}.length, [...{boxes}].slice(0, 2).map((it) => it.innerText.replace(/\\s+/g, ' ').trim())]")
-    count.take(texts == [f"step {STEPS} of {STEPS}", FRAMES, ["0 0·0 D ☞", "1 0·1 D"]], f"a long run, at its end: {texts}")
-    count.take(0 < built < FRAMES // 2, f"a long run: {built} boxes were built")
+    built = session.value(f"new Promise((done) => setTimeout(() => done([...{boxes}].filter((it) => "
+                          f"it.firstChild).length), 300))")
+    texts = session.value(f"[{WHERE}, {boxes}.length, [...{boxes}].slice(0, 2).map((it) => "
+                          f"it.innerText.replace(/\\s+/g, ' ').trim())]")
+    assert texts == [f"step {STEPS} of {STEPS}", FRAMES, ["0 0·0 D ☞", "1 0·1 D"]]
+    assert 0 < built < FRAMES // 2
     heights = f"[...new Set([...{boxes}].map((it) => Math.round(10 * it.getBoundingClientRect().height)))]"
     were = session.value(heights)
     session.value(f"{boxes}[1999].scrollIntoView()")
-    text = session.value(f"new Promise((done) => setTimeout(() => done({boxes}[1999].innerText.replace(/\\s+/g, ' ').trim()), 500))")
-    count.take(text == "1999 0·1999 R D", f"a long run: the last box that is held shows {text}")
-    count.take(len(were) == 1 and session.value(heights) == were, f"a long run: boxes are {were} high, in tenths")
-    sheet = session.value("(() => { const sheet = makeSheet(2); return [...sheet.querySelectorAll('.cell')].filter((it) => !it.firstChild).length; })()")
-    count.take(sheet == 0, f"a long run: a sheet has {sheet} empty boxes")
+    text = session.value(f"new Promise((done) => setTimeout(() => "
+                         f"done({boxes}[1999].innerText.replace(/\\s+/g, ' ').trim()), 500))")
+    assert text == "1999 0·1999 R D"
+    assert len(were) == 1
+    assert session.value(heights) == were
+    sheet = session.value("(() => { const sheet = makeSheet(2); return "
+                          "[...sheet.querySelectorAll('.cell')].filter((it) => !it.firstChild).length; })()")
+    assert sheet == 0
 
 
-def check_sheets(count, session):
+def check_sheets(session: Session) -> None:
     """At most 200 steps are printed at once, and the last sheet says so if there are more."""
     for words, sheets in ("1-201", 200), ("1-200", 200), ("3", 1):
         session.value(f"document.getElementById('printed').value = '{words}'; 0")
-        seen = session.value("(() => { makeSheets(); const it = byId('sheets'); return [it.querySelectorAll('.sheet').length, "
-                             "it.lastElementChild.className === '' && it.lastElementChild.textContent.includes('choose them by --steps')]; })()")
-        count.take(seen == [sheets, words == "1-201"], f"a long run: steps {words} on paper: {seen}")
+        seen = session.value("(() => { makeSheets(); const it = byId('sheets'); return "
+                             "[it.querySelectorAll('.sheet').length, "
+                             "it.lastElementChild.className === '' && "
+                             "it.lastElementChild.textContent.includes('choose them by --steps')]; })()")
+        assert seen == [sheets, words == "1-201"]
     session.value("byId('sheets').replaceChildren(); document.getElementById('printed').value = ''; 0")

@@ -1,30 +1,38 @@
-"""The bytes of a page, as the viewer's page shows them when they are opened, against those of the record's own lines.
+"""The bytes of a page, as the viewer's page shows them when they are opened, against those of the record's
+own lines.
 
-A segment begins with zeros, and only a successful store or xadd changes a byte. Each successful load and xadd has bytes too: they
-are compared with those that follow from the earlier lines.
+A segment begins with zeros, and only a successful store or xadd changes a byte. Each successful load and xadd
+has bytes too: they are compared with those that follow from the earlier lines.
 """
+
+from __future__ import annotations
 
 import glob
 import os
 import re
-import subprocess
+from typing import Any, Tuple
 
-from expected import REFUSALS, access_of, boxes_of, lines_of, pieces_of, read_blocks, segments_of, where_is
+from commands import TOP, run, text_of
+from viewer.browser import Session
+from viewer.expected import (REFUSALS, Block, access_of, boxes_of, lines_of, pieces_of, read_blocks,
+                             segments_of, where_is)
+from viewer.pages import Page
 
 HERE = os.path.dirname(os.path.abspath(__file__))
-TOP = os.path.dirname(os.path.dirname(HERE))
 PAGE = 4096
 # the scripts whose records are compared, with the hand's way too (hand.py)
 SCRIPTS = ("examples/*.shm", "tests/viewer/cases/*.shm", "tests/scripts/*/*.shm")
 FEWEST_SCRIPTS, FEWEST_LOADS = 60, 1000
+# the name of a script, and its record
+Record = Tuple[str, str]
 
 
-def read(name):
+def read(name: str) -> Any:
     with open(os.path.join(HERE, name), encoding="utf-8") as file:
         return file.read()
 
 
-def places_of(block):
+def places_of(block: Block) -> Any:
     """Returns for each byte of an access its page and its place there; None if nothing is attached."""
     words = block[1]
     caller, named = access_of(block)
@@ -40,43 +48,47 @@ def places_of(block):
 class Memory:
     """The bytes of the pages, step by step, and which of the replies they contradict."""
 
-    def __init__(self, blocks):
-        self.pages, self.steps, self.wrong, self.answers = {}, [], [], 0
-        self.used = {}
+    def __init__(self, blocks: list[Block]) -> None:
+        self.pages: dict[str, bytearray] = {}
+        self.steps: list[Any] = []
+        self.wrong: list[str] = []
+        self.answers = 0
+        self.used: dict[str, set[int]] = {}
         for block in blocks:
             self.take(block)
 
-    def take(self, block):
+    def take(self, block: Block) -> None:
         there = {line[1] for line in segments_of(block)}
         before = {page: bytes(its) for page, its in self.pages.items()}
         self.pages = {page: its for page, its in self.pages.items() if page.split("·")[0] in there}
         places = places_of(block)
         if places and block[1][-1] not in REFUSALS:
             self.answer(block[1], places)
-        for place in filter(None, places):
+        for place in [it for it in places if it]:
             self.used.setdefault(place[0], set()).add(place[1] // 16)
         after = {page: bytes(its) for page, its in self.pages.items()}
         self.steps.append((there, before, after, {place for place in places if place}))
 
-    def answer(self, words, places):
+    def answer(self, words: Any, places: Any) -> None:
         kind, said, reply = words[3], words[5], words[-1]
         kept = [self.pages.setdefault(page, bytearray(PAGE)) for page, _ in places]
         had = bytes(page[at] for page, (_, at) in zip(kept, places))
-        told = {"load": lambda: had.hex(), "store": lambda: "ok", "xadd": lambda: str(int.from_bytes(had, "little"))}[kind]()
+        told = {"load": had.hex(), "store": "ok", "xadd": str(int.from_bytes(had, "little"))}[kind]
         self.wrong += [f"{' '.join(words)}, where {told} is there"] * (told != reply)
         self.answers += kind != "store"
-        new = {"load": lambda: had, "store": lambda: bytes.fromhex(said),
-               "xadd": lambda: ((int.from_bytes(had, "little") + int(said)) & (1 << 64) - 1).to_bytes(8, "little")}[kind]()
+        new = had if kind == "load" else bytes.fromhex(said) if kind == "store" else (
+            (int.from_bytes(had, "little") + int(said)) & (1 << 64) - 1).to_bytes(8, "little")
         for page, (_, at), byte in zip(kept, places, new):
             page[at] = byte
 
-    def changed(self):
+    def changed(self) -> Any:
         """Returns for each step the pages with a byte that it changed."""
         zeros = bytes(PAGE)
-        return [{page for page in after if after[page] != before.get(page, zeros)} for _, before, after, _ in self.steps]
+        return [{page for page in after if after[page] != before.get(page, zeros)} for _, before, after,
+                _ in self.steps]
 
 
-def bytes_in(row, shown, had):
+def bytes_in(row: Any, shown: Any, had: Any) -> Any:
     """Returns a row of bytes with their marks, and its text."""
     there, before, after, named, page = shown
     cells = []
@@ -86,12 +98,14 @@ def bytes_in(row, shown, had):
             cells.append(f"{after[at]:02x}{'*' * (had and after[at] != before[at])}{mark}")
         else:
             cells.append(f"{before[at]:02x}{mark}~" if had else mark)
-    text = "".join(chr(it) if 0x20 <= it < 0x7f else "·" for it in after[16 * row:16 * row + 16]) if there else ""
+    text = "".join(chr(it) if 0x20 <= it < 0x7f else "·"
+                   for it in after[16 * row:16 * row + 16]) if there else ""
     return [f"0x{16 * row:03x}", " ".join(cells), text.strip()]
 
 
-def table_of(memory, at, page, is_whole=False):
-    """Returns the table of a page at a step: its rows that the run names, or all, and how far the others reach."""
+def table_of(memory: Any, at: Any, page: Any, is_whole: bool = False) -> Any:
+    """Returns the table of a page at a step: its rows that the run names, or all, and how far the others
+    reach."""
     zeros, seg = bytes(PAGE), page.split("·")[0]
     (there, before, after, named), earlier = memory.steps[at], memory.steps[at - 1] if at else (set(),)
     shown = seg in there, before.get(page, zeros), after.get(page, zeros), named, page
@@ -101,45 +115,52 @@ def table_of(memory, at, page, is_whole=False):
             skipped = row if skipped is None else skipped
             continue
         if skipped is not None:
-            rows.append(f"⋯ 0x{16 * skipped:03x} to 0x{16 * (PAGE // 16 if row is None else row) - 1:03x}" + ": zeros" * shown[0])
+            rows.append(f"⋯ 0x{16 * skipped:03x} to 0x{16 * (PAGE // 16 if row is None else row) - 1:03x}"
+                        + ": zeros" * shown[0])
             skipped = None
         if row is not None:
             rows.append(bytes_in(row, shown, seg in earlier[0]))
     return rows
 
 
-def held(block, before, page):
+def held(block: Block, before: Any, page: Any) -> Any:
     """Returns what the viewer says about a page: where it is, and at which addresses."""
     seg = page.split("·")[0]
     had, has = ([it for it in segments_of(each) if it[1] == seg] for each in (before or [["step"]], block))
     if not has:
-        return f"segment {seg} is destroyed in this step, with its bytes" if had else f"segment {seg} is not there at this step"
+        return (f"segment {seg} is destroyed in this step, with its bytes" if had
+                else f"segment {seg} is not there at this step")
     place = where_is(block, page.split("·"))
     is_dirty = any(line[2:4] == page.split("·") and line[4][1] == "d" for line in lines_of(block, "frame"))
-    told = [{"f": f"in frame {place[1:]}{', dirty' * is_dirty}", "s": f"in slot {place[1:]}", "0": "in neither a frame nor a slot"}[place[0]]]
+    told = [{"f": f"in frame {place[1:]}{', dirty' * is_dirty}", "s": f"in slot {place[1:]}",
+             "0": "in neither a frame nor a slot"}[place[0]]]
     for line, pieces in pieces_of(block):
-        its = [f"0x{at:08x}" for at, (owner, _, _) in sorted(boxes_of(pieces).items()) if owner == page.split("·")]
+        its = [f"0x{at:08x}" for at,
+               (owner, _, _) in sorted(boxes_of(pieces).items()) if owner == page.split("·")]
         told += [f"process {line[1]} has it at {' and '.join(its)}"] * bool(its)
     return "; ".join(told)
 
 
-def opened(session, page):
-    session.value(f"(() => {{ const it = document.getElementById('opened'); it.focus(); it.value = '{page}'; it.dispatchEvent(new Event('change')); it.blur(); }})()")
+def opened(session: Session, page: Any) -> None:
+    session.value(f"(() => {{ const it = document.getElementById('opened'); it.focus(); it.value = '{page}'; "
+                  f"it.dispatchEvent(new Event('change')); it.blur(); }})()")
 
 
-def pages_in(blocks, memory):
+def pages_in(blocks: list[Block], memory: Any) -> Any:
     """Returns the pages that can be opened from the list."""
-    kept = {"·".join(line[at:at + 2]) for block in blocks for word, at in (("frame", 2), ("slot", 3)) for line in lines_of(block, word)}
+    kept = {"·".join(line[at:at + 2]) for block in blocks for word,
+            at in (("frame", 2), ("slot", 3)) for line in lines_of(block, word)}
     return sorted(kept | {*memory.used}, key=lambda page: [*map(int, page.split("·"))])
 
 
-def check_tables(count, session, made):
+def check_tables(session: Session, made: Page) -> None:
     """Each page that a run uses, at each step."""
     blocks, dump = made.all_blocks, read("dump.js")
     memory = Memory(blocks)
-    choices = session.value("document.getElementById('opened').focus(), [...document.getElementById('opened').options].map((it) => it.value)")
+    choices = session.value("document.getElementById('opened').focus(), "
+                            "[...document.getElementById('opened').options].map((it) => it.value)")
     want = ["", *pages_in(blocks, memory)]
-    count.take(choices == want, f"{made.name}: {choices} may be opened, not {want}")
+    assert choices == want
     for page in want[1:]:
         opened(session, page)
         for at, seen in list(enumerate(session.value(dump), made.skipped)):
@@ -147,11 +168,11 @@ def check_tables(count, session, made):
             wrong = [f"{one} where {other} is wanted" for one, other in zip(seen[1], rows) if one != other]
             wrong += [f"{len(seen[1])} rows, not {len(rows)}"] * (len(seen[1]) != len(rows))
             wrong += [f"{seen[0]!r}, not {text!r}"] * (seen[0] != text)
-            count.take(not wrong, f"{made.name}, page {page}, step {at}: " + "; ".join(wrong[:3]))
+            assert not wrong
     opened(session, "")
 
 
-def check_whole(count, session, made):
+def check_whole(session: Session, made: Page) -> None:
     """All rows of a page: 4096 bytes."""
     memory = Memory(made.all_blocks)
     opened(session, "0·1")
@@ -159,47 +180,52 @@ def check_whole(count, session, made):
     seen = session.value(read("dump.js"))
     for at in (4, 10, 16):
         want = table_of(memory, at, "0·1", True)
-        count.take(seen[at][1] == want and len(want) == 256, f"{made.name}: all rows at step {at} are {seen[at][1]}")
+        assert seen[at][1] == want
+        assert len(want) == 256
     session.value("document.getElementById('dump').scrollTop = 300")
     session.press("ArrowLeft")
-    seen = session.value("[document.getElementById('dump').scrollTop, document.getElementById('dump').clientHeight < 600]")
-    count.take(seen == [300, True], f"{made.name}: all rows are scrolled to {seen}")
+    seen = session.value("[document.getElementById('dump').scrollTop, "
+                         "document.getElementById('dump').clientHeight < 600]")
+    assert seen == [300, True]
     session.value("document.getElementById('whole').click()")
-    count.take(session.value(read("dump.js"))[10][1] == table_of(memory, 10, "0·1"), f"{made.name}: rows that no access names stay")
+    assert session.value(read("dump.js"))[10][1] == table_of(memory, 10, "0·1")
     opened(session, "")
 
 
-def at_step(session, step):
-    session.value(f"(() => {{ const it = document.getElementById('slider'); it.value = {step}; it.dispatchEvent(new Event('input')); }})()")
+def at_step(session: Session, step: Any) -> None:
+    session.value(f"(() => {{ const it = document.getElementById('slider'); it.value = {step}; "
+                  f"it.dispatchEvent(new Event('input')); }})()")
 
 
 BYTES_NOW = "[document.getElementById('opened').value, document.getElementById('dump').rows.length > 0]"
 
 
-def check_opening(count, session, made):
+def check_opening(session: Session, made: Page) -> None:
     """A click on a box opens its page, and b the page that the step names, or closes it."""
-    for selector, number, page in (("#frames .cell", 3, "1·1"), ("#frames .cell", 0, "1·6"), (".area .cell", 0, "1·0"), ("#processes .cell", 5, "1·4"),
+    for selector, number, page in (("#frames .cell", 3, "1·1"), ("#frames .cell", 0, "1·6"),
+                                   (".area .cell", 0, "1·0"), ("#processes .cell", 5, "1·4"),
                                    ("#processes .cell", 8, "1·7")):
         at_step(session, 20)
         session.value(f"document.querySelectorAll('{selector}')[{number}].click()")
         seen = session.value(BYTES_NOW)
-        count.take(seen == [page, True], f"{made.name}: a click on box {number} of {selector} opens {seen}, not {page}")
+        assert seen == [page, True]
     opened(session, "")
     for step, page in ((12, "1·0"), (13, "1·4"), (13, ""), (16, ""), (14, "1·2")):
         at_step(session, step)
         session.press("b")
         seen = session.value(BYTES_NOW)
-        count.take(seen == [page, page != ""], f"{made.name}: at step {step} b opens {seen}, not {page!r}")
+        assert seen == [page, page != ""]
     opened(session, "")
 
 
-def check_sheets(count, session, made):
+def check_sheets(session: Session, made: Page) -> None:
     sheets = len(re.findall(rb"/Type /Page\b", session.paper()))
-    count.take(sheets == len(made.blocks), f"{made.name}: {sheets} sheets for {len(made.blocks)} steps with a page open")
+    assert sheets == len(made.blocks)
 
 
-def check_room(count, session, made, path):
-    """With a page open no box moves from step to step, and on paper each step has one sheet, with the bytes."""
+def check_room(session: Session, made: Page, path: str) -> None:
+    """With a page open no box moves from step to step, and on paper each step has one sheet, with the
+    bytes."""
     for wide, high in ((1280, 900), (390, 844)):
         session.open(f"file://{path}", wide, high)
         opened(session, "0·1")
@@ -208,25 +234,30 @@ def check_room(count, session, made, path):
         for at in range(len(made.blocks)):
             seen = session.value(read("measure.js"))
             moved = [one for one, other in zip(seen["boxes"], first["boxes"]) if one != other]
-            is_right = not moved and len(seen["boxes"]) == len(first["boxes"]) and seen["wide"] <= wide
-            count.take(is_right, f"{made.name} at {wide}, step {at}, with a page open: {moved[:1]} moved, {seen['wide']} wide")
+            assert not moved
+            assert len(seen["boxes"]) == len(first["boxes"])
+            assert seen["wide"] <= wide
             session.press("ArrowRight")
-    check_sheets(count, session, made)
+    check_sheets(session, made)
     session.value("document.getElementById('whole').click()")
-    seen = session.value("dispatchEvent(new Event('beforeprint')), [...document.querySelectorAll('.sheet .bytes')].map((it) => "
+    seen = session.value("dispatchEvent(new Event('beforeprint')), [...document.querySelectorAll('.sheet "
+                         ".bytes')].map((it) => "
                          "[it.querySelector('h2').textContent, it.querySelectorAll('.dump tr').length])")
     rows = len(table_of(Memory(made.all_blocks), 0, "0·1"))
-    count.take(seen == [["Bytes of page 1 of segment 0", rows]] * len(made.blocks), f"{made.name}: sheets have {seen}, not {rows} rows")
+    assert seen == [["Bytes of page 1 of segment 0", rows]] * len(made.blocks)
     session.value("dispatchEvent(new Event('afterprint'))")
 
 
-LATE = "\n".join(["limits 65536 16 64 4 1", "process 1 1 1", "1 s = shmget private 8192 600", "1 a = shmat s null -", "1 store a 0102", *["1 stat s"] * 2000,
+LATE = "\n".join(["limits 65536 16 64 4 1", "process 1 1 1", "1 s = shmget private 8192 600",
+                  "1 a = shmat s null -", "1 store a 0102", *["1 stat s"] * 2000,
                   "1 load a 1", "1 store a+1 ff", "1 load a 4"]) + "\n"
-# the first row at each of its last three steps, by hand: what was stored before the record begins is unknown until an access names it
-LATE_ROWS = ["01! " + " ".join(["??"] * 15), "01 ff! " + " ".join(["??"] * 14), "01! ff! 00! 00! " + " ".join(["??"] * 12)]
+# the first row at each of its last three steps, by hand: what was stored before the record begins is unknown
+# until an access names it
+LATE_ROWS = ["01! " + " ".join(["??"] * 15), "01 ff! " + " ".join(["??"] * 14),
+             "01! ff! 00! 00! " + " ".join(["??"] * 12)]
 
 
-def open_in(folder, session, made):
+def open_in(folder: str, session: Session, made: Page) -> Any:
     path = os.path.join(folder, made.name + ".html")
     with open(path, "w", encoding="utf-8") as file:
         file.write(made.html)
@@ -234,56 +265,55 @@ def open_in(folder, session, made):
     return path
 
 
-def check_late(count, session, made, late, folder):
-    """Chosen steps have the bytes that earlier steps left; after more than 2,000 steps those that no step named are unknown."""
+def check_late(session: Session, made: Page, late: Any, folder: str) -> None:
+    """Chosen steps have the bytes that earlier steps left; after more than 2,000 steps those that no step
+    named are unknown."""
     open_in(folder, session, made)
-    check_tables(count, session, made)
+    check_tables(session, made)
     open_in(folder, session, late)
     opened(session, "0·0")
     seen = session.value(read("dump.js"))
-    rows = [[["0x000", row, text], "⋯ 0x010 to 0xfff: unknown"] for row, text in zip(LATE_ROWS, ("·" * 16,) * 3)]
-    count.take([rows for _, rows in seen] == rows, f"{late.name}: {seen}")
+    rows = [[["0x000", row, text], "⋯ 0x010 to 0xfff: unknown"] for row,
+            text in zip(LATE_ROWS, ("·" * 16,) * 3)]
+    assert [rows for _, rows in seen] == rows
     said = {text.rpartition("; ")[2] for text, _ in seen}
-    count.take(said == {"?? is a byte that no step from 2003 on named"}, f"{late.name}: {said}")
+    assert said == {"?? is a byte that no step from 2003 on named"}
 
 
-def records(program):
+def records(program: str) -> list[Record]:
     """Returns the name and the record of each stored script that has one."""
     found = []
     for path in sorted(it for pattern in SCRIPTS for it in glob.glob(os.path.join(TOP, pattern))):
-        words = ["ram:64"]
-        if os.path.exists(path[:-4] + ".swap"):
-            with open(path[:-4] + ".swap", encoding="ascii") as swap:
-                words = swap.read().split()
-        with open(path, "rb") as script:
-            done = subprocess.run([program, *words], stdin=script, capture_output=True, check=False)
-        if done.returncode == 0 and done.stdout:
-            found.append((os.path.relpath(path, TOP), done.stdout.decode()))
+        ended = run([program, *text_of(path[:-4] + ".swap", "ram:64").split()], text_of(path))
+        if ended.status == 0 and ended.out:
+            found.append((os.path.relpath(path, TOP), ended.out))
     return found
 
 
-def check_loads(count, made):
-    """In each record each load and xadd answers the bytes that are there by the stores and xadds before it."""
+def check_loads(made: list[Record]) -> None:
+    """In each record each load and xadd answers the bytes that are there by the stores and xadds before
+    it."""
     answers = 0
     for name, record in made:
         memory = Memory(read_blocks(record))
         answers += memory.answers
-        count.take(not memory.wrong, f"{name}: {memory.wrong[:3]}")
-    count.take(len(made) >= FEWEST_SCRIPTS and answers >= FEWEST_LOADS, f"{answers} loads of {len(made)} scripts were compared")
+        assert not memory.wrong
+    assert len(made) >= FEWEST_SCRIPTS
+    assert answers >= FEWEST_LOADS
 
 
-def check_bytes(count, session, pages, others, folder):
-    """The pages are those of all scripts, the scripts turns and bytes last; the others are of chosen steps, of late ones, and of many
-    processes."""
+def check_bytes(session: Session, pages: Any, others: Any, folder: str) -> None:
+    """The pages are those of all scripts, the scripts turns and bytes last; the others are of chosen steps,
+    of late ones, and of many processes."""
     for made in pages:
         path = open_in(folder, session, made)
-        check_tables(count, session, made)
+        check_tables(session, made)
         if made.name == "turns":
-            check_opening(count, session, made)
-    check_whole(count, session, made)
-    check_room(count, session, made, path)
+            check_opening(session, made)
+    check_whole(session, made)
+    check_room(session, made, path)
     chosen, late, many = others
-    check_late(count, session, chosen, late, folder)
+    check_late(session, chosen, late, folder)
     open_in(folder, session, many)
     opened(session, "0·0")
-    check_sheets(count, session, many)
+    check_sheets(session, many)

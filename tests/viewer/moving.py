@@ -1,22 +1,29 @@
 """How a page moves: play, search for the next step of a kind, swipes, and the handout."""
 
+from __future__ import annotations
+
 import os
 import re
+from typing import Any
 
-from expected import all_sought, number_of, steps_sought
-from memory import Memory
+from viewer.browser import Session
+from viewer.expected import all_sought, number_of, steps_sought
+from viewer.memory import Memory
+from viewer.pages import Page
 
 # what a reader of the screen hears of each control of the bar
-NAMES = [("button", "One step back"), ("button", "One step on"), ("slider", "Step"), ("button", "Play"), ("combobox", "What to look for"),
-         ("button", "The step before that has it"), ("button", "The next step that has it"), ("combobox", "Page"), ("textbox", "Steps to print:"), ("button", "Print")]
+NAMES = [("button", "One step back"), ("button", "One step on"), ("slider", "Step"), ("button", "Play"),
+         ("combobox", "What to look for"),
+         ("button", "The step before that has it"), ("button", "The next step that has it"),
+         ("combobox", "Page"), ("textbox", "Steps to print:"), ("button", "Print")]
 WHERE = "Number(/step (\\d+)/.exec(document.getElementById('where').textContent)[1])"
 NOTICE = "document.querySelector('#changes .notice')?.textContent ?? ''"
 WORDS = {"fault": "a page comes into a frame", "refusal": "a call is refused"}
 
 
-def walk(session, press, last):
+def walk(session: Session, press: Any, last: Any) -> Any:
     """The steps to which a key leads, until it leads nowhere; and the message then."""
-    seen = []
+    seen: list[int] = []
     while len(seen) <= last + 1:
         was = session.value(WHERE)
         session.press(press)
@@ -27,11 +34,11 @@ def walk(session, press, last):
     return seen, session.value(NOTICE)
 
 
-def check_seeking(count, session, made):
+def check_seeking(session: Session, made: Page) -> None:
     """The page finds everything that can be looked for, forwards and backwards."""
     last, changed = number_of(made.blocks[-1]), Memory(made.blocks).changed()
     choices = session.value("[...document.getElementById('seek').options].map((it) => it.value)")
-    count.take(choices == all_sought(made.blocks), f"{made.name}: {choices} may be looked for, not {all_sought(made.blocks)}")
+    assert choices == all_sought(made.blocks)
     for what in all_sought(made.blocks):
         want = steps_sought(what, made.blocks, changed)
         session.value(f"document.getElementById('seek').value = '{what}'")
@@ -41,21 +48,21 @@ def check_seeking(count, session, made):
             found.append(walk(session, key, last)[0])
         # the last step is where the way back begins
         back = [step for step in reversed(want) if step != last]
-        count.take(found == [want, back], f"{made.name}: {what} is found at {found}, not at {want}")
+        assert found == [want, back]
     for what, key in (("fault", "f"), ("refusal", "r")):
         session.press("Home")
         seen, said = walk(session, key, last)
-        is_right = seen == steps_sought(what, made.blocks, changed) and said == f"no step after this one has it: {WORDS[what]}"
-        count.take(is_right, f"{made.name}: the key {key} leads to {seen} and says {said}")
+        assert seen == steps_sought(what, made.blocks, changed)
+        assert said == f"no step after this one has it: {WORDS[what]}"
     session.press("Home")
     session.value("document.getElementById('seek').value = 'fault'; document.getElementById('next').click()")
     first = session.value(WHERE)
     session.value("document.getElementById('next').click(); document.getElementById('before').click()")
     want = steps_sought("fault", made.blocks, changed)[0]
-    count.take([first, session.value(WHERE)] == [want, want], f"{made.name}: the buttons lead to {first}, not {want}")
+    assert [first, session.value(WHERE)] == [want, want]
 
 
-def check_playing(count, session, made, wait_for):
+def check_playing(session: Session, made: Page, wait_for: Any) -> None:
     """Play continues, by its key and its button, and ends at the last step and at any other move."""
     text = "document.getElementById('play').textContent"
     last = number_of(made.blocks[-1])
@@ -76,34 +83,40 @@ def check_playing(count, session, made, wait_for):
     again = session.value(f"[{WHERE}, {text}]")
     session.press(" ")
     seen = [begun, is_on, stopped, paused, is_over, again]
-    count.take(seen == ["Pause", True, [1, "Play"], "Play", True, [0, "Pause"]], f"{made.name}: play {seen}")
+    assert seen == ["Pause", True, [1, "Play"], "Play", True, [0, "Pause"]]
 
 
-def check_names(count, session):
+def check_names(session: Session) -> None:
     """Each control has a name and is reached by Tab."""
     tree = session.ask("Accessibility.getFullAXTree")["nodes"]
     kinds = {"button", "slider", "combobox", "textbox"}
-    seen = [(it["role"]["value"], it["name"]["value"]) for it in tree if not it["ignored"] and it["role"]["value"] in kinds]
+    seen = [(it["role"]["value"], it["name"]["value"]) for it in tree if not it["ignored"]
+            and it["role"]["value"] in kinds]
     missing = [it for it in NAMES if it not in seen]
-    count.take(not missing and all(name for _, name in seen), f"controls without a name: {missing} of {seen}")
+    assert not missing
+    assert all(name for _, name in seen)
     told = session.value("document.getElementById('slider').getAttribute('aria-valuetext')")
-    count.take(told == session.value("document.getElementById('where').textContent"), f"the slider is read out as {told}")
+    assert told == session.value("document.getElementById('where').textContent")
     ids = "['back', 'on', 'slider', 'where', 'play', 'seek', 'before', 'next', 'opened', 'printed']"
-    reached = session.value(f"{ids}.filter((id) => {{ const it = document.getElementById(id); it.disabled = false; it.focus(); return document.activeElement !== it || it.tabIndex < 0; }})")
-    count.take(reached == [], f"controls that are not reached by Tab: {reached}")
+    reached = session.value(f"{ids}.filter((id) => "
+                            f"{{ const it = document.getElementById(id); it.disabled = false; it.focus(); "
+                            f"return document.activeElement !== it || it.tabIndex < 0; }})")
+    assert reached == []
     session.value("document.activeElement.blur()")
 
 
-def settle(session):
+def settle(session: Session) -> None:
     """Waits until the page has handled its events and drawn twice."""
     session.value("new Promise((done) => requestAnimationFrame(() => requestAnimationFrame(() => done(0))))")
 
 
-def swipe(session, begin, end, selector=None):
+def swipe(session: Session, begin: Any, end: Any, selector: Any = None) -> None:
     where = {"x": begin[0], "y": begin[1]}
     if selector:
-        box = session.value(f"(() => {{ const it = document.querySelector('{selector}'); it.scrollIntoView({{ block: 'center' }}); "
-                            "const box = it.getBoundingClientRect(); return [box.left + box.width / 2, box.top + box.height / 2]; })()")
+        box = session.value(f"(() => {{ const it = document.querySelector('{selector}'); "
+                            f"it.scrollIntoView({{ block: 'center' }}); "
+                            "const box = it.getBoundingClientRect(); return [box.left + box.width / 2, "
+                            "box.top + box.height / 2]; })()")
         where, end = {"x": box[0], "y": box[1]}, (box[0] + end[0] - begin[0], box[1])
     session.ask("Input.dispatchTouchEvent", type="touchStart", touchPoints=[where])
     session.ask("Input.dispatchTouchEvent", type="touchMove", touchPoints=[{"x": end[0], "y": end[1]}])
@@ -111,52 +124,66 @@ def swipe(session, begin, end, selector=None):
     settle(session)
 
 
-def check_swipes(count, session):
-    """On a phone a swipe to the left goes a step on, and one to the right a step back; a short or steep one, or one in a table, does nothing."""
+def check_swipes(session: Session) -> None:
+    """On a phone a swipe to the left goes a step on, and one to the right a step back; a short or steep one,
+    or one in a table, does nothing."""
     session.ask("Emulation.setTouchEmulationEnabled", enabled=True)
     session.value("location.hash = '#step-3'; 0")
     settle(session)
     seen = []
-    for words in (((300, 500), (100, 510)), ((300, 500), (100, 490)), ((100, 500), (300, 500)), ((300, 500), (265, 500)), ((300, 300), (220, 420)),
-                  ((300, 500), (200, 500), ".scrolls")):
+    swipes: tuple[tuple[Any, ...], ...] = (((300, 500), (100, 510)), ((300, 500), (100, 490)),
+                                           ((100, 500), (300, 500)), ((300, 500), (265, 500)),
+                                           ((300, 300), (220, 420)),
+                  ((300, 500), (200, 500), ".scrolls"))
+    for words in swipes:
         swipe(session, *words)
         seen.append(session.value(WHERE))
-    count.take(seen == [4, 5, 4, 4, 4, 4], f"swipes lead to {seen}")
+    assert seen == [4, 5, 4, 4, 4, 4]
     # two fingers, which make the page larger: the one goes to the left, the other to the right
-    for kind, points in (("touchStart", [(250, 500), (260, 500)]), ("touchMove", [(100, 500), (380, 500)]), ("touchEnd", [])):
-        session.ask("Input.dispatchTouchEvent", type=kind, touchPoints=[{"x": x, "y": y, "id": at} for at, (x, y) in enumerate(points)])
+    touches: tuple[tuple[str, list[tuple[int, int]]], ...] = (("touchStart", [(250, 500), (260, 500)]),
+                                                              ("touchMove", [(100, 500), (380, 500)]),
+                                                              ("touchEnd", []))
+    for kind, points in touches:
+        session.ask("Input.dispatchTouchEvent", type=kind,
+                    touchPoints=[{"x": x, "y": y, "id": at} for at, (x, y) in enumerate(points)])
     settle(session)
-    count.take(session.value(WHERE) == 4, f"two fingers lead to step {session.value(WHERE)}")
+    assert session.value(WHERE) == 4
     session.ask("Emulation.setTouchEmulationEnabled", enabled=False)
 
 
-def check_handout(count, session, made):
+def check_handout(session: Session, made: Page) -> None:
     """Chosen steps are printed, each on a sheet with its number, line and title."""
     lines = [at for at, line in enumerate(made.script) if re.match("[0-9]", line)]
-    for words, numbers, said in (("2, 4-6", [2, 4, 5, 6], ""), ("5-99", list(range(5, len(lines) + 1)), ""), ("1", [1], ""), ("0 1", [0, 1], ""),
+    rows: tuple[tuple[str, list[int], str], ...] = (("2, 4-6", [2, 4, 5, 6], ""),
+                                                    ("5-99", list(range(5, len(lines) + 1)), ""),
+                                                    ("1", [1], ""), ("0 1", [0, 1], ""),
                                  ("x", [], f"no steps are named by x: the steps are 0 to {len(lines)}"),
-                                 ("3 99", [3], f"no steps are named by 99: the steps are 0 to {len(lines)}")):
+                                 ("3 99", [3], f"no steps are named by 99: the steps are 0 to {len(lines)}"))
+    for words, numbers, said in rows:
         session.value(f"document.getElementById('printed').value = '{words}'; 0")
         sheets = len(re.findall(rb"/Type /Page\b", session.paper()))
-        seen = session.value("dispatchEvent(new Event('beforeprint')), [...document.querySelectorAll('.sheet')].map((it) => "
-                             "['h1', '.where', '.lines-of'].map((part) => it.querySelector(part)?.textContent ?? ''))")
-        told = session.value("dispatchEvent(new Event('afterprint')), document.getElementById('unprinted').textContent")
-        want = [[made.script[0].lstrip("# "), f"step {at} of {len(lines)}", f"line {lines[at - 1] + 1}: {made.script[lines[at - 1]]}" if at else ""]
+        seen = session.value("dispatchEvent(new Event('beforeprint')), "
+                             "[...document.querySelectorAll('.sheet')].map((it) => "
+                             "['h1', '.where', '.lines-of'].map((part) => "
+                             "it.querySelector(part)?.textContent ?? ''))")
+        told = session.value("dispatchEvent(new Event('afterprint')), "
+                             "document.getElementById('unprinted').textContent")
+        want = [[made.script[0].lstrip("# "), f"step {at} of {len(lines)}",
+                 f"line {lines[at - 1] + 1}: {made.script[lines[at - 1]]}" if at else ""]
                 for at in numbers]
-        is_right = seen == want and told == said and sheets == max(1, len(numbers))
-        count.take(is_right, f"{made.name}: {words!r} prints {sheets} sheets: {seen} and says {told!r}")
+        assert (seen, told, sheets) == (want, said, max(1, len(numbers)))
     session.value("document.getElementById('printed').value = ''; 0")
 
 
-def check_moving(count, session, pages, folder, wait_for):
+def check_moving(session: Session, pages: Any, folder: str, wait_for: Any) -> None:
     for made in pages:
         path = os.path.join(folder, made.name + ".html")
         with open(path, "w", encoding="utf-8") as file:
             file.write(made.html)
         session.open(f"file://{path}", 1280, 900)
-        check_seeking(count, session, made)
-    check_playing(count, session, pages[-1], wait_for)
-    check_names(count, session)
-    check_handout(count, session, pages[-1])
+        check_seeking(session, made)
+    check_playing(session, pages[-1], wait_for)
+    check_names(session)
+    check_handout(session, pages[-1])
     session.open(f"file://{path}", 390, 844)
-    check_swipes(count, session)
+    check_swipes(session)

@@ -1,7 +1,10 @@
-"""The page of `shmview --serve`: what its reader sees in a browser while a script is edited, and the server's answers.
+"""The page of `shmview --serve`: what its reader sees in a browser while a script is edited, and the server's
+answers.
 
 All values are written by hand, from the script below and docs/MACHINE.md.
 """
+
+from __future__ import annotations
 
 import base64
 import concurrent.futures
@@ -13,45 +16,62 @@ import os
 import re
 import socket
 import subprocess
-import sys
 import tempfile
 import threading
 import time
+from collections.abc import Iterator
+from typing import Any
 
-HERE = os.path.dirname(os.path.abspath(__file__))
-TOP = os.path.dirname(os.path.dirname(HERE))
+import pytest
+
+import serve
+from commands import TOP
+from viewer.browser import Session
+from viewer.pages import VIEWER
+
 EXPLAINED = """line 9, column 3: bad line
     1 laod a 1
       ^^^^
-    allowed here: a call: shmget, shmat, shmdt, load, store, xadd, stat, set, rmid, lock, unlock, fork, exec, exit, swapoff
+    allowed here: a call: shmget, shmat, shmdt, load, store, xadd, stat, set, rmid, lock, unlock, fork, \
+exec, exit, swapoff
     nearest form: load"""
 LESSONS = ["1. Three pages in two frames", "2. A read of swap that fails", "3. A swap area is taken away",
-           "4. An attach in the middle of another", "5. A removed segment lives on", "6. A child and its parent", "7. Who may do what", "8. Pages that must stay",
+           "4. An attach in the middle of another", "5. A removed segment lives on",
+           "6. A child and its parent", "7. Who may do what", "8. Pages that must stay",
            "9. Two processes at once"]
 # the edits of the page: the text to find, its replacement, and what the page must show then
 EDITS = (
-    ("1 load a 1", "1 load a 2", "step 6 of 9", "process 1: load 0x40000000 2 = 0100 call 6 of the history", 2),
-    ("limits 65536 16 64 2 0", "limits 65536 16 64 3 0", "step 6 of 9", "process 1: load 0x40000000 2 = 0100 call 6 of the history", 3),
+    ("1 load a 1", "1 load a 2", "step 6 of 9", "process 1: load 0x40000000 2 = 0100 call 6 of the history",
+     2),
+    ("limits 65536 16 64 2 0", "limits 65536 16 64 3 0", "step 6 of 9",
+     "process 1: load 0x40000000 2 = 0100 call 6 of the history", 3),
     ("1 a = shmat s null -\n", "1 a = shmat s null -\n1 fork 2\n", "step 6 of 9", "", 3),
-    ("process 1 100 100\n", "process 1 100 100\nchild 2\n", "step 7 of 10", "process 1: load 0x40000000 2 = 0100 call 7 of the history", 3),
-    ("1 store a 01", "1 store a ff", "step 7 of 10", "process 1: load 0x40000000 2 = ff00 call 7 of the history", 3),
-    ("1 load a 2", "1 load a 3", "step 7 of 10", "process 1: load 0x40000000 3 = ff0000 call 7 of the history", 3),
+    ("process 1 100 100\n", "process 1 100 100\nchild 2\n", "step 7 of 10",
+     "process 1: load 0x40000000 2 = 0100 call 7 of the history", 3),
+    ("1 store a 01", "1 store a ff", "step 7 of 10",
+     "process 1: load 0x40000000 2 = ff00 call 7 of the history", 3),
+    ("1 load a 2", "1 load a 3", "step 7 of 10",
+     "process 1: load 0x40000000 3 = ff0000 call 7 of the history", 3),
 )
-SEEN = "[byId('where').textContent, byId('call').innerText.replace(/\\s+/g, ' ').trim(), document.querySelectorAll('#frames .cell').length]"
+SEEN = ("[byId('where').textContent, byId('call').innerText.replace(/\\s+/g, ' ').trim(), "
+        "document.querySelectorAll('#frames .cell').length]")
 
 
 @contextlib.contextmanager
-def served(*words):
+def served(*words: Any) -> Iterator[Any]:
     """The address of a page that is served."""
-    with subprocess.Popen([os.path.join(TOP, "shmview"), "--serve", *words], stdout=subprocess.PIPE, stderr=subprocess.PIPE) as server:
-        found = re.fullmatch(rb"shmview: (http://127\.0\.0\.1:(\d+)/([\w-]{32})/) shows the page, until Ctrl-C\n", server.stdout.readline())
+    with subprocess.Popen([*VIEWER, "--serve", *words], stdout=subprocess.PIPE,
+                          stderr=subprocess.PIPE) as server:
+        assert server.stdout is not None
+        found = re.fullmatch(rb"shmview: (http://127\.0\.0\.1:(\d+)/([\w-]{32})/) shows the page, until "
+                             rb"Ctrl-C\n", server.stdout.readline())
         try:
             yield (found[1].decode(), int(found[2]), found[3].decode()) if found else None
         finally:
             server.terminate()
 
 
-def wait_for(session, expression, seconds=20):
+def wait_for(session: Session, expression: Any, seconds: int = 20) -> Any:
     """Returns whether an expression holds in the page, by then."""
     end = time.monotonic() + seconds
     while time.monotonic() < end:
@@ -61,90 +81,102 @@ def wait_for(session, expression, seconds=20):
     return False
 
 
-def edit(session, old, new):
+def edit(session: Session, old: Any, new: Any) -> Any:
     """Types into the script, and waits for the run."""
     text = session.value("byId('text').value")
     runs = session.value("document.body.dataset.runs")
-    session.value(f"byId('text').value = {json.dumps(text.replace(old, new))}; byId('text').dispatchEvent(new Event('input'))")
+    session.value(f"byId('text').value = {json.dumps(text.replace(old, new))}; "
+                  f"byId('text').dispatchEvent(new Event('input'))")
     return wait_for(session, f"document.body.dataset.runs !== {json.dumps(runs)}") and old in text
 
 
-def choose(session, name, kind="example"):
+def choose(session: Session, name: str, kind: str = "example") -> None:
     """Chooses an example or a lesson, and waits for its run."""
     runs = session.value("document.body.dataset.runs")
-    session.value(f"byId('choose').value = '{kind} {name}'; byId('choose').dispatchEvent(new Event('change'))")
+    session.value(f"byId('choose').value = '{kind} {name}'; byId('choose').dispatchEvent(new "
+                  f"Event('change'))")
     wait_for(session, f"document.body.dataset.runs !== {json.dumps(runs)}")
 
 
-def check_lesson(count, session):
-    """A lesson has its script, its text, its question, and the answer folded; an example has none of these."""
+def check_lesson(session: Session) -> None:
+    """A lesson has its script, its text, its question, and the answer folded; an example has none of
+    these."""
     choose(session, LESSONS[7], "lesson")
-    seen = session.value("[byId('lesson').hidden, byId('where').textContent, byId('lesson').querySelector('h2').textContent, "
-                         "byId('lesson').querySelectorAll('li').length, [...byId('lesson').querySelectorAll('details')].map((it) => [it.open, "
-                         "it.textContent.slice(0, 53)]), byId('lesson').innerText.includes('Question: MEMLOCK, the last number')]")
+    seen = session.value("[byId('lesson').hidden, byId('where').textContent, "
+                         "byId('lesson').querySelector('h2').textContent, "
+                         "byId('lesson').querySelectorAll('li').length, "
+                         "[...byId('lesson').querySelectorAll('details')].map((it) => [it.open, "
+                         "it.textContent.slice(0, 53)]), byId('lesson').innerText.includes('Question: "
+                         "MEMLOCK, the last number')]")
     answer = "AnswerIf all frames could be locked, no frame would b"
-    count.take(seen == [False, "step 0 of 16", LESSONS[7], 5, [[False, answer]], True], f"served, a lesson: {seen}")
+    assert seen == [False, "step 0 of 16", LESSONS[7], 5, [[False, answer]], True]
     choose(session, LESSONS[8], "lesson")
     said = session.value("byId('lesson').innerText")
-    is_right = "./shmcheck outcomes tries every order" in said and "OUTCOMES.md says" in said and not {*"`[]|$"} & {*said}
-    count.take(is_right, f"served, a lesson with the output of a command: {said}")
+    assert "./shmcheck outcomes tries every order" in said
+    assert "OUTCOMES.md says" in said
+    assert not {*"`[]|$"} & {*said}
     choose(session, "memory_short")
-    count.take(session.value("byId('lesson').hidden") is True, "served: an example has the text of a lesson")
+    assert session.value("byId('lesson').hidden") is True
 
 
-def check_editing(count, session):
+def check_editing(session: Session) -> None:
     choose(session, "memory_short")
     session.value("go(6), openPage('0·0')")
     for old, new, where, call, frames in EDITS:
         is_run, seen = edit(session, old, new), session.value(SEEN)
         if call:
-            count.take(is_run and seen == [where, call, frames], f"served, after {new!r}: {seen}")
+            assert is_run
+            assert seen == [where, call, frames]
         else:
             said = session.value("byId('words').textContent").split("\n")[0]
-            count.take(is_run and said == "line 6, column 8: unknown process" and seen[0] == where, f"served, after {new!r}: {seen}, {said}")
+            assert is_run
+            assert (said, seen[0]) == ("line 6, column 8: unknown process", where)
     seen = session.value("[byId('opened').value, byId('dump').rows[0].cells[1].innerText]")
-    count.take(seen == ["0·0", "ff"], f"served: after the edits page and first byte are {seen}")
+    assert seen == ["0·0", "ff"]
     choose(session, "locks")
     session.value("go(12), openPage('1·2')")
     choose(session, "memory_short")
     seen = session.value("[byId('opened').value, byId('dump').rows.length]")
-    count.take(seen == ["", 0], f"served: a page that another script has not is open: {seen}")
+    assert seen == ["", 0]
 
 
-def check_fault(count, session):
+def check_fault(session: Session) -> None:
     choose(session, "memory_short")
     session.value("go(6)")
     edit(session, "1 load a 1", "1 laod a 1")
     seen = session.value("[byId('words').textContent, document.querySelector('#under mark').textContent, "
-                         "[...byId('under').children].findIndex((it) => it.className === 'fault'), byId('where').textContent, "
+                         "[...byId('under').children].findIndex((it) => it.className === 'fault'), "
+                         "byId('where').textContent, "
                          "byId('picture').classList.contains('stale')]")
-    count.take(seen == [EXPLAINED, "laod", 8, "step 6 of 9", True], f"served, a fault: {seen}")
+    assert seen == [EXPLAINED, "laod", 8, "step 6 of 9", True]
     edit(session, "1 laod a 1", "1 load a 1")
     seen = session.value("[byId('words').textContent, document.querySelectorAll('#under .fault').length, "
-                         "document.querySelector('#under .current').textContent, byId('picture').classList.contains('stale')]")
-    count.take(seen == ["", 0, "1 load a 1", False], f"served, a fault that was repaired: {seen}")
+                         "document.querySelector('#under .current').textContent, "
+                         "byId('picture').classList.contains('stale')]")
+    assert seen == ["", 0, "1 load a 1", False]
     edit(session, "1 load a 1", "1 load b 1")
     said = session.value("byId('words').textContent")
-    count.take(said.startswith("warning: line 9: variable b of process 1 is used before it is set"), f"served, a warning: {said}")
+    assert said.startswith("warning: line 9: variable b of process 1 is used before it is set")
     session.value("byId('text').focus()")
     session.press("ArrowRight")
-    count.take(session.value("byId('where').textContent") == "step 6 of 9", "served: a key in the text moves the picture")
+    assert session.value("byId('where').textContent") == "step 6 of 9"
 
 
-def check_swap_and_link(count, session, address):
+def check_swap_and_link(session: Session, address: Any) -> None:
     choose(session, "failing_swap")
     session.value("go(6)")
     seen = session.value(SEEN)
-    count.take(seen[1] == "process 1: load 0x40000000 1 = SIGBUS call 6 of the history", f"served, a failing area: {seen}")
+    assert seen[1] == "process 1: load 0x40000000 1 = SIGBUS call 6 of the history"
     session.value("byId('link').click()")
     link = session.value("location.hash")
     data = link.removeprefix("#script=")
     linked = json.loads(base64.urlsafe_b64decode(data + "=" * (-len(data) % 4)))
     with open(f"{TOP}/examples/failing_swap.shm", encoding="ascii") as file:
-        count.take(linked == {"script": file.read(), "swap": ["fuse:64:r1"], "step": 6}, f"served, a link: {linked}")
+        assert linked == {"script": file.read(), "swap": ["fuse:64:r1"], "step": 6}
     session.open(address + link, 1280, 900)
     is_there = wait_for(session, "byId('where').textContent === 'step 6 of 7'")
-    count.take(is_there and session.value(SEEN)[1] == seen[1], f"served, by a link: {session.value(SEEN)}")
+    assert is_there
+    assert session.value(SEEN)[1] == seen[1]
 
 
 # a slow answer to the first text, and a quick one to the second, which is typed before the first is there
@@ -159,24 +191,30 @@ LATE_ANSWER = """(async () => {
     if (how.signal?.aborted) throw new DOMException("aborted", "AbortError");
     return answer;
   };
-  const type = (bytes) => { byId("text").value = byId("text").value.replace(/store a \\w+/, `store a ${bytes}`); return run(); };
+  const type = (bytes) => {
+    byId("text").value = byId("text").value.replace(/store a \\w+/, `store a ${bytes}`);
+    return run();
+  };
   const both = [type("a1"), type("b2")];
   await Promise.all(both);
   window.fetch = real;
-  return [asked, byId("text").value.includes("store a b2"), steps.some((it) => it.lines.join().includes("store 0x40000000 b2")),
+  return [asked, byId("text").value.includes("store a b2"),
+    steps.some((it) => it.lines.join().includes("store 0x40000000 b2")),
     steps.some((it) => it.lines.join().includes("store 0x40000000 a1"))];
 })()"""
 
 
-def check_late(count, session):
+def check_late(session: Session) -> None:
     """An answer that comes after the text was changed once more is not shown."""
     choose(session, "memory_short")
     seen = session.value(LATE_ANSWER)
-    count.take(seen == [2, True, True, False], f"served, a late answer to an older text: {seen}")
+    assert seen == [2, True, True, False]
 
 
-def check_saving(count, session):
-    session.value("URL.createObjectURL = (page) => { page.text().then((text) => { window.saved = text; }); return 'blob:none'; }; byId('save').click()")
+def check_saving(session: Session) -> None:
+    session.value("URL.createObjectURL = (page) => "
+                  "{ page.text().then((text) => { window.saved = text; }); return 'blob:none'; }; "
+                  "byId('save').click()")
     wait_for(session, "typeof window.saved === 'string'")
     saved = session.value("window.saved") or ""
     with tempfile.TemporaryDirectory(prefix="viewer.") as folder:
@@ -186,35 +224,40 @@ def check_saving(count, session):
         session.open(f"file://{path}", 1280, 900)
         seen = session.value(SEEN)
     want = ["step 6 of 7", "process 1: load 0x40000000 1 = SIGBUS call 6 of the history", 2]
-    count.take(seen == want and "127.0.0.1" not in saved, f"served, a saved page: {seen}")
+    assert seen == want
+    assert "127.0.0.1" not in saved
 
 
-def check_in_browser(count, session):
+def check_in_browser(session: Session) -> None:
     """A script that is edited next to its picture."""
     with served() as found:
         if not found:
-            count.take(False, "served: no address was printed")
+            pytest.fail("served: no address was printed")
             return
         session.open(found[0], 1280, 900)
         wait_for(session, "byId('where').textContent === 'step 0 of 9'")
-        names = session.value("[...byId('choose').querySelectorAll('optgroup')].map((it) => [...it.children].map((name) => name.textContent))")
+        names = session.value("[...byId('choose').querySelectorAll('optgroup')].map((it) => "
+                              "[...it.children].map((name) => name.textContent))")
         examples = sorted(os.path.basename(path)[:-4] for path in glob.glob(f"{TOP}/examples/*.shm"))
-        count.take(names == [LESSONS, examples], f"served: {names} are there to choose from")
-        check_lesson(count, session)
-        check_editing(count, session)
-        check_fault(count, session)
-        check_late(count, session)
-        check_swap_and_link(count, session, found[0])
-        check_saving(count, session)
-    with served(f"{TOP}/examples/failing_swap.shm") as found, served("ram:3", f"{TOP}/examples/failing_swap.shm") as other:
+        assert names == [LESSONS, examples]
+        check_lesson(session)
+        check_editing(session)
+        check_fault(session)
+        check_late(session)
+        check_swap_and_link(session, found[0])
+        check_saving(session)
+    example = f"{TOP}/examples/failing_swap.shm"
+    with served(example) as found, served("ram:3", example) as other:
         for address, swap in ((found, "fuse:64:r1"), (other, "ram:3")):
             session.open(address[0], 1280, 900)
             is_there = wait_for(session, "byId('where').textContent === 'step 0 of 7'")
             seen = session.value("byId('swap').value")
-            count.take(is_there and seen == swap, f"served: a file's areas are {seen}, not {swap}")
+            assert is_there
+            assert seen == swap
 
 
-def ask(port, method, path, body=None, headers=(), length=None):
+def ask(port: Any, method: Any, path: str, body: Any = None, headers: Any = (),
+        length: Any = None) -> tuple[Any, bytes]:
     """The status of an answer, and its body."""
     connection = http.client.HTTPConnection("127.0.0.1", port, timeout=60)
     try:
@@ -237,12 +280,14 @@ def ask(port, method, path, body=None, headers=(), length=None):
 
 # the headers of every answer: they let the page send requests to this server only, and load nothing else
 HEADERS = {
-    "Content-Security-Policy": "default-src 'none'; script-src 'unsafe-inline'; style-src 'unsafe-inline'; img-src data:; connect-src 'self'; "
+    "Content-Security-Policy": "default-src 'none'; script-src 'unsafe-inline'; style-src 'unsafe-inline'; "
+                               "img-src data:; connect-src 'self'; "
                                "base-uri 'none'; form-action 'none'; frame-ancestors 'none'",
-    "X-Content-Type-Options": "nosniff", "Referrer-Policy": "no-referrer", "Cross-Origin-Resource-Policy": "same-origin", "Cache-Control": "no-store"}
+    "X-Content-Type-Options": "nosniff", "Referrer-Policy": "no-referrer",
+    "Cross-Origin-Resource-Policy": "same-origin", "Cache-Control": "no-store"}
 
 
-def check_headers(count):
+def check_headers() -> None:
     """Each answer has these headers, also a refusal."""
     with served() as (_address, port, token):
         for path, wanted in (f"/{token}/", "text/html; charset=utf-8"), ("/", "text/plain; charset=utf-8"):
@@ -251,11 +296,12 @@ def check_headers(count):
             found = dict(connection.getresponse().getheaders())
             connection.close()
             want = {**HEADERS, "Content-Type": wanted}
-            count.take({name: found.get(name) for name in want} == want, f"served: GET {path} has the headers {found}")
+            assert {name: found.get(name) for name in want} == want
 
 
-def check_opened(count):
-    """A file that is opened: its text, with what could end the page's data, and its swap areas, also if its folder's name has a dot."""
+def check_opened() -> None:
+    """A file that is opened: its text, with what could end the page's data, and its swap areas, also if its
+    folder's name has a dot."""
     text = "# </script><!-- <i>&lt; \\u003c\nlimits 1 1 1 2 0\n"
     with tempfile.TemporaryDirectory(prefix="viewer.") as folder:
         below = os.path.join(folder, "of.this")
@@ -266,65 +312,73 @@ def check_opened(count):
         for words in [os.path.join(below, "one.shm")], [os.path.relpath(os.path.join(below, "one.shm"))]:
             with served(*words) as (_address, port, token):
                 _, body = ask(port, "GET", f"/{token}/")
-            found = re.search(r'id="choices">(.*?)</script>', body.decode(), re.DOTALL)
-            try:
-                opened = json.loads(found[1])
-                seen = (opened["script"], opened["swap"])
-            except (TypeError, ValueError, KeyError) as error:
-                seen = error
-            count.take(seen == (text, ["ram:3", "sparse:9"]), f"served, an opened file: {seen}")
+            opened = json.loads(re.findall(r'id="choices">(.*?)</script>', body.decode(), re.DOTALL)[0])
+            assert (opened["script"], opened["swap"]) == (text, ["ram:3", "sparse:9"])
 
 
-SCRIPT = {"script": "limits 4096 1 1 2 0\nprocess 1 1 1\n1 stat 0\n", "swap": ["ram:1"]}
+SCRIPT: dict[str, Any] = {"script": "limits 4096 1 1 2 0\nprocess 1 1 1\n1 stat 0\n", "swap": ["ram:1"]}
 
 
-def check_hostile(count):
+def check_hostile() -> None:
     """The requests that the server answers, and those that it refuses."""
     with served() as (_address, port, token):
         run, good = f"/{token}/run", json.dumps(SCRIPT).encode()
         own = f"http://127.0.0.1:{port}"
-        refused = ["/", "/run", "/index.html", "/favicon.ico", f"/{token}", f"/{token}/..", f"/{token}/../../../../../etc/passwd", "//etc/passwd",
-                   f"/{token}/%2e%2e/%2e%2e/etc/passwd", f"/{token}/run", f"/{token}/../{token}/", f"/{token[:-1]}/", f"/{token}x/", f"/{token}/?x",
+        refused = ["/", "/run", "/index.html", "/favicon.ico", f"/{token}", f"/{token}/..",
+                   f"/{token}/../../../../../etc/passwd", "//etc/passwd",
+                   f"/{token}/%2e%2e/%2e%2e/etc/passwd", f"/{token}/run", f"/{token}/../{token}/",
+                   f"/{token[:-1]}/", f"/{token}x/", f"/{token}/?x",
                    f"{own}/{token}/", "/etc/passwd", f"/{'A' * 32}/", f"/{token}/page.html", f"/{token}/\xe4"]
         for path in refused:
-            status, body = ask(port, "GET", path.encode("latin-1").decode("latin-1")) if path.isascii() else (404, b"")
-            count.take((status, body) == (404, b""), f"served: GET {path} is answered {status}, {body[:80]}")
+            status, body = ask(port, "GET",
+                               path.encode("latin-1").decode("latin-1")) if path.isascii() else (404, b"")
+            assert (status, body) == (404, b"")
         status, body = ask(port, "GET", f"/{token}/")
-        count.take(status == 200 and body.startswith(b"<!doctype html>"), f"served: the page is answered {status}")
-        for words, want in (
-                ((run, good), 200), ((run, good, {"Origin": own}), 200), ((run, good, {"Origin": "http://evil.example"}), 404),
-                ((run, good, {"Origin": "null"}), 404), ((run, good, {"Origin": f"http://localhost:{port}"}), 404),
-                ((run, good, {"Host": f"evil.example:{port}"}), 404), ((run, good, {"Host": f"localhost:{port}"}), 404),
-                (("/run", good), 404), ((f"/{'A' * 32}/run", good), 404), ((f"/{token}/", good), 404), ((f"/{token}/../run", good), 404),
-                ((run, b"x" * (2 << 20)), 413), ((run, None, {}, 2 << 20), 413), ((run, b" " * (1 << 20)), 400), ((run, None), 411),
-                ((run, None, {}, "-1"), 411), ((run, None, {"Transfer-Encoding": "chunked"}), 411), ((run, b"[]"), 400), ((run, b"[" * 100000), 400),
+        assert status == 200
+        assert body.startswith(b"<!doctype html>")
+        rows: tuple[tuple[tuple[Any, ...], int], ...] = (
+                ((run, good), 200), ((run, good, {"Origin": own}), 200),
+                ((run, good, {"Origin": "http://evil.example"}), 404),
+                ((run, good, {"Origin": "null"}), 404),
+                ((run, good, {"Origin": f"http://localhost:{port}"}), 404),
+                ((run, good, {"Host": f"evil.example:{port}"}), 404),
+                ((run, good, {"Host": f"localhost:{port}"}), 404),
+                (("/run", good), 404), ((f"/{'A' * 32}/run", good), 404), ((f"/{token}/", good), 404),
+                ((f"/{token}/../run", good), 404),
+                ((run, b"x" * (2 << 20)), 413), ((run, None, {}, 2 << 20), 413),
+                ((run, b" " * (1 << 20)), 400), ((run, None), 411),
+                ((run, None, {}, "-1"), 411), ((run, None, {"Transfer-Encoding": "chunked"}), 411),
+                ((run, b"[]"), 400), ((run, b"[" * 100000), 400),
                 ((run, b"{}"), 400), ((run, json.dumps({**SCRIPT, "swap": ["ram:1; id"]}).encode()), 400),
-                ((run, json.dumps({**SCRIPT, "swap": ["--steps"]}).encode()), 400), ((run, json.dumps({**SCRIPT, "swap": []}).encode()), 400),
-                ((run, json.dumps({**SCRIPT, "swap": "ram:1"}).encode()), 400), ((run, json.dumps({**SCRIPT, "script": 7}).encode()), 400)):
+                ((run, json.dumps({**SCRIPT, "swap": ["--steps"]}).encode()), 400),
+                ((run, json.dumps({**SCRIPT, "swap": []}).encode()), 400),
+                ((run, json.dumps({**SCRIPT, "swap": "ram:1"}).encode()), 400),
+                ((run, json.dumps({**SCRIPT, "script": 7}).encode()), 400))
+        for words, want in rows:
             status, _ = ask(port, "POST", *words)
-            told = (words[0], (words[1] or b"")[:40], *words[2:])
-            count.take(status == want, f"served: POST {told} is answered {status}, not {want}")
+            assert status == want
         for method in ("PUT", "DELETE", "OPTIONS", "HEAD"):
             status, _ = ask(port, method, f"/{token}/")
-            count.take(status == 501, f"served: {method} is answered {status}")
+            assert status == 501
         with socket.socket() as other:
             status = other.connect_ex(("127.0.0.2", port))
-        count.take(status != 0, "served: another address than 127.0.0.1 is listened to")
+        assert status != 0
         with concurrent.futures.ThreadPoolExecutor(100) as pool:
             statuses = [status for status, _ in pool.map(lambda _: ask(port, "POST", run, good), range(100))]
-        count.take(200 in statuses and {*statuses} <= {200, 503}, f"served: 100 at once are answered {statuses}")
+        assert 200 in statuses
+        assert {*statuses} <= {200, 503}
         status, body = ask(port, "POST", run, good)
-        count.take(status == 200 and b"EINVAL" in body, f"served, after 100 at once: {status}, {body[:80]}")
+        assert status == 200
+        assert b"EINVAL" in body
 
 
-def check_limits(count):
+def check_limits() -> None:
     """One run at a time; one that takes too long, or too much memory, is ended."""
-    sys.path.insert(0, os.path.join(TOP, "tools", "viewer"))
-    import serve
     serve.RUN_SECONDS = 2
     with tempfile.TemporaryDirectory(prefix="viewer.") as folder:
         programs = {
-            "turns": f"mkdir {folder}/turn 2> /dev/null || echo together >> {folder}/log\nsleep .05\nrmdir {folder}/turn",
+            "turns": f"mkdir {folder}/turn 2> /dev/null || echo together >> {folder}/log\nsleep .05\nrmdir "
+                     f"{folder}/turn",
             "long": "while :; do :; done",
             "idle": "sleep 60",
             "large": "exec python3 -S -c 'import mmap; mmap.mmap(-1, 2 << 30)'",
@@ -336,14 +390,16 @@ def check_limits(count):
                 file.write(f"#!/bin/sh\n{text}\n")
             os.chmod(f"{folder}/{name}", 0o755)
             runners[name] = serve.Runner(f"{folder}/{name}", f"{TOP}/bindings/python")
-        threads = [threading.Thread(target=runners["turns"].run, args=(SCRIPT["script"].encode(), ["ram:1"])) for _ in range(6)]
+        threads = [threading.Thread(target=runners["turns"].run, args=(SCRIPT["script"].encode(), ["ram:1"]))
+                   for _ in range(6)]
         for thread in threads:
             thread.start()
         for thread in threads:
             thread.join()
-        count.take(not os.path.exists(f"{folder}/log"), "served: two runs were at once")
+        assert not os.path.exists(f"{folder}/log")
         for name in ("long", "idle", "large", "wordy"):
             began = time.monotonic()
             said = json.loads(runners[name].run(SCRIPT["script"].encode(), ["ram:1"]))
             took = time.monotonic() - began
-            count.take("record" not in said and took < 8, f"served: a run that is {name} took {took:.1f} s: {str(said)[:200]}")
+            assert "record" not in said
+            assert took < 8

@@ -1,50 +1,62 @@
 """Reads the record of a run, as `shmview` writes it, and says what each step changed."""
 
+from __future__ import annotations
+
 import re
+from collections.abc import Iterator
 from dataclasses import dataclass, field
 from functools import cached_property
+from typing import Any, Tuple
+
+# a segment and the number of a page in it
+Page = Tuple[str, str]
 
 
 @dataclass
 class Step:
-    """The state of a machine after a step. Pages are pairs of a segment and a page number; all numbers are texts."""
+    """The state of a machine after a step. Pages are pairs of a segment and a page number; all numbers are
+    texts."""
 
     number: int
     action: str = ""
-    segments: dict = field(default_factory=dict)    # identifier: (pages, status, owner and permissions)
-    processes: dict = field(default_factory=dict)   # pid: (state, set of pieces)
-    frames: dict = field(default_factory=dict)      # frame: (page, referenced, dirty)
+    # identifier: (pages, status, owner and permissions)
+    segments: dict[str, Any] = field(default_factory=dict)
+    processes: dict[str, Any] = field(default_factory=dict)   # pid: (state, set of pieces)
+    # frame: (page, referenced, dirty)
+    frames: dict[str, tuple[Page, bool, bool]] = field(default_factory=dict)
     frame_count: int = 0
     hand: str = ""
-    areas: list = field(default_factory=list)       # for each area its number of slots; None if it was taken away
-    slots: dict = field(default_factory=dict)       # (area, slot): page
+    # for each area its number of slots; None if it was taken away
+    areas: list[int | None] = field(default_factory=list)
+    slots: dict[Page, Page] = field(default_factory=dict)       # (area, slot): page
     failures: int = 0
 
     @property
-    def words(self):
+    def words(self) -> list[str]:
         return self.action.split()
 
     @property
-    def reply(self):
+    def reply(self) -> str:
         return self.words[-1] if self.words[:1] == ["call"] else ""
 
-    def page_at(self, pid, address):
-        """Returns the page that a process has at an address, and its rights; None and no rights if it has none."""
+    def page_at(self, pid: str, address: int) -> tuple[Any, ...]:
+        """Returns the page that a process has at an address, and its rights; None and no rights if it has
+        none."""
         for base, seg, first, pages, rights in self.processes.get(pid, ("", ()))[1]:
             if 0 <= address - int(base, 16) < 4096 * int(pages):
                 return (seg, str(int(first) + (address - int(base, 16)) // 4096)), rights
         return None, ""
 
     @cached_property
-    def frame_of(self):
+    def frame_of(self) -> dict[tuple[str, str], str]:
         return {page: frame for frame, (page, _, _) in self.frames.items()}
 
     @cached_property
-    def slot_of(self):
+    def slot_of(self) -> dict[tuple[str, str], tuple[str, str]]:
         return {page: slot for slot, page in self.slots.items()}
 
 
-def read_line(step, line):
+def read_line(step: Step, line: str) -> None:
     words = line.split()
     if words[0] in ("start", "call", "flush"):
         step.action = line
@@ -64,10 +76,11 @@ def read_line(step, line):
     elif words[:2] == ["usage", "in"]:
         step.failures = int(words[6])
     elif words[0].startswith("0x"):
-        step.segments[words[1]] = ((int(words[4]) + 4095) // 4096, words[6], f"owner {words[2]} and permissions {words[3]}")
+        step.segments[words[1]] = ((int(words[4]) + 4095) // 4096, words[6],
+                                   f"owner {words[2]} and permissions {words[3]}")
 
 
-def read_record(text):
+def read_record(text: str) -> list[Step]:
     """Returns the steps of a record."""
     steps = []
     for block in text.split("\n\n"):
@@ -80,26 +93,26 @@ def read_record(text):
     return steps
 
 
-def named(page):
+def named(page: tuple[str, str]) -> str:
     return f"page {page[1]} of segment {page[0]}"
 
 
-def placed(slot, step):
+def placed(slot: tuple[str, str], step: Step) -> str:
     return f"slot {slot[1]} of area {slot[0]}" if len(step.areas) > 1 else f"slot {slot[1]}"
 
 
-def span(piece):
+def span(piece: tuple[str, ...]) -> str:
     _base, seg, first, pages, rights = piece
     last = int(first) + int(pages) - 1
     which = f"page {first}" if pages == "1" else f"pages {first} to {last}"
     return f"{which} of segment {seg}" + (", read-only" if rights == "ro" else "")
 
 
-def counted(number, name):
+def counted(number: int, name: str) -> str:
     return f"{number} {name}{'' if number == 1 else 's'}"
 
 
-def say_segments(before, after):
+def say_segments(before: Step, after: Step) -> Iterator[str]:
     for seg, (pages, status, held) in after.segments.items():
         if seg not in before.segments:
             yield f"segment {seg} was made, with {counted(pages, 'page')} of zeros"
@@ -118,7 +131,7 @@ def say_segments(before, after):
             yield f"segment {seg} is destroyed, with its bytes, frames and slots"
 
 
-def say_processes(before, after):
+def say_processes(before: Step, after: Step) -> Iterator[str]:
     for pid, (state, pieces) in after.processes.items():
         was, had = before.processes[pid]
         if state != was:
@@ -129,7 +142,7 @@ def say_processes(before, after):
             yield f"process {pid} has an attachment at {piece[0]}: {span(piece)}"
 
 
-def left(page, before, after):
+def left(page: tuple[str, str], before: Step, after: Step) -> str:
     """Where a page is that left its frame."""
     frame, slot = before.frame_of[page], after.slot_of.get(page)
     if slot is None:
@@ -139,15 +152,16 @@ def left(page, before, after):
     return f"{named(page)} was clean and stays in {placed(slot, after)}"
 
 
-def came(page, frame, other, before):
+def came(page: tuple[str, str], frame: str, other: tuple[str, str] | None, before: Step) -> str:
     """A page in a frame; its segment is not named again after a page of the same segment."""
     slot = before.slot_of.get(page)
     name = f"page {page[1]}" if other and other[0] == page[0] else named(page)
     return f"{name} came into frame {frame}" + (f", read from {placed(slot, before)}" if slot else "")
 
 
-def say_frames(before, after):
-    """Which pages left their frames and which came in; pages of a segment that was destroyed are not mentioned."""
+def say_frames(before: Any, after: Any) -> Iterator[str]:
+    """Which pages left their frames and which came in; pages of a segment that was destroyed are not
+    mentioned."""
     for frame in sorted(before.frames.keys() | after.frames.keys(), key=int):
         old, new = (it.frames.get(frame, (None,))[0] for it in (before, after))
         if old == new:
@@ -160,7 +174,7 @@ def say_frames(before, after):
             yield ", and ".join(told)
 
 
-def say_bits(before, after):
+def say_bits(before: Step, after: Step) -> Iterator[str]:
     written, changed = [], []
     for frame, (page, _referenced, dirty) in after.frames.items():
         old = before.frames.get(frame)
@@ -170,12 +184,13 @@ def say_bits(before, after):
         if dirty and not was_dirty:
             changed.append(page)
     for page, slot in written:
-        yield f"{named(page)} was written to {placed(slot, after)} and stays in its frame, clean" if slot else f"{named(page)} is clean"
+        yield (f"{named(page)} was written to {placed(slot, after)} and stays in its frame, clean" if slot
+               else f"{named(page)} is clean")
     for page in changed:
         yield f"{named(page)} is dirty"
 
 
-def ranged(start, length, count):
+def ranged(start: int, length: int, count: int) -> str:
     """Names frames that follow each other round the ring, as in `2 to 3, 0`."""
     told = []
     while length > 0:
@@ -185,17 +200,18 @@ def ranged(start, length, count):
     return ", ".join(told)
 
 
-def say_clock(before, after):
+def say_clock(before: Step, after: Step) -> Iterator[str]:
     count = after.frame_count
     for start, passed, _pinned in turns(before, after):
         stop = f"stopped at frame {(start + passed) % count}"
         names = f"frame{'s' if passed > 1 else ''} {ranged(start, passed, count)}"
-        yield f"the hand passed {names}{' in a whole round' if passed >= count else ''} and {stop}" if passed else f"the hand {stop}"
+        yield (f"the hand passed {names}{' in a whole round' if passed >= count else ''} and {stop}" if passed
+               else f"the hand {stop}")
     if after.hand != before.hand:
         yield f"the hand is now at frame {after.hand}"
 
 
-def say_areas(before, after):
+def say_areas(before: Step, after: Step) -> Iterator[str]:
     for at, (was, is_there) in enumerate(zip(before.areas, after.areas)):
         if was and not is_there:
             yield f"swap area {at} was taken away"
@@ -209,16 +225,18 @@ def say_areas(before, after):
         yield "a swap area failed, and no byte changed"
 
 
-def access_of(step):
-    """Returns the process of a load, a store or an xadd, its address and how many bytes it names; None for any other step."""
+def access_of(step: Step) -> tuple[str, int, int] | None:
+    """Returns the process of a load, a store or an xadd, its address and how many bytes it names; None for
+    any other step."""
     words = step.words
     if words[:1] != ["call"] or words[3] not in ("load", "store", "xadd") or step.reply == "ESRCH":
         return None
-    count = {"load": lambda: int(words[5]), "store": lambda: len(words[5]) // 2, "xadd": lambda: 8}[words[3]]()
+    count = {"load": int(words[5]) if words[3] == "load" else 0, "store": len(words[5]) // 2,
+             "xadd": 8}[words[3]]
     return words[2], 0 if words[4] == "null" else int(words[4], 16), count
 
 
-def parts_of(access):
+def parts_of(access: tuple[str, int, int]) -> Iterator[tuple[int, int]]:
     """Returns the first and the last address of an access in each page that it names."""
     _pid, address, count = access
     while count > 0:
@@ -227,23 +245,25 @@ def parts_of(access):
         address, count = address + here, count - here
 
 
-def bytes_of(first, last):
+def bytes_of(first: int, last: int) -> str:
     """Names the addresses and their places in the page."""
     if first == last:
         return f"0x{first:08x} is byte {first % 4096}"
     return f"0x{first:08x} to 0x{last:08x} are bytes {first % 4096} to {last % 4096}"
 
 
-def placed_now(page, step):
+def placed_now(page: tuple[str, str], step: Step) -> str:
     if page in step.frame_of:
         return f"in frame {step.frame_of[page]}"
     return f"in {placed(step.slot_of[page], step)}" if page in step.slot_of else "with zeros alone"
 
 
-def say_access(_before, after):
+def say_access(_before: Step, after: Step) -> Iterator[str]:
     """For each page that an access names, which one it is and where it is after the access."""
     access = access_of(after)
-    for first, last in parts_of(access) if access else ():
+    if access is None:
+        return
+    for first, last in parts_of(access):
         page, rights = after.page_at(access[0], first)
         if page is None:
             yield f"process {access[0]} has no attachment at 0x{first:08x}"
@@ -253,8 +273,9 @@ def say_access(_before, after):
             yield f"process {access[0]} may only read {named(page)}"
 
 
-def left_by(step, count):
-    """Returns the bytes at the addresses of a load, a store or an xadd after it; no bytes if it was refused."""
+def left_by(step: Step, count: int) -> bytes:
+    """Returns the bytes at the addresses of a load, a store or an xadd after it; no bytes if it was
+    refused."""
     words, reply = step.words, step.reply
     if not re.fullmatch("ok|[0-9a-f]+", reply):
         return b""
@@ -263,24 +284,29 @@ def left_by(step, count):
     return bytes.fromhex(reply if words[3] == "load" else words[5])[:count]
 
 
-def reached(step):
-    """Returns the pages that an access reached: for each its process, the page's address, its frame, which page, the first byte there,
-    how many, and the bytes after the access. The frame is missing if the page has none, and the bytes if the access was refused."""
-    access, found = access_of(step), []
-    left, at = left_by(step, access[2]) if access else b"", 0
-    for first, last in parts_of(access) if access else ():
+def reached(step: Step) -> list[list[Any]]:
+    """Returns the pages that an access reached: for each its process, the page's address, its frame, which
+    page, the first byte there, how many, and the bytes after the access. The frame is missing if the page has
+    none, and the bytes if the access was refused."""
+    access, at = access_of(step), 0
+    found: list[list[Any]] = []
+    if access is None:
+        return found
+    left = left_by(step, access[2])
+    for first, last in parts_of(access):
         page, _rights = step.page_at(access[0], first)
         count = last - first + 1
         if page is not None:
             frame = None if step.reply == "SIGSEGV" else step.frame_of.get(page)
-            found.append([access[0], f"0x{first - first % 4096:08x}", frame, "·".join(page), first % 4096, count, left[at:at + count].hex()])
+            found.append([access[0], f"0x{first - first % 4096:08x}", frame, "·".join(page), first % 4096,
+                          count, left[at:at + count].hex()])
         at += count
     return found
 
 
-def turn(frames, hand, locked, pinned):
-    """Returns how many frames the hand passes before it stops, and clears the referenced bits that it passes. A frame of a locked
-    segment and the pinned one are skipped."""
+def turn(frames: dict[Any, Any], hand: int, locked: set[str], pinned: str | None) -> int:
+    """Returns how many frames the hand passes before it stops, and clears the referenced bits that it passes.
+    A frame of a locked segment and the pinned one are skipped."""
     for passed in range(2 * len(frames)):
         at = str((hand + passed) % len(frames))
         page, is_referenced, *_ = frames[at]
@@ -292,17 +318,22 @@ def turn(frames, hand, locked, pinned):
     return 0
 
 
-def turns(before, after):
-    """Returns the turns of the clock's hand in a step, by the rules of docs/MACHINE.md: for each the frame where it begins, how many
-    frames it passes, and the pinned frame. What it did is known from the bits that were set before it, also after a whole round."""
+def turns(before: Step, after: Step) -> list[list[Any]]:
+    """Returns the turns of the clock's hand in a step, by the rules of docs/MACHINE.md: for each the frame
+    where it begins, how many frames it passes, and the pinned frame. What it did is known from the bits that
+    were set before it, also after a whole round."""
     access = access_of(after)
     if access is None or after.reply == "SIGSEGV":
         return []
     named = [after.page_at(access[0], first)[0] for first, _last in parts_of(access)]
-    if before.frame_count - len(before.frames) >= len(named) or all(page in before.frame_of for page in named):
+    are_in_frames = all(page in before.frame_of for page in named)
+    if before.frame_count - len(before.frames) >= len(named) or are_in_frames:
         return []
     locked = {seg for seg, (_, status, _) in before.segments.items() if "locked" in status.split(",")}
-    frames, resident, hand, pinned, found = dict(before.frames), dict(before.frame_of), int(before.hand), None, []
+    frames: dict[str, Any] = dict(before.frames)
+    resident, hand = dict(before.frame_of), int(before.hand)
+    pinned: str | None = None
+    found: list[list[Any]] = []
     for page in named:
         if page not in resident and len(frames) == before.frame_count:
             passed = turn(frames, hand, locked, pinned)
@@ -353,36 +384,39 @@ UNCHANGED = {
 }
 
 
-def say_refusal(_before, after):
+def say_refusal(_before: Step, after: Step) -> Iterator[str]:
     words = after.words
     reason = REASONS.get((*words[3:4], after.reply), REASONS.get(after.reply))
     if reason and words[0] == "call":
         yield f"{after.reply}: {reason}"
 
 
-def unchanged(before, after):
+def unchanged(before: Step, after: Step) -> str:
     """What a step did that changed nothing."""
     words = after.words
     if words[0] == "flush":
         is_dirty = any(dirty for _, _, dirty in before.frames.values())
-        return "nothing was written: each dirty page is of a locked segment" if is_dirty else "nothing was written: no page is dirty"
+        return ("nothing was written: each dirty page is of a locked segment" if is_dirty
+                else "nothing was written: no page is dirty")
     of = words[4] if len(words) > 5 else ""
     return UNCHANGED.get(words[3], "nothing changed").format(of=of, reply=after.reply, pid=words[2])
 
 
-def replaced(before, pid, base, count):
+def replaced(before: Step, pid: str, base: int, count: int) -> set[str]:
     """Returns the segments that had pages where an attachment took their place."""
     pages = [before.page_at(pid, base + 4096 * at)[0] for at in range(count)]
     return {page[0] for page in pages if page}
 
 
-def say_times(before, after):
-    """The times and last pids that a call set, by the rules of docs/MACHINE.md: a time is the call's place in the history."""
+def say_times(before: Step, after: Step) -> Iterator[str]:
+    """The times and last pids that a call set, by the rules of docs/MACHINE.md: a time is the call's place in
+    the history."""
     words = after.words
     if words[:1] != ["call"] or re.fullmatch("E[A-Z]+", after.reply):
         return
     _, time, pid, name, *rest = words
-    lost = {piece[1] for piece in before.processes[pid][1] - after.processes[pid][1]} if name in ("shmdt", "exec", "exit") else set()
+    lost = {piece[1] for piece in before.processes[pid][1]
+            - after.processes[pid][1]} if name in ("shmdt", "exec", "exit") else set()
     if name == "shmget" and after.reply not in before.segments or name == "set":
         yield f"segment {after.reply if name == 'shmget' else rest[0]} has change time {time}"
     if name == "shmat":
@@ -392,24 +426,29 @@ def say_times(before, after):
         yield f"segment {seg} has detach time {time} and last pid {pid}"
 
 
-def say_start(step):
+def say_start(step: Step) -> Iterator[str]:
     """The state of the machine when it opens."""
     if step.frame_count:
-        areas = ", ".join(f"swap area {at} has {counted(slots, 'slot')}" for at, slots in enumerate(step.areas))
+        areas = ", ".join(f"swap area {at} has {counted(slots or 0, 'slot')}" for at,
+                          slots in enumerate(step.areas))
         live = [pid for pid, (state, _) in step.processes.items() if state == "live"]
-        alive = f"process{'es' if len(live) > 1 else ''} {', '.join(live)} {'are' if len(live) > 1 else 'is'} alive"
-        yield f"{counted(step.frame_count, 'frame')} {'is' if step.frame_count == 1 else 'are'} free, and {areas}"
+        alive = (f"process{'es' if len(live) > 1 else ''} {', '.join(live)} "
+                 f"{'are' if len(live) > 1 else 'is'} alive")
+        yield (f"{counted(step.frame_count, 'frame')} {'is' if step.frame_count == 1 else 'are'} free, and "
+               f"{areas}")
         yield f"no segment is there; {alive}" if live else "no segment is there"
 
 
-def sentences(before, after):
+def sentences(before: Step, after: Step) -> list[str]:
     """Says what changed from one step to the next: at least one sentence, without a full stop."""
-    parts = (say_refusal, say_access, say_segments, say_processes, say_areas, say_frames, say_bits, say_clock, say_times)
+    parts = (say_refusal, say_access, say_segments, say_processes, say_areas, say_frames, say_bits, say_clock,
+             say_times)
     return [said for part in parts for said in part(before, after)] or [unchanged(before, after)]
 
 
-def all_sentences(steps, first=0):
-    """Returns for each step from the first its number and its sentences. An earlier step only serves for the comparison."""
+def all_sentences(steps: list[Step], first: int = 0) -> list[tuple[int, list[str]]]:
+    """Returns for each step from the first its number and its sentences. An earlier step only serves for the
+    comparison."""
     told = [(step.number, sentences(before, step)) for before, step in zip(steps, steps[1:])]
     if steps and steps[0].number >= first:
         opening = [*say_start(steps[0])] if steps[0].action == "start" else []

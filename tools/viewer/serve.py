@@ -1,11 +1,15 @@
-#!/usr/bin/env python3
-"""Serves a page, only on this machine, in which a script is edited next to its picture: `shmview --serve` starts it.
+#!/usr/bin/env -S python3 -B
+"""Serves a page, only on this machine, in which a script is edited next to its picture: `shmview --serve`
+starts it.
 
-    tools/viewer/serve.py PROGRAM PACKAGES EXAMPLES TOUR PORT SCRIPT SWAP...    SCRIPT may be empty; PORT 0 is any free one
+    tools/viewer/serve.py PROGRAM PACKAGES EXAMPLES TOUR PORT SCRIPT SWAP...
 
-Only 127.0.0.1 is listened to, and only addresses that begin with a token, new at each start, are answered. Two things are served: the
-page, which is made before the first request, and the answer to a script (answer.py). No request names a file.
+SCRIPT may be empty; PORT 0 is any free one. Only 127.0.0.1 is listened to, and only addresses that begin with
+a token, new at each start, are answered. Two things are served: the page, which is made before the first
+request, and the answer to a script (answer.py). No request names a file.
 """
+
+from __future__ import annotations
 
 import glob
 import hmac
@@ -19,13 +23,11 @@ import sys
 import threading
 import webbrowser
 from http.server import BaseHTTPRequestHandler, ThreadingHTTPServer
+from typing import Any
 
-sys.dont_write_bytecode = True
+from show import filled, told_of
+
 HERE = os.path.dirname(os.path.abspath(__file__))
-sys.path.insert(0, HERE)
-
-from show import filled, told_of  # noqa: E402
-
 MOST_BYTES = 1 << 20            # of a request's body
 MOST_ANSWER = 64 << 20          # of an answer
 MOST_AT_ONCE = 32               # requests; those beyond are answered 503
@@ -35,8 +37,10 @@ IDLE_SECONDS = 10               # for a request to arrive
 SWAP = re.compile(r"(ram|sparse|mirror):[0-9]{1,9}|fuse:[0-9]{1,9}:[rw][0-9]{1,20}")
 # what the page may load and ask: itself alone
 HEADERS = {
-    "Content-Security-Policy": "default-src 'none'; script-src 'unsafe-inline'; style-src 'unsafe-inline'; img-src data:; "
-                               "connect-src 'self'; base-uri 'none'; form-action 'none'; frame-ancestors 'none'",
+    "Content-Security-Policy": "default-src 'none'; script-src 'unsafe-inline'; style-src 'unsafe-inline'; "
+                               "img-src data:; "
+                               "connect-src 'self'; base-uri 'none'; form-action 'none'; frame-ancestors "
+                               "'none'",
     "X-Content-Type-Options": "nosniff",
     "Referrer-Policy": "no-referrer",
     "Cross-Origin-Resource-Policy": "same-origin",
@@ -44,25 +48,26 @@ HEADERS = {
 }
 
 
-def read(path):
+def read(path: str) -> Any:
     with open(path, encoding="latin-1") as file:
         return file.read()
 
 
-def swaps_beside(path):
+def swaps_beside(path: str) -> Any:
     """Returns the swap words that are stored with a script."""
     beside = os.path.splitext(path)[0] + ".swap"
     return read(beside).split() if os.path.isfile(beside) else ["ram:64"]
 
 
-def examples_of(folder):
+def examples_of(folder: str) -> Any:
     """Returns the examples: their names, scripts and swap words."""
     return [{"name": os.path.basename(path)[:-4], "script": read(path), "swap": swaps_beside(path)}
             for path in sorted(glob.glob(os.path.join(glob.escape(folder), "*.shm")))]
 
 
-def lessons_of(tour):
-    """Returns the lessons of docs/TOUR.md: for each its title, the name of its example, and its text, line by line."""
+def lessons_of(tour: Any) -> Any:
+    """Returns the lessons of docs/TOUR.md: for each its title, the name of its example, and its text, line by
+    line."""
     if not os.path.isfile(tour):
         return []
     with open(tour, encoding="utf-8") as file:
@@ -76,24 +81,27 @@ def lessons_of(tour):
     return found
 
 
-def text_of(body):
-    """The paragraphs of a lesson after the link to its example, without pictures and outputs. `?` begins a question and `!` its answer."""
+def text_of(body: Any) -> Any:
+    """The paragraphs of a lesson after the link to its example, without pictures and outputs. `?` begins a
+    question and `!` its answer."""
     body = re.sub(r"^```\n.*?^```\n", "", body, flags=re.M | re.S)
     body = re.sub(r"</?details>|!\[[^]]*\]\([^)]*\)", "", body)
     body = re.sub(r"<summary>.*?</summary>\s*", "!", body)
     told = [" ".join(it.split()) for it in re.split(r"\n\s*\n|\n(?=- )", body)]
-    kept = [re.sub(r"\[([^]]*)\]\([^)]*\)", r"\1", it) for it in told if it and not it.startswith("[examples/")]
+    kept = [re.sub(r"\[([^]]*)\]\([^)]*\)", r"\1", it) for it in told if it
+            and not it.startswith("[examples/")]
     return [it.replace("**Question.**", "?").replace("**", "").replace("`", "") for it in kept]
 
 
 class Runner:
     """One run at a time, with a limit of time and of memory."""
 
-    def __init__(self, program, packages):
-        self.words = [sys.executable, os.path.join(HERE, "answer.py"), program, packages]
+    def __init__(self, program: Any, packages: Any) -> None:
+        self.words = [sys.executable, "-B", os.path.join(HERE, "answer.py"), program]
+        self.environment = {**os.environ, "PYTHONPATH": packages}
         self.turn = threading.Lock()
 
-    def run(self, script, swaps):
+    def run(self, script: Any, swaps: Any) -> Any:
         """Returns an answer as JSON; None if other runs did not end in time."""
         if not self.turn.acquire(timeout=WAIT_SECONDS):
             return None
@@ -102,13 +110,16 @@ class Runner:
         finally:
             self.turn.release()
 
-    def limited(self, script, swaps):
+    def limited(self, script: bytes, swaps: list[str]) -> bytes:
         limits = f"ulimit -S -v {RUN_BYTES >> 10}; ulimit -t {RUN_SECONDS}; exec \"$@\""
-        with subprocess.Popen(["sh", "-c", limits, "sh", *self.words, *swaps], stdin=subprocess.PIPE, stdout=subprocess.PIPE,
-                              stderr=subprocess.DEVNULL, start_new_session=True) as process:
+        with subprocess.Popen(["sh", "-c", limits, "sh", *self.words, *swaps], stdin=subprocess.PIPE,
+                              stdout=subprocess.PIPE,
+                              stderr=subprocess.DEVNULL, start_new_session=True,
+                              env=self.environment) as process:
             ender = threading.Timer(RUN_SECONDS, os.killpg, (process.pid, signal.SIGKILL))
             ender.start()
             try:
+                assert process.stdin is not None and process.stdout is not None
                 feed(process.stdin, script)
                 said = process.stdout.read(MOST_ANSWER + 1)
             finally:
@@ -117,11 +128,12 @@ class Runner:
                     os.killpg(process.pid, signal.SIGKILL)
         if process.returncode == 0 and len(said) <= MOST_ANSWER:
             return said
-        words = f"the run was ended: a run here has {RUN_SECONDS} seconds and {RUN_BYTES >> 20} MiB; ./shmview --steps has no such limit"
+        words = (f"the run was ended: a run here has {RUN_SECONDS} seconds and {RUN_BYTES >> 20} MiB; "
+                 f"./shmview --steps has no such limit")
         return json.dumps({"line": 0, "column": 0, "length": 0, "words": [words]}).encode()
 
 
-def feed(stream, data):
+def feed(stream: Any, data: Any) -> None:
     """The run reads all of it before it writes; one that was ended reads no more."""
     try:
         with stream:
@@ -131,33 +143,37 @@ def feed(stream, data):
 
 
 class Handler(BaseHTTPRequestHandler):
+    server: Server
     timeout = IDLE_SECONDS
     server_version, sys_version = "shmview", ""
 
-    def log_message(self, *_words):
+    def log_message(self, *_words: Any) -> None:
         pass
 
-    def reply(self, status, body=b"", kind="text/plain; charset=utf-8"):
+    def reply(self, status: int, body: bytes = b"", kind: str = "text/plain; charset=utf-8") -> None:
         self.send_response(status)
-        for name, value in {**HEADERS, "Content-Type": kind, "Content-Length": str(len(body)), "Connection": "close"}.items():
+        for name, value in {**HEADERS, "Content-Type": kind, "Content-Length": str(len(body)),
+                            "Connection": "close"}.items():
             self.send_header(name, value)
         self.end_headers()
         self.wfile.write(body)
 
-    def is_allowed(self, path):
-        """A request for this path, from this page. A wrong token, another name of the host and another origin are all refused."""
+    def is_allowed(self, path: str) -> bool:
+        """A request for this path, from this page. A wrong token, another name of the host and another origin
+        are all refused."""
         host = f"127.0.0.1:{self.server.server_port}"
         wanted = f"/{self.server.token}{path}".encode()
-        is_ours = self.headers.get("Host") == host and self.headers.get("Origin", "http://" + host) == "http://" + host
+        origin = self.headers.get("Origin", "http://" + host)
+        is_ours = self.headers.get("Host") == host and origin == "http://" + host
         return is_ours and hmac.compare_digest(self.path.encode("latin-1", "replace"), wanted)
 
-    def do_GET(self):
+    def do_GET(self) -> None:
         if self.is_allowed("/"):
             self.reply(200, self.server.page, "text/html; charset=utf-8")
         else:
             self.reply(404)
 
-    def do_POST(self):
+    def do_POST(self) -> None:
         is_run = self.is_allowed("/run")
         if not is_run and not self.is_allowed("/page"):
             self.reply(404)
@@ -170,11 +186,12 @@ class Handler(BaseHTTPRequestHandler):
         else:
             self.answer(self.rfile.read(int(length)), is_run)
 
-    def answer(self, body, is_run):
+    def answer(self, body: bytes, is_run: bool) -> None:
         try:
             asked = json.loads(body)
-            script, swaps, step = asked["script"].encode("utf-8", "surrogatepass"), asked["swap"], asked.get("step", 0)
-            is_right = isinstance(step, int) and 1 <= len(swaps) <= 8 and all(SWAP.fullmatch(it) for it in swaps)
+            script = asked["script"].encode("utf-8", "surrogatepass")
+            swaps, step = asked["swap"], asked.get("step", 0)
+            is_right = isinstance(step, int) and 1 <= len(swaps) <= 8 and all(map(SWAP.fullmatch, swaps))
         except (ValueError, KeyError, TypeError, AttributeError, RecursionError):
             is_right = False
         if not is_right:
@@ -188,9 +205,10 @@ class Handler(BaseHTTPRequestHandler):
         else:
             self.save(json.loads(said), step)
 
-    def save(self, said, step):
+    def save(self, said: Any, step: Any) -> None:
         if "record" in said:
-            self.reply(200, filled(said["record"], {**said["told"], "opened": step}).encode(), "text/html; charset=utf-8")
+            self.reply(200, filled(said["record"], {**said["told"], "opened": step}).encode(),
+                       "text/html; charset=utf-8")
         else:
             self.reply(409)
 
@@ -199,32 +217,33 @@ class Server(ThreadingHTTPServer):
     daemon_threads = True
     request_queue_size = 128
 
-    def __init__(self, port, runner, page):
+    def __init__(self, port: Any, runner: Any, page: Any) -> None:
         self.runner, self.page, self.token = runner, page.encode(), secrets.token_urlsafe(24)
         self.places = threading.Semaphore(MOST_AT_ONCE)
         super().__init__(("127.0.0.1", port), Handler)
 
-    def process_request(self, request, client_address):
+    def process_request(self, request: Any, client_address: Any) -> None:
         if self.places.acquire(blocking=False):
             super().process_request(request, client_address)
             return
         try:
-            request.sendall(b"HTTP/1.0 503 Service Unavailable\r\nContent-Length: 0\r\nConnection: close\r\n\r\n")
+            request.sendall(b"HTTP/1.0 503 Service Unavailable\r\nContent-Length: 0\r\nConnection: close\r\n"
+                            b"\r\n")
         except OSError:
             pass
         self.shutdown_request(request)
 
-    def process_request_thread(self, request, client_address):
+    def process_request_thread(self, request: Any, client_address: Any) -> None:
         try:
             super().process_request_thread(request, client_address)
         finally:
             self.places.release()
 
-    def handle_error(self, _request, _client_address):
+    def handle_error(self, _request: Any, _client_address: Any) -> None:
         """A client that disconnected or was too slow is not an error of the server."""
 
 
-def served_page(opened, choices):
+def served_page(opened: Any, choices: Any) -> Any:
     """The page with its editor, its examples and its lessons."""
     with open(os.path.join(HERE, "editor.html"), encoding="utf-8") as file:
         editor = file.read()
@@ -232,12 +251,14 @@ def served_page(opened, choices):
     return filled("", told_of("")).replace("</body>", editor.replace("@CHOICES@", data) + "</body>")
 
 
-def main(program, packages, examples, tour, port, path, *swaps):
+def main(program: Any, packages: Any, examples: Any, tour: Any, port: Any, path: str, *swaps: Any) -> Any:
     choices = {"examples": examples_of(examples), "lessons": lessons_of(tour)}
     named = {it["name"]: it for it in choices["examples"]}
-    shown = [named[it["example"]] for it in choices["lessons"] if it["example"] in named] + choices["examples"]
+    shown = [named[it["example"]]
+             for it in choices["lessons"] if it["example"] in named] + choices["examples"]
     first = shown[0] if shown else {"script": "limits 65536 16 64 4 1\nprocess 1 1 1\n", "swap": ["ram:64"]}
-    opened = {"script": read(path), "swap": swaps_beside(path)} if path else {key: first[key] for key in ("script", "swap")}
+    opened = {"script": read(path),
+              "swap": swaps_beside(path)} if path else {key: first[key] for key in ("script", "swap")}
     if swaps:
         opened["swap"] = swaps
     try:

@@ -1,50 +1,56 @@
-#!/usr/bin/env python3
+#!/usr/bin/env -S python3 -B
 """Adds to the record of a run what each step changed.
 
     tools/viewer/show.py page [SCRIPT [STEPS]] < RECORD    one HTML page, which needs nothing else
     tools/viewer/show.py text [SCRIPT [STEPS]] < RECORD    the record for a terminal
 
-SCRIPT is the file of the script, and STEPS are those that were asked for, as in 3-12. The record may begin earlier: the first step
-is then compared with the one before it, and a page has the bytes that earlier steps left. All is there before the first byte is
-written.
+SCRIPT is the file of the script, and STEPS are those that were asked for, as in 3-12. The record may begin
+earlier: the first step is then compared with the one before it, and a page has the bytes that earlier steps
+left. All is there before the first byte is written.
 """
+
+from __future__ import annotations
 
 import json
 import os
 import sys
+from typing import Any, Optional, Tuple
 
-sys.dont_write_bytecode = True
+from record import all_sentences, reached, read_record, turns
+
 HERE = os.path.dirname(os.path.abspath(__file__))
-sys.path.insert(0, HERE)
+# a line of a script, and the number of its step if it has one
+Line = Tuple[str, Optional[int]]
 
-from record import all_sentences, reached, read_record, turns  # noqa: E402
 
-
-def lines_of(script):
-    """Returns the lines of a script, each with the number of its step: commands and flush lines begin with a number."""
-    lines, step = [], 0
+def lines_of(script: str) -> list[Line]:
+    """Returns the lines of a script, each with the number of its step: commands and flush lines begin with a
+    number."""
+    lines: list[Line] = []
+    step = 0
     for line in script.rstrip("\n").split("\n"):
         is_step = line.strip()[:1].isdigit()
         step += is_step
-        lines.append([line, step if is_step else None])
+        lines.append((line, step if is_step else None))
     return lines
 
 
-def title_of(lines):
+def title_of(lines: list[Line]) -> str:
     """Returns the first comment of a script."""
     comments = (line.strip().lstrip("#").strip() for line, _step in lines if line.strip().startswith("#"))
     return next(filter(None, comments), "")
 
 
-def range_of(steps):
+def range_of(steps: str) -> tuple[int, int | None]:
     """Returns the first and the last number of the chosen steps; of all steps if none were chosen."""
     first, last = steps.split("-") if steps else ("0", "")
     return int(first), int(last) if last else None
 
 
-def told_of(text, script="", asked=""):
-    """Returns what a page shows in addition to the record of a run. The bytes of a page are zeros, and later those that accesses
-    stored. In a segment that is older than the record they are unknown until an access names them."""
+def told_of(text: str, script: str = "", asked: str = "") -> dict[str, Any]:
+    """Returns what a page shows in addition to the record of a run. The bytes of a page are zeros, and later
+    those that accesses stored. In a segment that is older than the record they are unknown until an access
+    names them."""
     first, last = range_of(asked)
     steps, lines = read_record(text), lines_of(script) if script else []
     shown = [step for step in steps if step.number >= first - 1]
@@ -55,23 +61,27 @@ def told_of(text, script="", asked=""):
         "last": last,
         "said": dict(all_sentences(shown, first)),
         "reached": {step.number: found for step in steps for found in [reached(step)] if found},
-        "turns": {step.number: found for before, step in zip(shown, shown[1:]) for found in [turns(before, step)] if found},
+        "turns": {step.number: found for before,
+                  step in zip(shown, shown[1:]) for found in [turns(before, step)] if found},
         "unknown": [*steps[0].segments] if steps and steps[0].number else [],
     }
 
 
-def shown_part(text, asked):
+def shown_part(text: str, asked: str) -> str:
     """Returns the record from the step before the first chosen one."""
     first, _last = range_of(asked)
-    return "".join(block + "\n\n" for block in text.split("\n\n") if block and int(block.split()[1]) >= first - 1)
+    return "".join(block + "\n\n" for block in text.split("\n\n") if block
+                   and int(block.split()[1]) >= first - 1)
 
 
-def shortened(text):
-    """Returns a record with the differences from step to step: `=N` repeats the next N lines of the step before, and `-N` skips
-    N of them. No line of a record begins this way. Each other line is new."""
-    blocks, old = [], []
+def shortened(text: str) -> str:
+    """Returns a record with the differences from step to step: `=N` repeats the next N lines of the step
+    before, and `-N` skips N of them. No line of a record begins this way. Each other line is new."""
+    blocks: list[str] = []
+    old: list[str] = []
     for block in filter(None, text.split("\n\n")):
-        lines, made, at = block.split("\n"), [], 0
+        lines, at = block.split("\n"), 0
+        made: list[str] = []
         places = {line: place for place, line in enumerate(old)}
         same = 0
         for line in lines:
@@ -90,9 +100,9 @@ def shortened(text):
     return "".join(block + "\n\n" for block in blocks)
 
 
-def filled(text, told):
-    """The page of a shortened record. The record has no character that HTML reads as its own; all else is JSON, in which `<` is written as
-    an escape."""
+def filled(text: str, told: dict[str, Any]) -> str:
+    """The page of a shortened record. The record has no character that HTML reads as its own; all else is
+    JSON, in which `<` is written as an escape."""
     with open(os.path.join(HERE, "page.html"), encoding="utf-8") as file:
         template = file.read()
     head, rest = template.split("@RECORD@")
@@ -100,11 +110,11 @@ def filled(text, told):
     return head + text + middle + json.dumps(told).replace("<", "\\u003c") + tail
 
 
-def page(text, script="", asked=""):
+def page(text: str, script: str = "", asked: str = "") -> str:
     return filled(shortened(shown_part(text, asked)), told_of(text, script, asked))
 
 
-def terminal(text, _script="", asked=""):
+def terminal(text: str, _script: str = "", asked: str = "") -> str:
     """Each block, with the changes after its second line, which says what the step did."""
     blocks = []
     first, _last = range_of(asked)
@@ -115,15 +125,16 @@ def terminal(text, _script="", asked=""):
     return "".join(block + "\n\n" for block in blocks)
 
 
-def say_outside(text, script, asked):
+def say_outside(text: str, script: str, asked: str) -> None:
     """Says on standard error that a run has none of the chosen steps."""
     first, last = range_of(asked)
     if not any(step.number >= first for step in read_record(text)):
         most = sum(step is not None for _line, step in lines_of(script))
-        print(f"shmview: the run has no step from {first} to {last}: its last is step {most}", file=sys.stderr)
+        print(f"shmview: the run has no step from {first} to {last}: its last is step {most}",
+              file=sys.stderr)
 
 
-def main(how, path=None, asked=""):
+def main(how: str, path: str | None = None, asked: str = "") -> None:
     text, script = sys.stdin.read(), ""
     if path:
         with open(path, encoding="utf-8", errors="replace") as file:

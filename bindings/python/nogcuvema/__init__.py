@@ -1,4 +1,5 @@
-"""System V shared memory calls over simulated processes: shmget, shmat, shmdt and shmctl, and loads and stores.
+"""System V shared memory calls over simulated processes: shmget, shmat, shmdt and shmctl, and loads and
+stores.
 
     from nogcuvema import Area, Limits, Machine, Process
 
@@ -8,18 +9,23 @@
         machine.store(1, at + 4094, b"\\x01\\x02\\x03\\x04")
         print(machine.load(1, at + 4093, 6).hex())
 
-A refused call raises `Refused`, an OSError with errno; an access raises `SegmentationFault` or `BusError`. The rules of
-each call are those of docs/MACHINE.md.
+A refused call raises `Refused`, an OSError with errno; an access raises `SegmentationFault` or `BusError`.
+The rules of each call are those of docs/MACHINE.md.
 """
 from ._library import LibraryMissing, library_version
 from ._version import VERSION as __version__
-from .errors import (BadOpening, BusError, ClosedMachine, Fault, Incomplete, MachineError, NoMemory, NotAdmitted, NotDismissed, OutOfRange,
+from .errors import (BadOpening, BusError, ClosedMachine, Fault, Incomplete, MachineError, NoMemory,
+                     NotAdmitted, NotDismissed, OutOfRange,
                      Refused, SegmentationFault, Spent)
-from .machine import (PRIVATE, Area, Failure, Flag, Flushed, Limits, Machine, Piece, Process, ProcessEntry, Rules, Segment, State,
+from .machine import (PRIVATE, Area, Failure, Flag, Flushed, Limits, Machine, Piece, Process, ProcessEntry,
+                      Rules, Segment, State,
                       Tally, Usage, child)
 from .script import Script, ScriptFault, areas_of, read_script
 
-__all__ = ["PRIVATE", "Area", "BadOpening", "BusError", "ClosedMachine", "Failure", "Fault", "Flag", "Flushed", "Incomplete",
-           "LibraryMissing", "Limits", "Machine", "MachineError", "NoMemory", "NotAdmitted", "NotDismissed", "OutOfRange", "Piece",
-           "Process", "ProcessEntry", "Refused", "Rules", "Script", "ScriptFault", "SegmentationFault", "Segment", "Spent", "State", "Tally",
+__all__ = ["PRIVATE", "Area", "BadOpening", "BusError", "ClosedMachine", "Failure", "Fault", "Flag",
+           "Flushed", "Incomplete",
+           "LibraryMissing", "Limits", "Machine", "MachineError", "NoMemory", "NotAdmitted", "NotDismissed",
+           "OutOfRange", "Piece",
+           "Process", "ProcessEntry", "Refused", "Rules", "Script", "ScriptFault", "SegmentationFault",
+           "Segment", "Spent", "State", "Tally",
            "Usage", "__version__", "areas_of", "child", "library_version", "read_script"]

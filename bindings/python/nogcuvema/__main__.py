@@ -1,7 +1,8 @@
-"""A prompt for a machine: python3 -m nogcuvema [SWAP...] reads lines of the script language and answers each at once.
+"""A prompt for a machine: python3 -m nogcuvema [SWAP...] reads lines of the script language and answers each
+at once.
 
-It also takes the lines help [CALL], show, undo, snapshot NAME, restore NAME, save FILE, and quit or exit. docs/SCRIPT.md has the
-language."""
+It also takes the lines help [CALL], show, undo, snapshot NAME, restore NAME, save FILE, and quit or exit.
+docs/SCRIPT.md has the language."""
 import os
 import shutil
 import subprocess
@@ -17,7 +18,8 @@ from .explain import explain_fault, warnings
 from .moments import MOST_MOMENTS, MOST_PAGES, Moment, most_moments
 from .script import CALLS, Command, FlushLine, Run, Script, ScriptFault, areas_of, form_of, listing, usage
 
-USAGE = "usage: python3 -m nogcuvema [SWAP...]: SWAP is ram:N, sparse:N, mirror:N, fuse:N:rK or fuse:N:wK; ram:64 without one"
+USAGE = ("usage: python3 -m nogcuvema [SWAP...]: SWAP is ram:N, sparse:N, mirror:N, fuse:N:rK or fuse:N:wK; "
+         "ram:64 without one")
 # the limits and processes if the first line is no limits line
 HEAD = ("limits 65536 16 64 4 1", "process 1 100 100", "child 2", "child 3")
 OWN_WORDS = ("help", "show", "undo", "snapshot", "restore", "save", "quit", "exit")
@@ -27,22 +29,25 @@ HELP = """A line is a call of a process: its pid, the call and its operands. A v
     1 store a+4094 01020304
     1 load a+4093 6
 Calls: {calls}
-help CALL explains a call. 0 flush N writes out dirty pages. show prints the machine, undo takes the last line back,
-snapshot NAME keeps the current state, restore NAME returns to it, save FILE writes a script of all accepted lines, quit or exit
-ends. show needs the viewer's program, shmview: it takes the one that ./shmview or ./shmview --unproved built in the repository, or
-the one that ./install installed, also by its name on the path. Without one it prints segments and counts.
-Limits and processes come first: limits SHMMAX SHMMNI SHMALL FRAMES MEMLOCK, process PID UID GID, child PID. If you begin
-with a call, these lines come first: {head}"""
+help CALL explains a call. 0 flush N writes out dirty pages. show prints the machine, undo takes the last line
+back, snapshot NAME keeps the current state, restore NAME returns to it, save FILE writes a script of all
+accepted lines, quit or exit ends. show needs the viewer's program, shmview: it takes the one that ./shmview
+or ./shmview --unproved built in the repository, or the one that ./install installed, also by its name on the
+path. Without one it prints segments and counts.
+Limits and processes come first: limits SHMMAX SHMMNI SHMALL FRAMES MEMLOCK, process PID UID GID, child PID.
+If you begin with a call, these lines come first: {head}"""
 
 
-WITHOUT = ("to see processes, frames and slots, build the program shmview in the repository, by ./shmview or ./shmview --unproved, or "
+WITHOUT = ("to see processes, frames and slots, build the program shmview in the repository, by ./shmview or "
+           "./shmview --unproved, or "
            "install it by ./install")
 
 
 def help_of(call: str) -> str:
     """The form, the rule and the refusals of a call."""
     rule, refusals = RULES[call]
-    told = [f"PID {'[v =] ' * (call in ('shmget', 'shmat', 'xadd'))}{form_of(call)}", *textwrap.wrap(rule, 100)]
+    told = [f"PID {'[v =] ' * (call in ('shmget', 'shmat', 'xadd'))}{form_of(call)}",
+            *textwrap.wrap(rule, 100)]
     told += [f"    {name.lower():<10} {kind.allowed}" for name, kind in CALLS[call]]
     told += [f"    {'ESRCH':<10} the process is not live"]
     return "\n".join(told + [f"    {name:<10} {when}" for name, when in refusals])
@@ -88,7 +93,8 @@ class Prompt:
         return [help_of(words[0])]
 
     def take(self, line: str) -> List[str]:
-        """Takes a line of the script language. A line with a fault, or for which there is no memory, is not accepted."""
+        """Takes a line of the script language. A line with a fault, or for which there is no memory, is not
+        accepted."""
         told: List[str] = []
         before = self.moment_before(line)
         if self.script.limits is None and line.split()[0] != "limits":
@@ -107,7 +113,8 @@ class Prompt:
                 return [str(error)]
         self.taken.append(line)
         self.keep(before)
-        return [f"warning: {it}" for it in warnings(self.script) if it.startswith(f"line {self.typed}:")] + told
+        return [f"warning: {it}"
+                for it in warnings(self.script) if it.startswith(f"line {self.typed}:")] + told
 
     def make(self, line: object) -> str:
         if self.run is None:
@@ -128,7 +135,8 @@ class Prompt:
             return None
 
     def keep(self, before: Optional[Moment]) -> None:
-        """Keeps the last moments for `undo`. If the last line has none, no earlier line can be undone either."""
+        """Keeps the last moments for `undo`. If the last line has none, no earlier line can be undone
+        either."""
         most = most_moments(self.script.limits, self.areas) if self.script.limits else MOST_MOMENTS
         self.undoable = (self.undoable + [before])[-most:] if before and most else []
 
@@ -141,7 +149,8 @@ class Prompt:
     def undo(self) -> List[str]:
         if not self.undoable:
             is_large = self.script.limits and not most_moments(self.script.limits, self.areas)
-            return ["nothing to undo" + (f": a machine of more than {MOST_PAGES} pages is not copied" if is_large else "")]
+            return ["nothing to undo"
+                    + (f": a machine of more than {MOST_PAGES} pages is not copied" if is_large else "")]
         try:
             self.go_back(self.undoable[-1])
         except NoMemory as error:
@@ -183,7 +192,8 @@ class Prompt:
         viewer = viewer_program()
         if viewer:
             last = str(len(self.script.lines))
-            done = subprocess.run([viewer, "--steps", f"{last}-{last}", *self.swap], input=self.text(), capture_output=True, text=True, check=False)
+            done = subprocess.run([viewer, "--steps", f"{last}-{last}", *self.swap], input=self.text(),
+                                  capture_output=True, text=True, check=False)
             if done.returncode == 0:
                 return [done.stdout.strip()]
         without = "" if viewer else WITHOUT
@@ -206,16 +216,18 @@ def viewer_program() -> str:
     here = os.path.dirname(os.path.abspath(__file__))
     top = os.path.dirname(os.path.dirname(os.path.dirname(here)))
     libraries = os.path.dirname(os.path.dirname(os.path.dirname(here)))
-    places = [f"{top}/crates/shmview/out/shmview", f"{top}/build/unproved/shmview", f"{libraries}/nogcuvema/bin/shmview"]
+    places = [f"{top}/crates/shmview/out/shmview", f"{top}/build/unproved/shmview",
+              f"{libraries}/nogcuvema/bin/shmview"]
     found = shutil.which("shmview")
     if found:
         places.append(os.path.join(os.path.dirname(os.path.realpath(found)), "bin", "shmview"))
     return next((it for it in places if os.access(it, os.X_OK) and os.path.isfile(it)), "")
 
 
-def complete(text: str, state: int) -> object:
+def complete(text: str, state: int) -> Optional[str]:
     """Completes the words of calls, of declarations and of the prompt."""
-    words = [*CALLS, *OWN_WORDS, "limits", "process", "child", "flush", "private", "null", "rdonly", "remap", "rnd"]
+    words = [*CALLS, *OWN_WORDS, "limits", "process", "child", "flush", "private", "null", "rdonly", "remap",
+             "rnd"]
     found = [word + " " for word in words if word.startswith(text)]
     return found[state] if state < len(found) else None
 
@@ -237,9 +249,11 @@ def main(words: List[str]) -> int:
             readline.parse_and_bind("tab: complete")
         except ImportError:
             pass
-        print("A machine with the swap areas " + " ".join(prompt.swap) + ". help explains the prompt, quit or exit ends it.")
+        print("A machine with the swap areas " + " ".join(prompt.swap)
+              + ". help explains the prompt, quit or exit ends it.")
         viewer = viewer_program()
-        print(f"show draws the machine by {viewer}." if viewer else f"show prints segments and counts; {WITHOUT}.")
+        print(f"show draws the machine by {viewer}." if viewer
+              else f"show prints segments and counts; {WITHOUT}.")
     while True:
         try:
             line = input("> " if is_seen else "")

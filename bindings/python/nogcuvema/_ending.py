@@ -16,8 +16,8 @@ class Parser(argparse.ArgumentParser):
 
 
 def run_command(name: str, main: Callable[[], int]) -> int:
-    """Returns the status of `main`. If a file or standard output fails it, because a pipe is closed or a disk is full, this prints
-    one line and returns CANT_WRITE."""
+    """Returns the status of `main`. If a file or standard output fails it, because a pipe is closed or a disk
+    is full, this prints one line and returns CANT_WRITE."""
     try:
         try:
             return main()
@@ -37,7 +37,8 @@ def run_command(name: str, main: Callable[[], int]) -> int:
 
 
 def drop_output() -> None:
-    """What is still in the buffer of standard output goes nowhere, so that the end of the program does not fail once more."""
+    """What is still in the buffer of standard output goes nowhere, so that the end of the program does not
+    fail once more."""
     with contextlib.suppress(OSError):
         nowhere = os.open(os.devnull, os.O_WRONLY)
         os.dup2(nowhere, 1)

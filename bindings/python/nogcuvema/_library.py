@@ -1,4 +1,5 @@
-"""The shared object: where it is, its structs, and its functions as ctypes calls them. Not for users of the package."""
+"""The shared object: where it is, its structs, and its functions as ctypes calls them. Not for users of the
+package."""
 import ctypes
 import os
 import threading
@@ -19,7 +20,8 @@ class MachineStruct(Structure):
 
 
 class LimitsStruct(Structure):
-    _fields_ = [(name, c_uint64) for name in ("shmmax", "shmmni", "shmall", "frames", "memlock", "most_pieces",
+    _fields_ = [(name, c_uint64)
+                for name in ("shmmax", "shmmni", "shmall", "frames", "memlock", "most_pieces",
                                                "most_processes", "most_slots", "rules")]
 
 
@@ -37,11 +39,13 @@ class ProcessStruct(Structure):
 
 class SegmentStruct(Structure):
     _fields_ = [(name, c_uint64) for name in ("size", "atime", "dtime", "ctime")] + [("id", c_int32)] + [
-        (name, c_uint32) for name in ("key", "uid", "gid", "cuid", "cgid", "mode", "status", "cpid", "lpid", "nattch", "index")]
+        (name, c_uint32) for name in ("key", "uid", "gid", "cuid", "cgid", "mode", "status", "cpid", "lpid",
+                                      "nattch", "index")]
 
 
 class TallyStruct(Structure):
-    _fields_ = [(name, c_uint64) for name in ("events", "segments", "reserved", "locked", "frames", "resident", "dirty",
+    _fields_ = [(name, c_uint64)
+                for name in ("events", "segments", "reserved", "locked", "frames", "resident", "dirty",
                                               "slots", "used", "ins", "outs", "failures")]
 
 
@@ -59,7 +63,8 @@ class PieceStruct(Structure):
 
 
 # the structs in the order in which nog_layout numbers them
-STRUCTS = (MachineStruct, LimitsStruct, AreaStruct, FailureStruct, ProcessStruct, SegmentStruct, TallyStruct, FlushedStruct,
+STRUCTS = (MachineStruct, LimitsStruct, AreaStruct, FailureStruct, ProcessStruct, SegmentStruct, TallyStruct,
+           FlushedStruct,
            UsageStruct, PieceStruct)
 BYTES = POINTER(c_uint8)
 # the parameters of each function, after the machine
@@ -115,8 +120,9 @@ OTHERS: Dict[str, List[type]] = {
 
 
 def places() -> List[str]:
-    """The paths to search for the shared object: only NOGCUVEMA_LIBRARY if it is set; else the package's folder, the
-    repository's build/, the lib folder of the prefix that the package is installed in, and the system's search path."""
+    """The paths to search for the shared object: only NOGCUVEMA_LIBRARY if it is set; else the package's
+    folder, the repository's build/, the lib folder of the prefix that the package is installed in, and the
+    system's search path."""
     named = os.environ.get("NOGCUVEMA_LIBRARY")
     if named:
         return [os.path.join(named, "libnogcuvema.so") if os.path.isdir(named) else named]
@@ -139,7 +145,8 @@ class Library:
                 function.argtypes = parameters if name in OTHERS else [POINTER(MachineStruct), *parameters]
                 function.restype = c_uint32
         except (OSError, AttributeError) as error:
-            raise LibraryMissing(f"no shared object of nogcuvema at {path}: {error}; ./lib builds it, or ./lib --unproved without proofs, and the variable "
+            raise LibraryMissing(f"no shared object of nogcuvema at {path}: {error}; ./lib builds it, or "
+                                 f"./lib --unproved without proofs, and the variable "
                                  "NOGCUVEMA_LIBRARY names its file or folder") from None
         self.compare_layout(path)
 
@@ -150,7 +157,8 @@ class Library:
             for field, mine in enumerate(told):
                 value = c_size_t()
                 if self.functions.nog_layout(which, field, byref(value)) or value.value != mine:
-                    raise LibraryMissing(f"{path}: struct {which}, field {field} is at {value.value}, and here at {mine}")
+                    raise LibraryMissing(f"{path}: struct {which}, field {field} is at {value.value}, and "
+                                         f"here at {mine}")
 
     def text(self, code: int) -> str:
         text, length = (c_uint8 * 256)(), c_size_t()

@@ -1,5 +1,6 @@
-"""The prompt's help for each call: its rule in a sentence or two, and its refusals in the order in which the machine checks them.
-ESRCH, for a process that is not live, comes before all others. docs/MACHINE.md has the complete rules."""
+"""The prompt's help for each call: its rule in a sentence or two, and its refusals in the order in which the
+machine checks them. ESRCH, for a process that is not live, comes before all others. docs/MACHINE.md has the
+complete rules."""
 from typing import Dict, Tuple
 
 _NO_SEGMENT = (("EINVAL", "no segment ever had the identifier"), ("EIDRM", "its segment is destroyed"))
@@ -8,33 +9,45 @@ _READ = (("SIGSEGV", "a byte is not attached"), ("SIGBUS", "a swap area failed")
 _WRITE = (("SIGSEGV", "a byte is not attached for writing"), ("SIGBUS", "a swap area failed"))
 
 RULES: Dict[str, Tuple[str, Tuple[Tuple[str, str], ...]]] = {
-    "shmget": ("Finds the segment with the key, or makes one: always if the key is private, else if no segment has the key and "
+    "shmget": ("Finds the segment with the key, or makes one: always if the key is private, else if no "
+               "segment has the key and "
                "creat is set.", (
                    ("EEXIST", "a segment has the key, and creat and excl are set"),
-                   ("EINVAL", "the segment is smaller than the size; or the size of a new one is 0 or above SHMMAX"),
+                   ("EINVAL",
+                    "the segment is smaller than the size; or the size of a new one is 0 or above SHMMAX"),
                    ("EACCES", "the segment may not be read or written as the mode asks"),
                    ("ENOENT", "no segment has the key, and creat is not set"),
                    ("ENOSPC", "SHMALL or SHMMNI would be exceeded"),
                    ("ENOMEM", "the swap areas have fewer slots than all segments would have pages"))),
-    "shmat": ("Attaches a segment at the least free range from 0x40000000 on, or at the address. rnd rounds the address down to a page, "
+    "shmat": ("Attaches a segment at the least free range from 0x40000000 on, or at the address. rnd rounds "
+              "the address down to a page, "
               "rdonly attaches for reading only, remap replaces what is attached there.", (
-                  ("EINVAL", "a null address with remap, an address inside a page without rnd, or a range that is in use or out of bounds"),
+                  ("EINVAL",
+                   "a null address with remap, an address inside a page without rnd, or a range that is in "
+                   "use or out of bounds"),
                   *_NO_SEGMENT[1:], ("EACCES", "reading, or without rdonly writing, is not permitted"),
-                  ("ENOMEM", "no free range is large enough"), ("EMFILE", "the process would have more than 256 pieces"))),
-    "shmdt": ("Detaches the segment that was attached at the address. The last detach of a marked segment destroys it.",
+                  ("ENOMEM", "no free range is large enough"),
+                  ("EMFILE", "the process would have more than 256 pieces"))),
+    "shmdt": ("Detaches the segment that was attached at the address. The last detach of a marked segment "
+              "destroys it.",
               (("EINVAL", "no segment was attached there"),)),
     "load": ("Reads 1 to 64 bytes in one step.", _READ),
     "store": ("Writes 1 to 64 bytes in one step.", _WRITE),
-    "xadd": ("Adds to the eight-byte little-endian number at the address in one step; answers the number before.", _WRITE),
-    "stat": ("Shows the state of a segment; it needs read permission.", (*_NO_SEGMENT, ("EACCES", "it may not be read"))),
+    "xadd": ("Adds to the eight-byte little-endian number at the address in one step; answers the number "
+             "before.", _WRITE),
+    "stat": ("Shows the state of a segment; it needs read permission.",
+             (*_NO_SEGMENT, ("EACCES", "it may not be read"))),
     "set": ("Sets the owner and the permission bits of a segment.", _OWNER),
-    "rmid": ("Destroys a segment that is not attached; marks any other, which is then destroyed with its last detach.", _OWNER),
+    "rmid": ("Destroys a segment that is not attached; marks any other, which is then destroyed with its "
+             "last detach.", _OWNER),
     "lock": ("Keeps the pages of a segment in memory.", (*_OWNER, ("ENOMEM", "MEMLOCK would be exceeded"))),
     "unlock": ("Lets the pages of a segment leave memory.", _OWNER),
-    "fork": ("A declared child is born with the caller's user, group and attachments.", (("EAGAIN", "there is no such unborn child"),)),
+    "fork": ("A declared child is born with the caller's user, group and attachments.",
+             (("EAGAIN", "there is no such unborn child"),)),
     "exec": ("Detaches everything that the process has attached.", ()),
     "exit": ("Ends the process and detaches everything that it has attached. Its pid is not used again.", ()),
     "swapoff": ("Moves the pages of a swap area elsewhere and takes the area away.", (
         ("EPERM", "the caller is not user 0"), ("EINVAL", "there is no such area, or it was taken away"),
-        ("ENOMEM", "the other areas have fewer slots than all segments have pages"), ("EIO", "a swap area failed"))),
+        ("ENOMEM", "the other areas have fewer slots than all segments have pages"),
+        ("EIO", "a swap area failed"))),
 }

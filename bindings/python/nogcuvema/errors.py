@@ -1,7 +1,7 @@
 """The exceptions that a call raises if its answer is not 0.
 
-    Refused            an OSError with an errno of the rules, such as EINVAL; also PermissionError, FileNotFoundError and others
-                       if Python has a class for the errno
+    Refused            an OSError with an errno of the rules, such as EINVAL; also PermissionError,
+                       FileNotFoundError and others if Python has a class for the errno
     Fault              a signal that the process would get: SegmentationFault or BusError
     MachineError       a mistake of the caller, or out of memory; the call changed nothing
 """
@@ -89,7 +89,8 @@ class BadOpening(MachineError, ValueError):
 
 
 class NotAdmitted(MachineError, ValueError):
-    """A process that can't be admitted: its pid is out of range or in use, or there are as many processes as the limits allow."""
+    """A process that can't be admitted: its pid is out of range or in use, or there are as many processes as
+    the limits allow."""
 
 
 class NotDismissed(MachineError, ValueError):
@@ -97,8 +98,8 @@ class NotDismissed(MachineError, ValueError):
 
 
 class Incomplete(Exception):
-    """A read, write or copy that was refused after its first bytes. `done` bytes were read or written, `data` holds the bytes
-    that were read, and `__cause__` is the exception of the access that was refused."""
+    """A read, write or copy that was refused after its first bytes. `done` bytes were read or written, `data`
+    holds the bytes that were read, and `__cause__` is the exception of the access that was refused."""
 
     def __init__(self, done: int, data: bytes, cause: BaseException) -> None:
         super().__init__(f"{cause} after {done} bytes")
@@ -106,9 +107,12 @@ class Incomplete(Exception):
         self.data = data
 
 
-_BY_ERRNO: Dict[int, Type[Refused]] = {errno.EPERM: NotPermitted, errno.EACCES: NotPermitted, errno.ENOENT: NoSuchKey,
-                                       errno.ESRCH: NoSuchProcess, errno.EEXIST: KeyTaken, errno.EAGAIN: NoSuchChild}
-_BY_CODE: Dict[int, Type[MachineError]] = {NO_MEMORY: NoMemory, CLOSED: ClosedMachine, OUT_OF_RANGE: OutOfRange, SPENT: Spent,
+_BY_ERRNO: Dict[int, Type[Refused]] = {errno.EPERM: NotPermitted, errno.EACCES: NotPermitted,
+                                       errno.ENOENT: NoSuchKey,
+                                       errno.ESRCH: NoSuchProcess, errno.EEXIST: KeyTaken,
+                                       errno.EAGAIN: NoSuchChild}
+_BY_CODE: Dict[int, Type[MachineError]] = {NO_MEMORY: NoMemory, CLOSED: ClosedMachine,
+                                           OUT_OF_RANGE: OutOfRange, SPENT: Spent,
                                            **dict.fromkeys((2031, 2032, 2033), NotAdmitted),
                                            **dict.fromkeys((2041, 2042), NotDismissed)}
 

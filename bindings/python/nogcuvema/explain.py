@@ -1,5 +1,6 @@
-"""Names a script's first fault, what is allowed there and the nearest right form, and warns of lines that are allowed but seldom
-intended. As a program: python3 -m nogcuvema.explain < SCRIPT; the status is 1 if the script has a fault."""
+"""Names a script's first fault, what is allowed there and the nearest right form, and warns of lines that are
+allowed but seldom intended. As a program: python3 -m nogcuvema.explain < SCRIPT; the status is 1 if the
+script has a fault."""
 import difflib
 import re
 import sys
@@ -31,19 +32,22 @@ def nearest(fault: ScriptFault, line: str) -> str:
         return "the mode and the flags as one word, as 600," + word
     if word == "0" and "null" not in fault.allowed and "flush" in fault.allowed:
         return "0 flush N, or a pid from 1 on"
-    choices = [*CALLS] if "a call:" in fault.allowed else [*FIRST_WORDS] if "limits, process" in fault.allowed else []
+    choices = ([*CALLS] if "a call:" in fault.allowed else [*FIRST_WORDS]
+               if "limits, process" in fault.allowed else [])
     choices += ["flush"] if "flush" in fault.allowed else []
     found = difflib.get_close_matches(word.lower(), choices, 1)
     return found[0] if found else ""
 
 
 def explain_fault(fault: ScriptFault, line: str) -> List[str]:
-    """The lines that describe a fault: its place, the line with the word marked, what is allowed, and the nearest form."""
+    """The lines that describe a fault: its place, the line with the word marked, what is allowed, and the
+    nearest form."""
     place = f"line {fault.line}" + (f", column {fault.column}" if fault.column else "")
     told = [f"{place}: {fault.kind}"]
     if fault.column:
         shown = "".join(letter if letter == "\t" or " " <= letter <= "~" else "?" for letter in line)
-        mark = "".join(letter if letter == "\t" else " " for letter in shown[:fault.column - 1]) + "^" * len(fault.word)
+        mark = "".join(letter if letter == "\t" else " "
+                       for letter in shown[:fault.column - 1]) + "^" * len(fault.word)
         told += ["    " + shown, "    " + mark]
     if fault.allowed:
         told.append(f"    allowed here: {fault.allowed}")
@@ -61,15 +65,18 @@ def warnings(script: Script) -> Iterator[str]:
         if not isinstance(line, Command):
             continue
         for value in line.operands:
-            if not isinstance(value, Variable) or value.letter in set_by[line.pid] or (line.pid, value.letter) in warned:
+            if (not isinstance(value, Variable) or value.letter in set_by[line.pid]
+                    or (line.pid, value.letter) in warned):
                 continue
             warned.add((line.pid, value.letter))
             others = [pid for pid, letters in set_by.items() if value.letter in letters]
             if others:
-                yield (f"line {line.line}: variable {value.letter} of process {line.pid} is not set: process {others[0]} set its own, and "
+                yield (f"line {line.line}: variable {value.letter} of process {line.pid} is not set: process "
+                       f"{others[0]} set its own, and "
                        "each process has variables of its own, so it is 0 here")
             else:
-                yield (f"line {line.line}: variable {value.letter} of process {line.pid} is used before it is set: it is 0, which names the "
+                yield (f"line {line.line}: variable {value.letter} of process {line.pid} is used before it "
+                       f"is set: it is 0, which names the "
                        "first segment, or no address")
         if line.taker:
             set_by[line.pid].add(line.taker)
@@ -87,7 +94,8 @@ def explain(text: str) -> List[str]:
 
 def main() -> int:
     if sys.argv[1:]:
-        print(f"explain: no such word: {sys.argv[1]}; usage: python3 -m nogcuvema.explain < SCRIPT", file=sys.stderr)
+        print(f"explain: no such word: {sys.argv[1]}; usage: python3 -m nogcuvema.explain < SCRIPT",
+              file=sys.stderr)
         return 2
     text = sys.stdin.buffer.read().decode("latin-1")
     told = explain(text)

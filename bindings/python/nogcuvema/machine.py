@@ -1,4 +1,5 @@
-"""A machine and its calls. docs/MACHINE.md lists the refusals of each call; a method here names only what differs in Python."""
+"""A machine and its calls. docs/MACHINE.md lists the refusals of each call; a method here names only what
+differs in Python."""
 import enum
 import operator
 import sys
@@ -20,8 +21,8 @@ DEST, LOCKED = 512, 1024
 class Flag(enum.IntFlag):
     """Flags, by Linux's numbers: CREAT, EXCL, HUGETLB and NORESERVE for `get`, the others for `attach`.
 
-    HUGETLB has an effect only under Rules.HUGE_IS_REFUSED, NORESERVE only together with HUGETLB, and EXEC only under
-    Rules.EXEC_IS_ASKED. RDONLY and NORESERVE have the same number."""
+    HUGETLB has an effect only under Rules.HUGE_IS_REFUSED, NORESERVE only together with HUGETLB, and EXEC
+    only under Rules.EXEC_IS_ASKED. RDONLY and NORESERVE have the same number."""
     CREAT = 512
     EXCL = 1024
     HUGETLB = 2048
@@ -33,15 +34,19 @@ class Flag(enum.IntFlag):
 
 
 class Rules(enum.IntFlag):
-    """Rules of Linux that differ from this project's profile, with the header's numbers. docs/MACHINE.md describes each."""
+    """Rules of Linux that differ from this project's profile, with the header's numbers. docs/MACHINE.md
+    describes each."""
     REMOVED_IS_INVALID = 1   # EINVAL instead of EIDRM
-    EXECUTE_IS_ASKED = 2     # `get` of an existing segment: an execute bit of the mode needs execute permission, or EACCES
+    # `get` of an existing segment: an execute bit of the mode needs execute permission, or EACCES
+    EXECUTE_IS_ASKED = 2
     FORK_MARKS = 4           # a fork sets the attach time and the last pid of what the child inherits
-    REST_IS_ATTACHED = 8     # the rest of a piece that is cut, and a part with another protection, are attached again
+    # the rest of a piece that is cut, and a part with another protection, are attached again
+    REST_IS_ATTACHED = 8
     END_IS_ENOMEM = 16       # ENOMEM for a range that ends above 0x7ffffffff000
     LOW_IS_EPERM = 32        # EPERM below 0x10000 for all but user 0
     NO_LAST_USER = 64        # `set`: EINVAL for user or group 2^32 - 1
-    PIECES_ARE_ENOMEM = 128  # ENOMEM instead of EMFILE, and whenever a process has as many pieces as are allowed
+    # ENOMEM instead of EMFILE, and whenever a process has as many pieces as are allowed
+    PIECES_ARE_ENOMEM = 128
     LOCKS_BY_USER = 256      # `memlock` is a limit of each user but 0; EPERM if it is 0
     EXEC_IS_ASKED = 512      # `attach`: Flag.EXEC needs execute permission, or EACCES
     HUGE_IS_REFUSED = 1024   # `get`: Flag.HUGETLB is EPERM, or ENOMEM for user 0 and group 0
@@ -52,8 +57,8 @@ class Rules(enum.IntFlag):
 class Limits:
     """The limits of a machine; a page has 4096 bytes.
 
-    If the last three are 0, the machine has the profile's limits: 256, 64 and 65536 in their place, and the first five have the
-    narrower of the ranges below. Otherwise each has the wider range."""
+    If the last three are 0, the machine has the profile's limits: 256, 64 and 65536 in their place, and the
+    first five have the narrower of the ranges below. Otherwise each has the wider range."""
     shmmax: int = 65536      # the most bytes of a segment, 1 to 2^24, or to 2^40
     shmmni: int = 16         # the most segments, 1 to 4096, or to 32768
     shmall: int = 64         # the most pages of all segments together, 1 to 65536, or to 2^28
@@ -67,7 +72,8 @@ class Limits:
 
 @dataclass(frozen=True)
 class Failure:
-    """A read or write of an area that fails: the one numbered `call`, from 1. `side` 1 is a mirror's right side."""
+    """A read or write of an area that fails: the one numbered `call`, from 1. `side` 1 is a mirror's right
+    side."""
     call: int
     is_write: bool = False
     side: int = 0
@@ -75,8 +81,8 @@ class Failure:
 
 @dataclass(frozen=True)
 class Area:
-    """A swap area: make it by `ram`, `sparse` or `mirror`. It has at least one slot, and at most as many as the limits allow, 65536 in
-    the profile."""
+    """A swap area: make it by `ram`, `sparse` or `mirror`. It has at least one slot, and at most as many as
+    the limits allow, 65536 in the profile."""
     kind: int
     slots: int
     failures: Sequence[Failure] = ()
@@ -99,7 +105,8 @@ class Area:
 
 @dataclass(frozen=True)
 class Process:
-    """A process that the machine may have. A child that is not born gets its user and group from the process that forks it."""
+    """A process that the machine may have. A child that is not born gets its user and group from the process
+    that forks it."""
     pid: int
     uid: int = 0
     gid: int = 0
@@ -113,7 +120,8 @@ def child(pid: int) -> Process:
 
 @dataclass(frozen=True)
 class Segment:
-    """A segment as IPC_STAT shows it. A time is the place of a call among all calls, from 1, or the number given to `set_time`; 0 means never."""
+    """A segment as IPC_STAT shows it. A time is the place of a call among all calls, from 1, or the number
+    given to `set_time`; 0 means never."""
     id: int
     key: int       # 0: it is private, or marked for removal
     size: int      # in bytes, as requested
@@ -169,7 +177,8 @@ class Usage:
 
 @dataclass(frozen=True)
 class Piece:
-    """A range of addresses of a process with pages of a segment, as a line of /proc/PID/maps shows a mapping."""
+    """A range of addresses of a process with pages of a segment, as a line of /proc/PID/maps shows a
+    mapping."""
     base: int          # its address
     segment: int       # the identifier of its segment
     first_page: int    # the page of the segment that lies at the address
@@ -205,8 +214,8 @@ def out_of(what: str, value: int, least: int, most: int, show: Callable[[int], s
 
 def _number(value: Any, most: int, what: str, least: int = 0, show: Callable[[int], str] = str,
             told: Optional[Tuple[int, int]] = None) -> int:
-    """The number, if it is in the range; ctypes would truncate it silently. `told` is the range that the message names, if the
-    library itself refuses the rest."""
+    """The number, if it is in the range; ctypes would truncate it silently. `told` is the range that the
+    message names, if the library itself refuses the rest."""
     try:
         value = operator.index(value)
     except TypeError:
@@ -217,7 +226,8 @@ def _number(value: Any, most: int, what: str, least: int = 0, show: Callable[[in
 
 
 def _pid(value: Any, what: str = "pid") -> int:
-    """A pid as C has it. For one that no process can have the library returns a code, as ESRCH for example."""
+    """A pid as C has it. For one that no process can have the library returns a code, as ESRCH for
+    example."""
     return _number(value, U32, what, told=(1, I32))
 
 
@@ -226,7 +236,8 @@ def _mode(value: Any, most: int = 0o777) -> int:
 
 
 def _truth(value: Any, what: str) -> int:
-    """A truth value as C has it. Another type, such as a text, is a mistake, although Python would find it true."""
+    """A truth value as C has it. Another type, such as a text, is a mistake, although Python would find it
+    true."""
     if not isinstance(value, (bool, int)):
         raise _wrong_type(what, "True or False", value)
     return int(bool(value))
@@ -267,7 +278,8 @@ def _segment(struct: low.SegmentStruct) -> Segment:
 
 # the ranges of the limits, in the profile and in a larger machine
 PROFILE = {"shmmax": (1, 2 ** 24), "shmmni": (1, 4096), "shmall": (1, 65536), "frames": (2, 4096)}
-LARGER = {"shmmax": (1, 2 ** 40), "shmmni": (1, 32768), "shmall": (1, 2 ** 28), "frames": (2, 2 ** 24), "most_pieces": (1, 65530),
+LARGER = {"shmmax": (1, 2 ** 40), "shmmni": (1, 32768), "shmall": (1, 2 ** 28), "frames": (2, 2 ** 24),
+          "most_pieces": (1, 65530),
           "most_processes": (1, 32768), "most_slots": (1, 2 ** 28)}
 SIZES = ("most_pieces", "most_processes", "most_slots")
 BAD_LIMIT, BAD_AREAS, BAD_AREA_SIZE, BAD_PROCESSES, BAD_PID = 2010, 2021, 2022, 2023, 2024
@@ -310,7 +322,8 @@ def why_not_opened(code: int, limits: Limits, areas: Sequence[Area], processes: 
         wrong = ((place, it.slots) for place, it in enumerate(areas) if not 1 <= it.slots <= most)
         return next((out_of(f"areas[{place}]: slots", slots, 1, most) for place, slots in wrong), "")
     if code == BAD_PROCESSES:
-        return out_of("the number of processes", len(processes), 0, limits.most_processes if _is_larger(limits) else MOST_PROCESSES)
+        return out_of("the number of processes", len(processes), 0,
+                      limits.most_processes if _is_larger(limits) else MOST_PROCESSES)
     if code == BAD_PID:
         pids = [it.pid for it in processes]
         outside = next((pid for pid in pids if not 1 <= pid <= I32), None)
@@ -320,7 +333,8 @@ def why_not_opened(code: int, limits: Limits, areas: Sequence[Area], processes: 
 
 
 def _check_areas(areas: Sequence[Area]) -> None:
-    """Refuses a kind that does not exist, and a failure of a side that the area does not have, or of call 0."""
+    """Refuses a kind that does not exist, and a failure of a side that the area does not have, or of call
+    0."""
     for place, area in enumerate(areas):
         _number(area.kind, MIRROR, f"areas[{place}]: kind", 1)
         for number, it in enumerate(_items(area.failures, Failure, f"areas[{place}]: failures")):
@@ -331,14 +345,16 @@ def _check_areas(areas: Sequence[Area]) -> None:
 
 
 def _process(it: Process) -> low.ProcessStruct:
-    return low.ProcessStruct(_pid(it.pid), _truth(it.is_born, "is_born"), _number(it.uid, U32, "uid"), _number(it.gid, U32, "gid"))
+    return low.ProcessStruct(_pid(it.pid), _truth(it.is_born, "is_born"), _number(it.uid, U32, "uid"),
+                             _number(it.gid, U32, "gid"))
 
 
 class Machine:
-    """A machine. It is open until `close` or the end of its `with` block. Only one thread at a time may call it.
+    """A machine. It is open until `close` or the end of its `with` block. Only one thread at a time may call
+    it.
 
-    Every call takes the pid of the process that makes it. A refused call raises `Refused`, `SegmentationFault`,
-    `BusError` or a `MachineError`, and changes nothing that a process can see.
+    Every call takes the pid of the process that makes it. A refused call raises `Refused`,
+    `SegmentationFault`, `BusError` or a `MachineError`, and changes nothing that a process can see.
     """
 
     def __init__(self, limits: Optional[Limits] = None, areas: Iterable[Area] = (Area(2, 65536),),
@@ -351,23 +367,28 @@ class Machine:
         areas, processes = _items(areas, Area, "areas"), _items(processes, Process, "processes")
         _check_areas(areas)
         failures = [(place, failure) for place, area in enumerate(areas) for failure in area.failures]
-        their_limits = low.LimitsStruct(*(_number(getattr(limits, name), U64, name, told=_told_range(limits, name))
+        their_limits = low.LimitsStruct(*(_number(getattr(limits, name), U64, name,
+                                                  told=_told_range(limits, name))
                                           for name, _ in low.LimitsStruct._fields_))
         most = limits.most_slots or MOST_SLOTS
         their_areas = (low.AreaStruct * len(areas))(
-            *((it.kind, _number(it.slots, U32, f"areas[{place}]: slots", told=(1, most))) for place, it in enumerate(areas)))
+            *(low.AreaStruct(it.kind, _number(it.slots, U32, f"areas[{place}]: slots", told=(1, most)))
+              for place, it in enumerate(areas)))
         their_failures = (low.FailureStruct * len(failures))(
-            *((place, it.side, int(it.is_write), 0, it.call) for place, it in failures))
+            *(low.FailureStruct(place, it.side, int(it.is_write), 0, it.call) for place, it in failures))
         their_processes = (low.ProcessStruct * len(processes))(*map(_process, processes))
-        code = self._library.functions.nog_open(byref(self._machine), byref(their_limits), their_areas, len(areas), their_failures,
+        code = self._library.functions.nog_open(byref(self._machine), byref(their_limits), their_areas,
+                                                len(areas), their_failures,
                                                 len(failures), their_processes, len(processes))
         if code:
-            raise self._library.error(code, "nog_open", why_not_opened(code, limits, areas, processes))  # type: ignore[misc]
+            why = why_not_opened(code, limits, areas, processes)
+            raise self._library.error(code, "nog_open", why)  # type: ignore[misc]
 
     @classmethod
     def from_script(cls, text: str, swap: Union[str, Sequence[str]] = "ram:64") -> "Machine":
-        """Opens the machine that a script declares, over the swap areas that `swap` names, and makes its calls in the
-        order of its lines. A refused call of the script raises nothing; `nogcuvema.script.Run` gives the replies."""
+        """Opens the machine that a script declares, over the swap areas that `swap` names, and makes its
+        calls in the order of its lines. A refused call of the script raises nothing; `nogcuvema.script.Run`
+        gives the replies."""
         from .script import Run, areas_of, read_script
         if not isinstance(text, (str, bytes)):
             raise _wrong_type("text", "a script's text", text)
@@ -457,25 +478,29 @@ class Machine:
         self._call("nog_store", _pid(pid), _number(addr, U64, "addr"), room, length)
 
     def add(self, pid: int, addr: int, number: int) -> int:
-        """Adds to an eight-byte little-endian number, modulo 2^64, in one step. Returns the number before the addition."""
+        """Adds to an eight-byte little-endian number, modulo 2^64, in one step. Returns the number before the
+        addition."""
         before = c_uint64()
-        self._call("nog_add", _pid(pid), _number(addr, U64, "addr"), _number(number, U64, "number"), byref(before))
+        self._call("nog_add", _pid(pid), _number(addr, U64, "addr"), _number(number, U64, "number"),
+                   byref(before))
         return before.value
 
     def exchange(self, pid: int, addr: int, data: Buffer) -> bytes:
-        """Replaces 1 to 64 bytes in one step (a guest's locked exchange). Returns the bytes that were there before."""
+        """Replaces 1 to 64 bytes in one step (a guest's locked exchange). Returns the bytes that were there
+        before."""
         room, length = _room(data, most=MOST_BYTES)
         before = (c_uint8 * length)()
         self._call("nog_exchange", _pid(pid), _number(addr, U64, "addr"), room, length, before, length)
         return bytes(before)
 
     def compare_exchange(self, pid: int, addr: int, expected: Buffer, data: Buffer) -> bytes:
-        """Like `exchange`, but replaces the bytes only if they are the expected ones. Returns the bytes that were there before: they
-        were replaced exactly when they are equal to the expected ones."""
+        """Like `exchange`, but replaces the bytes only if they are the expected ones. Returns the bytes that
+        were there before: they were replaced exactly when they are equal to the expected ones."""
         room, length = _room(data, most=MOST_BYTES)
         wanted, size = _room(expected, "expected", MOST_BYTES)
         if size != length:
-            raise OutOfRange(OUT_OF_RANGE, f"the length of expected {size} is not that of data, {length}", "nogcuvema")
+            raise OutOfRange(OUT_OF_RANGE, f"the length of expected {size} is not that of data, {length}",
+                             "nogcuvema")
         before = (c_uint8 * length)()
         self._call("nog_compare_exchange", _pid(pid), _number(addr, U64, "addr"), wanted, size, room, length,
                    before, length)
@@ -506,7 +531,8 @@ class Machine:
         struct = _process(process)
         code = self._library.functions.nog_admit(byref(self._machine), byref(struct))
         if code:
-            told = {ADMIT_BAD_PID: out_of("pid", process.pid, 1, I32), ADMIT_TAKEN: f"pid {process.pid}"}.get(code, "")
+            told = {ADMIT_BAD_PID: out_of("pid", process.pid, 1, I32),
+                    ADMIT_TAKEN: f"pid {process.pid}"}.get(code, "")
             told = f"there are {len(self.processes())} already" if code == ADMIT_MANY else told
             raise self._library.error(code, "nog_admit", told)  # type: ignore[misc]
 
@@ -515,25 +541,30 @@ class Machine:
         self._call("nog_dismiss", _pid(pid))
 
     def set_user(self, pid: int, uid: int, gid: int) -> None:
-        """Sets the effective user and group of a live process, as setuid(2) and setgid(2) do. Its pieces stay."""
+        """Sets the effective user and group of a live process, as setuid(2) and setgid(2) do. Its pieces
+        stay."""
         self._call("nog_set_user", _pid(pid), _number(uid, U32, "uid"), _number(gid, U32, "gid"))
 
     def set_time(self, time: int) -> None:
-        """From now on, calls set this number as the time. Before the first `set_time`, the time of a call is its place."""
+        """From now on, calls set this number as the time. Before the first `set_time`, the time of a call is
+        its place."""
         self._call("nog_set_time", _number(time, U64, "time"))
 
     def unmap(self, pid: int, addr: int, length: int) -> None:
-        """munmap: unmaps a range of a process, rounded up to whole pages. Pieces that extend beyond it are cut."""
+        """munmap: unmaps a range of a process, rounded up to whole pages. Pieces that extend beyond it are
+        cut."""
         self._call("nog_unmap", _pid(pid), _number(addr, U64, "addr"), _number(length, U64, "length"))
 
     def protect(self, pid: int, addr: int, length: int, is_writable: bool) -> None:
-        """mprotect: makes a range of a process, rounded up to whole pages, writable or read-only. If it is refused with
-        ENOMEM or EACCES, pages below the refused one may have changed, as on Linux. Raises `Spent` after 2^64 - 1 calls."""
+        """mprotect: makes a range of a process, rounded up to whole pages, writable or read-only. If it is
+        refused with ENOMEM or EACCES, pages below the refused one may have changed, as on Linux. Raises
+        `Spent` after 2^64 - 1 calls."""
         self._call("nog_protect", _pid(pid), _number(addr, U64, "addr"), _number(length, U64, "length"),
                    _truth(is_writable, "is_writable"))
 
     def snapshot(self) -> "Machine":
-        """A second machine with the same state, memory and swap areas. The two are independent from then on."""
+        """A second machine with the same state, memory and swap areas. The two are independent from then
+        on."""
         copy = Machine.__new__(Machine)
         copy._library, copy._machine = self._library, low.MachineStruct()
         self._call("nog_snapshot", byref(copy._machine))
@@ -565,14 +596,14 @@ class Machine:
         return self._access("nog_read", pid, addr, room, len(view))
 
     def write(self, pid: int, addr: int, data: Buffer) -> int:
-        """Writes bytes by one store for each page. Raises `Incomplete` if a store after the first is refused; earlier stores
-        remain."""
+        """Writes bytes by one store for each page. Raises `Incomplete` if a store after the first is refused;
+        earlier stores remain."""
         room, length = _room(data)
         return self._access("nog_write", pid, addr, room, length)
 
     def copy(self, pid: int, addr: int, to: int, to_addr: int, length: int) -> int:
-        """Copies bytes from a process to another, or to the same one; the ranges may overlap. Returns their number. Raises
-        `Incomplete` if some bytes were copied before it was refused."""
+        """Copies bytes from a process to another, or to the same one; the ranges may overlap. Returns their
+        number. Raises `Incomplete` if some bytes were copied before it was refused."""
         done = c_uint64()
         try:
             self._call("nog_copy", _pid(pid), _number(addr, U64, "addr"), _pid(to, "to"),
@@ -608,7 +639,8 @@ class Machine:
         return Tally(**{name: getattr(struct, name) for name, _ in struct._fields_})
 
     def segments(self) -> List[Segment]:
-        """All segments in the order of their indexes, including those marked for removal, without a permission check."""
+        """All segments in the order of their indexes, including those marked for removal, without a
+        permission check."""
         indexes, found = c_uint32(), []
         self._call("nog_indexes", byref(indexes))
         for index in range(indexes.value):
@@ -631,29 +663,33 @@ class Machine:
 
     def pieces(self, pid: int) -> List[Piece]:
         """The pieces of a live process in the order of their addresses, as /proc/PID/maps lists mappings."""
-        pid, found, struct = _pid(pid), [], low.PieceStruct()
+        pid, struct = _pid(pid), low.PieceStruct()
+        found: List[Piece] = []
         while self._has("nog_piece_at", pid, len(found), byref(struct)):
-            found.append(Piece(struct.base, struct.segment, struct.first_page, struct.pages, bool(struct.is_writable),
+            found.append(Piece(struct.base, struct.segment, struct.first_page, struct.pages,
+                               bool(struct.is_writable),
                                bool(struct.may_write)))
         return found
 
     def processes(self) -> List[ProcessEntry]:
         """All processes: live ones, children that are not born, and ended ones that were not dismissed."""
-        found, struct = [], low.ProcessStruct()
+        struct = low.ProcessStruct()
+        found: List[ProcessEntry] = []
         while self._has("nog_process_at", len(found), byref(struct)):
             found.append(ProcessEntry(struct.pid, State(struct.is_born), struct.uid, struct.gid))
         return found
 
     def failed_at(self, pid: int, addr: int, length: int, is_write: bool = False) -> Optional[int]:
-        """The address of the first byte at which an access of these bytes would get SIGSEGV: it is not attached, or not for
-        writing. None if each byte is attached as the access needs."""
+        """The address of the first byte at which an access of these bytes would get SIGSEGV: it is not
+        attached, or not for writing. None if each byte is attached as the access needs."""
         at = c_uint64()
-        operands = (_pid(pid), _number(addr, U64, "addr"), _number(length, U64, "length"), _truth(is_write, "is_write"))
+        operands = (_pid(pid), _number(addr, U64, "addr"), _number(length, U64, "length"),
+                    _truth(is_write, "is_write"))
         return at.value if self._has("nog_failed_at", *operands, byref(at)) else None
 
     def absent_at(self, pid: int, addr: int, length: int) -> Optional[int]:
-        """Call it right after a `BusError`: the address of the access's first byte whose page is in no frame, if each byte before it
-        is attached. None if there is no such byte."""
+        """Call it right after a `BusError`: the address of the access's first byte whose page is in no frame,
+        if each byte before it is attached. None if there is no such byte."""
         at = c_uint64()
         operands = (_pid(pid), _number(addr, U64, "addr"), _number(length, U64, "length"))
         return at.value if self._has("nog_absent_at", *operands, byref(at)) else None

@@ -14,7 +14,8 @@ RAM, MIRROR = 1, 3
 def most_moments(limits: Limits, areas: Sequence[Area]) -> int:
     """How many moments `undo` keeps: at most 100, and fewer for a machine of many pages."""
     sides = {RAM: 1, MIRROR: 2}
-    pages = limits.frames + sum(min(it.slots, limits.shmall) if it.kind not in sides else it.slots * sides[it.kind] for it in areas)
+    pages = limits.frames + sum(min(it.slots, limits.shmall) if it.kind not in sides
+                                else it.slots * sides[it.kind] for it in areas)
     return min(MOST_MOMENTS, MOST_PAGES // pages)
 
 
@@ -40,7 +41,8 @@ class Moment:
 
     def script(self) -> Script:
         script = Script()
-        script.limits, script.processes, script.lines = self.limits, list(self.processes), self.lines[:self.line_count]
+        script.limits, script.processes = self.limits, list(self.processes)
+        script.lines = self.lines[:self.line_count]
         return script
 
     def run(self, script: Script) -> Optional[Run]:

@@ -12,12 +12,13 @@ from .machine import Area, Failure, Flag, Limits, Machine, Process, Segment, chi
 
 LONGEST, MOST_LINES, MOST_PROCESSES, MOST_AREAS, MOST_SLOTS = 1048576, 100000, 64, 8, 65536
 U64, U32, I32 = 2 ** 64 - 1, 2 ** 32 - 1, 2 ** 31 - 1
-LIMITS = (("SHMMAX", 1, 2 ** 24), ("SHMMNI", 1, 4096), ("SHMALL", 1, 65536), ("FRAMES", 2, 4096), ("MEMLOCK", 0, 4094))
+LIMITS = (("SHMMAX", 1, 2 ** 24), ("SHMMNI", 1, 4096), ("SHMALL", 1, 65536), ("FRAMES", 2, 4096),
+          ("MEMLOCK", 0, 4094))
 
 
 class ScriptFault(ValueError):
-    """The first fault of a script: `line` from 1 (0: the whole script), and `kind`, as the programs print it. If one word is wrong,
-    `word` and its `column` from 1. `allowed` describes what may be there."""
+    """The first fault of a script: `line` from 1 (0: the whole script), and `kind`, as the programs print it.
+    If one word is wrong, `word` and its `column` from 1. `allowed` describes what may be there."""
 
     def __init__(self, line: int, kind: str, word: str = "", column: int = 0, allowed: str = "") -> None:
         super().__init__(f"line {line}: {kind}")
@@ -127,13 +128,16 @@ def show_get_flags(value: Tuple[int, int]) -> str:
 
 
 def show_attach_flags(value: int) -> str:
-    names = [name for name, flag in (("rnd", Flag.RND), ("remap", Flag.REMAP), ("rdonly", Flag.RDONLY)) if value & flag]
+    names = [name for name,
+             flag in (("rnd", Flag.RND), ("remap", Flag.REMAP), ("rdonly", Flag.RDONLY)) if value & flag]
     return ",".join(names) or "-"
 
 
 KEY = OperandKind("private, or a number up to 4294967295", key_of, 0, U32, "0x{:08x}".format)
-IDENTIFIER = OperandKind("an identifier: a number up to 2147483647, or a variable a to z", identifier_of, 0, I32, str)
-ADDRESS = OperandKind("an address: null, a number, a variable a to z, or a variable with + and a number, as a+4096",
+IDENTIFIER = OperandKind("an identifier: a number up to 2147483647, or a variable a to z", identifier_of, 0,
+                         I32, str)
+ADDRESS = OperandKind("an address: null, a number, a variable a to z, or a variable with + and a number, as "
+                      "a+4096",
                       address_of, 0, U64, lambda value: f"{value:#x}" if value else "null")
 SIZE = OperandKind("a number", number_of, 0, U64, str)
 LENGTH = OperandKind("a length of 1 to 64", number_of, 1, 64, str)
@@ -144,7 +148,8 @@ PAGES = OperandKind("a number of pages, 1 to 4096", number_of, 1, 4096, str)
 MODE = OperandKind("a mode: three octal digits, as 600", mode_of, 0, U64, "{:03o}".format)
 GET_FLAGS = OperandKind("a mode of three octal digits, then ,creat and ,excl each at most once, as 600,creat",
                         get_flags_of, 0, U64, show_get_flags)
-ATTACH_FLAGS = OperandKind("-, or rnd, remap and rdonly with commas between them, each at most once", attach_flags_of, 0, U64,
+ATTACH_FLAGS = OperandKind("-, or rnd, remap and rdonly with commas between them, each at most once",
+                           attach_flags_of, 0, U64,
                            show_attach_flags)
 BYTES = OperandKind("1 to 64 bytes: 2 to 128 hexadecimal digits, an even number", bytes_of, 0, U64, bytes.hex)
 
@@ -213,20 +218,25 @@ class Script:
     def _read(self, number: int, text: str) -> Optional[Union[Command, FlushLine]]:
         for place, letter in enumerate(text):
             if letter != "\t" and not " " <= letter <= "~":
-                cause = "a carriage return: lines end with a line feed alone" if letter == "\r" else "tabs and 0x20 to 0x7e"
+                cause = ("a carriage return: lines end with a line feed alone" if letter == "\r"
+                         else "tabs and 0x20 to 0x7e")
                 raise _Bad("bad byte", Word(letter, place + 1), cause)
         words = words_of(text)
         if not words or words[0].text.startswith("#"):
             return None
         if self.limits is None:
             if words[0].text != "limits":
-                raise _Bad("no limits line", words[0], "limits SHMMAX SHMMNI SHMALL FRAMES MEMLOCK, the first line with words")
+                raise _Bad("no limits line", words[0],
+                           "limits SHMMAX SHMMNI SHMALL FRAMES MEMLOCK, the first line with words")
             self.limits = read_limits(words)
             return None
         if words[0].text in ("process", "child"):
             self._declare(words)
             return None
-        line = self._read_flush(number, words) if words[0].text == "0" else self._read_command(number, words)
+        is_flush = words[0].text == "0"
+        line: Union[Command,
+                    FlushLine] = (self._read_flush(number, words) if is_flush
+                                  else self._read_command(number, words))
         if len(self.lines) >= MOST_LINES:
             raise _Bad("too many lines", words[0], "100,000 commands and flush lines at most")
         self.lines.append(line)
@@ -246,23 +256,28 @@ class Script:
 
     def _read_flush(self, number: int, words: List[Word]) -> FlushLine:
         if len(words) < 2 or words[1].text != "flush":
-            raise _Bad("bad line", words[1] if len(words) > 1 else words[0], "flush N: 0 is no process, and its one line is 0 flush N")
+            raise _Bad("bad line", words[1] if len(words) > 1 else words[0],
+                       "flush N: 0 is no process, and its one line is 0 flush N")
         return FlushLine(number, read_operands(words, 2, [PAGES], "0 flush N")[0])
 
     def _read_command(self, number: int, words: List[Word]) -> Command:
-        pid = read_form(words[0], PID._replace(allowed="the pid of a process, or limits, process, child or 0 flush N"))
-        is_taken = len(words) > 2 and words[2].text == "=" and re.fullmatch("[a-z]", words[1].text) is not None
+        pid = read_form(words[0],
+                        PID._replace(allowed="the pid of a process, or limits, process, child or 0 flush N"))
+        is_letter = len(words) > 1 and re.fullmatch("[a-z]", words[1].text) is not None
+        is_taken = is_letter and len(words) > 2 and words[2].text == "="
         at = 3 if is_taken else 1
         if len(words) <= at or words[at].text not in CALLS:
             raise _Bad("bad line", words[at] if len(words) > at else words[-1], "a call: " + ", ".join(CALLS))
         call = words[at].text
         if is_taken and call not in TAKEN:
-            raise _Bad("bad line", words[at], "shmget, shmat or xadd: other calls have no answer for a variable")
+            raise _Bad("bad line", words[at],
+                       "shmget, shmat or xadd: other calls have no answer for a variable")
         values = read_operands(words, at + 1, [kind for _, kind in CALLS[call]], form_of(call))
         read_range(words[0], PID, pid)
         for value, word in ((pid, words[0]), *([(values[0], words[at + 1])] if call == "fork" else [])):
             if not self.is_declared(value):
-                raise _Bad("unknown process", word, "a declared pid: " + ", ".join(str(it.pid) for it in self.processes))
+                raise _Bad("unknown process", word,
+                           "a declared pid: " + ", ".join(str(it.pid) for it in self.processes))
         return Command(number, pid, words[1].text if is_taken else "", call, tuple(values))
 
 
@@ -281,14 +296,16 @@ def read_range(word: Word, kind: OperandKind, value: Any) -> None:
     number, most = (value.plus, U64) if isinstance(value, Variable) else (value, kind.most)
     least = 0 if isinstance(value, Variable) else kind.least
     if isinstance(number, int) and not least <= number <= most:
-        raise _Bad("bad number", word, kind.allowed if kind.most != U64 else "a number up to 18446744073709551615")
+        raise _Bad("bad number", word,
+                   kind.allowed if kind.most != U64 else "a number up to 18446744073709551615")
 
 
 def read_operands(words: List[Word], at: int, kinds: Sequence[OperandKind], form: str) -> List[Any]:
     """The operands from a place on. It checks all forms before any range."""
     if len(words) != at + len(kinds):
         extra = words[at + len(kinds)] if len(words) > at + len(kinds) else words[-1]
-        raise _Bad("bad line", extra, f"{form}: {len(kinds)} operands, and {max(0, len(words) - at)} are there")
+        raise _Bad("bad line", extra,
+                   f"{form}: {len(kinds)} operands, and {max(0, len(words) - at)} are there")
     values = [read_form(word, kind) for word, kind in zip(words[at:], kinds)]
     for word, kind, value in zip(words[at:], kinds, values):
         read_range(word, kind, value)
@@ -318,7 +335,8 @@ def read_script(text: Union[str, bytes]) -> Script:
     for number, line in enumerate(lines, 1):
         script.read_line(number, line)
     if script.limits is None:
-        raise ScriptFault(1, "no limits line", allowed="limits SHMMAX SHMMNI SHMALL FRAMES MEMLOCK, the first line with words")
+        raise ScriptFault(1, "no limits line",
+                          allowed="limits SHMMAX SHMMNI SHMALL FRAMES MEMLOCK, the first line with words")
     return script
 
 
@@ -333,7 +351,8 @@ def areas_of(swap: Union[str, Sequence[str]]) -> List[Area]:
         slots = int(found[2]) if found else 0
         if not found or (found[1] == "fuse") != (found[3] is not None) or not 1 <= slots <= MOST_SLOTS or (
                 found[3] and not 1 <= int(found[4]) <= U64):
-            raise ValueError(f"no swap area: {word}: it is ram:N, sparse:N, mirror:N, fuse:N:rK or fuse:N:wK, N from 1 to 65536")
+            raise ValueError(f"no swap area: {word}: it is ram:N, sparse:N, mirror:N, fuse:N:rK or "
+                             f"fuse:N:wK, N from 1 to 65536")
         failures = [Failure(int(found[4]), found[3] == "w")] if found[3] else []
         areas.append({"sparse": Area.sparse, "mirror": Area.mirror}.get(found[1], Area.ram)(slots, failures))
     if not 1 <= len(areas) <= MOST_AREAS:
@@ -348,14 +367,16 @@ def status_of(segment: Segment) -> str:
 def show_segment(it: Segment) -> str:
     """What a stat's event line says of a segment."""
     return (f"key=0x{it.key:08x} uid={it.uid} gid={it.gid} cuid={it.cuid} cgid={it.cgid} mode={it.mode:03o} "
-            f"status={status_of(it)} size={it.size} cpid={it.cpid} lpid={it.lpid} nattch={it.nattch} atime={it.atime} "
+            f"status={status_of(it)} size={it.size} cpid={it.cpid} lpid={it.lpid} nattch={it.nattch} "
+            f"atime={it.atime} "
             f"dtime={it.dtime} ctime={it.ctime}")
 
 
 def listing(machine: Machine) -> str:
     """The lines of all segments, as the programs print them."""
     lines = [f"{'key':<10} {'shmid':<10} {'owner':<10} {'perms':<10} {'bytes':<10} {'nattch':<10} status"]
-    lines += [f"0x{it.key:08x} {it.id:<10} {it.uid:<10} {it.mode:03o}        {it.size:<10} {it.nattch:<10} {status_of(it)}"
+    lines += [f"0x{it.key:08x} {it.id:<10} {it.uid:<10} {it.mode:03o}        {it.size:<10} {it.nattch:<10} "
+              f"{status_of(it)}"
               for it in machine.segments()]
     return "".join(line + "\n" for line in lines)
 
@@ -381,7 +402,8 @@ class Run:
         return cls(Machine(script.limits, areas, script.processes), script)
 
     def steps(self) -> Iterator[str]:
-        """Runs the script's lines in their order. Yields the event line of each call; a flush round has none."""
+        """Runs the script's lines in their order. Yields the event line of each call; a flush round has
+        none."""
         for line in self.script.lines:
             event = self.step(line)
             if event:
@@ -392,7 +414,8 @@ class Run:
         if isinstance(line, FlushLine):
             self.machine.flush(line.pages)
             return ""
-        values = [self._value(line.pid, value, kind) for value, (_, kind) in zip(line.operands, CALLS[line.call])]
+        values = [self._value(line.pid, value, kind) for value,
+                  (_, kind) in zip(line.operands, CALLS[line.call])]
         shown = [kind.show(value) for value, (_, kind) in zip(values, CALLS[line.call])]
         place = self.machine.calls() + 1
         try:
@@ -426,8 +449,10 @@ class Run:
         if line.call == "stat":
             return 0, show_segment(machine.stat(pid, *values))
         others: Dict[str, Callable[..., None]] = {
-            "shmdt": machine.detach, "store": machine.store, "set": machine.set, "rmid": machine.remove, "lock": machine.lock,
-            "unlock": machine.unlock, "fork": machine.fork, "exec": machine.exec, "exit": machine.exit, "swapoff": machine.swapoff}
+            "shmdt": machine.detach, "store": machine.store, "set": machine.set, "rmid": machine.remove,
+            "lock": machine.lock,
+            "unlock": machine.unlock, "fork": machine.fork, "exec": machine.exec, "exit": machine.exit,
+            "swapoff": machine.swapoff}
         others[line.call](pid, *values)
         return 0, "ok"
 

@@ -1,4 +1,7 @@
 """What is said of a script's fault, and of what is allowed and seldom meant."""
+
+from __future__ import annotations
+
 import os
 import subprocess
 import sys
@@ -26,7 +29,7 @@ NEAREST = (
 
 
 class Explained(unittest.TestCase):
-    def test_nearest_forms(self):
+    def test_nearest_forms(self) -> None:
         for line, column, near in NEAREST:
             with self.subTest(line):
                 told = explain(HEAD + line + "\n")
@@ -34,27 +37,32 @@ class Explained(unittest.TestCase):
                 self.assertIn("nearest form: ", told[-1])
                 self.assertIn(near, told[-1])
 
-    def test_the_word_is_marked(self):
+    def test_the_word_is_marked(self) -> None:
         told = explain(HEAD + "1\ts = shmgt private 4096 600\n")
-        self.assertEqual(told[:3], ["line 4, column 7: bad line", "    1\ts = shmgt private 4096 600", "     \t    ^^^^^"])
+        self.assertEqual(told[:3], ["line 4, column 7: bad line", "    1\ts = shmgt private 4096 600",
+                                    "     \t    ^^^^^"])
         self.assertIn("allowed here: a call: shmget, shmat", told[3])
 
-    def test_no_form_is_near(self):
+    def test_no_form_is_near(self) -> None:
         self.assertNotIn("nearest", "".join(explain(HEAD + "1 frobnicate\n")))
         self.assertEqual(explain("")[0], "line 1: no limits line")
 
-    def test_variables_that_are_not_set(self):
-        script = HEAD + "1 shmat s null -\n1 s = shmget private 1 600\n1 a = shmat s null -\n1 fork 2\n2 load a+1 1\n2 load a 1\n2 stat b\n"
+    def test_variables_that_are_not_set(self) -> None:
+        script = (HEAD + "1 shmat s null -\n1 s = shmget private 1 600\n1 a = shmat s null -\n1 fork 2\n"
+                  "2 load a+1 1\n2 load a 1\n2 stat b\n")
         first, second, third = explain(script)
-        self.assertIn("line 4: variable s of process 1 is used before it is set: it is 0, which names the first segment", first)
+        self.assertIn("line 4: variable s of process 1 is used before it is set: it is 0, which names the "
+                      "first segment", first)
         self.assertIn("line 8: variable a of process 2 is not set: process 1 set its own", second)
         self.assertIn("line 10: variable b of process 2 is used before", third)
 
-    def test_variables_that_are_set(self):
-        self.assertEqual(explain(HEAD + "1 s = shmget private 1 600\n1 a = shmat s null -\n1 load a+1 1\n1 s = xadd a 1\n1 stat s\n"), [])
+    def test_variables_that_are_set(self) -> None:
+        self.assertEqual(explain(HEAD + "1 s = shmget private 1 600\n1 a = shmat s null -\n1 load a+1 1\n1 s "
+                                        "= xadd a 1\n1 stat s\n"), [])
 
-    def test_as_a_program(self):
-        for script, status, told in ((HEAD, 0, "the script can be run\n"), (HEAD + "1 stat s\n", 0, "1 warnings"), ("x", 1, "no limits line")):
+    def test_as_a_program(self) -> None:
+        for script, status, told in ((HEAD, 0, "the script can be run\n"),
+                                     (HEAD + "1 stat s\n", 0, "1 warnings"), ("x", 1, "no limits line")):
             words = [sys.executable, "-B", "-m", "nogcuvema.explain"]
             env = {"PYTHONPATH": os.path.dirname(os.path.dirname(nogcuvema.__file__))}
             done = subprocess.run(words, input=script, capture_output=True, text=True, check=False, env=env)

@@ -1,14 +1,20 @@
-"""Scripts: faults and transcripts are those that are stored for the program; a fault's word, column and what is allowed."""
+"""Scripts: faults and transcripts are those that are stored for the program; a fault's word, column and what
+is allowed."""
+
+from __future__ import annotations
+
 import glob
 import os
 import unittest
+from collections.abc import Iterator
 
 from nogcuvema import Machine, ScriptFault, areas_of, read_script
 from nogcuvema.script import transcript
 
 TOP = os.path.dirname(os.path.dirname(os.path.dirname(os.path.dirname(os.path.abspath(__file__)))))
 HEAD = "limits 65536 16 64 4 1\nprocess 1 100 100\n"
-# each row is a line that follows the two of HEAD, the kind of its fault, the faulty word, its column, and what is allowed there
+# each row is a line that follows the two of HEAD, the kind of its fault, the faulty word, its column, and
+# what is allowed there
 FAULTS = (
     ("1 s = shmgt private 4096 600", "bad line", "shmgt", 7, "shmget"),
     ("1 s = shmget private 4096 0600", "bad line", "0600", 27, "three octal digits"),
@@ -30,22 +36,23 @@ FAULTS = (
 
 
 class Scripts(unittest.TestCase):
-    def stored(self):
-        paths = sorted(glob.glob(os.path.join(TOP, "tests", "scripts", "*", "*.shm")) + glob.glob(os.path.join(TOP, "examples", "*.shm")))
+    def stored(self) -> Iterator[tuple[str, bytes]]:
+        paths = sorted(glob.glob(os.path.join(TOP, "tests", "scripts", "*", "*.shm"))
+                       + glob.glob(os.path.join(TOP, "examples", "*.shm")))
         if not paths:
             self.skipTest("there are no stored scripts beside the package")
         for path in paths:
             with open(path, "rb") as file:
                 yield path[:-4], file.read()
 
-    def text_of(self, path, missing=""):
+    def text_of(self, path: str, missing: str = "") -> str:
         try:
             with open(path, encoding="ascii") as file:
                 return file.read()
         except FileNotFoundError:
             return missing
 
-    def test_stored_faults(self):
+    def test_stored_faults(self) -> None:
         for name, script in self.stored():
             said = ""
             try:
@@ -55,7 +62,7 @@ class Scripts(unittest.TestCase):
             with self.subTest(name):
                 self.assertEqual(said, self.text_of(name + ".err"))
 
-    def test_stored_transcripts(self):
+    def test_stored_transcripts(self) -> None:
         seen = 0
         for name, script in self.stored():
             if os.path.exists(name + ".status") or "/threads/" in name:
@@ -66,7 +73,7 @@ class Scripts(unittest.TestCase):
                 self.assertEqual(transcript(script.decode(), self.text_of(name + ".swap", "ram:64")), wanted)
         self.assertGreater(seen, 50)
 
-    def test_the_word_of_a_fault(self):
+    def test_the_word_of_a_fault(self) -> None:
         for line, kind, word, column, allowed in FAULTS:
             with self.subTest(line), self.assertRaises(ScriptFault) as caught:
                 read_script(HEAD + line + "\n")
@@ -74,18 +81,20 @@ class Scripts(unittest.TestCase):
             self.assertEqual((fault.line, fault.kind, fault.word, fault.column), (3, kind, word, column))
             self.assertIn(allowed, fault.allowed)
 
-    def test_a_machine_from_a_script(self):
-        script = HEAD + "1 s = shmget private 8192 600\n1 a = shmat s null -\n1 store a 2a\n0 flush 1\n1 load 0 1\n"
+    def test_a_machine_from_a_script(self) -> None:
+        script = (HEAD + "1 s = shmget private 8192 600\n1 a = shmat s null -\n1 store a 2a\n0 flush 1\n"
+                  "1 load 0 1\n")
         with Machine.from_script(script, ["sparse:8", "ram:1"]) as machine:
             self.assertEqual(machine.load(1, 0x40000000, 1), b"\x2a")
             self.assertEqual((machine.calls(), machine.tally().outs, machine.tally().slots), (5, 1, 9))
         self.assertRaises(ScriptFault, Machine.from_script, "limits\n")
         self.assertRaises(ValueError, Machine.from_script, HEAD, "ram:0")
 
-    def test_words_for_swap_areas(self):
+    def test_words_for_swap_areas(self) -> None:
         [area] = areas_of("fuse:3:w7")
         self.assertEqual((area.slots, [(it.call, it.is_write) for it in area.failures]), (3, [(7, True)]))
-        for words in ("", "ram", "ram:0", "ram:65537", "ram:+1", "disk:1", "fuse:1", "fuse:1:r0", "fuse:1:x1", "mirror:1:r1",
+        for words in ("", "ram", "ram:0", "ram:65537", "ram:+1", "disk:1", "fuse:1", "fuse:1:r0", "fuse:1:x1",
+                      "mirror:1:r1",
                       "fuse:1:w18446744073709551616", "ram:1 " * 9):
             self.assertRaises(ValueError, areas_of, words)
         self.assertEqual(len(areas_of("ram:1 " * 8)), 8)

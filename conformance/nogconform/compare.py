@@ -1,0 +1,128 @@
+"""Compares the answers of the program, the rules and the peer to one script."""
+
+from __future__ import annotations
+
+import re
+from dataclasses import dataclass, field, replace
+
+from nogconform.script import Case, Command, Event
+
+from .rules import STOPS, Machine, classify
+from .script import has_form, is_expected, stat_words, without_clock
+
+# calls that change nothing although they are not refused
+READS = ("load", "stat", "swapoff")
+SKIPPED = "skipped: "
+
+
+@dataclass
+class Difference:
+    command: Command
+    call: str
+    ours: str
+    theirs: str
+    rule: str = ""
+
+    def lines(self) -> list[str]:
+        source = self.command.rule or "no rule is told"
+        return [f"    line {self.command.line}: {self.call}", f"        here  {self.ours}",
+                f"        there {self.theirs}", f"        rule  {source}"]
+
+
+@dataclass
+class Result:
+    """The number of equal commands, the different ones with their rules, and those not compared with the
+    reasons."""
+
+    agree: int = 0
+    by_rule: dict[str, int] = field(default_factory=dict)
+    skipped: dict[str, int] = field(default_factory=dict)
+    # the same, but what follows a skipped command counts for that one's reason
+    causes: dict[str, int] = field(default_factory=dict)
+    different: list[Difference] = field(default_factory=list)
+    first_rule: str = ""
+    whole: int = 0
+
+    def skip(self, reason: str, count: int = 1, cause: str = "") -> None:
+        if count:
+            self.skipped[reason] = self.skipped.get(reason, 0) + count
+            self.causes[cause or reason] = self.causes.get(cause or reason, 0) + count
+
+    def name(self, rule: str) -> None:
+        self.by_rule[rule] = self.by_rule.get(rule, 0) + 1
+        self.first_rule = self.first_rule or rule
+
+    @property
+    def word(self) -> str:
+        if self.different:
+            return "DIFFER"
+        if self.by_rule:
+            return "profile"
+        return "agree" if self.agree else "skipped"
+
+
+def against_rules(case: Case, events: list[Event], is_linux: bool = False) -> list[Difference]:
+    """The commands whose reply is not the one that the case requires."""
+    told = [command.told(is_linux) for command in case.commands]
+    return [Difference(command, event.call, event.reply, reply)
+            for command, reply,
+            event in zip(case.commands, told, events) if not is_expected(reply, event.reply)]
+
+
+def against_peer(case: Case, events: list[Event], others: list[Event], has_clock: bool = False,
+                 has_system_limits: bool = False, is_linux: bool = False) -> Result:
+    """Compares each command of the program with the peer's, until the two are in different states. Under
+    Linux's rules only the rules that they leave can explain a difference."""
+    result = Result(whole=len(events))
+    slots = [int(word.split(":")[1]) for word in case.swap]
+    may_fail = any(word.startswith("fuse:") for word in case.swap)
+    machine = Machine(case.limits, dict(case.users), has_clock, has_system_limits=has_system_limits,
+                      areas=slots,
+                      may_fail=may_fail, is_linux=is_linux)
+    for index, (command, event, other) in enumerate(zip(case.commands, events, others)):
+        is_alike = compare_one(result, machine, command, event, other)
+        if not is_alike:
+            cause = other.reply[len(SKIPPED):] if other.is_skipped else ""
+            result.skip("behind a difference that changes the state", len(events) - index - 1, cause)
+            break
+        machine.follow(event, other)
+    return result
+
+
+def changes_nothing(event: Event) -> bool:
+    """Whether the call was refused and changed nothing; a refused protect has changed the pages below the
+    refused one."""
+    return event.is_refused and not (event.word == "protect" and event.reply in STOPS)
+
+
+def compare_one(result: Result, machine: Machine, command: Command, event: Event, other: Event) -> bool:
+    """Counts one command. Returns whether program and peer are in the same state after it."""
+    if other.is_skipped:
+        result.skip(other.reply[len(SKIPPED):])
+        return changes_nothing(event) or event.word in READS
+    ours = event.reply if machine.has_clock else without_clock(event.reply)
+    if event.call == other.call and ours == other.reply:
+        result.agree += 1
+        return True
+    known = classify(machine, event, other, command) if event.call == other.call and has_form(other) else None
+    if known is None:
+        result.different.append(Difference(command, event.call, event.reply, other.reply))
+        return changes_nothing(event) and changes_nothing(other)
+    result.name(known[0])
+    return known[1]
+
+
+def told_events(case: Case, others: list[Event], is_linux: bool, has_clock: bool = False) -> list[Event]:
+    """The output of a program that gives each reply of the case; words of stat that the case leaves out are
+    the peer's."""
+    events = []
+    for command, other in zip(case.commands, others):
+        told = command.told(is_linux)
+        if not has_clock:
+            told = re.sub("time=[1-9][0-9]*", "time=set", told)
+        words = stat_words(other.reply)
+        if words and "=" in told:
+            words |= stat_words("key=" + words["key"] + " " + told) or {}
+            told = " ".join(f"{name}={value}" for name, value in words.items())
+        events.append(replace(other, reply=told))
+    return events

@@ -1,0 +1,653 @@
+"""Turns a trace into the commands of a script and their replies."""
+
+from __future__ import annotations
+
+import re
+from collections.abc import Iterator
+from dataclasses import dataclass, field
+from typing import Any, Union
+
+from .strace_lines import MADE_BY, Call, Thread, Trace
+from .strace_model import LAST, NEVER_ISSUED, PAGE, Attach, Memory, Piece, Process, Segment, pages_of, without
+
+ERRORS = ("EPERM", "ENOENT", "EAGAIN", "ENOMEM", "EACCES", "EEXIST", "EINVAL", "EMFILE", "ENOSPC", "EIDRM")
+CALLS = ("shmget", "shmat", "shmdt", "shmctl")
+CONTROLS = {"IPC_RMID": "rmid", "IPC_STAT": "stat", "IPC_SET": "set", "SHM_LOCK": "lock",
+            "SHM_UNLOCK": "unlock"}
+ENDS = ("+++", "superseded")
+INFORMING = ("IPC_INFO", "SHM_INFO", "SHM_STAT", "SHM_STAT_ANY")
+MAPPINGS = ("munmap", "mremap", "mprotect", "madvise", "mlock", "mlock2", "munlock", "mmap",
+            "remap_file_pages", "pkey_mprotect")
+CREDENTIALS = re.compile(r"set(re|res|fs)?[ug]id(32)?|setgroups(32)?")
+HARMLESS_ADVICE = ("MADV_NORMAL", "MADV_WILLNEED", "MADV_POPULATE_READ", "MADV_POPULATE_WRITE", "MADV_COLD",
+                   "MADV_PAGEOUT")
+FLAGS_OF_GET = {"IPC_CREAT": "creat", "IPC_EXCL": "excl"}
+FLAGS_OF_ATTACH = {"SHM_RND": "rnd", "SHM_REMAP": "remap", "SHM_RDONLY": "rdonly"}
+DEST, LOCKED = 0o1000, 0o2000
+BEFORE, HUGE = "segments from before the trace", "segments of huge pages"
+# a part of the operands of a line
+Part = Union[str, Segment, "tuple[Attach, int]"]
+NO_LIMITS = "the trace does not tell the limits that refused it"
+
+
+class LeftOut(Exception):
+    """A call that is not in the script, and why."""
+
+
+@dataclass
+class Command:
+    """A line of the script. Each part of its operands is a text, a segment, or an attach with an offset."""
+
+    process: Process
+    word: str
+    parts: list[Part]
+    shown: str                  # its operands in the log, as the trace has them
+    reply: str
+    place: float                # in the order of the trace's lines
+    first: int                  # the line where it began
+    last: int                   # the line where it ended
+    result: Segment | Attach | None = None      # the segment or attach of its reply
+    child: Process | None = None
+    # segments that lost or got an attachment
+    effects: list[tuple[Segment, int]] = field(default_factory=list)
+    call: Call | None = None    # of the trace
+    key: int = 0                # of shmget
+    is_new: bool = False
+
+    @property
+    def name(self) -> tuple[str, bool, int]:
+        """The name of its call in the trace."""
+        assert self.call is not None
+        return self.call.thread_and_line
+
+    @property
+    def is_quiet(self) -> bool:
+        return (self.word == "stat" or self.reply.startswith("E")
+                or self.word in ("shmget", "set", "lock", "unlock") and not self.is_new)
+
+    @property
+    def middle(self) -> float:
+        """The end of a process removes its attachments some time after it began."""
+        return (self.first + self.last) / 2 if self.word in ("exit", "exec") else self.first
+
+
+@dataclass
+class Notes:
+    """What was left out or changed, how often, and the first line."""
+
+    counts: dict[tuple[str, str], tuple[int, int]] = field(default_factory=dict)
+
+    def add(self, kind: str, text: str, line: int) -> None:
+        count, first = self.counts.get((kind, text), (0, line))
+        self.counts[kind, text] = (count + 1, first)
+
+    def lines(self) -> Iterator[str]:
+        for (kind, text), (count, first) in sorted(self.counts.items(),
+                                                   key=lambda it: (it[0][0] != "left out", it[1][1])):
+            yield f"{kind}: {text}: {count}, first in line {first}" if first else f"{kind}: {text}"
+
+
+def number_of(word: str) -> int:
+    """A number as strace prints it, also NULL and negative ones."""
+    if word == "NULL":
+        return 0
+    try:
+        return int(word, 8) if re.fullmatch(r"0[0-7]+", word) else int(word, 0)
+    except ValueError:
+        raise LeftOut(f"calls with an operand that is no number: {word[:20]}") from None
+
+
+def member(text: str, name: str) -> str | None:
+    """The value of a member of a structure that strace decoded."""
+    found = re.search(rf"\b{name}=([^,{{}}]*)", text)
+    return found[1].strip() if found else None
+
+
+class Tree:
+    """The tree of threads: which thread made which, and which processes they are."""
+
+    def __init__(self, trace: Trace, notes: Notes) -> None:
+        self.trace, self.notes = trace, notes
+        self.makers: dict[str, Call] = {}           # by name of the thread that was made: the call
+        self.processes: dict[str, Process] = {}     # by name of a thread
+        for call in trace.calls:
+            if call.name in MADE_BY and call.last and call.value.isdigit() and call.value != "0":
+                self.link(call, int(call.value))
+        self.link_unreturned()
+        self.taken = {thread.number for thread in trace.threads.values()}
+        used: set[int] = set()
+        for thread in trace.threads.values():
+            self.processes[thread.name] = self.process_of(thread, used)
+            self.processes[thread.name].threads.add(thread.name)
+
+    def link(self, call: Call, number: int) -> None:
+        names = self.trace.lives.get(number, [])
+        made = next((it for it in names if self.trace.threads[it].first > call.first
+                     and it not in self.makers), None)
+        if made:
+            self.makers[made] = call
+
+    def link_unreturned(self) -> None:
+        """A call that never returned may have made a thread that nothing else made."""
+        for call in self.trace.calls:
+            if call.name in MADE_BY and call.last is None:
+                made = [it for it in self.trace.threads.values() if it.name not in self.makers
+                        and it.first > call.first]
+                if made:
+                    self.makers[made[0].name] = call
+                    self.notes.add("assumed", f"{call.name} without a return made process {made[0].number}",
+                                   call.first)
+
+    def process_of(self, thread: Thread, used: set[int]) -> Process:
+        call = self.makers.get(thread.name)
+        if call is not None and kind_of(call) in ("thread", "memory") and call.thread in self.processes:
+            if kind_of(call) == "memory":
+                self.notes.add("changed", "processes that share all memory with their maker are told as it",
+                               call.first)
+            return self.processes[call.thread]
+        number = int(thread.name.split("#")[0]) or thread.number
+        pid = number
+        if pid in used or not 1 <= pid <= 2147483647:
+            pid = next(it for it in range(1, len(self.taken) + 2) if it not in self.taken)
+            self.taken.add(pid)
+            self.notes.add("changed", f"process {number or 'without a number'} is {pid} in the script",
+                           thread.first)
+        used.add(pid)
+        return Process(thread.name, pid)
+
+
+def kind_of(call: Call) -> str:
+    """What a call makes: a thread, a process that shares the memory for good or until an exec, or a process
+    with a copy."""
+    if call.name in ("fork", "vfork"):
+        return call.name
+    flags = (member(call.text, "flags") or "").split("|")
+    if "CLONE_THREAD" in flags:
+        return "thread"
+    if "CLONE_VFORK" in flags and "CLONE_VM" in flags:
+        return "vfork"
+    return "memory" if "CLONE_VM" in flags else "fork"
+
+
+class Converter:
+    """Converts a trace in one pass. `sizes` gives segments other sizes, `order` gives calls other places, and
+    the calls in `loose` may have any reply."""
+
+    def __init__(self, trace: Trace, sizes: dict[int, int] | None = None,
+                 order: dict[tuple[str, bool, int], float] | None = None,
+                 loose: set[tuple[str, bool, int]] | tuple[()] = ()) -> None:
+        self.trace, self.sizes, self.order, self.loose = trace, sizes or {}, order or {}, loose
+        self.notes = Notes()
+        self.tree = Tree(trace, self.notes)
+        self.memory = Memory()
+        self.commands: list[Command] = []
+        self.asked: set[int] = set()                # sizes that were asked for
+        self.most_size = 1          # of those not refused as wrong
+        self.users: set[tuple[int, int]] = set()    # user and group of each creator that stat shows
+        self.matter: set[str] = set()               # names of the processes that are in the script
+
+    def run(self) -> Converter:
+        self.makes = {id(call): name for name, call in self.tree.makers.items()}
+        for place, _, call in sorted(self.placed(), key=lambda it: it[:2]):
+            process = self.tree.processes[call.thread]
+            try:
+                self.take(process, call, place)
+            except LeftOut as why:
+                self.notes.add("left out", str(why), call.first)
+        self.commands = [it for it in self.commands if self.is_told(it)]
+        return self
+
+    def placed(self) -> Iterator[tuple[float, int, Call]]:
+        """The calls with their places. A place is a call's first line, because a call is made soon after
+        strace lets it continue."""
+        for index, call in enumerate(self.trace.calls):
+            made = self.makes.get(id(call))
+            if made is not None:
+                first = self.trace.threads[made].first
+                call.last = first if call.last is None else min(call.last, first)
+            if call.name in CALLS and call.last is None:
+                self.notes.add("left out", f"{call.name} without a return", call.first)
+            elif call.name not in ENDS and call.last is not None:
+                yield self.order.get(call.thread_and_line, call.first), index, call
+        own: dict[str, tuple[Process, list[Call]]] = {}
+        for call in self.trace.calls:
+            process = self.tree.processes[call.thread]
+            own.setdefault(process.name, (process, []))[1].append(call)
+        for process, calls in own.values():
+            yield from self.end_of(process, calls)
+
+    def end_of(self, process: Process, own: list[Call]) -> Iterator[tuple[float, int, Call]]:
+        """The end of a process is that of its last thread. It begins at its last call, or after it where a
+        signal ends it."""
+        ends = [it for it in own if it.name in ENDS]
+        if {it.thread for it in ends} != process.threads:
+            return
+        end = max(ends, key=lambda it: it.last or 0)
+        end_line = end.last or end.first
+        groups = [it.first for it in own if it.name == "exit_group"]
+        exits = [it.first for it in own if it.name == "exit" and it.thread == end.thread]
+        maker = self.tree.makers.get(process.name)
+        before = [it.last for it in own if it.last and it.last < end_line]
+        before = before or [(maker.last if maker else None) or end.first]
+        first = (groups or exits or [max(before)])[0]
+        place = first if groups or exits else end_line
+        whole = Call(process.name, "+++", "", first, end_line)
+        yield self.order.get(whole.thread_and_line, place), end.first, whole
+
+    def is_told(self, command: Command) -> bool:
+        if command.process.name not in self.matter:
+            return False
+        return command.child is None or command.child.name in self.matter
+
+    def size_of(self, size: int) -> int:
+        self.asked.add(size)
+        return self.sizes.get(size, size)
+
+    # each call
+
+    def take(self, process: Process, call: Call, place: float) -> None:
+        if call.name in CALLS:
+            getattr(self, "take_" + call.name)(process, call, place)
+        elif call.name in MADE_BY:
+            self.take_making(process, call, place)
+        elif call.name in ("execve", "execveat"):
+            self.take_exec(process, call, place)
+        elif call.name == "+++":
+            self.lose_all(process, call, place, "exit")
+        elif call.name in MAPPINGS:
+            self.take_mapping(process, call, place)
+        elif CREDENTIALS.fullmatch(call.name):
+            if call.value == "0":
+                self.notes.add("left out", f"{call.name}: the script has one user", call.first)
+        elif call.name not in ("exit", "exit_group"):
+            self.notes.add("left out", "calls that are none of shared memory", call.first)
+
+    def put(self, process: Process, call: Call, place: float, word: str, parts: list[Part], shown: str,
+            reply: str, **more: Any) -> None:
+        self.matter.add(process.name)
+        more |= {"effects": self.memory.take_changes(), "call": call}
+        self.commands.append(Command(process, word, parts, shown, reply, place, call.first,
+                                     call.last or call.first, **more))
+
+    @staticmethod
+    def reply_of(call: Call, good: str) -> str:
+        if not call.is_refused:
+            if call.value == "?":
+                raise LeftOut(f"{call.name} without a return")
+            return good
+        if call.error not in ERRORS:
+            raise LeftOut(f"{call.name} refused with {call.error}")
+        return call.error
+
+    def segment_of(self, word: str, call: Call) -> Segment | None:
+        """The segment of an identifier, or None if it never was one. A refusal may be about a destroyed
+        segment."""
+        identifier = number_of(word)
+        segment = self.memory.known(identifier)
+        if segment is None and not (call.is_refused and call.error in ("EINVAL", "EIDRM")):
+            raise LeftOut(f"calls on {BEFORE}")
+        if segment is not None:
+            require_told(segment)
+        return segment
+
+    def take_shmget(self, process: Process, call: Call, place: float) -> None:
+        key_word, size_word, flags_word = call.words
+        key, real_size = number_of(key_word) if key_word != "IPC_PRIVATE" else 0, number_of(size_word)
+        reply = self.reply_of(call, "?")
+        mode, flags, others = flags_of_get(flags_word)
+        found = self.memory.by_key(key)
+        is_huge = "SHM_HUGETLB" in others
+        if is_huge and call.is_refused:
+            raise LeftOut("shmget with huge pages, refused")
+        if call.is_refused and found is not None:
+            require_told(found)
+        if call.is_refused and not self.memory.had_key(key) and call.error in ("EEXIST", "EACCES"):
+            raise LeftOut("calls on keys from before the trace")
+        if call.is_refused and call.error in ("ENOMEM", "ENOSPC", "EPERM"):
+            self.notes.add("not known", f"shmget refused with {call.error}: {NO_LIMITS}, so give --limits",
+                           call.first)
+        size = self.size_of(real_size)
+        segment, created = None, self.memory.created
+        if not call.is_refused:
+            segment = self.got(call, key, size, real_size, "creat" in flags, is_huge)
+        for other in others:
+            self.notes.add("changed", f"shmget without {other}, which the script language lacks", call.first)
+        if call.error != "EINVAL" and not (found and found is segment):
+            self.most_size = max(self.most_size, size)
+        words = ",".join([f"{mode:03o}", *flags])
+        key_text = "private" if key == 0 else f"0x{key & 0xffffffff:08x}"
+        shown = f"0x{key & 0xffffffff:08x} {size} {words}"
+        self.put(process, call, place, "shmget", [f"{key_text} {size} {words}"], shown, reply, result=segment,
+                 key=key,
+                 is_new=self.memory.created > created)
+
+    def got(self, call: Call, key: int, size: int, real_size: int, may_create: bool,
+            is_huge: bool) -> Segment:
+        """The segment with the returned identifier: an existing one, or a new one."""
+        identifier = number_of(call.value)
+        segment = self.memory.known(identifier)
+        if segment is not None and (identifier in self.memory.live
+                                    or not may_create) and segment.made_key == key != 0:
+            require_told(segment)
+            return segment
+        if key != 0 and not may_create:
+            require_told(self.memory.create(identifier, key, size, real_size, BEFORE))
+        segment = self.memory.create(identifier, key, size, real_size, HUGE if is_huge else "")
+        require_told(segment)
+        return segment
+
+    def take_shmat(self, process: Process, call: Call, place: float) -> None:
+        id_word, address_word, flags_word = call.words
+        reply = self.reply_of(call, "?")
+        if not call.is_refused:
+            segment = self.memory.known(number_of(id_word))
+            if segment is None or segment.out:
+                self.attach_unseen(process, call, segment, number_of(id_word))
+        segment = self.segment_of(id_word, call)
+        flags, others = flags_of_attach(flags_word)
+        address = number_of(address_word)
+        if call.is_refused:
+            self.refused_attach(process, call, segment, address, flags, others)
+        for other in others:
+            self.notes.add("changed", f"shmat without {other}, which the script language lacks", call.first)
+        shown = f"{number_of(id_word)} {shown_address(address)} {','.join(flags) or '-'}"
+        size = pages_of(segment.real_size) * PAGE if segment else PAGE
+        rounded = address & -PAGE if "rnd" in flags else address
+        where = self.where(process, call, address, rounded, size)
+        attach = None
+        if segment and not call.is_refused:
+            attach, reply = self.attached(process, call, segment, where, rounded, size)
+        parts = [id_part(segment), " ", *where.parts, " ", ",".join(flags) or "-"]
+        self.put(process, call, place, "shmat", parts, shown, reply, result=attach)
+
+    def attach_unseen(self, process: Process, call: Call, segment: Segment | None, identifier: int) -> None:
+        """Notes an attach that the script does not have: it still replaces or occupies a range, if the
+        segment's size is known."""
+        if segment is not None:
+            size = pages_of(segment.real_size) * PAGE
+            start = number_of(call.value)
+            attach = Attach(segment, start, 0, True)
+            rest = [part for piece in process.pieces for part in without(piece, start, start + size)]
+            self.memory.put(process, [*rest, Piece(attach, 0, size)])
+            require_told(segment)
+        raise LeftOut(f"calls on {BEFORE}")
+
+    def refused_attach(self, process: Process, call: Call, segment: Segment | None, address: int,
+                       flags: list[str], others: list[str]) -> None:
+        """Leaves out a refusal whose cause the script's machine does not have."""
+        if call.error == "EACCES" and "SHM_EXEC" in others:
+            raise LeftOut("shmat with SHM_EXEC, refused with EACCES")
+        if call.error == "ENOMEM" and address == 0:
+            raise LeftOut(f"shmat refused with ENOMEM: {NO_LIMITS}")
+        start = address & -PAGE
+        is_aligned = start == address or "rnd" in flags
+        if call.error != "EINVAL" or segment is None:
+            return
+        if self.memory.live.get(segment.identifier) is not segment:
+            return
+        is_free = process.at(start, start + pages_of(segment.real_size) * PAGE) is None
+        if address and is_aligned and "remap" not in flags and is_free and start >= 0x10000 and start < LAST:
+            raise LeftOut("shmat refused where other memory of the process is")
+
+    def where(self, process: Process, call: Call, address: int, rounded: int, size: int) -> Place:
+        """The address in the script: that of the attach at this address, or the trace's own."""
+        if address == 0:
+            return Place(None, 0, ["null"])
+        piece = process.at(rounded, rounded + size)
+        if piece is None or piece.attach.segment.out:
+            return Place(None, address, [f"0x{address:x}"])
+        offset = address - piece.attach.address
+        most = pages_of(piece.attach.segment.size) * PAGE
+        if offset >= most > 0:
+            self.notes.add("changed", "addresses beyond the smaller size of a segment", call.first)
+            offset %= PAGE
+        number = piece.attach.number + offset
+        if offset < 0 or piece.attach.is_literal:
+            return Place(piece, number, [f"0x{number:x}"])
+        return Place(piece, number, [(piece.attach, offset)])
+
+    def attached(self, process: Process, call: Call, segment: Segment, where: Place, rounded: int,
+                 size: int) -> tuple[Attach, str]:
+        """Adds the pieces of a successful attach. Returns the attach and its reply."""
+        start = number_of(call.value)
+        if where.parts == ["null"]:
+            machine, is_literal = process.gap(pages_of(segment.size) * PAGE), False
+        else:
+            machine = where.number - (where.number % PAGE)
+            is_literal = where.piece is None or where.piece.attach.is_literal
+        attach = Attach(segment, start, machine, is_literal)
+        rest = [part for piece in process.pieces for part in without(piece, start, start + size)]
+        self.memory.put(process, [*rest, Piece(attach, 0, size)])
+        return attach, f"0x{machine:x}" if is_literal else "?"
+
+    def take_shmdt(self, process: Process, call: Call, place: float) -> None:
+        address = number_of(call.words[0])
+        reply = self.reply_of(call, "ok")
+        pieces = process.of_origin(address)
+        shown = shown_address(address)
+        if not pieces:
+            if not call.is_refused:
+                raise LeftOut("shmdt of attachments that the trace does not tell")
+            if any(it.attach.number == address for it in process.pieces):
+                raise LeftOut("shmdt of an address where the script has an attachment")
+            self.put(process, call, place, "shmdt", [shown], shown, reply)
+            return
+        attach = min(pieces, key=lambda it: it.start).attach
+        self.detach(process, call, attach)
+        require_told(attach.segment)
+        self.put(process, call, place, "shmdt", [address_part(attach)], shown, reply)
+
+    def detach(self, process: Process, call: Call, attach: Attach) -> None:
+        if not call.is_refused:
+            gone = [it for it in process.of_origin(attach.address) if it.attach.segment is attach.segment]
+            self.memory.put(process, [it for it in process.pieces if it not in gone])
+
+    def take_shmctl(self, process: Process, call: Call, place: float) -> None:
+        id_word, command, *rest = call.words
+        name = command.removeprefix("IPC_64|")
+        if name not in CONTROLS:
+            known = name if name in INFORMING else "with a command that is none"
+            raise LeftOut(f"shmctl {known}")
+        reply = self.reply_of(call, "ok")
+        word = CONTROLS[name]
+        unseen = self.memory.live.get(number_of(id_word))
+        if word == "rmid" and not call.is_refused and unseen and unseen.out:
+            self.memory.remove(unseen)
+            require_told(unseen)
+        segment = self.segment_of(id_word, call)
+        operands = ""
+        if word == "set":
+            operands = set_operands(rest[0])
+        if word == "lock" and call.error in ("ENOMEM", "EPERM"):
+            self.notes.add("not known", f"lock refused with {call.error}: {NO_LIMITS}, so give --limits",
+                           call.first)
+        if not call.is_refused:
+            if word == "stat" and segment:
+                reply = self.stat_reply(call, segment, rest[0])
+            elif word == "rmid" and segment:
+                self.memory.remove(segment)
+        self.put(process, call, place, word, [id_part(segment), operands], f"{number_of(id_word)}{operands}",
+                 reply)
+
+    def stat_reply(self, call: Call, segment: Segment, text: str) -> str:
+        if segment.is_touched:
+            self.notes.add("changed",
+                           "stat of a segment with attachments that such calls changed, so it may be any",
+                           call.first)
+            return "?"
+        if call.thread_and_line in self.loose:
+            self.notes.add("changed",
+                           "stat while a shmat overlaps, whose count is too high, so it may be any",
+                           call.first)
+            return "?"
+        told = {name: member(text, f"shm_{name}")
+                for name in ("segsz", "cpid", "lpid", "nattch", "atime", "dtime", "ctime")}
+        told |= {name: member(text, name) for name in ("uid", "gid", "cuid", "cgid", "mode", "key")}
+        names = {name: word for name, word in told.items() if word is not None}
+        if len(names) < len(told) or "..." in text:
+            self.notes.add("changed", "stat whose fields strace did not print, so they may be any",
+                           call.first)
+            return "?"
+        self.users.add((int(names["cuid"]), int(names["cgid"])))
+        mode, key = number_of_mode(names["mode"]), number_of(names["key"]) & 0xffffffff
+        status = ",".join(["dest"] * bool(mode & DEST) + ["locked"] * bool(mode & LOCKED)) or "-"
+        times = [f"{name}={'0' if names[name] == '0' else 'set'}" for name in ("atime", "dtime", "ctime")]
+        size = self.size_of(number_of(names["segsz"]))
+        users = " ".join(f"{name}={names[name]}" for name in ("uid", "gid", "cuid", "cgid"))
+        return (f"key=0x{key:08x} {users} mode={mode & 0o777:03o} status={status} size={size} "
+                f"cpid={names['cpid']} "
+                f"lpid={names['lpid']} nattch={names['nattch']} {' '.join(times)}")
+
+    # processes
+
+    def take_making(self, process: Process, call: Call, place: float) -> None:
+        made = self.makes.get(id(call))
+        kind = kind_of(call)
+        if call.is_refused:
+            raise LeftOut(f"{call.name} refused with {call.error}")
+        if kind in ("thread", "memory"):
+            if kind == "thread":
+                self.notes.add("changed", "threads, whose calls are told as those of their process",
+                               call.first)
+            return
+        if made is None:
+            if process.pieces and call.value != "?":
+                self.notes.add("left out", f"{call.name} of a process of which the trace has no line",
+                               call.first)
+            return
+        child = self.tree.processes[made]
+        child.program = process.program
+        if kind == "vfork" and process.pieces:
+            # it runs in its maker's memory until its exec, and inherits nothing
+            self.notes.add("changed",
+                           "vfork of a process with attachments: its child is a process of its own",
+                           call.first)
+            return
+        if process.pieces:
+            self.matter |= {process.name, child.name}
+        self.memory.put(child, list(process.pieces))
+        pid = str(child.pid)
+        more: dict[str, Any] = {"child": child, "effects": self.memory.take_changes(), "call": call}
+        self.commands.append(Command(process, "fork", [pid], pid, "ok", place, call.first,
+                                     call.last or call.first, **more))
+        self.take_kept(child, call, place)
+
+    def take_kept(self, child: Process, call: Call, place: float) -> None:
+        """In the script a child also inherits attachments with MADV_DONTFORK, so it begins with a shmdt of
+        them."""
+        for attach in {id(piece.attach): piece.attach
+                       for piece in child.pieces if piece.attach.stays}.values():
+            self.notes.add("changed", "a child without an attachment of MADV_DONTFORK begins by shmdt",
+                           call.first)
+            self.memory.put(child, [piece for piece in child.pieces if piece.attach is not attach])
+            if not attach.segment.out:
+                shown = shown_address(attach.address)
+                self.matter.add(child.name)
+                parts = [address_part(attach)]
+                more: dict[str, Any] = {"effects": self.memory.take_changes(), "call": call}
+                self.commands.append(Command(child, "shmdt", parts, shown, "ok", place, call.first,
+                                             call.last or call.first, **more))
+
+    def take_exec(self, process: Process, call: Call, place: float) -> None:
+        if call.value != "0":
+            return
+        maker = self.tree.makers.get(call.thread)
+        if maker is not None and kind_of(maker) == "memory":
+            raise LeftOut("exec of a process that shares all memory with its maker; its later calls are told "
+                          "as its maker's")
+        path = re.match(r'"([^"]*)"', call.words[0] if call.words else "")
+        process.program = path[1].rsplit("/", 1)[-1] if path else process.program
+        self.lose_all(process, call, place, "exec")
+
+    def lose_all(self, process: Process, call: Call, place: float, word: str) -> None:
+        """An end or an exec without attachments changes nothing, and is left out of the script."""
+        is_in_script = any(not it.attach.segment.out for it in process.pieces)
+        if process.pieces:
+            self.memory.put(process, [])
+        if is_in_script:
+            self.put(process, call, place, word, [], "", "ok")
+
+    def take_mapping(self, process: Process, call: Call, place: float) -> None:
+        """A call that may change attached memory; the language only has shmdt."""
+        words = call.words
+        if call.is_refused or len(words) < 2 or words[0] == "NULL" or not words[1].isdigit():
+            return
+        start = number_of(words[0])
+        piece = process.at(start, start + int(words[1]))
+        is_elsewhere = call.name == "mmap" and "MAP_FIXED" not in call.text
+        if piece is None or is_elsewhere or call.name == "madvise" and words[-1] in HARMLESS_ADVICE:
+            return
+        is_whole = (process.of_origin(start) == [piece]
+                    and pages_of(int(words[1])) * PAGE == piece.stop - piece.start)
+        if call.name == "munmap" and is_whole and piece.start == start and not piece.attach.segment.out:
+            self.notes.add("changed", "munmap of a whole attachment, told as shmdt", call.first)
+            self.detach(process, call, piece.attach)
+            self.put(process, call, place, "shmdt", [address_part(piece.attach)], shown_address(start), "ok")
+            return
+        for it in process.pieces:
+            if it.start < start + int(words[1]) and start < it.stop:
+                it.attach.segment.is_touched = True
+                if words[-1] in ("MADV_DONTFORK", "MADV_DOFORK"):
+                    it.attach.stays = words[-1] == "MADV_DONTFORK"
+        advice = f" {words[-1]}" if call.name == "madvise" else ""
+        raise LeftOut(f"{call.name}{advice} of attached memory; later replies may differ")
+
+
+@dataclass
+class Place:
+    """An address in the script: the piece it is in, its number and its words."""
+
+    piece: Piece | None
+    number: int
+    parts: list[Part]
+
+
+def require_told(segment: Segment) -> None:
+    if segment.out:
+        raise LeftOut(f"calls on {segment.out}")
+
+
+def id_part(segment: Segment | None) -> Part:
+    return segment if segment is not None else str(NEVER_ISSUED)
+
+
+def address_part(attach: Attach) -> Part:
+    return f"0x{attach.number:x}" if attach.is_literal else (attach, 0)
+
+
+def shown_address(address: int) -> str:
+    return f"0x{address:x}" if address else "null"
+
+
+def flags_of_get(text: str) -> tuple[int, list[str], list[str]]:
+    """The mode, the flags of the language, and the flags that it does not have."""
+    mode = 0
+    flags: list[str] = []
+    others: list[str] = []
+    for word in text.split("|"):
+        if word in FLAGS_OF_GET:
+            flags.append(FLAGS_OF_GET[word])
+        elif re.fullmatch(r"0[0-7]*", word):
+            mode |= int(word, 8)
+        else:
+            others.append(re.sub(r"^\d+<<", "", word) if "<<" in word else word)
+    return mode & 0o777, sorted(flags), others
+
+
+def flags_of_attach(text: str) -> tuple[list[str], list[str]]:
+    words = [word for word in text.split("|") if word != "0"]
+    flags = [name for flag, name in FLAGS_OF_ATTACH.items() if flag in words]
+    return flags, [word for word in words if word not in FLAGS_OF_ATTACH]
+
+
+def number_of_mode(text: str) -> int:
+    bits = {"SHM_DEST": DEST, "SHM_LOCKED": LOCKED}
+    return sum(bits[word] if word in bits else number_of(word) for word in text.split("|"))
+
+
+def set_operands(text: str) -> str:
+    words = [word for word in (member(text, name) for name in ("uid", "gid", "mode")) if word is not None]
+    if len(words) < 3:
+        raise LeftOut("shmctl IPC_SET whose structure strace did not print")
+    users = [str(number_of(word) & 0xffffffff) for word in words[:2]]
+    return f" {' '.join(users)} {number_of_mode(words[2]) & 0o777:03o}"

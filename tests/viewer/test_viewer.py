@@ -1,0 +1,340 @@
+"""The viewer: pages in a browser, step by step, against their records (expected.py); what each step changed,
+against sentences that were written by hand (sentences.txt); and how the viewer ends."""
+from __future__ import annotations
+
+import json
+import os
+import re
+import shlex
+import subprocess
+from collections.abc import Iterator
+from typing import Any
+
+import pytest
+
+from commands import TOP, environment, run as run_command
+from record import all_sentences, read_record
+from show import page as page_of
+from viewer import browser, served
+from viewer.expected import (CHARTS, REFUSALS, moves_of, notice_of, number_of, read_sentences, shown_at,
+                             wrong_chart, wrong_colours, wrong_moves, wrong_parts)
+from viewer.hand import check_hand
+from viewer.long_run import check_long_run
+from viewer.memory import LATE, Record, check_bytes, check_loads, records
+from viewer.moving import check_handout, check_names, check_playing, check_seeking, check_swipes
+from viewer.pages import (EXAMPLES, HERE, PROGRAM, SCRIPTS, SIZES, VIEWER, Page, example, page_by,
+                          page_of_example, record_of, run)
+
+pytestmark = pytest.mark.skipif(not PROGRAM,
+                                reason="shmview is not built from these sources: tools/build shmview")
+TOLD = read_sentences()
+
+
+@pytest.fixture(scope="module")
+def session() -> Iterator[browser.Session]:
+    """A browser without a window."""
+    if browser.path() is None:
+        pytest.skip("the pages in a browser: none of " + ", ".join(browser.NAMES) + " is here")
+    with browser.Session() as made:
+        yield made
+
+
+def shown_by(page: Page, folder: str, session: browser.Session) -> Any:
+    """What a browser shows of a page."""
+    with open(os.path.join(HERE, "collect.js"), encoding="utf-8") as file:
+        collect = file.read()
+    moves = json.dumps(moves_of(page.blocks, page.script))
+    made = (f'<script type="text/plain" id="moves-to-make">{moves}</script>\n<script>\n{collect}</script>\n'
+            f'</body>')
+    path = os.path.join(folder, "page.html")
+    with open(path, "w", encoding="utf-8") as file:
+        file.write(page.html.replace("</body>", made))
+    session.open(f"file://{path}{page.address}", *SIZES[0])
+    return json.loads(session.value("document.getElementById('collected')?.textContent ?? 'null'"))
+
+
+def check_page(page: Page, shown: Any) -> None:
+    """Each step of a page, how it opens, and what its keys, buttons and slider do."""
+    blocks, steps = page.blocks, shown["steps"]
+    assert len(steps) == len(blocks)
+    for at, (block, seen) in enumerate(zip(blocks, steps)):
+        wrong = wrong_parts(seen, shown_at(page.all_blocks, at + page.skipped, page.told, page.skipped,
+                                           page.script))
+        wrong += [it for chart,
+                  lines in zip(seen["charts"], CHARTS) for it in wrong_chart(chart, lines, blocks, at)]
+        assert not wrong, f"step {number_of(block)}"
+    assert not wrong_colours(steps) + wrong_moves(shown["moved"], steps, blocks,
+                                                  page.script) + shown["errors"]
+    assert shown["opened"] == {**steps[page.opened], "notice": notice_of(page.address, blocks)}
+
+
+@pytest.mark.parametrize("name", SCRIPTS)
+def test_page(session: browser.Session, folder: str, name: str) -> None:
+    page = page_of_example(name, TOLD[name])
+    check_page(page, shown_by(page, folder, session))
+
+
+@pytest.mark.parametrize("address, opened", [("#step-4", 1), ("#step-9", 0)])
+def test_page_of_some_steps(session: browser.Session, folder: str, address: str, opened: int) -> None:
+    """A page that begins at a later step, opened at a step that it has and at one that it does not have."""
+    script, swap = example("memory_short")
+    page = page_by(["--steps", "3-5", *swap], script, "steps 3 to 5", TOLD["memory_short"], address, opened,
+                   begins=["--steps", "2-5", *swap])
+    check_page(page, shown_by(page, folder, session))
+
+
+def test_page_at_the_end(session: browser.Session, folder: str) -> None:
+    script, swap = example("memory_short")
+    said = TOLD["memory_short"]
+    told = {**said, 9: [*said[9], "the run ends here: it has no step 10 to 12"]}
+    page = page_by(["--steps", "8-12", *swap], script, "steps 8 to 12", told,
+                   begins=["--steps", "7-12", *swap])
+    check_page(page, shown_by(page, folder, session))
+
+
+def test_page_of_replies(session: browser.Session, folder: str) -> None:
+    record = record_of_replies()
+    page = Page("replies", record, page_of(record), None)
+    check_page(page, shown_by(page, folder, session))
+
+
+def test_page_without_a_step(session: browser.Session, folder: str) -> None:
+    script, swap = example("memory_short")
+    page = page_by(["--steps", "99-99", *swap], script, "no step")
+    shown = shown_by(page, folder, session)
+    assert page.record == ""
+    said = [shown["opened"]["call"], *(seen["call"] for *_, seen in shown["moved"]), *shown["errors"]]
+    assert {*said} == {"The run has no step from 99 to 99: its last is step 9."}
+
+
+# the terms of the legends, in the order of the page, and the explanation of each
+TERMS = {"f1": "f1: the page is in frame 1", "s0:3": "s0: the page is in slot 0",
+         "0": "0: the page has neither a frame nor a slot",
+         "hatched": "Hatched: the process may read", "thick edge": "A thick left edge",
+         "inner frame": "An inner frame",
+         "struck out": "Struck out: this step took", "⋯": "⋯: addresses", "0·2": "0·2: page 2 of segment 0",
+         "R": "R: referenced",
+         "D": "D: dirty", "L": "L: locked", "→": "→: the hand’s way", "☞": "☞: the hand of the clock"}
+
+
+def wrong_layout(seen: dict[str, Any], first: dict[str, Any], wide: int, high: int) -> list[str]:
+    """What is wrong with a step on the screen: a box that moved, or something that is not visible."""
+    moved = [f"{was} became {box}" for was, box in zip(first["boxes"], seen["boxes"]) if was != box]
+    wrong = [f"{len(moved)} boxes moved: {moved[0]}"] if moved else []
+    wrong += ["there are other boxes"] * (len(seen["boxes"]) != len(first["boxes"]))
+    wrong += [f"the page is {seen['wide']} wide"] * (seen["wide"] > wide)
+    wrong += [f"frames end at {seen['lowest']}"] * (seen["lowest"] > high)
+    wrong += ["the script comes before the frames"] * (wide < 640 and seen["script"] < seen["lowest"])
+    wrong += ["a table does not scroll"] * (not seen["scrolls"])
+    wrong += ["sentences are cut off"] * (not seen["isTold"])
+    terms = [name for name, is_shown, index,
+             told in seen["meanings"] if is_shown and index == 0 and told.startswith(TERMS.get(name, "?"))]
+    return wrong + [f"terms: {terms}"] * (terms != [*TERMS])
+
+
+@pytest.mark.parametrize("name", EXAMPLES)
+def test_layout(session: browser.Session, folder: str, name: str) -> None:
+    """The boxes of the examples stay where they are, at each step and at two sizes; all sentences are shown
+    on demand, over the picture; and on paper each step has a sheet."""
+    with open(os.path.join(HERE, "measure.js"), encoding="utf-8") as file:
+        measure = file.read()
+    made, path = page_of_example(name), os.path.join(folder, "page.html")
+    with open(path, "w", encoding="utf-8") as file:
+        file.write(made.html)
+    for wide, high in SIZES:
+        session.open(f"file://{path}", wide, high)
+        first = session.value(measure)
+        for block in made.blocks:
+            wrong = wrong_layout(session.value(measure), first, wide, high)
+            session.value("document.getElementById('more').click()")
+            opened = session.value(measure)
+            wrong += ["boxes moved as the sentences were opened"] * (opened["boxes"] != first["boxes"])
+            session.press("ArrowRight")
+            assert not wrong, f"{wide} by {high}, step {number_of(block)}"
+    read_out = session.value("[...document.querySelectorAll('svg')].map((it) => "
+                             "it.getAttribute('aria-label'))")
+    assert read_out == ["Counts over the run: " + ", ".join(line for line, _ in lines) for lines in CHARTS]
+    check_paper(session, made)
+
+
+SHEETS = ("dispatchEvent(new Event('beforeprint')), [...document.querySelectorAll('.sheet')].map((it) => "
+          "['h1', '.where', '.lines-of'].map((part) => it.querySelector(part)?.textContent ?? ''))")
+
+
+def check_paper(session: browser.Session, made: Page) -> None:
+    """A sheet has the title, the number of the step, and its line. There are as many sheets as steps, and
+    none after they were printed."""
+    assert len(re.findall(rb"/Type /Page\b", session.paper())) == len(made.blocks)
+    lines = [at for at, line in enumerate(made.script) if re.match("[0-9]", line)]
+    of = ["", *(f"line {at + 1}: {made.script[at]}" for at in lines)]
+    title = made.script[0].lstrip("# ")
+    assert session.value(SHEETS) == [[title, f"step {at} of {len(lines)}", told] for at,
+                                     told in enumerate(of)]
+    assert session.value("dispatchEvent(new Event('afterprint')), "
+                         "document.querySelectorAll('.sheet').length") == 0
+
+
+def record_of_replies() -> str:
+    """A record of calls with each refusal, and with replies that are not refusals."""
+    rest = "process 1 live 0 0\nframes 2 hand 0\narea 0 1\n" \
+        "usage events {0} segments 0 reserved 0 locked 0\nusage frames 0/2 dirty 0 slots 0/1\n" \
+        "usage in 0 out 0 failures 0\n\n"
+    replies = [*REFUSALS, "ok", "0", "0x40000000", "e1", "key=0x00000000 status=- atime=0"]
+    return "".join(f"step {at}\ncall {at} 1 stat 0 = {reply}\n" + rest.format(at) for at,
+                   reply in enumerate(replies, 1))
+
+
+@pytest.mark.parametrize("name", SCRIPTS)
+def test_record(name: str) -> None:
+    """A record begins with the machine as it opens, and has a step for each line."""
+    script, swap = example(name)
+    ended = run([PROGRAM, *swap], script)
+    lines = [line for line in script.splitlines() if re.match(r"[0-9]", line)]
+    assert (ended.status, ended.said) == (0, "")
+    assert [step.number for step in read_record(ended.out)] == list(range(len(lines) + 1))
+
+
+@pytest.mark.parametrize("name", SCRIPTS)
+def test_sentences(name: str) -> None:
+    """The viewer's sentences about each step, and their layout for a terminal."""
+    script, swap = example(name)
+    record = record_of(script, swap)
+    said = dict(all_sentences(read_record(record)))
+    assert said == {number: TOLD[name].get(number, []) for number in said}
+    assert TOLD[name].keys() <= said.keys()
+    text = run([*VIEWER, "--text", *swap], script).out
+    assert text == "".join(laid_out(block, TOLD[name]) for block in record.split("\n\n") if block)
+
+
+def test_marks() -> None:
+    """A comment with marks of HTML, which could end the page's element around it, is shown unchanged."""
+    comment = "# </script><i>&lt; \\u003c"
+    made = run([*VIEWER, "ram:1"], f"{comment}\nlimits 1 1 1 2 0\n").out
+    kept = re.findall(r'id="data">(.*?)</script>', made, re.DOTALL)
+    assert json.loads(kept[0])["script"] == [[comment, None], ["limits 1 1 1 2 0", None]]
+
+
+def laid_out(block: str, told: dict[int, list[str]]) -> str:
+    """A block for a terminal: what the step changed comes after the second line."""
+    lines = block.split("\n")
+    said = ["    " + it for it in told.get(int(lines[0].split()[1]), [])]
+    return "\n".join(lines[:2] + said + lines[2:]) + "\n\n"
+
+
+LONG = "limits 4096 1 1 2 0\nprocess 1 1 1\n" + "1 stat 0\n" * 2001
+USAGE = "shmview: usage: shmview [--text] [--steps FROM-TO] SWAP...\n"
+MANY = "shmview: 2001 steps are more than 2000: choose some by --steps FROM-TO\n"
+SHORT = example("memory_short")[0]
+
+
+@pytest.mark.parametrize("words, given, status, said", [
+    ("--steps 3-5 ram:64", SHORT, 0, ""),
+    ("--text --steps 2001-2001 ram:1", LONG, 0, ""),
+    ("ram:1", LONG[:-len("1 stat 0\n")], 0, ""),
+    ("ram:1", LONG, 2, MANY),
+    ("", SHORT, 2, USAGE),
+    ("--text", SHORT, 2, USAGE),
+    ("--steps 5-3 ram:64", SHORT, 2, USAGE),
+    ("--steps 5 ram:64", SHORT, 2, USAGE),
+    ("--steps 3-5", SHORT, 2, USAGE),
+    ("ram:0", SHORT, 2, USAGE),
+    ("ram:1 " * 9, SHORT, 2, USAGE),
+    ("serial ram:1", SHORT, 2, USAGE),
+    ("ram:1", "limits 65536 16 64 4 1\nno form\n", 1, "shmview: line 2: bad line\n"),
+    ("ram:1", "", 1, "shmview: line 1: no limits line\n")], ids=lambda it: str(it)[:20])
+def test_words(words: str, given: str, status: int, said: str) -> None:
+    """The steps that words choose, and how the viewer ends. The start script says which word is wrong, and
+    what a swap area is, in lines after the usage."""
+    ended = run([*VIEWER, *words.split()], given)
+    assert ended.status == status
+    assert (status == 0) == bool(ended.out)
+    assert ended.said.startswith(USAGE) if said == USAGE else ended.said == said
+
+
+def test_steps() -> None:
+    ended = run([*VIEWER, "--text", "--steps", "99-100", "ram:64"], SHORT)
+    assert ended == (0, "", "shmview: the run has no step from 99 to 100: its last is step 9\n")
+    blocks = record_of(SHORT, ["ram:64"]).split("\n\n")
+    assert record_of(SHORT, ["--steps", "3-5", "ram:64"]) == "\n\n".join(blocks[3:6]) + "\n\n"
+
+
+@pytest.mark.parametrize("program", [VIEWER, [PROGRAM]], ids=["start script", "program"])
+def test_full_device(program: list[str]) -> None:
+    with open("/dev/full", "wb") as full:
+        done = subprocess.run([*program, "ram:64"], input=SHORT.encode(), stdout=full, stderr=subprocess.PIPE,
+                              check=False)
+    assert done.returncode == 3
+    assert done.stderr.endswith(b"shmview: write failed\n")
+
+
+def test_folder_as_the_script() -> None:
+    folder = os.open("/", os.O_RDONLY)
+    done = subprocess.run([*VIEWER, "ram:64"], stdin=folder, capture_output=True, check=False)
+    os.close(folder)
+    assert (done.returncode, done.stdout) == (3, b"")
+    assert done.stderr.endswith(b"shmview: read failed\n")
+
+
+def test_little_memory(proved_shmview: str) -> None:
+    """256 MB for the slots, where 128 are allowed."""
+    narrow = f"ulimit -v 131072; exec {shlex.quote(proved_shmview)} ram:65536"
+    assert run(["sh", "-c", narrow], SHORT) == (4, "", "shmview: out of memory\n")
+
+
+def test_stored_pages() -> None:
+    """The pages in docs/pages are those that the examples make now."""
+    ended = run_command([os.path.join(TOP, "tools", "pages"), "check"],
+                        env=environment(VIEWER=" ".join(VIEWER)))
+    assert ended.status == 0, ended.out + ended.said
+
+
+@pytest.fixture(scope="module")
+def all_records() -> list[Record]:
+    """The records of all stored scripts."""
+    return records(PROGRAM)
+
+
+def test_loads(all_records: list[Record]) -> None:
+    check_loads(all_records)
+
+
+def test_hand(all_records: list[Record]) -> None:
+    check_hand(all_records)
+
+
+@pytest.mark.parametrize("check", [served.check_headers, served.check_opened, served.check_hostile,
+                                   served.check_limits])
+def test_served(check: Any) -> None:
+    check()
+
+
+def test_served_in_a_browser(session: browser.Session) -> None:
+    served.check_in_browser(session)
+
+
+@pytest.mark.parametrize("name", ["remap", "other_changes", "swap_taken_away"])
+def test_moving(session: browser.Session, folder: str, name: str) -> None:
+    """Search finds each step of a kind; play, the handout and swipes move as they should."""
+    made, path = page_of_example(name), os.path.join(folder, "page.html")
+    with open(path, "w", encoding="utf-8") as file:
+        file.write(made.html)
+    session.open(f"file://{path}", *SIZES[0])
+    check_seeking(session, made)
+    if name == "swap_taken_away":
+        check_playing(session, made, served.wait_for)
+        check_names(session)
+        check_handout(session, made)
+        session.open(f"file://{path}", *SIZES[1])
+        check_swipes(session)
+
+
+def test_long_run(session: browser.Session) -> None:
+    check_long_run(session, page_of)
+
+
+def test_bytes(session: browser.Session, folder: str) -> None:
+    chosen = page_by(["--steps", "9-12", "ram:64"], example("bytes")[0], "bytes, steps 9 to 12",
+                     begins=["--steps", "0-12", "ram:64"], skipped=9)
+    late = page_by(["--steps", "2004-2006", "ram:64"], LATE, "late")
+    others = [chosen, late, page_by(["ram:64"], example("permissions")[0], "permissions")]
+    check_bytes(session, [page_of_example(name) for name in SCRIPTS], others, folder)
