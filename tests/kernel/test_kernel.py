@@ -27,7 +27,9 @@ QEMU = "qemu-system-x86_64"
 COMPILERS = ("gcc", "clang")
 MOST_LINES, MOST_OF_A_FILE, WIDTH = 1500, 400, 110
 LONGEST = 60
-MACHINE = (QEMU, "-nographic", "-no-reboot", "-nic", "none", "-device", "isa-debug-exit,iobase=0xf4,iosize=4")
+# qemu's usual processor lacks SSE 4.2, which the library's code may use
+MACHINE = (QEMU, "-cpu", "Nehalem", "-nographic", "-no-reboot", "-nic", "none", "-device",
+           "isa-debug-exit,iobase=0xf4,iosize=4")
 # what isa-debug-exit makes of the kernel's 0
 DONE = 1
 PROGRAMS = ("counter", "paging", "hot", "wild", "failing")
