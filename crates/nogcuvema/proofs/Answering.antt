@@ -1,15 +1,19 @@
 -- A refusal is answered by its code.
 use Rattle.nogcuvema.proofs.Names.{ℕ, List, Err, inr, subst, ProcessCall, Reply, Machine, Refusal, Answered, Progress, ReadTo, WrittenTo, stop_code, ReadBy, WrittenBy, refusal_code, AnswersFor}
+use Rattle.std.specs.Prelude.{Result}
+use Rattle.nogcuvema.specs.Answers.{AnswersBy}
 use Rattle.std.proofs.Common.{◌≡◌, Ok, inl, refl}
-use Rattle.shm_base.specs.State.{Machine as Flat}
-use Rattle.shm_life.specs.Exchanged.{Exchange}
 use Rattle.shm_machine.specs.Stretched.{CopiedTo}
 use Rattle.nogcuvema.specs.Through.{CopiedBy}
-use Rattle.nogcuvema.specs.Exchanges.{ExchangesAs, ExchangesFor}
+use Rattle.nogcuvema.specs.Exchanges.{Exchanging, ExchangesAs, ExchangesFor}
 
 pub refused : (before after : Machine) (pid code : ℕ) (call : ProcessCall) (reply : Reply) (refusal : Refusal) → code ≡ refusal_code refusal → Answered before.system pid call (Err refusal) after.system
     → AnswersFor before pid call reply code after
 refused before after pid code call reply refusal is answered = inr (refusal, is, answered)
+
+-- the same for what a call did
+pub not_accessed : (did : Result Reply Refusal → Machine → Type 0) (after : Machine) (code : ℕ) (reply : Reply) (refusal : Refusal) → code ≡ refusal_code refusal → did (Err refusal) after → AnswersBy did reply code after
+not_accessed did after code reply refusal is answered = inr (refusal, is, answered)
 
 -- the same, where the call is written in another way
 pub refused_alike : (before after : Machine) (pid code : ℕ) (asked call : ProcessCall) (reply : Reply) (refusal : Refusal) → asked ≡ call → code ≡ refusal_code refusal → Answered before.system pid asked (Err refusal) after.system
@@ -22,7 +26,7 @@ pub done_alike : (before after : Machine) (pid : ℕ) (asked call : ProcessCall)
 done_alike before after pid asked call reply same answered = inl (refl, subst (λ (c : ProcessCall). Answered before.system pid c (Ok reply) after.system) same answered)
 
 -- an exchange that is refused
-pub not_exchanged : (exchange : Flat → Exchange) (before after : Machine) (there : List ℕ) (code : ℕ) (refusal : Refusal) → code ≡ refusal_code refusal → ExchangesAs (exchange before.system.machine) before there (Err refusal) after
+pub not_exchanged : (exchange : Exchanging) (before after : Machine) (there : List ℕ) (code : ℕ) (refusal : Refusal) → code ≡ refusal_code refusal → ExchangesAs exchange before there (Err refusal) after
     → ExchangesFor exchange before there code after
 not_exchanged exchange before after there code refusal is answered = inr (refusal, is, answered)
 

@@ -22,6 +22,7 @@ own_texts =
     ∷ record { code = 2002; text = codes "no machine in the handle" }
     ∷ record { code = 2003; text = codes "a number that no call can carry" }
     ∷ record { code = 2004; text = codes "no more calls can be counted" }
+    ∷ record { code = 2005; text = codes "a page on loan is in the way" }
     ∷ record { code = 2011; text = codes "bad limits: SHMMAX" }
     ∷ record { code = 2012; text = codes "bad limits: SHMMNI" }
     ∷ record { code = 2013; text = codes "bad limits: SHMALL" }
@@ -86,4 +87,5 @@ layout_by which =
     if which == 7 then struct_of 2 0 else
     if which == 8 then struct_of 5 0 else
     if which == 9 then struct_of 1 6 else
+    if which == 10 then struct_of 0 6 else
     []

@@ -1,12 +1,15 @@
 -- The codes of the interface's functions, and the handles afterwards. One definition serves all calls.
-use Rattle.std.specs.Prelude.{ℕ, ◌≡◌, ◌⊎◌, Bool, true, false, Option, Some, None, Ok, Err}
+use Rattle.std.specs.Prelude.{ℕ, ◌≡◌, ◌⊎◌, Bool, true, false, List, length, Option, Some, None, Result, Ok, Err}
 use Rattle.shm_base.specs.Codes.{code_of}
 use Rattle.shm_base.specs.Calls.{ProcessCall}
+use Rattle.shm_base.specs.declared.call.Call.TheVariants.{Load, Store, Xadd}
 use Rattle.shm_base.specs.declared.call.Reply.{Reply}
+use Rattle.shm_life.specs.Lending.{pages_asked}
 use Rattle.shm_machine.specs.declared.machine.Machine.{Machine}
 use Rattle.shm_machine.specs.declared.refusal.Refusal.{Refusal}
-use Rattle.shm_machine.specs.declared.refusal.Refusal.TheVariants.{Refused, HostMemory, Spent}
+use Rattle.shm_machine.specs.declared.refusal.Refusal.TheVariants.{Refused, HostMemory, Spent, Lent}
 use Rattle.shm_machine.specs.Answered.{Answered}
+use Rattle.shm_machine.specs.Ready.{AccessedBy}
 
 abbrev pub no_memory : ℕ
 no_memory = 2001
@@ -20,29 +23,68 @@ out_of_range = 2003
 abbrev pub spent : ℕ
 spent = 2004
 
+abbrev pub lent : ℕ
+lent = 2005
+
 -- the code of a refusal
 abbrev pub refusal_code : Refusal → ℕ
 refusal_code (Refused errno) = code_of errno
 refusal_code HostMemory = no_memory
 refusal_code Spent = spent
+refusal_code Lent = lent
 
 -- nothing changed, and the code says why
 abbrev pub Unchanged : ℕ → Option Machine → ℕ → Option Machine → Type 0
 Unchanged why before code after = (code ≡ why) × (after ≡ before)
 
--- the code is 0, and the call got this reply; or the code is that of a refusal
+-- the code is 0, and this is the result of a call that got the reply; or the code is that of a refusal
+abbrev pub AnswersBy : (Result Reply Refusal → Machine → Type 0) → Reply → ℕ → Machine → Type 0
+AnswersBy answered reply code after =
+    ((code ≡ 0) × answered (Ok reply) after)
+    ⊎ ((refusal : Refusal) × (code ≡ refusal_code refusal) × answered (Err refusal) after)
+
+-- the same through a handle
+abbrev pub AnswersIn : (Machine → Result Reply Refusal → Machine → Type 0) → Option Machine → Reply → ℕ → Option Machine → Type 0
+AnswersIn answered None reply code after = Unchanged closed None code after
+AnswersIn answered (Some before) reply code None = ⊥
+AnswersIn answered (Some before) reply code (Some after) = AnswersBy (answered before) reply code after
+
+-- the same for numbers that a call can carry; for others the code says so, and nothing changed
+abbrev pub AnswersInWhere :
+    Bool → (Machine → Result Reply Refusal → Machine → Type 0) → Option Machine → Reply → ℕ → Option Machine → Type 0
+AnswersInWhere true answered before reply code after = AnswersIn answered before reply code after
+AnswersInWhere false answered before reply code after = Unchanged out_of_range before code after
+
+-- a process's call
+abbrev pub calls : ℕ → ProcessCall → Machine → Result Reply Refusal → Machine → Type 0
+calls pid call before result after = Answered before.system pid call result after.system
+
 abbrev pub AnswersFor : Machine → ℕ → ProcessCall → Reply → ℕ → Machine → Type 0
-AnswersFor before pid call reply code after =
-    ((code ≡ 0) × Answered before.system pid call (Ok reply) after.system)
-    ⊎ ((refusal : Refusal) × (code ≡ refusal_code refusal) × Answered before.system pid call (Err refusal) after.system)
+AnswersFor before pid call reply code after = AnswersBy (calls pid call before) reply code after
 
 -- a process's call through a handle; `reply` is what the outputs show if the code is 0
 abbrev pub AnswersThrough : Option Machine → ℕ → ProcessCall → Reply → ℕ → Option Machine → Type 0
-AnswersThrough None pid call reply code after = Unchanged closed None code after
-AnswersThrough (Some before) pid call reply code None = ⊥
-AnswersThrough (Some before) pid call reply code (Some after) = AnswersFor before pid call reply code after
+AnswersThrough before pid call reply code after = AnswersIn (calls pid call) before reply code after
 
--- the same for numbers that a call can carry; for others the code says so, and nothing changed
 abbrev pub AnswersWhere : Bool → Option Machine → ℕ → ProcessCall → Reply → ℕ → Option Machine → Type 0
-AnswersWhere true before pid call reply code after = AnswersThrough before pid call reply code after
-AnswersWhere false before pid call reply code after = Unchanged out_of_range before code after
+AnswersWhere fits before pid call reply code after = AnswersInWhere fits (calls pid call) before reply code after
+
+-- an access of a process to this many bytes from an address on
+pub record Asked : Type 0 where
+  pub pid : ℕ
+  pub addr : ℕ
+  pub len : ℕ
+  pub puts : Bool
+
+abbrev pub accesses : Asked → ProcessCall → Machine → Result Reply Refusal → Machine → Type 0
+accesses a call before result after =
+    AccessedBy (pages_asked before.system.machine a.pid a.addr a.len a.puts) before.system a.pid call result after.system
+
+abbrev pub loads : ℕ → ℕ → ℕ → Machine → Result Reply Refusal → Machine → Type 0
+loads pid addr len = accesses (record { pid = pid; addr = addr; len = len; puts = false }) (Load addr len)
+
+abbrev pub stores : ℕ → ℕ → List ℕ → Machine → Result Reply Refusal → Machine → Type 0
+stores pid addr bytes = accesses (record { pid = pid; addr = addr; len = length bytes; puts = true }) (Store bytes addr)
+
+abbrev pub adds : ℕ → ℕ → ℕ → Machine → Result Reply Refusal → Machine → Type 0
+adds pid addr add = accesses (record { pid = pid; addr = addr; len = 8; puts = true }) (Xadd addr add)

@@ -5,8 +5,8 @@ ghost use Rattle.nogcuvema.specs.About.{text_by, with_text, layout_by, TextTold,
 use crate::code::{DONE, OUT_OF_RANGE};
 use crate::handle::Handle;
 use crate::structs::{
-    NogArea, NogFailure, NogFlushed, NogLimits, NogPiece, NogProcess, NogSegment, NogTally,
-    NogUsage,
+    NogArea, NogFailure, NogFlushed, NogFrame, NogLimits, NogPiece, NogProcess, NogSegment,
+    NogTally, NogUsage,
 };
 
 fn text_of(code: u32) -> Option<&'static str>
@@ -32,6 +32,7 @@ fn text_of(code: u32) -> Option<&'static str>
         2002 => Some("no machine in the handle"),
         2003 => Some("a number that no call can carry"),
         2004 => Some("no more calls can be counted"),
+        2005 => Some("a page on loan is in the way"),
         2011 => Some("bad limits: SHMMAX"),
         2012 => Some("bad limits: SHMMNI"),
         2013 => Some("bad limits: SHMALL"),
@@ -80,12 +81,12 @@ pub extern "C" fn nog_text(code: u32, text: &mut [u8], len: &mut usize) -> u32
     DONE
 }
 
-/// The version: 10000 means 1.0.0.
+/// The version: 10100 means 1.1.0.
 #[unsafe(no_mangle)]
 pub extern "C" fn nog_version() -> u32
-    ensures { result ≡ 10000 }
+    ensures { result ≡ 10100 }
 {
-    10000
+    10100
 }
 
 const MACHINE: [usize; 3] = [size_of::<Handle>(), 0, 8];
@@ -138,6 +139,8 @@ const FLUSHED: [usize; 3] = [size_of::<NogFlushed>(), 0, 8];
 
 const USAGE: [usize; 6] = [size_of::<NogUsage>(), 0, 8, 16, 24, 32];
 
+const FRAME: [usize; 7] = [size_of::<NogFrame>(), 0, 4, 8, 12, 16, 20];
+
 const PIECE: [usize; 8] = [size_of::<NogPiece>(), 0, 8, 12, 16, 20, 24, 28];
 
 fn layout_of(which: u32, field: usize) -> Option<usize>
@@ -154,13 +157,14 @@ fn layout_of(which: u32, field: usize) -> Option<usize>
         7 => &FLUSHED,
         8 => &USAGE,
         9 => &PIECE,
+        10 => &FRAME,
         _ => &[],
     };
     layout.get(field).copied()
 }
 
 /// The layout of the structs as the library sees it. `which`: 0 machine, 1 limits, 2 area, 3 failure, 4
-/// process, 5 segment, 6 tally, 7 flushed, 8 usage, 9 piece. `field`: 0 gives the size in bytes, n the offset
+/// process, 5 segment, 6 tally, 7 flushed, 8 usage, 9 piece, 10 frame. `field`: 0 gives the size in bytes, n the offset
 /// of the n-th field. Out of range: any other number.
 #[unsafe(no_mangle)]
 pub extern "C" fn nog_layout(which: u32, field: u32, value: &mut usize) -> u32

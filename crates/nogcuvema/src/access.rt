@@ -1,9 +1,8 @@
 //! Loads, stores and additions.
 ghost use Rattle.std.specs.Prelude.{◌≡◌, ◌≢◌, ◌≤◌, length};
 ghost use Rattle.shm_base.specs.Bounds.{within};
-ghost use Rattle.shm_base.specs.declared.call.Call.TheVariants as call;
 ghost use Rattle.shm_base.specs.declared.call.Reply.TheVariants as reply;
-ghost use Rattle.nogcuvema.specs.Answers.{AnswersThrough, AnswersFor, AnswersWhere};
+ghost use Rattle.nogcuvema.specs.Answers.{AnswersBy, AnswersIn, AnswersInWhere, adds, loads, stores};
 
 use crate::code::{DONE, OUT_OF_RANGE, refusal_code};
 use crate::handle::{Handle, with_machine};
@@ -19,12 +18,12 @@ pub(crate) fn is_size(len: usize) -> bool
     len >= 1 && len <= LONGEST_ACCESS
 }
 
-#[tactic(auto, using(crate::proofs::Answering::refused))]
+#[tactic(auto, using(crate::proofs::Answering::not_accessed))]
 #[inline(always)]
 fn load(machine: &mut Machine, pid: u32, addr: u64, bytes: &mut [u8]) -> u32
     requires { (1 ≤ length bytes.old) × (length bytes.old ≤ 64) }
-    ensures answers { let load = call.Load addr (length bytes.old) in
-        AnswersFor machine.old pid load (reply.Bytes bytes.new) result machine.new }
+    ensures answers { AnswersBy (loads pid addr (length bytes.old) machine.old)
+        (reply.Bytes bytes.new) result machine.new }
     ensures bytes { result ≢ 0 → bytes.new ≡ bytes.old }
 {
     match machine.load_into(pid, addr, bytes) {
@@ -42,8 +41,8 @@ pub extern "C" fn nog_load(
     addr: u64,
     bytes: &mut [u8],
 ) -> u32
-    ensures answers { let load = call.Load addr (length bytes.old) in
-        AnswersWhere (within 1 64 (length bytes.old)) handle.old.kept.value pid load
+    ensures answers { let fit = within 1 64 (length bytes.old) in
+        AnswersInWhere fit (loads pid addr (length bytes.old)) handle.old.kept.value
         (reply.Bytes bytes.new) result handle.new.kept.value }
     ensures bytes { result ≢ 0 → bytes.new ≡ bytes.old }
 {
@@ -53,11 +52,11 @@ pub extern "C" fn nog_load(
     with_machine!(alloc, handle, |machine| load(machine, pid, addr, bytes))
 }
 
-#[tactic(auto, using(crate::proofs::Answering::refused))]
+#[tactic(auto, using(crate::proofs::Answering::not_accessed))]
 #[inline(always)]
 fn store(machine: &mut Machine, pid: u32, addr: u64, bytes: &[u8]) -> u32
     requires { (1 ≤ length bytes.now) × (length bytes.now ≤ 64) }
-    ensures { AnswersFor machine.old pid (call.Store bytes.now addr) reply.Done result machine.new }
+    ensures { AnswersBy (stores pid addr bytes.now machine.old) reply.Done result machine.new }
 {
     match machine.store(pid, addr, bytes) {
         Ok(()) => DONE,
@@ -74,8 +73,9 @@ pub extern "C" fn nog_store(
     addr: u64,
     bytes: &[u8],
 ) -> u32
-    ensures { AnswersWhere (within 1 64 (length bytes.now)) handle.old.kept.value pid
-        (call.Store bytes.now addr) reply.Done result handle.new.kept.value }
+    ensures { let fit = within 1 64 (length bytes.now) in
+        AnswersInWhere fit (stores pid addr bytes.now) handle.old.kept.value reply.Done result
+        handle.new.kept.value }
 {
     if !is_size(bytes.len()) {
         return OUT_OF_RANGE;
@@ -83,11 +83,10 @@ pub extern "C" fn nog_store(
     with_machine!(alloc, handle, |machine| store(machine, pid, addr, bytes))
 }
 
-#[tactic(auto, using(crate::proofs::Answering::refused))]
+#[tactic(auto, using(crate::proofs::Answering::not_accessed))]
 #[inline(always)]
 fn add_to(machine: &mut Machine, pid: u32, addr: u64, add: u64, before: &mut u64) -> u32
-    ensures answers { AnswersFor machine.old pid (call.Xadd addr add)
-        (reply.Number before.new) result machine.new }
+    ensures answers { AnswersBy (adds pid addr add machine.old) (reply.Number before.new) result machine.new }
     ensures before { result ≢ 0 → before.new ≡ before.old }
 {
     match machine.add(pid, addr, add) {
@@ -110,8 +109,8 @@ pub extern "C" fn nog_add(
     add: u64,
     before: &mut u64,
 ) -> u32
-    ensures answers { AnswersThrough handle.old.kept.value pid (call.Xadd addr add)
-        (reply.Number before.new) result handle.new.kept.value }
+    ensures answers { AnswersIn (adds pid addr add) handle.old.kept.value (reply.Number before.new) result
+        handle.new.kept.value }
     ensures before { result ≢ 0 → before.new ≡ before.old }
 {
     with_machine!(

@@ -19,6 +19,9 @@ pub(crate) const OUT_OF_RANGE: u32 = 2003;
 /// The machine answered as many calls as it can count.
 pub(crate) const SPENT: u32 = 2004;
 
+/// A page on loan is in the way.
+pub(crate) const LENT: u32 = 2005;
+
 /// The code of a refusal: the number of the errno, or a code of this interface.
 pub(crate) fn refusal_code(refusal: Refusal) -> u32
     ensures code { result ≡ refusal_code refusal }
@@ -28,5 +31,6 @@ pub(crate) fn refusal_code(refusal: Refusal) -> u32
         Refusal::Refused(errno) => errno.code(),
         Refusal::HostMemory => NO_MEMORY,
         Refusal::Spent => SPENT,
+        Refusal::Lent => LENT,
     }
 }

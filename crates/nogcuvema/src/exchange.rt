@@ -1,9 +1,7 @@
 //! Exchanges, and compares with exchange.
 ghost use Rattle.std.specs.Prelude.{◌≡◌, ◌≢◌, ◌≤◌, ◌&&◌, ◌==◌, length};
 ghost use Rattle.shm_base.specs.Bounds.{within};
-ghost use Rattle.shm_life.specs.Exchanged.{comparing, exchanging};
-ghost use Rattle.shm_base.specs.State.{Machine as Flat};
-ghost use Rattle.nogcuvema.specs.Exchanges.{ExchangesFor, ExchangesWhere};
+ghost use Rattle.nogcuvema.specs.Exchanges.{ExchangesFor, ExchangesWhere, compares, exchanges};
 
 use crate::access::is_size;
 use crate::code::{DONE, OUT_OF_RANGE, refusal_code};
@@ -15,7 +13,7 @@ use std::alloc::Global;
 fn exchange(machine: &mut Machine, pid: u32, addr: u64, bytes: &[u8], before: &mut [u8]) -> u32
     requires size { (1 ≤ length bytes.now) × (length bytes.now ≤ 64) }
     requires before { length before.old ≡ length bytes.now }
-    ensures answers { ExchangesFor (λ (s : Flat). exchanging s pid addr bytes.now)
+    ensures answers { ExchangesFor (exchanges pid addr bytes.now)
         machine.old before.new result machine.new }
     ensures before { result ≢ 0 → before.new ≡ before.old }
 {
@@ -36,7 +34,7 @@ fn compare(
 ) -> u32
     requires size { (1 ≤ length bytes.now) × (length bytes.now ≤ 64) }
     requires before { length before.old ≡ length bytes.now }
-    ensures answers { ExchangesFor (λ (s : Flat). comparing s pid addr expected.now bytes.now)
+    ensures answers { ExchangesFor (compares pid addr expected.now bytes.now)
         machine.old before.new result machine.new }
     ensures before { result ≢ 0 → before.new ≡ before.old }
 {
@@ -57,7 +55,7 @@ pub extern "C" fn nog_exchange(
     before: &mut [u8],
 ) -> u32
     ensures answers { let fit = within 1 64 (length bytes.now) && (length before.old == length bytes.now) in
-        ExchangesWhere fit (λ (s : Flat). exchanging s pid addr bytes.now)
+        ExchangesWhere fit (exchanges pid addr bytes.now)
         handle.old.kept.value before.new result handle.new.kept.value }
     ensures before { result ≢ 0 → before.new ≡ before.old }
 {
@@ -84,7 +82,7 @@ pub extern "C" fn nog_compare_exchange(
 ) -> u32
     ensures answers { let size = length bytes.now in
         let fit = within 1 64 size && (length before.old == size) && (length expected.now == size) in
-        ExchangesWhere fit (λ (s : Flat). comparing s pid addr expected.now bytes.now)
+        ExchangesWhere fit (compares pid addr expected.now bytes.now)
         handle.old.kept.value before.new result handle.new.kept.value }
     ensures before { result ≢ 0 → before.new ≡ before.old }
 {

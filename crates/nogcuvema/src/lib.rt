@@ -10,6 +10,7 @@ mod handle;
 mod hosting;
 mod inspect;
 mod listing;
+mod loans;
 mod mapping;
 mod open;
 mod owned;
@@ -29,6 +30,7 @@ pub use inspect::{nog_calls, nog_flush, nog_indexes, nog_segment_at, nog_tally_o
 pub use listing::{
     nog_absent_at, nog_failed_at, nog_info, nog_piece_at, nog_process_at, nog_stat_at,
 };
+pub use loans::{nog_frame_at, nog_give_back, nog_leaver, nog_lend, nog_page_at};
 pub use mapping::{nog_protect, nog_unmap};
 pub use open::{nog_close, nog_open};
 pub use owned::Kept;
@@ -40,6 +42,6 @@ pub use segments::{nog_attach, nog_get, nog_stat};
 pub use snapshot::nog_snapshot;
 pub use stretch::{nog_copy, nog_read, nog_write};
 pub use structs::{
-    NogArea, NogFailure, NogFlushed, NogLimits, NogPiece, NogProcess, NogSegment, NogTally,
-    NogUsage,
+    NogArea, NogFailure, NogFlushed, NogFrame, NogLimits, NogPiece, NogProcess, NogSegment,
+    NogTally, NogUsage,
 };

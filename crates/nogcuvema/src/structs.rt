@@ -2,12 +2,14 @@
 ghost use Rattle.std.specs.Prelude.{◌≡◌};
 ghost use Rattle.shm_areas.specs.Arranged.{bare};
 ghost use Rattle.nogcuvema.specs.Shown.{shown_by, tally_by, report_by, sums_by, piece_by, process_shown};
+ghost use Rattle.nogcuvema.specs.Lending.{frame_by};
 ghost use Rattle.shm_attach.specs.Views.{life_view};
 
 use bitflags::Flags;
 use shm_areas::Piece;
 use shm_attach::Life;
 use shm_base::{Cred, FlushReport, ShmidDs, Tally};
+use shm_fault::FrameInfo;
 use shm_life::ShmInfo;
 
 /// The limits of a machine. If the three that begin with `most_` are 0, they are the profile's (256 pieces,
@@ -239,6 +241,34 @@ impl NogPiece {
             is_writable: u32::from(piece.writable),
             may_write: u32::from(piece.may_write),
             unused: 0,
+        }
+    }
+}
+
+/// A frame with a page of a segment, whether that is referenced, dirty and on loan, and whether its segment is
+/// locked.
+#[repr(C)]
+#[derive(Clone, Copy)]
+pub struct NogFrame {
+    pub id: i32,
+    pub page: u32,
+    pub is_referenced: u32,
+    pub is_dirty: u32,
+    pub is_lent: u32,
+    pub is_locked: u32,
+}
+
+impl NogFrame {
+    pub(crate) fn of(id: i32, page: u32, info: &FrameInfo) -> NogFrame
+        ensures { result ≡ frame_by id page info.now }
+    {
+        NogFrame {
+            id,
+            page,
+            is_referenced: u32::from(info.is_referenced),
+            is_dirty: u32::from(info.is_dirty),
+            is_lent: u32::from(info.is_lent),
+            is_locked: u32::from(info.is_locked),
         }
     }
 }

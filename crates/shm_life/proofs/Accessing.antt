@@ -45,7 +45,7 @@ accessed o table puts bytes names reply s t (Ok x) fails none grant step leaves 
 accessed o table puts bytes names reply s t (Err e) fails none grant step leaves =
     rw (leaves.err.told, fails) (failing o (Touches puts bytes) Sigbus false s t refl (record { instead = none; unchanged = leaves.same; cause = leaves.err.cause }) leaves.keeps leaves.stopped)
 
-abbrev view_with : Bounds → List Entry → List Runner → StoreView → MachineView
+abbrev pub view_with : Bounds → List Entry → List Runner → StoreView → MachineView
 view_with limits t rs m = record { flat = record { limits = limits; areas = sizes m.swap; table = t; runners = rs }; memory = m }
 
 -- an access of the segments, as one of the machine
@@ -134,14 +134,14 @@ and-leaves table puts ps s t x (Ok a) l = record { written = l.written; same = t
 and-leaves table puts ps s t x (Err e) l = record { written = tt; same = l.same; keeps = l.keeps; err = l.err; came = tt; stopped = l.stopped }
 
 -- a place for the old bytes that is as long as they are
-filled : (n : ℕ) (old before : List ℕ) → n ≡ length before → place_after n old before ≡ old
+pub filled : (n : ℕ) (old before : List ℕ) → n ≡ length before → place_after n old before ≡ old
 filled n old before long = rw (eq-eqb n (length before) long) refl
 
 if-puts : (b : Bool) (bytes : List ℕ) → is_some (if b then Some bytes else None) ≡ b
 if-puts true bytes = refl
 if-puts false bytes = refl
 
-on-ok : {A E : Type 0} (P Q : Type 0) (r : Result A E) → (P → Q) → OnOk r P → OnOk r Q
+pub on-ok : {A E : Type 0} (P Q : Type 0) (r : Result A E) → (P → Q) → OnOk r P → OnOk r Q
 on-ok P Q (Ok a) f p = f p
 on-ok P Q (Err e) f p = tt
 

@@ -21,4 +21,5 @@ pub mod Pids
 pub mod Removing
 pub mod Touching
 pub mod Accessing
+pub mod Lending
 mod Indexed

@@ -35,12 +35,12 @@ run-within seg (suc n) at r rest same low high =
 span-within : (p : Span) (rest : List Place) → InPage p → pages_after (ref_of p) (run p.seg p.at p.len false ++ rest) ≡ pages_after (ref_of p) rest
 span-within p rest fit = run-within p.seg p.len p.at (ref_of p) rest refl (omega arith) (omega (arith, fit.1))
 
-span-first : (n : ℕ) (p : Span) (rest : List Place) → n ≡ p.len → InPage p → pages_of_bytes (run p.seg p.at n false ++ rest) ≡ ref_of p ∷ pages_after (ref_of p) rest
+pub span-first : (n : ℕ) (p : Span) (rest : List Place) → n ≡ p.len → InPage p → pages_of_bytes (run p.seg p.at n false ++ rest) ≡ ref_of p ∷ pages_after (ref_of p) rest
 span-first zero p rest is fit = absurd (omega (arith, is, fit.0))
 span-first (suc n) p rest is fit = ap (λ rs. ref_of p ∷ rs) (run-within p.seg n (p.at + 1) (ref_of p) rest refl (omega arith) (omega (arith, is, fit.1)))
 
 -- those of a later span are one page more, unless it is the last one
-span-next : (n : ℕ) (r : PageRef) (p : Span) → n ≡ p.len → InPage p → pages_after r (run p.seg p.at n false ++ []) ≡ (if is_page r p.seg (page_of p) then [] else ref_of p ∷ [])
+pub span-next : (n : ℕ) (r : PageRef) (p : Span) → n ≡ p.len → InPage p → pages_after r (run p.seg p.at n false ++ []) ≡ (if is_page r p.seg (page_of p) then [] else ref_of p ∷ [])
 span-next zero r p is fit = absurd (omega (arith, is, fit.0))
 span-next (suc n) r p is fit = by (is_page r p.seg (page_of p)) refl
   where
@@ -65,10 +65,10 @@ have-pages (p ∷ q ∷ r ∷ ps) few fit = absurd (omega (arith, few))
 
 -- WHAT THE PAGES DETERMINE
 
-whole-page : (n : ℕ) → 4096 * n / 4096 ≡ n
+pub whole-page : (n : ℕ) → 4096 * n / 4096 ≡ n
 whole-page n = omega arith
 
-whole-ref : (r : PageRef) → ref_of (whole_page r) ≡ r
+pub whole-ref : (r : PageRef) → ref_of (whole_page r) ≡ r
 whole-ref r = ap (λ n. record { seg = r.seg; page = n }) (whole-page r.page)
 
 same-span : (p q : Span) → ref_of p ≡ ref_of q → same_page p q ≡ true

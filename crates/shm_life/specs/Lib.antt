@@ -15,3 +15,4 @@ pub mod Mapped
 pub mod Exchanged
 pub mod Paging
 pub mod Accessing
+pub mod Lending

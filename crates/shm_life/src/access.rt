@@ -39,7 +39,13 @@ impl<P: Pager> Kernel<P> {
     // The spans of an access, with the frames that are known. Sigsegv where an address has no piece, or where
     // a write meets a read-only one.
     #[inline(always)]
-    fn spans_of(&self, caller: &Caller, addr: u64, len: u64, write: bool) -> Result<Spans, Errno>
+    pub(crate) fn spans_of(
+        &self,
+        caller: &Caller,
+        addr: u64,
+        len: u64,
+        write: bool,
+    ) -> Result<Spans, Errno>
         requires caller { IsCaller caller.now self.now.flat.runners }
         requires size { (1 ≤ len) × (len ≤ PAGE_SIZE) }
         ensures fit { IfOk result (λ spans. IsAccess (SpanFits self.now.flat.table) spans len) }
@@ -56,7 +62,12 @@ impl<P: Pager> Kernel<P> {
 
     // Does an act at the bytes of spans, and notes which pages moved.
     #[inline(always)]
-    fn act(&mut self, spans: &[Span], act: Act<'_>, there: &mut [u8]) -> Result<(), Errno>
+    pub(crate) fn act(
+        &mut self,
+        spans: &[Span],
+        act: Act<'_>,
+        there: &mut [u8],
+    ) -> Result<(), Errno>
         requires spans { let size = size_of act (length there.old) in
             IsAccess (SpanFits self.old.flat.table) spans.now size }
         requires room { FitsRoom act (length there.old) }

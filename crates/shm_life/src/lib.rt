@@ -9,6 +9,7 @@ mod fork;
 mod guest;
 mod kernel;
 mod listing;
+mod loans;
 mod mapping;
 mod shmat;
 mod shmctl;
@@ -22,5 +23,6 @@ mod system;
 mod typed;
 
 pub use listing::ShmInfo;
+pub use loans::{LendRefusal, NotReady, ReturnRefusal};
 pub use start::{StartError, first_area_error};
 pub use system::{Opening, System};

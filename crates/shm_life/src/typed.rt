@@ -1,12 +1,14 @@
 //! Accesses without a call's record: bytes go straight between the frames and the caller's buffer. Each is
-//! the step of the call, and is counted as one. Exchanges are no calls of the script language.
-ghost use Rattle.std.specs.Prelude.{◌≡◌, ◌<◌, ◌≤◌, length, OnErr};
+//! the step of the call, and is counted as one. Exchanges are no calls of the script language. A host that lends
+//! pages asks [`System::make_ready`] before each of them; then each page on loan stays in its frame.
+ghost use Rattle.std.specs.Prelude.{◌≡◌, ◌<◌, ◌≤◌, true, false, length, OnErr};
 ghost use Rattle.shm_base.specs.declared.call.Call.TheVariants as call;
 ghost use Rattle.shm_base.specs.declared.call.Reply.TheVariants.{Bytes, Number};
 ghost use Rattle.shm_base.specs.declared.paging.TheConstants.{PAGE_SIZE};
 ghost use Rattle.shm_life.specs.Exchanged.{Exchanged, comparing, exchanging};
 ghost use Rattle.shm_life.specs.MachineView.{done, replied, reply_in};
 ghost use Rattle.shm_life.specs.SystemState.{Replied, most_calls};
+ghost use Rattle.shm_life.specs.Lending.{KeepsLoans, pages_asked};
 
 use crate::system::System;
 use shm_base::Errno;
@@ -28,6 +30,8 @@ impl<P: Pager> System<P> {
         ensures replied { let load = call.Load addr (length out.old) in
             Replied self.old pid load (reply_in (Bytes out.new) result) self.new }
         ensures kept { OnErr result (out.new ≡ out.old) }
+        ensures loans { let pages = pages_asked self.old.machine pid addr (length out.old) false in
+            KeepsLoans pages self.old.memory self.new.memory }
     {
         let loaded = self.kernel.access_by(pid, addr, Act::Nothing, out);
         self.calls += 1;
@@ -45,7 +49,9 @@ impl<P: Pager> System<P> {
     pub fn store_from(&mut self, pid: u32, addr: u64, bytes: &[u8]) -> Result<(), Errno>
         requires room { self.old.calls < most_calls }
         requires size { (1 ≤ length bytes.now) × (length bytes.now ≤ PAGE_SIZE) }
-        ensures { Replied self.old pid (call.Store bytes.now addr) (replied done result) self.new }
+        ensures replied { Replied self.old pid (call.Store bytes.now addr) (replied done result) self.new }
+        ensures loans { let pages = pages_asked self.old.machine pid addr (length bytes.now) true in
+            KeepsLoans pages self.old.memory self.new.memory }
     {
         let stored = self.kernel.access_by(pid, addr, Act::Put(bytes), &mut []);
         self.calls += 1;
@@ -57,7 +63,9 @@ impl<P: Pager> System<P> {
     #[inline(always)]
     pub fn add_to(&mut self, pid: u32, addr: u64, add: u64) -> Result<u64, Errno>
         requires room { self.old.calls < most_calls }
-        ensures { Replied self.old pid (call.Xadd addr add) (replied Number result) self.new }
+        ensures replied { Replied self.old pid (call.Xadd addr add) (replied Number result) self.new }
+        ensures loans { let pages = pages_asked self.old.machine pid addr 8 true in
+            KeepsLoans pages self.old.memory self.new.memory }
     {
         let mut there = [0; 8];
         let added = self.kernel.access_by(pid, addr, Act::Add(add), &mut there);
@@ -85,6 +93,8 @@ impl<P: Pager> System<P> {
         ensures exchanged { let reply = reply_in (Bytes before.new) result in
             Exchanged (exchanging self.old.machine pid addr bytes.now) self.old reply self.new }
         ensures kept { OnErr result (before.new ≡ before.old) }
+        ensures loans { let pages = pages_asked self.old.machine pid addr (length bytes.now) true in
+            KeepsLoans pages self.old.memory self.new.memory }
     {
         let exchanged = self.kernel.access_by(pid, addr, Act::Put(bytes), before);
         self.calls += 1;
@@ -107,6 +117,8 @@ impl<P: Pager> System<P> {
         ensures compared { let reply = reply_in (Bytes before.new) result in
             Exchanged (comparing self.old.machine pid addr expected.now bytes.now) self.old reply self.new }
         ensures kept { OnErr result (before.new ≡ before.old) }
+        ensures loans { let pages = pages_asked self.old.machine pid addr (length bytes.now) true in
+            KeepsLoans pages self.old.memory self.new.memory }
     {
         let act = Act::PutIfEqual { expected, bytes };
         let compared = self.kernel.access_by(pid, addr, act, before);

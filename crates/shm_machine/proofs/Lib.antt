@@ -2,3 +2,4 @@ mod Fitting
 mod Sizes
 mod Stretching
 mod Zeros
+pub mod Readying

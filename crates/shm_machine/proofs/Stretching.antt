@@ -1,9 +1,11 @@
 -- One load, or store, after another is one of all bytes.
-use Rattle.std.proofs.Common.{◌≡◌, ℕ, zero, suc, ◌+◌, ◌-◌, ◌%◌, ◌/◌, ◌<◌, ◌≤◌, take, drop, true, List, [], ◌∷◌, ◌++◌, length, Some, refl, sym, ap, ◌∙◌, arith}
+use Rattle.std.proofs.Common.{◌≡◌, ℕ, zero, suc, ◌+◌, ◌-◌, ◌%◌, ◌/◌, ◌<◌, ◌≤◌, take, drop, Bool, true, false, List, [], ◌∷◌, ◌++◌, length, Some, refl, sym, ap, ◌∙◌, arith, inl, inr, subst}
+use Rattle.std.specs.Prelude.{Err}
+use Rattle.shm_slots.specs.Cause.{GoesOn}
 use borrow.Rule.Slice.PartMut.{put_mid}
 use Rattle.std.proofs.lemmas.Grind.{common_steps}
 use Rattle.std.proofs.Math.Seq.{take-add}
-use Rattle.std.proofs.lemmas.List.{length-append, length-take-le, map-append, drop-drop}
+use Rattle.std.proofs.lemmas.List.{length-append, length-take-le, map-append, drop-drop, take-append-drop}
 use Rattle.std.proofs.lemmas.Slice.{take-put_mid, drop-put_mid}
 use Rattle.shm_base.specs.Calls.{ProcessCall}
 use Rattle.shm_base.specs.declared.call.Reply.{Reply}
@@ -13,7 +15,19 @@ use Rattle.shm_life.specs.SystemState.{Replied}
 use Rattle.shm_fault.specs.Steps.{LockedPagesStay}
 use Rattle.shm_fault.specs.Store.{StoreView}
 use Rattle.shm_life.specs.MachineView.{LocksNothing}
-use Rattle.shm_machine.specs.Stretched.{Reached, calls_for, next_len}
+use Rattle.shm_base.specs.declared.call.Reply.TheVariants as replies
+use Rattle.shm_base.specs.declared.paging.PageRef.{PageRef}
+use Rattle.shm_fault.proofs.Lending.{stay-refl, stay-trans}
+use Rattle.shm_fault.specs.Loans.{LoansStay}
+use Rattle.shm_fault.specs.Placing.{places as paged}
+use Rattle.shm_life.specs.Lending.{pages_asked}
+use Rattle.shm_life.specs.MachineView.{is_lock}
+use Rattle.shm_life.specs.declared.loans.NotReady.{NotReady}
+use Rattle.shm_life.specs.declared.loans.NotReady.TheVariants as ready
+use Rattle.shm_machine.specs.Ready.{AccessMade, AccessedBy, Waits}
+use Rattle.shm_machine.specs.Stretched.{Reached, ReadTo, StoppedAt, WrittenTo, calls_for, next_len}
+use Rattle.shm_machine.specs.declared.refusal.Refusal.{Refusal}
+use Rattle.shm_machine.specs.declared.refusal.Refusal.TheVariants.{Refused, HostMemory, Spent, Lent}
 use Rattle.shm_fault.proofs.Sound.{GoesOn-trans}
 use Rattle.shm_base.specs.declared.call.Call.TheVariants.{Load, Store}
 use Rattle.shm_base.specs.declared.call.Reply.TheVariants.{Bytes, Done}
@@ -125,6 +139,61 @@ locked-trans a b c p q = record {
   locks = λ seg is. p.locks seg (q.locks seg is);
 }
 
+-- WHAT A CALL LEAVES, ONCE WAY WAS MADE FOR IT
+
+pub record Advances (now : SystemState) (pid : ℕ) (call : ProcessCall) (reply : Reply) (after : SystemState) : Type 0 where
+  pub move : IsMove now.machine (time_of now) (record { pid = pid; call = call; reply = reply }) after.machine
+  pub counted : after.calls ≡ now.calls + 1
+  pub opening : after.opening ≡ now.opening
+  pub clock : after.clock ≡ now.clock
+  pub goes_on : GoesOn now.memory.swap after.memory.swap
+  pub locked : KeepsLocked now.memory after.memory
+  pub stay : LoansStay (paged now.memory) (paged after.memory)
+
+pub advances : (rs : List PageRef) (now after : SystemState) (pid : ℕ) (call : ProcessCall) (reply : Reply) → is_lock call ≡ false → AccessMade rs now pid call reply after → Advances now pid call reply after
+advances rs now after pid call reply plain m =
+    let mid = m.mid in
+    let rest = m.ready.rest in
+    let keeps = m.ready.ready.keeps in
+    let r = m.access in
+    record {
+      move = subst (λ (s : SystemState). IsMove s.machine (time_of s) (record { pid = pid; call = call; reply = reply }) after.machine) rest r.move;
+      counted = r.counted ∙ ap (λ (s : SystemState). s.calls + 1) rest;
+      opening = r.opening ∙ ap (λ (s : SystemState). s.opening) rest;
+      clock = r.clock ∙ ap (λ (s : SystemState). s.clock) rest;
+      goes_on = GoesOn-trans now.memory.swap mid.memory.swap after.memory.swap keeps.goes_on r.keeps.goes_on;
+      locked = locked-trans now.memory mid.memory after.memory (record { kept = keeps.kept; locks = keeps.locks }) (record { kept = r.keeps.kept; locks = r.locked plain });
+      stay = m.stay;
+    }
+
+-- what a call that stopped it leaves
+pub record Leaves (s t : StoreView) : Type 0 where
+  pub locked : KeepsLocked s t
+  pub stay : LoansStay (paged s) (paged t)
+
+leaves-same : (m : StoreView) → Leaves m m
+leaves-same m = record { locked = record { kept = λ seg page was is there. there; locks = λ seg is. is }; stay = stay-refl (paged m) }
+
+leaves-waits : (rs : List PageRef) (why : NotReady) (s t : SystemState) → Waits rs why s t → Leaves s.memory t.memory
+leaves-waits rs why s t w = record { locked = record { kept = w.ready.keeps.kept; locks = w.ready.keeps.locks }; stay = w.ready.stay }
+
+leaves-made : (rs : List PageRef) (s t : SystemState) (pid : ℕ) (call : ProcessCall) (reply : Reply) → is_lock call ≡ false → AccessMade rs s pid call reply t → Leaves s.memory t.memory
+leaves-made rs s t pid call reply plain m = let a = advances rs s t pid call reply plain m in record { locked = a.locked; stay = a.stay }
+
+leaves-refused : (rs : List PageRef) (s t : SystemState) (pid : ℕ) (call : ProcessCall) (refusal : Refusal) → is_lock call ≡ false → AccessedBy rs s pid call (Err refusal) t → Leaves s.memory t.memory
+leaves-refused rs s t pid call (Refused e) plain (inl m) = leaves-made rs s t pid call (replies.Refused e) plain m
+leaves-refused rs s t pid call (Refused e) plain (inr n) = leaves-waits rs ready.Sigbus s t n.1
+leaves-refused rs s t pid call HostMemory plain n = absurd n
+leaves-refused rs s t pid call Spent plain n = rw n.1 (leaves-same s.memory)
+leaves-refused rs s t pid call Lent plain w = leaves-waits rs ready.Lent s t w
+
+pub leaves-stopped : (stood after : SystemState) (pid addr len : ℕ) (puts : Bool) (call : ProcessCall) (refusal : Refusal) → is_lock call ≡ false → StoppedAt stood pid addr len puts call refusal after → Leaves stood.memory after.memory
+leaves-stopped stood after pid addr len puts call refusal plain (inl a) = leaves-refused (pages_asked stood.machine pid addr len puts) stood after pid call refusal plain a.1
+leaves-stopped stood after pid addr len puts call refusal plain (inr n) = rw n.2 (leaves-same stood.memory)
+
+pub leaves-trans : (a b c : StoreView) → Leaves a b → Leaves b c → Leaves a c
+leaves-trans a b c p q = record { locked = locked-trans a b c p.locked q.locked; stay = stay-trans (paged a) (paged b) (paged c) p.stay q.stay }
+
 -- ONE CALL MORE
 
 -- every call but the first begins at a page boundary
@@ -147,12 +216,12 @@ calls-next addr (suc d) len next some few =
     let was = calls-some addr (suc d) (omega arith) in
     omega (arith, at, few, some, now, was)
 
-reached-next : (before now after : SystemState) (addr done len pid : ℕ) (call : ProcessCall) (reply : Reply) → Reached before addr done now → Replied now pid call reply after → IsNext addr done → 0 < len → len ≤ 4096 - (addr + done) % 4096 → Reached before addr (done + len) after
+reached-next : (before now after : SystemState) (addr done len pid : ℕ) (call : ProcessCall) (reply : Reply) → Reached before addr done now → Advances now pid call reply after → IsNext addr done → 0 < len → len ≤ 4096 - (addr + done) % 4096 → Reached before addr (done + len) after
 reached-next before now after addr done len pid call reply r moves next some few = record {
   calls = moves.counted ∙ ap (λ n. n + 1) r.calls ∙ omega (arith, calls-next addr done len next some few);
   opening = moves.opening ∙ r.opening;
   clock = moves.clock ∙ r.clock;
-  goes_on = GoesOn-trans before.memory.swap now.memory.swap after.memory.swap r.goes_on moves.keeps.goes_on;
+  goes_on = GoesOn-trans before.memory.swap now.memory.swap after.memory.swap r.goes_on moves.goes_on;
 }
 
 -- whole pages were done where there is more to do
@@ -172,7 +241,7 @@ pub record ReadSo (before : SystemState) (pid addr : ℕ) (old : List ℕ) (done
   pub bytes : 0 < done → (step before.machine (time_of before) pid (Load addr done)).reply ≡ Bytes (take done new)
   pub reached : Reached before addr done now
   pub machine : now.machine ≡ before.machine
-  pub locked : KeepsLocked before.memory now.memory
+  pub leaves : Leaves before.memory now.memory
 
 -- one more part was read
 read-one : (m : Machine) (first now pid addr room done len : ℕ) (new xs : List ℕ) → (0 < done → (step m first pid (Load addr done)).reply ≡ Bytes (take done new)) → (step m now pid (Load (addr + done) len)).reply ≡ Bytes xs
@@ -181,7 +250,7 @@ read-one m first now pid addr room zero len new xs before next front = grind (ar
 read-one m first now pid addr room (suc d) len new xs before next front = grind (arith, read_more m first now pid addr (suc d) len (take (suc d) new) xs)
 
 pub read_next : (before now after : SystemState) (pid addr : ℕ) (old new xs : List ℕ) (done len room : ℕ) → ReadSo before pid addr old done new now → done < length old → len ≡ next_len (addr + done) (length old - done) → room ≡ len
-    → Replied now pid (Load (addr + done) len) (Bytes xs) after → length xs ≡ len → ReadSo before pid addr old (done + len) (put_mid done room new xs) after
+    → Advances now pid (Load (addr + done) len) (Bytes xs) after → length xs ≡ len → ReadSo before pid addr old (done + len) (put_mid done room new xs) after
 read_next before now after pid addr old new xs done len room so lt len-is room-is moves size =
     let l = loads now.machine after.machine (time_of now) pid (addr + done) len xs moves.move in
     let within : done ≤ length new = omega (arith, so.size, lt) in
@@ -196,7 +265,7 @@ read_next before now after pid addr old new xs done len room so lt len-is room-i
       bytes = λ some. read-one before.machine (time_of before) (time_of now) pid addr room done len new xs so.bytes next front;
       reached = reached-next before now after addr done len pid (Load (addr + done) len) (Bytes xs) so.reached moves (so.whole.1 lt) (omega (arith, lt, len-is)) (omega (arith, len-is));
       machine = l.state ∙ so.machine;
-      locked = locked-trans before.memory now.memory after.memory so.locked (record { kept = moves.keeps.kept; locks = moves.locked refl });
+      leaves = leaves-trans before.memory now.memory after.memory so.leaves (record { locked = moves.locked; stay = moves.stay });
     }
   where
     drop_on : (done len : ℕ) (xs ys : List ℕ) → drop done xs ≡ drop done ys → drop (done + len) xs ≡ drop (done + len) ys
@@ -207,10 +276,10 @@ pub record WrittenSo (before : SystemState) (pid addr : ℕ) (bytes : List ℕ) 
   pub none : done ≡ 0 → now.machine ≡ before.machine
   pub stored : 0 < done → Stores before.machine (time_of before) pid addr (take done bytes) now.machine
   pub reached : Reached before addr done now
-  pub locked : KeepsLocked before.memory now.memory
+  pub leaves : Leaves before.memory now.memory
 
 pub write_next : (before now after : SystemState) (pid addr : ℕ) (bytes xs : List ℕ) (done len : ℕ) → WrittenSo before pid addr bytes done now → done < length bytes → len ≡ next_len (addr + done) (length bytes - done)
-    → xs ≡ take len (drop done bytes) → Replied now pid (Store xs (addr + done)) Done after → WrittenSo before pid addr bytes (done + len) after
+    → xs ≡ take len (drop done bytes) → Advances now pid (Store xs (addr + done)) Done after → WrittenSo before pid addr bytes (done + len) after
 write_next before now after pid addr bytes xs done len so lt len-is is moves =
     let some : 0 < len = omega (arith, lt, len-is) in
     record {
@@ -218,7 +287,7 @@ write_next before now after pid addr bytes xs done len so lt len-is is moves =
       none = λ zero-is. absurd (omega (arith, zero-is, some));
       stored = λ more. rw (take-add done len bytes, ← is) (one done lt so.none so.stored (stores now.machine after.machine (time_of now) pid (addr + done) xs moves.move));
       reached = reached-next before now after addr done len pid (Store xs (addr + done)) Done so.reached moves (so.whole.1 lt) some (omega (arith, len-is));
-      locked = locked-trans before.memory now.memory after.memory so.locked (record { kept = moves.keeps.kept; locks = moves.locked refl });
+      leaves = leaves-trans before.memory now.memory after.memory so.leaves (record { locked = moves.locked; stay = moves.stay });
     }
   where
     one : (done : ℕ) → done < length bytes → (done ≡ 0 → now.machine ≡ before.machine) → (0 < done → Stores before.machine (time_of before) pid addr (take done bytes) now.machine) → Stores now.machine (time_of now) pid (addr + done) xs after.machine
@@ -229,3 +298,42 @@ write_next before now after pid addr bytes xs done len so lt len-is is moves =
         let first : Stores before.machine (time_of now) pid addr xs after.machine = rw (none refl) at there in
         store-any before.machine after.machine (time_of now) (time_of before) pid addr xs first
     one (suc d) below none before-stored next = grind (arith, length-take-le (suc d) bytes, write_more before.machine now.machine after.machine (time_of before) (time_of now) pid addr (take (suc d) bytes) xs)
+
+-- STOPPED
+
+-- a part that is as it was
+pub unread : (a k : ℕ) (xs ys : List ℕ) → ys ≡ take k (drop a xs) → put_mid a k xs ys ≡ xs
+unread a k xs ys same = rw same (ap (λ zs. take a xs ++ zs) (take-append-drop k (drop a xs)) ∙ take-append-drop a xs)
+
+pub read_stopped : (before now after : SystemState) (pid addr : ℕ) (old new : List ℕ) (done len : ℕ) (refusal : Refusal) → ReadSo before pid addr old done new now → done < length old → len ≡ next_len (addr + done) (length old - done)
+    → StoppedAt now pid (addr + done) len false (Load (addr + done) len) refusal after → ReadTo before pid addr old (record { done = done; stopped = Some refusal }) new after
+read_stopped before now after pid addr old new done len refusal so lt len-is stopped =
+    let all = leaves-trans before.memory now.memory after.memory so.leaves (leaves-stopped now after pid (addr + done) len false (Load (addr + done) len) refusal refl stopped) in
+    record {
+      within = so.whole.0;
+      rest = so.rest;
+      bytes = so.bytes;
+      stood = now;
+      reached = so.reached;
+      machine = so.machine;
+      ended = (lt, subst (λ n. StoppedAt now pid (addr + done) n false (Load (addr + done) n) refusal after) len-is stopped);
+      kept = all.locked.kept;
+      locks = all.locked.locks;
+      stay = all.stay;
+    }
+
+pub write_stopped : (before now after : SystemState) (pid addr : ℕ) (bytes : List ℕ) (done len : ℕ) (refusal : Refusal) → WrittenSo before pid addr bytes done now → done < length bytes → len ≡ next_len (addr + done) (length bytes - done)
+    → StoppedAt now pid (addr + done) len true (Store (take len (drop done bytes)) (addr + done)) refusal after → WrittenTo before pid addr bytes (record { done = done; stopped = Some refusal }) after
+write_stopped before now after pid addr bytes done len refusal so lt len-is stopped =
+    let all = leaves-trans before.memory now.memory after.memory so.leaves (leaves-stopped now after pid (addr + done) len true (Store (take len (drop done bytes)) (addr + done)) refusal refl stopped) in
+    record {
+      within = so.whole.0;
+      stood = now;
+      reached = so.reached;
+      none = so.none;
+      stored = so.stored;
+      ended = (lt, subst (λ n. StoppedAt now pid (addr + done) n true (Store (take n (drop done bytes)) (addr + done)) refusal after) len-is stopped);
+      kept = all.locked.kept;
+      locks = all.locked.locks;
+      stay = all.stay;
+    }

@@ -10,7 +10,7 @@ use Rattle.shm_fault.specs.Flushing.{IsFlushed}
 use Rattle.shm_life.specs.MachineView.{KeepsOn}
 use Rattle.shm_life.specs.SystemState.{SystemState, most_calls, Replied, IsOutOfMemory}
 use Rattle.shm_machine.specs.declared.refusal.Refusal.{Refusal}
-use Rattle.shm_machine.specs.declared.refusal.Refusal.TheVariants.{Refused, HostMemory, Spent}
+use Rattle.shm_machine.specs.declared.refusal.Refusal.TheVariants.{Refused, HostMemory, Spent, Lent}
 
 -- the result of a call and the machine afterwards; the host's memory matters only if the flat machine refuses nothing
 abbrev pub Answered : SystemState → ℕ → ProcessCall → Result Reply Refusal → SystemState → Type 0
@@ -18,6 +18,7 @@ Answered before pid call (Ok reply) after = Replied before pid call reply after
 Answered before pid call (Err (Refused errno)) after = Replied before pid call (replies.Refused errno) after
 Answered before pid call (Err HostMemory) after = IsOutOfMemory before pid call after
 Answered before pid call (Err Spent) after = (before.calls ≡ most_calls) × (after ≡ before)
+Answered before pid call (Err Lent) after = ⊥
 
 -- a reply that is not a refusal is of the call's kind
 abbrev pub fits : ProcessCall → Reply → Bool

@@ -1,4 +1,5 @@
 pub mod Answered
 pub mod Opened
 pub mod Stretched
+pub mod Ready
 pub mod Exchanged

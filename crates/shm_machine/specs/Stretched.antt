@@ -1,5 +1,5 @@
 -- Loads and stores of any length: sequences of calls, each of which ends with its page.
-use Rattle.std.specs.Prelude.{ℕ, zero, suc, ◌≡◌, ◌+◌, ◌-◌, ◌/◌, ◌%◌, ◌^◌, ◌<◌, ◌≤◌, ◌⊎◌, min, List, length, take, drop, replicate, Err, MatchOption, Option, Some, None}
+use Rattle.std.specs.Prelude.{ℕ, zero, suc, ◌≡◌, ◌+◌, ◌-◌, ◌/◌, ◌%◌, ◌^◌, ◌<◌, ◌≤◌, ◌⊎◌, min, Bool, true, false, List, length, take, drop, replicate, Err, MatchOption, Option, Some, None}
 use Rattle.shm_base.specs.Calls.{ProcessCall}
 use Rattle.shm_base.specs.declared.call.Call.TheVariants.{Load, Store}
 use Rattle.shm_base.specs.declared.call.Reply.TheVariants.{Bytes, Done}
@@ -7,13 +7,16 @@ use Rattle.shm_base.specs.declared.errno.Errno.TheVariants.{Sigsegv}
 use Rattle.shm_base.specs.Step.{step}
 use Rattle.shm_base.specs.declared.paging.TheConstants.{PAGE_SIZE}
 use Rattle.shm_slots.specs.Cause.{GoesOn}
+use Rattle.shm_fault.specs.Loans.{LoansStay}
+use Rattle.shm_fault.specs.Placing.{places}
 use Rattle.shm_fault.specs.Steps.{LockedPagesStay}
+use Rattle.shm_life.specs.Lending.{pages_asked}
 use Rattle.shm_life.specs.MachineView.{LocksNothing}
 use Rattle.shm_life.specs.SystemState.{SystemState, time_of}
 use Rattle.shm_machine.specs.declared.refusal.Refusal.{Refusal}
 use Rattle.shm_machine.specs.declared.refusal.Refusal.TheVariants.{Refused}
 use Rattle.shm_machine.specs.declared.stretch.Progress.{Progress}
-use Rattle.shm_machine.specs.Answered.{Answered}
+use Rattle.shm_machine.specs.Ready.{AccessedBy}
 
 -- how many calls an access of n bytes at an address makes: one for each page
 abbrev pub calls_for : ℕ → ℕ → ℕ
@@ -32,19 +35,20 @@ pub record Reached (before : SystemState) (addr bytes : ℕ) (stood : SystemStat
   pub goes_on : GoesOn before.memory.swap stood.memory.swap
 
 -- the call at an address was refused; at 2^64 or above no call is made, since no piece is there
-abbrev pub StoppedAt : SystemState → ℕ → ℕ → ProcessCall → Refusal → SystemState → Type 0
-StoppedAt stood pid addr call refusal after =
-    ((addr < 2 ^ 64) × Answered stood pid call (Err refusal) after)
+abbrev pub StoppedAt : SystemState → ℕ → ℕ → ℕ → Bool → ProcessCall → Refusal → SystemState → Type 0
+StoppedAt stood pid addr len puts call refusal after =
+    ((addr < 2 ^ 64) × AccessedBy (pages_asked stood.machine pid addr len puts) stood pid call (Err refusal) after)
     ⊎ ((2 ^ 64 ≤ addr) × (refusal ≡ Refused Sigsegv) × (after ≡ stood))
 
 -- everything was done, or the next call was refused
-abbrev pub EndedAt : SystemState → ℕ → ℕ → ℕ → (ℕ → ProcessCall) → Progress → SystemState → Type 0
-EndedAt stood pid addr size next p after =
+abbrev pub EndedAt : SystemState → ℕ → ℕ → ℕ → Bool → (ℕ → ProcessCall) → Progress → SystemState → Type 0
+EndedAt stood pid addr size puts next p after =
+    let len = next_len (addr + p.done) (size - p.done) in
     MatchOption p.stopped ((p.done ≡ size) × (after ≡ stood))
-    (λ refusal. (p.done < size) × StoppedAt stood pid (addr + p.done) (next (next_len (addr + p.done) (size - p.done))) refusal after)
+    (λ refusal. (p.done < size) × StoppedAt stood pid (addr + p.done) len puts (next len) refusal after)
 
 -- the bytes that were read are those of one load of the flat machine, and the rest of the buffer is unchanged; pages of locked
--- segments stay resident, and no segment becomes locked
+-- segments stay resident, no segment becomes locked, and each page on loan stays in its frame
 pub record ReadTo (before : SystemState) (pid addr : ℕ) (old : List ℕ) (p : Progress) (new : List ℕ) (after : SystemState) : Type 0 where
   pub within : p.done ≤ length old
   pub rest : drop p.done new ≡ drop p.done old
@@ -52,21 +56,23 @@ pub record ReadTo (before : SystemState) (pid addr : ℕ) (old : List ℕ) (p : 
   pub stood : SystemState
   pub reached : Reached before addr p.done stood
   pub machine : stood.machine ≡ before.machine
-  pub ended : EndedAt stood pid addr (length old) (λ n. Load (addr + p.done) n) p after
+  pub ended : EndedAt stood pid addr (length old) false (λ n. Load (addr + p.done) n) p after
   pub kept : LockedPagesStay before.memory after.memory
   pub locks : LocksNothing before.memory after.memory
+  pub stay : LoansStay (places before.memory) (places after.memory)
 
 -- the bytes that were written are those of one store of the flat machine; pages of locked segments stay resident, and no segment
--- becomes locked
+-- becomes locked, and each page on loan stays in its frame
 pub record WrittenTo (before : SystemState) (pid addr : ℕ) (bytes : List ℕ) (p : Progress) (after : SystemState) : Type 0 where
   pub within : p.done ≤ length bytes
   pub stood : SystemState
   pub reached : Reached before addr p.done stood
   pub none : p.done ≡ 0 → stood.machine ≡ before.machine
   pub stored : 0 < p.done → step before.machine (time_of before) pid (Store (take p.done bytes) addr) ≡ record { reply = Done; state = stood.machine }
-  pub ended : EndedAt stood pid addr (length bytes) (λ n. Store (take n (drop p.done bytes)) (addr + p.done)) p after
+  pub ended : EndedAt stood pid addr (length bytes) true (λ n. Store (take n (drop p.done bytes)) (addr + p.done)) p after
   pub kept : LockedPagesStay before.memory after.memory
   pub locks : LocksNothing before.memory after.memory
+  pub stay : LoansStay (places before.memory) (places after.memory)
 
 -- what stops a copy: what stopped its store, else what stopped its load
 abbrev pub stop_of : Option Refusal → Option Refusal → Option Refusal

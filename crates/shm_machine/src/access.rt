@@ -1,60 +1,109 @@
 //! Loads, stores, additions and exchanges: the bytes go straight between the machine's memory and the
-//! caller's buffer.
-ghost use Rattle.std.specs.Prelude.{◌≡◌, ◌≤◌, length, OnErr};
+//! caller's buffer. While pages are on loan, an access that would touch one or send one out of its frame is
+//! refused with [`Refusal::Lent`].
+ghost use Rattle.std.specs.Prelude.{◌≡◌, ◌<◌, ◌≤◌, true, false, length, IfErr, OnErr, OnOk};
 ghost use Rattle.shm_base.specs.declared.call.Call.TheVariants as call;
 ghost use Rattle.shm_base.specs.declared.call.Reply.TheVariants as reply;
 ghost use Rattle.shm_base.specs.declared.paging.TheConstants.{PAGE_SIZE};
 ghost use Rattle.shm_life.specs.Exchanged.{comparing, exchanging};
-ghost use Rattle.shm_machine.specs.Answered.{Answered, as_reply, done};
+ghost use Rattle.shm_life.specs.Lending.{pages_asked};
+ghost use Rattle.shm_life.specs.SystemState.{most_calls};
+ghost use Rattle.shm_machine.specs.Answered.{as_reply, done};
 ghost use Rattle.shm_machine.specs.Exchanged.{ExchangedBy};
+ghost use Rattle.shm_machine.specs.Ready.{AccessedBy, IsReady, NotMade, refusal_of, refused_by};
 
 use crate::machine::Machine;
 use crate::refusal::Refusal;
+use shm_base::Errno;
+use shm_life::NotReady;
+
+// The refusal of an access for which no way could be made.
+fn refusal_of(why: NotReady) -> Refusal
+    ensures { result ≡ refusal_of why }
+{
+    match why {
+        NotReady::Lent => Refusal::Lent,
+        NotReady::Sigbus => Refusal::Refused(Errno::Sigbus),
+    }
+}
+
+// What an access answered, with its errno as a refusal.
+#[inline(always)]
+fn answer(done: Result<(), Errno>) -> Result<(), Refusal>
+    ensures { result ≡ refused_by done }
+{
+    match done {
+        Ok(()) => Ok(()),
+        Err(errno) => Err(Refusal::Refused(errno)),
+    }
+}
 
 impl Machine {
+    // Makes way for an access, if pages are on loan.
+    #[inline(always)]
+    fn make_ready(&mut self, pid: u32, addr: u64, len: u64, write: bool) -> Result<(), Refusal>
+        requires { (1 ≤ len) × (len ≤ PAGE_SIZE) }
+        ensures ok { let pages = pages_asked self.old.system.machine pid addr len write in
+            OnOk result (IsReady pages self.old.system self.new.system) }
+        ensures room { OnOk result (self.new.system.calls < most_calls) }
+        ensures err { let pages = pages_asked self.old.system.machine pid addr len write in
+            IfErr result (λ e. NotMade pages e self.old.system self.new.system) }
+    {
+        if self.system.calls() == u64::MAX {
+            return Err(Refusal::Spent);
+        }
+        match self.system.make_ready(pid, addr, len, write) {
+            Ok(()) => Ok(()),
+            Err(why) => Err(refusal_of(why)),
+        }
+    }
+
     /// Reads 1 to 4,096 bytes of attached memory into the buffer in one step. As [`Machine::load`], but
     /// without another copy. If it is refused, the buffer is unchanged.
     #[inline(always)]
     pub fn load_into(&mut self, pid: u32, addr: u64, bytes: &mut [u8]) -> Result<(), Refusal>
         requires size { (1 ≤ length bytes.old) × (length bytes.old ≤ PAGE_SIZE) }
-        ensures answered { let load = call.Load addr (length bytes.old) in
-            Answered self.old.system pid load (as_reply (λ _. reply.Bytes bytes.new) result) self.new.system }
+        ensures answered { let pages = pages_asked self.old.system.machine pid addr (length bytes.old) false in
+            let load = call.Load addr (length bytes.old) in
+            let answer = as_reply (λ _. reply.Bytes bytes.new) result in
+            AccessedBy pages self.old.system pid load answer self.new.system }
         ensures kept { OnErr result (bytes.new ≡ bytes.old) }
         ensures size { length bytes.new ≡ length bytes.old }
     {
-        if self.system.calls() == u64::MAX {
-            return Err(Refusal::Spent);
+        if let Err(refusal) = self.make_ready(pid, addr, bytes.len() as u64, false) {
+            return Err(refusal);
         }
-        self.system
-            .load_into(pid, addr, bytes)
-            .map_err(Refusal::Refused)
+        answer(self.system.load_into(pid, addr, bytes))
     }
 
     /// Replaces 1 to 4,096 bytes of attached memory in one step.
     #[inline(always)]
     pub fn store(&mut self, pid: u32, addr: u64, bytes: &[u8]) -> Result<(), Refusal>
         requires size { (1 ≤ length bytes.now) × (length bytes.now ≤ PAGE_SIZE) }
-        ensures { let store = call.Store bytes.now addr in
-            Answered self.old.system pid store (as_reply done result) self.new.system }
+        ensures { let pages = pages_asked self.old.system.machine pid addr (length bytes.now) true in
+            let store = call.Store bytes.now addr in
+            AccessedBy pages self.old.system pid store (as_reply done result) self.new.system }
     {
-        if self.system.calls() == u64::MAX {
-            return Err(Refusal::Spent);
+        if let Err(refusal) = self.make_ready(pid, addr, bytes.len() as u64, true) {
+            return Err(refusal);
         }
-        self.system
-            .store_from(pid, addr, bytes)
-            .map_err(Refusal::Refused)
+        answer(self.system.store_from(pid, addr, bytes))
     }
 
     /// Adds to eight little-endian bytes of attached memory, modulo 2^64, and returns the old number.
     #[inline(always)]
     pub fn add(&mut self, pid: u32, addr: u64, add: u64) -> Result<u64, Refusal>
-        ensures { Answered self.old.system pid (call.Xadd addr add)
-            (as_reply reply.Number result) self.new.system }
+        ensures { let pages = pages_asked self.old.system.machine pid addr 8 true in
+            let answer = as_reply reply.Number result in
+            AccessedBy pages self.old.system pid (call.Xadd addr add) answer self.new.system }
     {
-        if self.system.calls() == u64::MAX {
-            return Err(Refusal::Spent);
+        if let Err(refusal) = self.make_ready(pid, addr, 8, true) {
+            return Err(refusal);
         }
-        self.system.add_to(pid, addr, add).map_err(Refusal::Refused)
+        match self.system.add_to(pid, addr, add) {
+            Ok(number) => Ok(number),
+            Err(errno) => Err(Refusal::Refused(errno)),
+        }
     }
 
     /// Replaces 1 to 4,096 bytes in one step (xchg); `before` gets the old ones. Refused as a store is; then
@@ -69,15 +118,14 @@ impl Machine {
         requires size { (1 ≤ length bytes.now) × (length bytes.now ≤ PAGE_SIZE) }
         requires before { length before.old ≡ length bytes.now }
         ensures exchanged { let exchange = exchanging self.old.system.machine pid addr bytes.now in
-            ExchangedBy exchange self.old.system before.new result self.new.system }
+            let pages = pages_asked self.old.system.machine pid addr (length bytes.now) true in
+            ExchangedBy pages exchange self.old.system before.new result self.new.system }
         ensures kept { OnErr result (before.new ≡ before.old) }
     {
-        if self.system.calls() == u64::MAX {
-            return Err(Refusal::Spent);
+        if let Err(refusal) = self.make_ready(pid, addr, bytes.len() as u64, true) {
+            return Err(refusal);
         }
-        self.system
-            .exchange(pid, addr, bytes, before)
-            .map_err(Refusal::Refused)
+        answer(self.system.exchange(pid, addr, bytes, before))
     }
 
     /// As [`Machine::exchange`], but replaces the bytes only if they equal the expected ones (cmpxchg).
@@ -93,14 +141,16 @@ impl Machine {
         requires size { (1 ≤ length bytes.now) × (length bytes.now ≤ PAGE_SIZE) }
         requires before { length before.old ≡ length bytes.now }
         ensures compared { let exchange = comparing self.old.system.machine pid addr expected.now bytes.now in
-            ExchangedBy exchange self.old.system before.new result self.new.system }
+            let pages = pages_asked self.old.system.machine pid addr (length bytes.now) true in
+            ExchangedBy pages exchange self.old.system before.new result self.new.system }
         ensures kept { OnErr result (before.new ≡ before.old) }
     {
-        if self.system.calls() == u64::MAX {
-            return Err(Refusal::Spent);
+        if let Err(refusal) = self.make_ready(pid, addr, bytes.len() as u64, true) {
+            return Err(refusal);
         }
-        self.system
-            .compare_exchange(pid, addr, expected, bytes, before)
-            .map_err(Refusal::Refused)
+        answer(
+            self.system
+                .compare_exchange(pid, addr, expected, bytes, before),
+        )
     }
 }

@@ -1,8 +1,10 @@
 //! The calls that return a value.
-ghost use Rattle.std.specs.Prelude.{◌≡◌, length, IfOk};
+ghost use Rattle.std.specs.Prelude.{◌≡◌, false, length, IfOk};
 ghost use Rattle.shm_base.specs.declared.call.Call.TheVariants as call;
 ghost use Rattle.shm_base.specs.declared.call.Reply.TheVariants as reply;
+ghost use Rattle.shm_life.specs.Lending.{pages_asked};
 ghost use Rattle.shm_machine.specs.Answered.{Answered, as_reply};
+ghost use Rattle.shm_machine.specs.Ready.{AccessedBy};
 
 use crate::machine::Machine;
 use crate::refusal::Refusal;
@@ -50,8 +52,9 @@ impl Machine {
 
     /// Reads bytes of attached memory.
     pub fn load(&mut self, pid: u32, addr: u64, len: AccessLen) -> Result<Chunk, Refusal>
-        ensures answered { Answered self.old.system pid (call.Load addr len)
-            (as_reply (λ b. reply.Bytes b) result) self.new.system }
+        ensures answered { let pages = pages_asked self.old.system.machine pid addr len false in
+            let answer = as_reply (λ b. reply.Bytes b) result in
+            AccessedBy pages self.old.system pid (call.Load addr len) answer self.new.system }
         ensures length { IfOk result (λ b. length b ≡ len) }
     {
         let mut bytes = [0; LONGEST_ACCESS];

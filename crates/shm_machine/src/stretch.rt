@@ -1,9 +1,10 @@
 //! Reads and writes of any length: a sequence of calls, each of which ends with its page.
-ghost use Rattle.std.specs.Prelude.{◌≡◌, ◌+◌, ◌^◌, ◌≤◌, length, MatchResult, OnErr};
+ghost use Rattle.std.specs.Prelude.{◌≡◌, ◌+◌, ◌^◌, ◌≤◌, true, false, length, MatchResult, OnErr};
 ghost use Rattle.shm_base.specs.declared.call.Call.TheVariants as call;
 ghost use Rattle.shm_base.specs.declared.call.Reply.TheVariants as reply;
 ghost use Rattle.shm_base.specs.declared.paging.TheConstants.{PAGE_SIZE};
-ghost use Rattle.shm_life.specs.SystemState.{Replied};
+ghost use Rattle.shm_life.specs.Lending.{pages_asked};
+ghost use Rattle.shm_machine.specs.Ready.{AccessMade};
 ghost use Rattle.shm_machine.specs.Stretched.{next_len, StoppedAt, ReadTo, WrittenTo};
 
 use crate::machine::Machine;
@@ -38,9 +39,12 @@ impl Machine {
     // One call of a read, for the bytes after those that were done.
     fn read_on(&mut self, pid: u32, addr: u64, done: usize, part: &mut [u8]) -> Result<(), Refusal>
         requires { (1 ≤ length part.old) × (length part.old ≤ PAGE_SIZE) }
-        ensures read { let load = call.Load (addr + done) (length part.old) in
-            MatchResult result (λ _. Replied self.old.system pid load (reply.Bytes part.new) self.new.system)
-            (λ e. StoppedAt self.old.system pid (addr + done) load e self.new.system) }
+        ensures read { let at = addr + done in
+            let load = call.Load at (length part.old) in
+            let pages = pages_asked self.old.system.machine pid at (length part.old) false in
+            MatchResult result
+            (λ _. AccessMade pages self.old.system pid load (reply.Bytes part.new) self.new.system)
+            (λ e. StoppedAt self.old.system pid at (length part.old) false load e self.new.system) }
         ensures kept { OnErr result (part.new ≡ part.old) }
     {
         let at = next_address(addr, done)?;
@@ -50,9 +54,12 @@ impl Machine {
     // One call of a write, for the bytes after those that were done.
     fn write_on(&mut self, pid: u32, addr: u64, done: usize, bytes: &[u8]) -> Result<(), Refusal>
         requires { (1 ≤ length bytes.now) × (length bytes.now ≤ PAGE_SIZE) }
-        ensures { let store = call.Store bytes.now (addr + done) in
-            MatchResult result (λ _. Replied self.old.system pid store reply.Done self.new.system)
-            (λ e. StoppedAt self.old.system pid (addr + done) store e self.new.system) }
+        ensures { let at = addr + done in
+            let store = call.Store bytes.now at in
+            let pages = pages_asked self.old.system.machine pid at (length bytes.now) true in
+            MatchResult result
+            (λ _. AccessMade pages self.old.system pid store reply.Done self.new.system)
+            (λ e. StoppedAt self.old.system pid at (length bytes.now) true store e self.new.system) }
     {
         let at = next_address(addr, done)?;
         self.store(pid, at, bytes)

@@ -3,6 +3,7 @@ use Rattle.shm_base.specs.declared.call.Call.TheVariants as call
 use Rattle.shm_life.specs.SystemState.{time_by}
 use Rattle.shm_life.proofs.Accessing.{does-kept, loads}
 use Rattle.shm_life.proofs.Running.{replied_as}
+use Rattle.shm_life.proofs.Lending.{keeps-loans}
 use Rattle.shm_life.proofs.system.System.load_into.Goals as goal
 
 pub returns-clause-replied : goal.returns-clause-replied
@@ -12,3 +13,6 @@ returns-clause-replied g c =
 
 pub returns-clause-kept : goal.returns-clause-kept
 returns-clause-kept g c = does-kept _ c.args.addr _ _ _ _ _ _ c.access_by-loaded.ensures
+
+pub returns-clause-loans : goal.returns-clause-loans
+returns-clause-loans g c = rw (← c.self.view_is) (keeps-loans _ c.args.addr _ _ _ _ _ _ c.access_by-loaded.ensures)

@@ -3,9 +3,13 @@ use Rattle.shm_base.specs.declared.call.Call.TheVariants as call
 use Rattle.shm_life.specs.SystemState.{time_by}
 use Rattle.shm_life.proofs.Accessing.{stores}
 use Rattle.shm_life.proofs.Running.{replied_as}
+use Rattle.shm_life.proofs.Lending.{keeps-loans}
 use Rattle.shm_life.proofs.system.System.store_from.Goals as goal
 
-pub returns : goal.returns
-returns g c =
+pub returns-clause-replied : goal.returns-clause-replied
+returns-clause-replied g c =
     rw (← c.self.view_is)
     (replied_as _ _ c.args.pid (call.Store c.args.bytes.now c.args.addr) _ (rw (← c.self.view_is) at c.requires.room) (stores _ _ (time_by c.self.inside.clock c.self.inside.calls) c.args.addr _ _ _ c.args.bytes _ c.access_by-stored.ensures) refl)
+
+pub returns-clause-loans : goal.returns-clause-loans
+returns-clause-loans g c = rw (← c.self.view_is) (keeps-loans _ c.args.addr _ _ _ _ _ _ c.access_by-stored.ensures)
