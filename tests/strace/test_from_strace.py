@@ -169,7 +169,7 @@ def test_next(folder: str) -> None:
         status, printed, _ = convert([*trace, "--script", script, "--log", log], stored("sizes.strace"), cwd)
         assert (status, printed) == (0, wanted)
     help_text = run([PROGRAM, "--help"]).out
-    page = text_of("docs/OUTCOMES.md").partition("## Any program's run")[2]
+    page = text_of("docs/STRACE.md")
     shown = [it for it in (help_text + page).splitlines() if re.search("shmcheck judge .* < ", it)]
     assert len(shown) >= 3
     assert all("--rules linux" in it for it in shown)
