@@ -68,7 +68,7 @@ def test_sentences(folder: str) -> None:
                                    ["tools/wrong_machines", "texts"]],
                          ids=" ".join)
 def test_is_current(words: list[str]) -> None:
-    """The numbers of docs/READING.md are current, and texts that edits and wrong machines change occur
+    """The numbers of docs/VERIFICATION.md are current, and texts that edits and wrong machines change occur
     once."""
     ended = run([os.path.join(TOP, words[0]), *words[1:]])
     assert ended.status == 0, ended.out + ended.said
