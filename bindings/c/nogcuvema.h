@@ -42,8 +42,8 @@ extern "C" {
 #endif
 
 /* The version of this header: 10000 times the first number, 100 times the second, and the third. */
-#define NOG_VERSION 10000
-#define NOG_VERSION_TEXT "1.0.0"
+#define NOG_VERSION 10100
+#define NOG_VERSION_TEXT "1.1.0"
 
 /* A machine, or none: zeroed memory is a closed machine. The caller owns the struct. nog_open takes memory of the heap
    for it, and nog_close frees that. The fields are the library's: don't read or write them. The struct may be moved as
