@@ -213,12 +213,12 @@ def require_own_words(path: str, text: str) -> None:
         call = next((word for word in words[1:2] if word in MAPPINGS), "")
         if call:
             raise BadCase(path, number, call,
-                          "a call of the library alone, which ./shmsim has not: run the case with --library")
+                          "a call that only the C library has: run the case with --library")
         name = next((name for word in words if word in FLAGS
                      for name in words[-1].split(",") if name in FLAGS[word]), "")
         if name:
             raise BadCase(path, number, name,
-                          "a flag of the library alone, which ./shmsim has not: run the case with --library")
+                          "a flag that only the C library has: run the case with --library")
 
 
 def take_reply(path: str, case: Case, number: int, line: str) -> None:

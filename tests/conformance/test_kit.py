@@ -31,7 +31,7 @@ AREAS = "no swap area: ram:N, sparse:N, mirror:N, fuse:N:rK or fuse:N:wK, N from
 SWAP = "the line is #swap and 1 to 8 areas, as #swap ram:64 sparse:65536"
 NO_RULE = ("no comment above it names the rule and its source, as POSIX shmat(), POSIX.1-2017, page 1384, "
            "shmop(2) or profile")
-ALONE = "a call of the library alone, which ./shmsim has not: run the case with --library"
+ALONE = "a call that only the C library has: run the case with --library"
 FLAG_ALONE = ALONE.replace("a call", "a flag")
 NO_PEER = "the peer was not started: no such command: /nosuch/peer"
 NO_SOURCE = ("no comment above it names the source of Linux's reply, as observed on Linux 6.18, or Linux: "
