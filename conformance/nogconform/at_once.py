@@ -236,7 +236,7 @@ class RacingPeer:
             raise Stopped(f"the peer printed {len(logs)} logs of {self.runs} runs")
         for log in logs:
             if Counter(pid_of(line) for line in log.lines) != calls or len(log.spans) != len(log.lines):
-                raise Stopped(f"the peer printed a log that has not each line of the script once: "
+                raise Stopped(f"the peer printed a log that does not have each line of the script once: "
                               f"{log.lines}")
         return logs
 
@@ -280,7 +280,7 @@ class Judge:
                 done = subprocess.run(words, input=text.encode(), capture_output=True, timeout=SECONDS,
                                       check=False)
             except subprocess.TimeoutExpired:
-                return "undecided", f"no answer in {SECONDS} seconds"
+                return "undecided", f"no verdict in {SECONDS} seconds"
             except OSError as error:
                 raise Stopped(f"the judge was not started: {error}") from None
         said, errors = (it.decode(errors="replace") for it in (done.stdout, done.stderr))

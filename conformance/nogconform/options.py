@@ -156,7 +156,7 @@ def parser_of_words() -> Words:
         "profile: it follows this project's own rules (the default)", "RULES", type=rules)
     add("--no-peer", "compares the program with the rules only")
     add("--shared", "the peer stays in the system's own IPC namespace, under its limits")
-    add("--seconds", "waits a second between calls, and compares times as places in the script")
+    add("--seconds", "waits a second between calls, and compares times as positions in the script")
     add("--limit", "seconds for each command (10)", "S",
         type=a_number("--limit", "whole seconds", MOST_SECONDS))
     add("--replies", "reads the peer's output from FOLDER/NAME.out for each case NAME, and runs no peer",

@@ -230,7 +230,7 @@ def take_reply(path: str, case: Case, number: int, line: str) -> None:
     if field_name == "linux" and last.expected is None:
         raise BadCase(path, number, mark, "a reply of Linux without a line #= above it")
     if not reply.strip():
-        raise BadCase(path, number, mark, "no reply is told behind it")
+        raise BadCase(path, number, mark, "no reply is given after it")
     setattr(last, field_name, reply.strip())
 
 
@@ -254,7 +254,7 @@ def require_rules(path: str, case: Case) -> None:
             raise BadCase(path, command.line, command.text,
                           f"no comment above it names the rule and its source, as {SOURCES}")
         if not command.expected:
-            raise BadCase(path, command.line, command.text, "no reply is told below it, as #= ok")
+            raise BadCase(path, command.line, command.text, "no reply is given below it, as #= ok")
         if command.linux and not LINUX_SOURCE.search(command.rule):
             raise BadCase(path, command.line, command.text,
                           f"no comment above it names the source of Linux's reply, as {LINUX_SOURCES}")

@@ -16,7 +16,7 @@ from nogconform.rules import RULES
 from nogconform.script import read_case
 
 # the peer's reasons to skip a command that a process of this system could not make
-NOT_MADE = ("behind a difference that changes the state", "no process makes this call",
+NOT_MADE = ("after a difference that changes the state", "no process makes this call",
             "no such child can be",
             "no swap area is the script's")
 # takes a second for each command
@@ -79,13 +79,13 @@ def test_case(name: str, conform: Conform) -> None:
     """The program gives the replies that the rules require."""
     status, said = conform("--no-peer", name)
     assert status == 0
-    assert said.startswith(f"{name}: as told")
+    assert said.startswith(f"{name}: as expected")
 
 
 def test_all_cases(conform: Conform) -> None:
     status, said = conform("--no-peer")
     assert status == 0
-    check_cases(said, "as told")
+    check_cases(said, "as expected")
 
 
 def test_this_system(conform: Conform, peer: str) -> None:
@@ -199,13 +199,13 @@ def says(line: str) -> list[str]:
     (["random", "1"], 2, "random takes a count and a seed"),
     (["no_rule.shm"], 2, "no comment above it names the rule"),
     (["no_source.shm"], 2, "no comment above it names the rule"),
-    (["no_reply.shm"], 2, "no reply is told"),
+    (["no_reply.shm"], 2, "no reply is given"),
     (["no_command.shm"], 2, "a reply without a command"),
     (["none.shm"], 2, "no command"),
     (["fault.shm"], 2, "fault.shm: line 4: 'nosuch': bad line"),
     (["other.shm"], 1, "FAILS"),
-    (["refused.shm"], 1, "told  EINVAL"),
-    (["stat.shm"], 1, "told  nattch=1 size=1"),
+    (["refused.shm"], 1, "case  EINVAL"),
+    (["stat.shm"], 1, "case  nattch=1 size=1"),
     (["--program", "sh -c echo${IFS}2${IFS}1${IFS}exit${IFS}=${IFS}ok", "right.shm"], 3,
      "the program: no event line: '2 1 exit = ok'"),
     (["--program", "true", "right.shm"], 3, "right: STOPPED: the program printed 0 lines for 1 commands\n"),
