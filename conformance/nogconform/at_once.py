@@ -209,11 +209,11 @@ class RacingPeer:
         try:
             said, errors = process.communicate(text.encode(), timeout=(self.runs + 1) * self.limit)
         except subprocess.TimeoutExpired:
-            raise Stopped(f"the peer did not end in {(self.runs + 1) * self.limit} seconds") from None
+            raise Stopped(f"the peer did not end within {(self.runs + 1) * self.limit} seconds") from None
         finally:
             end_group(process)
         message = [line for line in errors.decode(errors="replace").splitlines()
-                   if " note: " not in line][-1:] or ["nothing was said"]
+                   if " note: " not in line][-1:] or ["it printed no message"]
         if process.returncode == 4 and "skipped: " in message[0]:
             raise Skipped(message[0].partition("skipped: ")[2])
         if process.returncode:
@@ -231,7 +231,7 @@ class RacingPeer:
             elif logs and LINE.fullmatch(line):
                 logs[-1].lines.append(line)
             else:
-                raise Stopped(f"the peer printed no line of a log: {line[:80]!r}")
+                raise Stopped(f"the peer printed a line that is not one of a log: {line[:80]!r}")
         if len(logs) != self.runs:
             raise Stopped(f"the peer printed {len(logs)} logs of {self.runs} runs")
         for log in logs:

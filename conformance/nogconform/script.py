@@ -150,7 +150,7 @@ def read_events(text: str, whose: str) -> list[Event]:
             break
         event = read_event(line)
         if event is None or event.place != len(events) + 1:
-            raise BadInput(f"{whose}: no event line: {line[:80]!r}")
+            raise BadInput(f"{whose}: not an event line: {line[:80]!r}")
         events.append(event)
     return events
 

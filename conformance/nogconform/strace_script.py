@@ -94,7 +94,7 @@ def number_of(word: str) -> int:
     try:
         return int(word, 8) if re.fullmatch(r"0[0-7]+", word) else int(word, 0)
     except ValueError:
-        raise LeftOut(f"calls with an operand that is no number: {word[:20]}") from None
+        raise LeftOut(f"calls with an operand that is not a number: {word[:20]}") from None
 
 
 def member(text: str, name: str) -> str | None:
@@ -260,7 +260,7 @@ class Converter:
             if call.value == "0":
                 self.notes.add("left out", f"{call.name}: the script has one user", call.first)
         elif call.name not in ("exit", "exit_group"):
-            self.notes.add("left out", "calls that are none of shared memory", call.first)
+            self.notes.add("left out", "calls that are not of shared memory", call.first)
 
     def put(self, process: Process, call: Call, place: float, word: str, parts: list[Part], shown: str,
             reply: str, **more: Any) -> None:
@@ -427,7 +427,7 @@ class Converter:
         shown = shown_address(address)
         if not pieces:
             if not call.is_refused:
-                raise LeftOut("shmdt of attachments that the trace does not tell")
+                raise LeftOut("shmdt of attachments that the trace does not show")
             if any(it.attach.number == address for it in process.pieces):
                 raise LeftOut("shmdt of an address where the script has an attachment")
             self.put(process, call, place, "shmdt", [shown], shown, reply)

@@ -125,7 +125,7 @@ not ok 3 - other: FAILS: the program gives another reply than the rule
 #         here  0
 #         case  1
 #         rule  A # segment. profile
-not ok 4 - broken: STOPPED: {0}/broken.out: no event line: 'hello'
+not ok 4 - broken: STOPPED: {0}/broken.out: not an event line: 'hello'
 ok 5 - missing # SKIP there is no {0}/missing.out
 ok 6 - undone # SKIP no command can be made there
 # cases: FAILS 1, MALFORMED 1, STOPPED 1, agree 1, skipped 2
@@ -393,7 +393,7 @@ def test_no_peer_here(folder: str) -> None:
     for tool in ("sh", "echo"):
         if not os.path.exists(os.path.join(none, tool)):
             os.symlink(f"/bin/{tool}", os.path.join(none, tool))
-    lack = "no C compiler (cc) is here"
+    lack = "there is no C compiler (cc)"
     for given, status, last in (
             ([*words[:2], paths[0]], 0, f"ALL SKIPPED: no command was compared: {lack}"),
             (["--judge", "echo", "at-once", "9", "1"], 0, f"scripts: 0 run, 9 skipped: {lack}"),
