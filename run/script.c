@@ -1,4 +1,4 @@
-/* Writes a record as a script and a log, in the forms of docs/SCRIPT.md and docs/OUTCOMES.md. */
+/* Writes a record as a script and a log, in the forms of docs/SCRIPT.md and docs/JUDGE.md. */
 #include "record.h"
 #include <errno.h>
 #include <stdarg.h>

@@ -1,4 +1,4 @@
-"""The instructions of the program and of calls from C are those of docs/INSTRUCTIONS.md. valgrind counts
+"""The instructions of the program and of calls from C are those of docs/COSTS.md. valgrind counts
 them, so they do not depend on other work of the machine."""
 
 from __future__ import annotations

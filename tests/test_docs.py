@@ -61,14 +61,14 @@ def test_sentences(folder: str) -> None:
     text = ("# One two\n\nOne two `three four`. Five!\n\n    six\n\n- Seven\n  eight\n- [nine ten](a.md)\n\n"
             "| a | b |\n")
     ended = run([f"{TOP}/tools/sentences", "--short", write_file(folder, "page.md", text)])
-    assert ": 4 sentences, 2.0 words on average" in ended.out
+    assert ": 4 sentences, 2.0 words on average, 100 of 100 short" in ended.out
 
 
 @pytest.mark.parametrize("words", [["tools/reading", "check"], ["tools/edits", "texts"],
                                    ["tools/wrong_machines", "texts"]],
                          ids=" ".join)
 def test_is_current(words: list[str]) -> None:
-    """The numbers of docs/READING.md are current, and texts that edits and wrong machines change occur
+    """The numbers of docs/VERIFICATION.md are current, and texts that edits and wrong machines change occur
     once."""
     ended = run([os.path.join(TOP, words[0]), *words[1:]])
     assert ended.status == 0, ended.out + ended.said

@@ -1,4 +1,4 @@
-"""The man pages that tools/man makes of the header, the start scripts' help and docs/SCRIPT.md."""
+"""The man pages that tools/man makes of the header, the start scripts' help and three pages of docs/."""
 
 from __future__ import annotations
 
@@ -48,8 +48,11 @@ def test_words(pages: str, name: str) -> None:
     assert not words_in(" ".join(found[0])) - words_in(roff)
 
 
-def test_script_words(pages: str) -> None:
-    """The words of docs/SCRIPT.md, without the heads of its tables and the targets of its links."""
-    source = re.sub(r"^\|.*\n(?=\|-)", "", text_of("docs/SCRIPT.md").partition("\n")[2], flags=re.M)
-    roff = re.sub(r"\\f[BIR]|\\\(\w\w|\\\[\w+\]|\\[&e-]?", " ", text_of(f"{pages}/shmscript.5"))
+@pytest.mark.parametrize("name, start, made",
+                         [("SCRIPT", "\n", "shmscript.5"), ("SHMSIM", "\n## ", "shmsim.1"),
+                          ("VIEWER", "\n## ", "shmview.1")])
+def test_doc_words(pages: str, name: str, start: str, made: str) -> None:
+    """The words of a page of docs/, without the heads of its tables and the targets of its links."""
+    source = re.sub(r"^\|.*\n(?=\|-)", "", text_of(f"docs/{name}.md").partition(start)[2], flags=re.M)
+    roff = re.sub(r"\\f[BIR]|\\\(\w\w|\\\[\w+\]|\\[&e-]?", " ", text_of(f"{pages}/{made}"))
     assert not words_in(re.sub(r"\]\([^)]*\)", "]", source)) - words_in(roff)

@@ -3,28 +3,28 @@
    A machine has limits, swap areas and processes. A program makes calls for these processes and names each by its pid.
    The calls are those of shmget(2), shmop(2) and shmctl(2), accesses to attached memory, fork, exec, exit and swapoff.
    All of it is simulated: no memory, signal or process of the host takes part. An address is a number, and nog_load,
-   nog_store and their like read and write the bytes at it. An attachment is a piece: a range of addresses of a process
-   that shows pages of a segment. A later attach, unmap or protect in its range may cut it into several pieces.
-   docs/MACHINE.md has the rules, and docs/EMBEDDING.md shows how to use the library.
+   nog_store and their like read and write the bytes at it. A piece is an attachment or a part of one: a range of
+   addresses of a process that maps pages of a segment. A later attach, unmap or protect in its range may cut an
+   attachment into several pieces. docs/MACHINE.md has the rules, and docs/EMBEDDING.md shows how to use the library.
 
-   ANSWERS. Each function except nog_version answers 0 or a code. It writes its outputs if the answer is 0, and
-   otherwise leaves them as they were; nog_read, nog_write and nog_copy say below what they leave. What a refused call
+   RETURNS. Each function except nog_version returns 0 or a code. It writes its outputs if it returns 0, and otherwise
+   leaves them as they were; nog_read, nog_write and nog_copy say below what they leave. What a call that fails has
    changed depends on the code.
    An error of errno(3) other than NOG_EIO, and NOG_SIGSEGV: nothing but the count of calls; nog_protect says what it
    may have changed before.
    NOG_SIGBUS and NOG_EIO name a swap area's failure: no byte of a segment changed, and no process, segment or
    attachment. But pages may have come into frames or left them, and the counts of the memory may have risen.
    A code from 2001 on: nothing at all.
-   nog_read, nog_write and nog_copy make several calls: the above is true of the call that was refused, and those before
-   it stay made.
+   nog_read, nog_write and nog_copy make several calls: the above is true of the call that failed, and those before it
+   keep their effect.
 
-   Each function that takes a machine answers NOG_CLOSED if it is closed, except nog_open, which opens it. Each call of
-   a process, nog_get to nog_swapoff, answers NOG_SPENT if 2^64 - 1 calls were answered before it. Otherwise it
-   answers NOG_ESRCH if no live process has the pid: it is unborn, has ended, or was neither declared nor admitted.
-   Below, each function lists its other codes in the order in which they are tested. Of a call of a process
-   NOG_OUT_OF_RANGE comes before every other code, those three included; of any other function it comes after NOG_CLOSED,
-   where it is listed. Of the codes of errno(3) the first that applies is returned. NOG_NO_MEMORY is last: it comes in
-   place of 0.
+   Each function that takes a machine returns NOG_CLOSED if it is closed, except nog_open, which opens it. Each call of
+   a process, nog_get to nog_swapoff, returns NOG_SPENT if 2^64 - 1 calls were counted before it. Otherwise it returns
+   NOG_ESRCH if no live process has the pid: it is unborn, has ended, or was neither declared nor admitted. Below, each
+   function lists its other codes in the order in which they are tested. For a call of a process NOG_OUT_OF_RANGE is
+   tested before every other code, those three included; for any other function it is tested after NOG_CLOSED, where it
+   is listed. Of the codes of errno(3) the first that applies is returned. NOG_NO_MEMORY is tested last, so it replaces
+   only 0.
 
    POINTERS point to as much memory as their types, and the counts or lengths next to them, say. A pointer may be null
    if its count or length is 0, and only then. No two pointers of a call overlap. The library keeps no pointer: arrays,
@@ -42,8 +42,8 @@ extern "C" {
 #endif
 
 /* The version of this header: 10000 times the first number, 100 times the second, and the third. */
-#define NOG_VERSION 10000
-#define NOG_VERSION_TEXT "1.0.0"
+#define NOG_VERSION 10100
+#define NOG_VERSION_TEXT "1.1.0"
 
 /* A machine, or none: zeroed memory is a closed machine. The caller owns the struct. nog_open takes memory of the heap
    for it, and nog_close frees that. The fields are the library's: don't read or write them. The struct may be moved as
@@ -54,7 +54,7 @@ typedef struct nog_machine {
 } nog_machine;
 #define NOG_MACHINE_INITIALIZER {0, 0}
 
-/* The answers. The numbers of errno(3) are Linux's on every system. nog_text has a text for each code. */
+/* The codes. The numbers of errno(3) are Linux's on every system. nog_text has a text for each code. */
 enum nog_code {
     NOG_DONE = 0,
     NOG_EPERM = 1,
@@ -74,8 +74,8 @@ enum nog_code {
     NOG_NO_MEMORY = 2001,      /* the heap of the program gave no memory */
     NOG_CLOSED = 2002,         /* there is no machine in the handle */
     NOG_OUT_OF_RANGE = 2003,   /* a number that no call can carry */
-    NOG_SPENT = 2004,          /* 2^64 - 1 calls were answered */
-    NOG_BAD_LIMITS = 2010,     /* never answered; 2011 to 2019: field 1 to 9 of nog_limits is out of its range */
+    NOG_SPENT = 2004,          /* 2^64 - 1 calls were counted */
+    NOG_BAD_LIMITS = 2010,     /* never returned; 2011 to 2019: field 1 to 9 of nog_limits is out of its range */
     NOG_BAD_SHMMAX = 2011,
     NOG_BAD_SHMMNI = 2012,
     NOG_BAD_SHMALL = 2013,
@@ -85,7 +85,7 @@ enum nog_code {
     NOG_BAD_MOST_PROCESSES = 2017,
     NOG_BAD_MOST_SLOTS = 2018,
     NOG_BAD_RULES = 2019,
-    NOG_START_REFUSED = 2020,  /* never answered */
+    NOG_START_REFUSED = 2020,  /* never returned */
     NOG_BAD_AREAS = 2021,      /* there are not 1 to 8 swap areas */
     NOG_BAD_AREA_SIZE = 2022,  /* an area has no slot, or more than the limits allow */
     NOG_BAD_PROCESSES = 2023,  /* there are more processes than the limits allow */
@@ -109,22 +109,22 @@ typedef struct nog_limits {
     uint64_t most_pieces;     /* the most pieces of a process, 1 to 65530 */
     uint64_t most_processes;  /* the most processes, 1 to 32768 */
     uint64_t most_slots;      /* the most slots of a swap area, 1 to 2^28 */
-    uint64_t rules;           /* rules of Linux, a sum of nog_rule; 0: none, this project's profile */
+    uint64_t rules;           /* rules of Linux, a sum of nog_rule; 0: this project's profile, without any */
 } nog_limits;
 
 /* Rules of Linux: each makes the machine answer as Linux does in one respect in which this project's profile differs.
-   The functions below say what the profile answers; docs/MACHINE.md has each rule. */
+   The functions below describe the profile; docs/MACHINE.md has each rule. */
 enum nog_rule {
     NOG_REMOVED_IS_INVALID = 1,    /* NOG_EINVAL instead of NOG_EIDRM */
     NOG_EXECUTE_IS_ASKED = 2,      /* nog_get of an existing segment: an execute bit of the mode needs execute permission */
     NOG_FORK_MARKS = 4,            /* nog_fork: the child's segments get an attach time, and the parent as last pid */
-    NOG_REST_IS_ATTACHED = 8,      /* the rest of a cut piece, and a part with another protection, are attached again */
+    NOG_REST_IS_ATTACHED = 8,      /* the rest of a cut piece, and a part with another protection, get an attach time */
     NOG_END_IS_ENOMEM = 16,        /* nog_attach: NOG_ENOMEM for a free range that ends above 0x7ffffffff000 */
     NOG_LOW_IS_EPERM = 32,         /* nog_attach: NOG_EPERM for a free range below 0x10000, for all but user 0 */
     NOG_NO_LAST_USER = 64,         /* nog_set: NOG_EINVAL for user or group 2^32 - 1 */
     NOG_PIECES_ARE_ENOMEM = 128,   /* nog_attach: NOG_ENOMEM instead of NOG_EMFILE, even if a remap frees a piece */
     NOG_LOCKS_BY_USER = 256,       /* nog_lock: MEMLOCK is a limit of each user but 0; NOG_EPERM if it is 0 */
-    NOG_EXEC_IS_ASKED = 512,       /* nog_attach: NOG_EXEC needs execute permission, or else NOG_EACCES */
+    NOG_EXEC_IS_ASKED = 512,       /* nog_attach: NOG_EXEC needs execute permission, otherwise NOG_EACCES */
     NOG_HUGE_IS_REFUSED = 1024,    /* nog_get: NOG_EPERM for NOG_HUGETLB; user 0 and group 0: docs/MACHINE.md */
     NOG_LINUX = 2047               /* all of them */
 };
@@ -143,7 +143,7 @@ typedef struct nog_area {
 /* One read or write of a swap area that fails: the one numbered `call`, counted from 1. The two sides of a mirror count
    separately. If a write fails, the frame keeps the page, and nothing is known of the bytes in the slot. */
 typedef struct nog_failure {
-    uint32_t area;      /* the area's place among the areas, from 0 */
+    uint32_t area;      /* the area's number, from 0 */
     uint32_t side;      /* 0: the area, or a mirror's left side; 1: a mirror's right side */
     uint32_t is_write;  /* 0: a read; else a write */
     uint32_t unused;    /* ignored */
@@ -158,7 +158,7 @@ typedef struct nog_process {
     uint32_t gid;      /* the effective group */
 } nog_process;
 
-/* A segment as shmctl(2) with IPC_STAT shows it. A time is the place of a call among all calls, counted from 1, or the
+/* A segment as shmctl(2) with IPC_STAT shows it. A time is the number of a call among all calls, counted from 1, or the
    number that nog_set_time gave; 0 means never. */
 typedef struct nog_segment {
     uint64_t size;    /* in bytes, as its nog_get asked */
@@ -186,7 +186,7 @@ enum nog_status {
 
 /* Counts of a machine and of its memory. */
 typedef struct nog_tally {
-    uint64_t events;    /* calls that were answered */
+    uint64_t events;    /* calls that were counted */
     uint64_t segments;
     uint64_t reserved;  /* pages of all segments */
     uint64_t locked;    /* pages of locked segments */
@@ -284,8 +284,8 @@ uint32_t nog_get(nog_machine *machine, uint32_t pid, uint32_t key, uint64_t size
    NOG_NO_MEMORY: the heap gave no memory. */
 uint32_t nog_attach(nog_machine *machine, uint32_t pid, int32_t id, uint64_t addr, uint32_t flags, uint64_t *at);
 
-/* shmdt(2): detaches the segment that was attached at `addr`, with all pieces that are left of that attach. The last
-   detach of a marked segment destroys it.
+/* shmdt(2): detaches the segment that was attached at `addr`, with all pieces that are left of that attachment. The
+   last detach of a segment that is marked for removal destroys it.
    NOG_EINVAL: no segment was attached there. */
 uint32_t nog_detach(nog_machine *machine, uint32_t pid, uint64_t addr);
 
@@ -295,14 +295,14 @@ uint32_t nog_detach(nog_machine *machine, uint32_t pid, uint64_t addr);
    NOG_EACCES: no permission to read it. */
 uint32_t nog_stat(nog_machine *machine, uint32_t pid, int32_t id, nog_segment *segment);
 
-/* shmctl(2), IPC_SET: sets the owner and the nine low bits of `mode`, and the time of change.
+/* shmctl(2), IPC_SET: sets the owner and the nine low bits of `mode`, and the change time.
    NOG_OUT_OF_RANGE: the mode has more than 16 bits.
    NOG_EINVAL, NOG_EIDRM: as nog_stat.
    NOG_EPERM: the caller is neither owner nor creator nor user 0. */
 uint32_t nog_set(nog_machine *machine, uint32_t pid, int32_t id, uint32_t uid, uint32_t gid, uint32_t mode);
 
-/* shmctl(2), IPC_RMID: destroys a segment that has no piece. Otherwise it marks the segment: its key becomes 0, and it
-   is destroyed with its last piece.
+/* shmctl(2), IPC_RMID: destroys a segment that is not attached. Otherwise it marks the segment for removal: its key
+   becomes 0, and it is destroyed with its last piece.
    NOG_EINVAL, NOG_EIDRM, NOG_EPERM: as nog_set. */
 uint32_t nog_remove(nog_machine *machine, uint32_t pid, int32_t id);
 
@@ -331,8 +331,8 @@ uint32_t nog_store(nog_machine *machine, uint32_t pid, uint64_t addr, const uint
    NOG_SIGSEGV, NOG_SIGBUS: as nog_store. */
 uint32_t nog_add(nog_machine *machine, uint32_t pid, uint64_t addr, uint64_t add, uint64_t *before);
 
-/* Replaces the bytes from `addr` on by `len` others, 1 to 64, and puts those that were there into `before`, in one
-   step: a guest's atomic exchange. `before_len` must be `len`.
+/* Replaces `len` bytes from `addr` on, 1 to 64, and puts those that were there into `before`, in one step: a guest's
+   atomic exchange. `before_len` must be `len`.
    NOG_OUT_OF_RANGE: the length is not 1 to 64, or the two lengths differ.
    NOG_SIGSEGV, NOG_SIGBUS: as nog_store. */
 uint32_t nog_exchange(nog_machine *machine, uint32_t pid, uint64_t addr, const uint8_t *bytes, size_t len,
@@ -384,15 +384,16 @@ uint32_t nog_dismiss(nog_machine *machine, uint32_t pid);
 uint32_t nog_set_user(nog_machine *machine, uint32_t pid, uint32_t uid, uint32_t gid);
 
 /* Calls set this number as their times from now on, until another is given. Before the first nog_set_time a time is the
-   place of its call. */
+   number of its call. */
 uint32_t nog_set_time(nog_machine *machine, uint64_t time);
 
 /* munmap(2): unmaps `len` bytes from `addr` on, rounded up to whole pages, of a live process. Pieces in the range are
    detached, and those that reach beyond it are cut. Each segment that lost pages gets a detach time, which is that of
-   the next call, and the process as its last pid. A marked segment is destroyed with its last piece.
+   the next call, and the process as its last pid. A segment that is marked for removal is destroyed with its last
+   piece.
    With NOG_REST_IS_ATTACHED a segment of which a part of a piece is left gets an attach time too. If nothing is
    attached in the range, nothing changes.
-   NOG_SPENT: 2^64 - 1 calls were answered.
+   NOG_SPENT: 2^64 - 1 calls were counted.
    NOG_ESRCH: no live process has the pid.
    NOG_EINVAL: the address is not a multiple of 4096, the length is 0, or the range reaches beyond 0x7ffffffff000.
    NOG_ENOMEM: the process would have more pieces than the limits allow. */
@@ -400,11 +401,11 @@ uint32_t nog_unmap(nog_machine *machine, uint32_t pid, uint64_t addr, uint64_t l
 
 /* mprotect(2): makes `len` bytes from `addr` on, rounded up to whole pages, of a live process writable, or read-only if
    `is_writable` is 0. A part of a piece becomes a piece of its own, which counts in nattch, unless it touches a
-   neighbour of the same attach that already has the protection: then it joins that. A whole piece never joins another,
+   neighbour of the same attachment that already has the protection: then it joins that. A whole piece never joins another,
    and a piece that already has the protection stays as it is. No time changes without NOG_REST_IS_ATTACHED. With it a
    segment that has more pieces than before gets an attach time, which is that of the next call, and the process as its
    last pid. A length of 0 changes nothing. Before anything changes, the first of these is returned:
-   NOG_SPENT: 2^64 - 1 calls were answered.
+   NOG_SPENT: 2^64 - 1 calls were counted.
    NOG_ESRCH: no live process has the pid.
    NOG_EINVAL: the address is not a multiple of 4096.
    NOG_ENOMEM: the range reaches 2^64.
@@ -422,19 +423,19 @@ uint32_t nog_snapshot(nog_machine *machine, nog_machine *copy);
 /* ---- accesses of any length ---- */
 
 /* Reads `len` bytes from `addr` on by one load for each page of addresses. Each load is a call of its own and is
-   counted; a length of 0 makes none. It ends at the first load that is refused, with that answer; `bytes` then has the
-   bytes of the loads before it. The number of bytes read is put into `done`, whatever the answer, except at NOG_CLOSED.
+   counted; a length of 0 makes none. It ends at the first load that fails, with that code; `bytes` then has the bytes
+   of the loads before it. The number of bytes read is put into `done`, whatever the code, except at NOG_CLOSED.
    The codes are those of nog_load without NOG_OUT_OF_RANGE. An address past 2^64 - 1 is NOG_SIGSEGV, and that load is
    not counted. */
 uint32_t nog_read(nog_machine *machine, uint32_t pid, uint64_t addr, uint8_t *bytes, size_t len, uint64_t *done);
 
 /* Writes `len` bytes by stores, as nog_read reads them by loads, with the codes of nog_store. The first `done` bytes
-   were stored and stay stored, whatever the answer, also at NOG_SPENT. */
+   were stored and stay stored, whatever the code, also at NOG_SPENT. */
 uint32_t nog_write(nog_machine *machine, uint32_t pid, uint64_t addr, const uint8_t *bytes, size_t len, uint64_t *done);
 
 /* Copies `len` bytes of one process to another, or to the same one. It does a nog_read of all of them, and then a
    nog_write of those that were read, so the ranges may overlap. The number of bytes written is put into `done`, except
-   at NOG_CLOSED and NOG_NO_MEMORY. The answer is that of the write if it was refused, and otherwise that of the read.
+   at NOG_CLOSED and NOG_NO_MEMORY. The code is that of the write if it failed, and otherwise that of the read.
    NOG_NO_MEMORY: the heap gave no memory for the bytes between the two, and nothing changed. */
 uint32_t nog_copy(nog_machine *machine, uint32_t from, uint64_t from_addr, uint32_t to, uint64_t to_addr, uint64_t len,
                   uint64_t *done);
@@ -442,7 +443,7 @@ uint32_t nog_copy(nog_machine *machine, uint32_t from, uint64_t from_addr, uint3
 /* ---- the machine's memory, and its state ---- */
 
 /* A flush round: writes the first `pages` dirty frames out to swap, except those of locked segments. It is not a call
-   of a process and changes no byte of any segment. A failed write is counted in `flushed`, and the answer is 0. */
+   of a process and changes no byte of any segment. A failed write is counted in `flushed`, and the code is 0. */
 uint32_t nog_flush(nog_machine *machine, uint64_t pages, nog_flushed *flushed);
 
 /* The counts of a machine and of its memory. */
@@ -464,16 +465,16 @@ uint32_t nog_stat_at(nog_machine *machine, uint32_t pid, uint32_t index, nog_seg
 /* Sums over all segments, and the highest index. Its time grows with the pages that were ever touched. */
 uint32_t nog_info(nog_machine *machine, nog_usage *usage);
 
-/* A piece of a live process, by its place among the process's pieces, from 0 on by rising address. The first of these
+/* A piece of a live process, by its number among the process's pieces, from 0 on by rising address. The first of these
    is returned:
    NOG_ESRCH: no live process has the pid.
-   NOG_OUT_OF_RANGE: the process has no piece at this place. */
+   NOG_OUT_OF_RANGE: the process has no piece with this number. */
 uint32_t nog_piece_at(nog_machine *machine, uint32_t pid, uint32_t index, nog_piece *piece);
 
-/* A process, by its place among the processes, from 0 on. The last process takes the place of one that is dismissed.
+/* A process, by its number among the processes, from 0 on. The last process gets the number of one that is dismissed.
    `is_born` is 1 for a live process, 0 for an unborn child, and 2 for an ended process. User and group are 0 unless it
    is live.
-   NOG_OUT_OF_RANGE: there is no process at this place. */
+   NOG_OUT_OF_RANGE: there is no process with this number. */
 uint32_t nog_process_at(nog_machine *machine, uint32_t index, nog_process *process);
 
 /* Where an access of `len` bytes from `addr` on is NOG_SIGSEGV: the address of its first byte that is not attached, or,
@@ -486,14 +487,14 @@ uint32_t nog_failed_at(nog_machine *machine, uint32_t pid, uint64_t addr, uint64
    NOG_OUT_OF_RANGE: there is no such byte. */
 uint32_t nog_absent_at(nog_machine *machine, uint32_t pid, uint64_t addr, uint64_t len, uint64_t *at);
 
-/* How many calls of processes were answered. A refused call counts; one that found no memory does not. */
+/* How many calls of processes were made. A call that fails counts, but one that found no memory does not. */
 uint32_t nog_calls(nog_machine *machine, uint64_t *calls);
 
 /* ---- the library ---- */
 
 /* The text of a code, ended by a zero and cut to `size` - 1 bytes. Its whole length is put into `len`. The text of an
    error of errno(3) or of a signal is its name, such as EINVAL. If `size` is 0, only `len` is written.
-   NOG_OUT_OF_RANGE: no answer has this code. */
+   NOG_OUT_OF_RANGE: no function returns this code. */
 uint32_t nog_text(uint32_t code, uint8_t *text, size_t size, size_t *len);
 
 /* The version of the library, in the form of NOG_VERSION. */

@@ -209,11 +209,11 @@ class RacingPeer:
         try:
             said, errors = process.communicate(text.encode(), timeout=(self.runs + 1) * self.limit)
         except subprocess.TimeoutExpired:
-            raise Stopped(f"the peer did not end in {(self.runs + 1) * self.limit} seconds") from None
+            raise Stopped(f"the peer did not end within {(self.runs + 1) * self.limit} seconds") from None
         finally:
             end_group(process)
         message = [line for line in errors.decode(errors="replace").splitlines()
-                   if " note: " not in line][-1:] or ["nothing was said"]
+                   if " note: " not in line][-1:] or ["it printed no message"]
         if process.returncode == 4 and "skipped: " in message[0]:
             raise Skipped(message[0].partition("skipped: ")[2])
         if process.returncode:
@@ -231,12 +231,12 @@ class RacingPeer:
             elif logs and LINE.fullmatch(line):
                 logs[-1].lines.append(line)
             else:
-                raise Stopped(f"the peer printed no line of a log: {line[:80]!r}")
+                raise Stopped(f"the peer printed a line that is not one of a log: {line[:80]!r}")
         if len(logs) != self.runs:
             raise Stopped(f"the peer printed {len(logs)} logs of {self.runs} runs")
         for log in logs:
             if Counter(pid_of(line) for line in log.lines) != calls or len(log.spans) != len(log.lines):
-                raise Stopped(f"the peer printed a log that has not each line of the script once: "
+                raise Stopped(f"the peer printed a log that does not have each line of the script once: "
                               f"{log.lines}")
         return logs
 
@@ -280,7 +280,7 @@ class Judge:
                 done = subprocess.run(words, input=text.encode(), capture_output=True, timeout=SECONDS,
                                       check=False)
             except subprocess.TimeoutExpired:
-                return "undecided", f"no answer in {SECONDS} seconds"
+                return "undecided", f"no verdict in {SECONDS} seconds"
             except OSError as error:
                 raise Stopped(f"the judge was not started: {error}") from None
         said, errors = (it.decode(errors="replace") for it in (done.stdout, done.stderr))

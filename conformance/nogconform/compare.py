@@ -24,7 +24,7 @@ class Difference:
     rule: str = ""
 
     def lines(self) -> list[str]:
-        source = self.command.rule or "no rule is told"
+        source = self.command.rule or "no rule is named"
         return [f"    line {self.command.line}: {self.call}", f"        here  {self.ours}",
                 f"        there {self.theirs}", f"        rule  {source}"]
 
@@ -83,7 +83,7 @@ def against_peer(case: Case, events: list[Event], others: list[Event], has_clock
         is_alike = compare_one(result, machine, command, event, other)
         if not is_alike:
             cause = other.reply[len(SKIPPED):] if other.is_skipped else ""
-            result.skip("behind a difference that changes the state", len(events) - index - 1, cause)
+            result.skip("after a difference that changes the state", len(events) - index - 1, cause)
             break
         machine.follow(event, other)
     return result

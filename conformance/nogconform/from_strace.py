@@ -121,7 +121,7 @@ def fitted(trace: Trace, found: Converter, order: dict[Name, float] | None, loos
     if found.memory.most_pages <= slots and found.most_size <= MOST_SIZE:
         return found
     if found.memory.most_segments > slots:
-        raise BadTrace(0, f"there are {found.memory.most_segments} segments at a time, and {slots} at most "
+        raise BadTrace(0, f"there are {found.memory.most_segments} segments at a time, but at most {slots} "
                           f"fit: see --slots")
     asked = sorted(found.asked - {0})
     if len(asked) > 4096:
@@ -165,10 +165,10 @@ def processes_of(commands: list[Command]) -> list[tuple[Process, bool]]:
 def script_of(commands: list[Command], limits: str, uid: int, gid: int) -> str:
     processes = processes_of(commands)
     if len(processes) > MOST_PROCESSES:
-        raise BadTrace(0, f"{len(processes)} processes call or inherit shared memory, and a script has "
-                          f"{MOST_PROCESSES} at most")
+        raise BadTrace(0, f"{len(processes)} processes call or inherit shared memory, but a script has at "
+                          f"most {MOST_PROCESSES}")
     if len(commands) > MOST_COMMANDS:
-        raise BadTrace(0, f"there are {len(commands)} calls, and a script has {MOST_COMMANDS} at most")
+        raise BadTrace(0, f"there are {len(commands)} calls, but a script has at most {MOST_COMMANDS}")
     lines = [f"limits {limits}"]
     for process, is_born in processes:
         name = "".join(it if " " <= it <= "~" else "?" for it in process.program)
@@ -179,7 +179,7 @@ def script_of(commands: list[Command], limits: str, uid: int, gid: int) -> str:
     lines += [f"{it.process.pid} {letters[it.process.name].take(it)}" for it in commands]
     text = "\n".join(lines) + "\n"
     if len(text) > MOST_BYTES:
-        raise BadTrace(0, f"the script would have {len(text)} bytes, and {MOST_BYTES} at most are allowed")
+        raise BadTrace(0, f"the script would have {len(text)} bytes, but at most {MOST_BYTES} are allowed")
     return text
 
 

@@ -24,8 +24,8 @@ ABOUT = """Runs the same calls through the program and on a running system, and 
 
 CASE...              runs the cases of conformance/cases, or those named
 random COUNT SEED    runs COUNT random scripts
-at-once COUNT SEED   runs COUNT scripts whose processes run at once on the system; ./shmcheck judges each run,
-                     under Linux's rules
+at-once COUNT SEED   runs COUNT scripts whose processes run concurrently on the system; ./shmcheck judges each
+                     run, under Linux's rules
 --list               lists each case, its number of commands and its subject"""
 STATUS = """The exit status is 0 exactly when the program gives every reply that the rules require, nothing
 DIFFERs, and each log of at-once is legal, explained or skipped. It is 2 for a bad command line or case, 3 if
@@ -156,7 +156,7 @@ def parser_of_words() -> Words:
         "profile: it follows this project's own rules (the default)", "RULES", type=rules)
     add("--no-peer", "compares the program with the rules only")
     add("--shared", "the peer stays in the system's own IPC namespace, under its limits")
-    add("--seconds", "waits a second between calls, and compares times as places in the script")
+    add("--seconds", "waits a second between calls, and compares times as positions in the script")
     add("--limit", "seconds for each command (10)", "S",
         type=a_number("--limit", "whole seconds", MOST_SECONDS))
     add("--replies", "reads the peer's output from FOLDER/NAME.out for each case NAME, and runs no peer",

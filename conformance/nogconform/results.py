@@ -8,7 +8,7 @@ import xml.etree.ElementTree as xml
 from dataclasses import dataclass, field
 from typing import TextIO
 
-PASSED = ("agree", "profile", "as told")
+PASSED = ("agree", "profile", "as expected")
 # characters that XML does not allow
 NO_TEXT = re.compile("[^\t\n\x20-\ud7ff\ue000-\ufffd]")
 

@@ -55,7 +55,7 @@ def run_program(words: list[str], case: Case, limit: int) -> list[Event]:
     except OSError as error:
         raise Stopped(f"the program was not started: {error}") from None
     if done.returncode != 0:
-        message = done.stderr.decode(errors="replace").strip().splitlines()[-1:] or ["nothing was said"]
+        message = done.stderr.decode(errors="replace").strip().splitlines()[-1:] or ["it printed no message"]
         raise Stopped(f"the program ended with status {done.returncode}: {message[0]}")
     try:
         events = read_events(done.stdout.decode("ascii", "replace"), "the program")
@@ -74,7 +74,7 @@ def build_peer(folder: str, is_static: bool = False) -> str:
 def compile_program(path: str, words: list[str], whose: str) -> str:
     compiler = shutil.which("cc")
     if compiler is None:
-        raise Stopped("no C compiler (cc) is here")
+        raise Stopped("there is no C compiler (cc)")
     done = subprocess.run([compiler] + FLAGS + ["-o", path] + words, capture_output=True, check=False)
     if done.returncode != 0:
         raise Stopped(f"{whose} was not built: " + done.stderr.decode(errors="replace").strip()[:300])
@@ -137,17 +137,18 @@ class Peer:
         for line in lines_within(process.stdout, 2 * self.limit):
             event = read_event(line)
             if event is None or event.place != len(events) + 1:
-                raise Stopped(f"the peer printed no event line: {line[:80]!r}")
+                raise Stopped(f"the peer printed a line that is not an event line: {line[:80]!r}")
             events.append(event)
         try:
             status = process.wait(2 * self.limit)
         except subprocess.TimeoutExpired:
-            raise Stopped(f"the peer did not end in {2 * self.limit} seconds after its last line") from None
+            raise Stopped(f"the peer did not end within {2 * self.limit} seconds after its last "
+                          f"line") from None
         message = text_of(said)
         self.notes.update(line for line in message if " note: " in line)
         faults = [line for line in message if " note: " not in line]
         if status != 0:
-            raise Stopped(f"the peer ended with status {status}: {(faults or ['nothing was said'])[-1]}")
+            raise Stopped(f"the peer ended with status {status}: {(faults or ['it printed no message'])[-1]}")
         if len(events) != count:
             raise Stopped(f"the peer printed {len(events)} lines for {count} commands")
         return events
@@ -232,7 +233,7 @@ def is_running(pid: str, group: int) -> bool:
 def why_no_peer() -> str:
     """Why the peer can't run here, or nothing."""
     if shutil.which("cc") is None:
-        return "no C compiler (cc) is here"
+        return "there is no C compiler (cc)"
     if os.geteuid() == 0:
         return ""
     test = subprocess.run(["unshare", "--user", "--ipc", "true"], capture_output=True, check=False) \

@@ -150,7 +150,7 @@ def read_events(text: str, whose: str) -> list[Event]:
             break
         event = read_event(line)
         if event is None or event.place != len(events) + 1:
-            raise BadInput(f"{whose}: no event line: {line[:80]!r}")
+            raise BadInput(f"{whose}: not an event line: {line[:80]!r}")
         events.append(event)
     return events
 
@@ -213,12 +213,12 @@ def require_own_words(path: str, text: str) -> None:
         call = next((word for word in words[1:2] if word in MAPPINGS), "")
         if call:
             raise BadCase(path, number, call,
-                          "a call of the library alone, which ./shmsim has not: run the case with --library")
+                          "a call that only the C library has: run the case with --library")
         name = next((name for word in words if word in FLAGS
                      for name in words[-1].split(",") if name in FLAGS[word]), "")
         if name:
             raise BadCase(path, number, name,
-                          "a flag of the library alone, which ./shmsim has not: run the case with --library")
+                          "a flag that only the C library has: run the case with --library")
 
 
 def take_reply(path: str, case: Case, number: int, line: str) -> None:
@@ -230,7 +230,7 @@ def take_reply(path: str, case: Case, number: int, line: str) -> None:
     if field_name == "linux" and last.expected is None:
         raise BadCase(path, number, mark, "a reply of Linux without a line #= above it")
     if not reply.strip():
-        raise BadCase(path, number, mark, "no reply is told behind it")
+        raise BadCase(path, number, mark, "no reply is given after it")
     setattr(last, field_name, reply.strip())
 
 
@@ -254,7 +254,7 @@ def require_rules(path: str, case: Case) -> None:
             raise BadCase(path, command.line, command.text,
                           f"no comment above it names the rule and its source, as {SOURCES}")
         if not command.expected:
-            raise BadCase(path, command.line, command.text, "no reply is told below it, as #= ok")
+            raise BadCase(path, command.line, command.text, "no reply is given below it, as #= ok")
         if command.linux and not LINUX_SOURCE.search(command.rule):
             raise BadCase(path, command.line, command.text,
                           f"no comment above it names the source of Linux's reply, as {LINUX_SOURCES}")

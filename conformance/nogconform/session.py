@@ -132,7 +132,7 @@ def run_case(session: Session, case: Case) -> Outcome:
         return Outcome(case.name, "skipped", "this library has no munmap and no mprotect")
     wrong = against_rules(case, events, session.options.is_linux)
     if wrong:
-        lines = [line.replace("        there ", "        told  ") for difference in wrong
+        lines = [line.replace("        there ", "        case  ") for difference in wrong
                  for line in difference.lines()]
         return Outcome(case.name, "FAILS", "the program gives another reply than the rule", lines)
     try:
@@ -141,7 +141,7 @@ def run_case(session: Session, case: Case) -> Outcome:
         session.skip(case, "no record of the case")
         return Outcome(case.name, "skipped", str(error))
     if others is None:
-        return Outcome(case.name, "as told", f"({len(events)} commands)")
+        return Outcome(case.name, "as expected", f"({len(events)} commands)")
     result = session.compare(case, events, others)
     rules = ", ".join(f"{name} {count}" for name, count in sorted(result.by_rule.items()))
     lines = [line for difference in result.different for line in difference.lines()]

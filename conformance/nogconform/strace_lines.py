@@ -129,7 +129,7 @@ class Reader:
         if not self.trace.threads:
             self.unnamed = self.begin(0, line)
         if len(self.live) != 1:
-            raise BadTrace(line, "it does not say of which process it is; strace -f -o FILE names each")
+            raise BadTrace(line, "it does not say which process it belongs to; strace -f -o FILE names each")
         return next(iter(self.live.values()))
 
     def name_unnamed(self, thread: Thread, number: int) -> Thread:
@@ -151,7 +151,7 @@ class Reader:
         bracketed, plain, rest = found.groups() if found else ("", "", "")
         number = bracketed or plain
         if not rest or not self.is_form(rest):
-            raise BadTrace(line, f"no line of strace -f: {text[:60]!r}")
+            raise BadTrace(line, f"not a line of strace -f: {text[:60]!r}")
         self.take_rest(self.thread_of(int(number) if number else None, line), line, rest)
 
     @staticmethod
@@ -168,7 +168,7 @@ class Reader:
             self.resume(thread, line, *resumed.groups())
         elif unfinished:
             if thread.open:
-                raise BadTrace(line, f"process {thread.number} is in a call already, of line "
+                raise BadTrace(line, f"process {thread.number} is already in a call, from line "
                                      f"{thread.open.first}")
             thread.open = Call(thread.name, unfinished[1], unfinished[2], line)
             self.trace.calls.append(thread.open)
@@ -183,7 +183,7 @@ class Reader:
             raise BadTrace(line, f"process {thread.number} has no unfinished {name}")
         whole = WHOLE.fullmatch(f"{name}({call.text}{rest}")
         if whole is None:
-            raise BadTrace(line, f"no end of a call: {rest[:60]!r}")
+            raise BadTrace(line, f"not the end of a call: {rest[:60]!r}")
         thread.open = None
         self.finish(call, line, whole.groups())
 
@@ -227,5 +227,5 @@ def read_trace(lines: list[str]) -> Trace:
         else:
             reader.take(line, text)
     if begun:
-        raise BadTrace(begun[0], "the line goes on in the next one, which is missing")
+        raise BadTrace(begun[0], "the line continues in the next one, which is missing")
     return reader.trace

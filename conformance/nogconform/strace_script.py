@@ -27,7 +27,7 @@ DEST, LOCKED = 0o1000, 0o2000
 BEFORE, HUGE = "segments from before the trace", "segments of huge pages"
 # a part of the operands of a line
 Part = Union[str, Segment, "tuple[Attach, int]"]
-NO_LIMITS = "the trace does not tell the limits that refused it"
+NO_LIMITS = "the trace does not show the limit that it exceeded"
 
 
 class LeftOut(Exception):
@@ -94,7 +94,7 @@ def number_of(word: str) -> int:
     try:
         return int(word, 8) if re.fullmatch(r"0[0-7]+", word) else int(word, 0)
     except ValueError:
-        raise LeftOut(f"calls with an operand that is no number: {word[:20]}") from None
+        raise LeftOut(f"calls with an operand that is not a number: {word[:20]}") from None
 
 
 def member(text: str, name: str) -> str | None:
@@ -142,7 +142,7 @@ class Tree:
         call = self.makers.get(thread.name)
         if call is not None and kind_of(call) in ("thread", "memory") and call.thread in self.processes:
             if kind_of(call) == "memory":
-                self.notes.add("changed", "processes that share all memory with their maker are told as it",
+                self.notes.add("changed", "processes that share all memory with their maker count as it",
                                call.first)
             return self.processes[call.thread]
         number = int(thread.name.split("#")[0]) or thread.number
@@ -260,7 +260,7 @@ class Converter:
             if call.value == "0":
                 self.notes.add("left out", f"{call.name}: the script has one user", call.first)
         elif call.name not in ("exit", "exit_group"):
-            self.notes.add("left out", "calls that are none of shared memory", call.first)
+            self.notes.add("left out", "calls that are not of shared memory", call.first)
 
     def put(self, process: Process, call: Call, place: float, word: str, parts: list[Part], shown: str,
             reply: str, **more: Any) -> None:
@@ -276,7 +276,7 @@ class Converter:
                 raise LeftOut(f"{call.name} without a return")
             return good
         if call.error not in ERRORS:
-            raise LeftOut(f"{call.name} refused with {call.error}")
+            raise LeftOut(f"{call.name} that failed with {call.error}")
         return call.error
 
     def segment_of(self, word: str, call: Call) -> Segment | None:
@@ -298,13 +298,13 @@ class Converter:
         found = self.memory.by_key(key)
         is_huge = "SHM_HUGETLB" in others
         if is_huge and call.is_refused:
-            raise LeftOut("shmget with huge pages, refused")
+            raise LeftOut("shmget with huge pages, which failed")
         if call.is_refused and found is not None:
             require_told(found)
         if call.is_refused and not self.memory.had_key(key) and call.error in ("EEXIST", "EACCES"):
             raise LeftOut("calls on keys from before the trace")
         if call.is_refused and call.error in ("ENOMEM", "ENOSPC", "EPERM"):
-            self.notes.add("not known", f"shmget refused with {call.error}: {NO_LIMITS}, so give --limits",
+            self.notes.add("not known", f"shmget that failed with {call.error}: {NO_LIMITS}, so give --limits",
                            call.first)
         size = self.size_of(real_size)
         segment, created = None, self.memory.created
@@ -376,9 +376,9 @@ class Converter:
                        flags: list[str], others: list[str]) -> None:
         """Leaves out a refusal whose cause the script's machine does not have."""
         if call.error == "EACCES" and "SHM_EXEC" in others:
-            raise LeftOut("shmat with SHM_EXEC, refused with EACCES")
+            raise LeftOut("shmat with SHM_EXEC, which failed with EACCES")
         if call.error == "ENOMEM" and address == 0:
-            raise LeftOut(f"shmat refused with ENOMEM: {NO_LIMITS}")
+            raise LeftOut(f"shmat that failed with ENOMEM: {NO_LIMITS}")
         start = address & -PAGE
         is_aligned = start == address or "rnd" in flags
         if call.error != "EINVAL" or segment is None:
@@ -387,7 +387,7 @@ class Converter:
             return
         is_free = process.at(start, start + pages_of(segment.real_size) * PAGE) is None
         if address and is_aligned and "remap" not in flags and is_free and start >= 0x10000 and start < LAST:
-            raise LeftOut("shmat refused where other memory of the process is")
+            raise LeftOut("shmat where other memory of the process is")
 
     def where(self, process: Process, call: Call, address: int, rounded: int, size: int) -> Place:
         """The address in the script: that of the attach at this address, or the trace's own."""
@@ -427,7 +427,7 @@ class Converter:
         shown = shown_address(address)
         if not pieces:
             if not call.is_refused:
-                raise LeftOut("shmdt of attachments that the trace does not tell")
+                raise LeftOut("shmdt of attachments that the trace does not show")
             if any(it.attach.number == address for it in process.pieces):
                 raise LeftOut("shmdt of an address where the script has an attachment")
             self.put(process, call, place, "shmdt", [shown], shown, reply)
@@ -459,7 +459,7 @@ class Converter:
         if word == "set":
             operands = set_operands(rest[0])
         if word == "lock" and call.error in ("ENOMEM", "EPERM"):
-            self.notes.add("not known", f"lock refused with {call.error}: {NO_LIMITS}, so give --limits",
+            self.notes.add("not known", f"lock that failed with {call.error}: {NO_LIMITS}, so give --limits",
                            call.first)
         if not call.is_refused:
             if word == "stat" and segment:
@@ -504,10 +504,10 @@ class Converter:
         made = self.makes.get(id(call))
         kind = kind_of(call)
         if call.is_refused:
-            raise LeftOut(f"{call.name} refused with {call.error}")
+            raise LeftOut(f"{call.name} that failed with {call.error}")
         if kind in ("thread", "memory"):
             if kind == "thread":
-                self.notes.add("changed", "threads, whose calls are told as those of their process",
+                self.notes.add("changed", "threads, whose calls count as those of their process",
                                call.first)
             return
         if made is None:
@@ -553,7 +553,7 @@ class Converter:
             return
         maker = self.tree.makers.get(call.thread)
         if maker is not None and kind_of(maker) == "memory":
-            raise LeftOut("exec of a process that shares all memory with its maker; its later calls are told "
+            raise LeftOut("exec of a process that shares all memory with its maker; its later calls count "
                           "as its maker's")
         path = re.match(r'"([^"]*)"', call.words[0] if call.words else "")
         process.program = path[1].rsplit("/", 1)[-1] if path else process.program
@@ -580,7 +580,7 @@ class Converter:
         is_whole = (process.of_origin(start) == [piece]
                     and pages_of(int(words[1])) * PAGE == piece.stop - piece.start)
         if call.name == "munmap" and is_whole and piece.start == start and not piece.attach.segment.out:
-            self.notes.add("changed", "munmap of a whole attachment, told as shmdt", call.first)
+            self.notes.add("changed", "munmap of a whole attachment, written as shmdt", call.first)
             self.detach(process, call, piece.attach)
             self.put(process, call, place, "shmdt", [address_part(piece.attach)], shown_address(start), "ok")
             return

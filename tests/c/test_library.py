@@ -194,7 +194,7 @@ def test_cases(driver: str, conform: Conform) -> None:
     status, said = conform("--no-peer", "--program", driver)
     found = re.findall(r"^([a-z0-9_]+): (.*)$", said, re.M)
     assert not [name for name, told in found if os.path.exists(f"{TOP}/conformance/cases/{name}.shm")
-                and not told.startswith("as told")]
+                and not told.startswith("as expected")]
     assert status == 0
 
 

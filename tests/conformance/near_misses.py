@@ -18,7 +18,7 @@ LINE = re.compile(r"(?P<tried>\? )?(?:(?P<times>\d+) x )?(?P<pid>\d+) "
                   r"(?P<ours>.*?)(?: / (?P<theirs>.*?))?(?: : (?P<word>.*))?")
 STAT = ("key=0x00000000 uid=100 gid=100 cuid=100 cgid=100 mode=600 status=- size=4096 cpid=1 lpid=1 nattch=0 "
         "atime=0 dtime=0 ctime=0")
-AFTER = "behind a difference that changes the state"
+AFTER = "after a difference that changes the state"
 PAGE = 4096
 
 

@@ -246,13 +246,13 @@ def test_words(folder: str, conform: Conform) -> None:
              "skipped 1\n  skipped: here: 1\n"),
             ("fewer logs", [*no, "at-once", "1", "7", *peer], 3, "the peer printed 2 logs of 20 runs"),
             ("another log", [*no, *run, "--peer", "sh", "-c", "echo '# run 1'; echo '# run 2'"], 3,
-             "not each line of the script once"),
+             "does not have each line of the script once"),
             ("no log", [*no, *run, "--peer", "echo", "hello"], 3,
-             "the peer printed no line of a log: 'hello"),
+             "the peer printed a line that is not one of a log: 'hello"),
             ("a peer that can't", [*no, *run, "--peer", "sh", "-c", "echo peer: skipped: why >&2; exit 4"], 0,
              "scripts: 0 run, 1 skipped\n"),
             ("a peer that dies", [*no, *run, "--peer", "sh", "-c", "exit 7"], 3,
-             "the peer ended with status 7: nothing was said")):
+             "the peer ended with status 7: it printed no message")):
         status, said = conform(*words)
         assert status == wanted
         assert told in said

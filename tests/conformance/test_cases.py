@@ -16,7 +16,7 @@ from nogconform.rules import RULES
 from nogconform.script import read_case
 
 # the peer's reasons to skip a command that a process of this system could not make
-NOT_MADE = ("behind a difference that changes the state", "no process makes this call",
+NOT_MADE = ("after a difference that changes the state", "no process makes this call",
             "no such child can be",
             "no swap area is the script's")
 # takes a second for each command
@@ -79,13 +79,13 @@ def test_case(name: str, conform: Conform) -> None:
     """The program gives the replies that the rules require."""
     status, said = conform("--no-peer", name)
     assert status == 0
-    assert said.startswith(f"{name}: as told")
+    assert said.startswith(f"{name}: as expected")
 
 
 def test_all_cases(conform: Conform) -> None:
     status, said = conform("--no-peer")
     assert status == 0
-    check_cases(said, "as told")
+    check_cases(said, "as expected")
 
 
 def test_this_system(conform: Conform, peer: str) -> None:
@@ -199,15 +199,15 @@ def says(line: str) -> list[str]:
     (["random", "1"], 2, "random takes a count and a seed"),
     (["no_rule.shm"], 2, "no comment above it names the rule"),
     (["no_source.shm"], 2, "no comment above it names the rule"),
-    (["no_reply.shm"], 2, "no reply is told"),
+    (["no_reply.shm"], 2, "no reply is given"),
     (["no_command.shm"], 2, "a reply without a command"),
     (["none.shm"], 2, "no command"),
     (["fault.shm"], 2, "fault.shm: line 4: 'nosuch': bad line"),
     (["other.shm"], 1, "FAILS"),
-    (["refused.shm"], 1, "told  EINVAL"),
-    (["stat.shm"], 1, "told  nattch=1 size=1"),
+    (["refused.shm"], 1, "case  EINVAL"),
+    (["stat.shm"], 1, "case  nattch=1 size=1"),
     (["--program", "sh -c echo${IFS}2${IFS}1${IFS}exit${IFS}=${IFS}ok", "right.shm"], 3,
-     "the program: no event line: '2 1 exit = ok'"),
+     "the program: not an event line: '2 1 exit = ok'"),
     (["--program", "true", "right.shm"], 3, "right: STOPPED: the program printed 0 lines for 1 commands\n"),
     (["--program", f"sh -c cat>{os.devnull};echo${{IFS}}{JOINED}", "two.shm"], 3,
      "two: STOPPED: the program printed 1 lines for 2 commands\n"),
@@ -218,8 +218,8 @@ def says(line: str) -> list[str]:
     ([*SAYS.split(), "exit 7"], 3, "the peer ended with status 7"),
     ([*SAYS.split(), "kill -9 $$"], 3, "the peer ended with status -9"),
     ([*SAYS.split(), "printf '1 1 shm'"], 3, "half a line: '1 1 shm'"),
-    (says("hello"), 3, "no event line: 'hello"),
-    (says("2 1 shmget 0x00000000 1 600 = 0"), 3, "no event line: '2 1 shmget"),
+    (says("hello"), 3, "not an event line: 'hello"),
+    (says("2 1 shmget 0x00000000 1 600 = 0"), 3, "not an event line: '2 1 shmget"),
     (says("1 1 shmget 0x00000000 2 600 = 0"), 1, "DIFFER"),
     (says("1 2 shmget 0x00000000 1 600 = 0"), 1, "DIFFER"),
     (says("1 1 shmget 0x00000000 1 600 = 1"), 1, "there 1\n"),
@@ -227,7 +227,7 @@ def says(line: str) -> list[str]:
     (["right.shm", "--peer", "printf", f"{EVENT}\\n2 1 exit = ok\\n"], 3, "2 lines for 1 commands"),
     (["right.shm", "--peer", "true"], 3, "0 lines for 1 commands"),
     (["--limit", "1", *SAYS.split(), "sleep 1000"], 3, "nothing for 2 seconds"),
-    (["--limit", "1", *SAYS.split(), f"echo '{EVENT}'; exec >&-; sleep 1000"], 3, "did not end in 2 seconds"),
+    (["--limit", "1", *SAYS.split(), f"echo '{EVENT}'; exec >&-; sleep 1000"], 3, "did not end within 2 seconds"),
     (["--replies", ".", "right.shm"], 0, "right: skipped: there is no ./right.out\n")])
 def test_bad_input(folder: str, conform: Conform, words: list[str], wanted: int, text: str) -> None:
     """Wrong input of a user, and peers that die, hang, or print something that is not an event line."""
@@ -242,7 +242,7 @@ def test_bad_input(folder: str, conform: Conform, words: list[str], wanted: int,
     ("3 1 stat 0 = EIDRM", 0, "agree"), ("3 1 stat 0 = EINVAL", 0, "profile (removed identifier 1)"),
     ("3 1 stat 0 = EPERM", 1, "DIFFER"), ("3 1 stat 0 = skipped: none", 0, "agree"),
     ("3 1 rmid 0 = EIDRM", 1, "DIFFER"), ("3 2 stat 0 = EIDRM", 1, "DIFFER"),
-    ("4 1 stat 0 = EIDRM", 3, "STOPPED: {0}: no event line: '4 1 stat 0 = EIDRM'"),
+    ("4 1 stat 0 = EIDRM", 3, "STOPPED: {0}: not an event line: '4 1 stat 0 = EIDRM'"),
     ("", 3, "STOPPED: {0}: 2 lines for 3 commands")])
 def test_replies(folder: str, conform: Conform, last: str, wanted: int, word: str) -> None:
     """Replies made elsewhere: equal, explained by a rule of this project, different, and not made."""

@@ -31,7 +31,7 @@ AREAS = "no swap area: ram:N, sparse:N, mirror:N, fuse:N:rK or fuse:N:wK, N from
 SWAP = "the line is #swap and 1 to 8 areas, as #swap ram:64 sparse:65536"
 NO_RULE = ("no comment above it names the rule and its source, as POSIX shmat(), POSIX.1-2017, page 1384, "
            "shmop(2) or profile")
-ALONE = "a call of the library alone, which ./shmsim has not: run the case with --library"
+ALONE = "a call that only the C library has: run the case with --library"
 FLAG_ALONE = ALONE.replace("a call", "a flag")
 NO_PEER = "the peer was not started: no such command: /nosuch/peer"
 NO_SOURCE = ("no comment above it names the source of Linux's reply, as observed on Linux 6.18, or Linux: "
@@ -49,8 +49,8 @@ MALFORMED = (
     (HEAD + "# \xe9\n", "c.shm: line 3: '\xe9': bad byte"),
     (RIGHT + "#= 0\n", "c.shm: line 6: '#=': a reply without a command of its own above it"),
     (HEAD + "#= 0\n", "c.shm: line 3: '#=': a reply without a command of its own above it"),
-    (HEAD + RULE + "1 exit\n#=\n", "c.shm: line 5: '#=': no reply is told behind it"),
-    (HEAD + RULE + "1 exit\n", "c.shm: line 4: '1 exit': no reply is told below it, as #= ok"),
+    (HEAD + RULE + "1 exit\n#=\n", "c.shm: line 5: '#=': no reply is given after it"),
+    (HEAD + RULE + "1 exit\n", "c.shm: line 4: '1 exit': no reply is given below it, as #= ok"),
     (HEAD + "1 exit\n#= ok\n", "c.shm: line 3: '1 exit': " + NO_RULE),
     (HEAD + "# A rule. page 12\n1 exit\n#= ok\n", "c.shm: line 4: '1 exit': " + NO_RULE),
     (HEAD + "# A rule. POSIX.1-2017\n1 exit\n#= ok\n", "c.shm: line 4: '1 exit': " + NO_RULE),
@@ -60,7 +60,7 @@ MALFORMED = (
      "c.shm: line 5: '#linux=': a reply of Linux without a line #= above it"),
     (HEAD + LINUX + RIGHT[len(HEAD):] + 2 * "#linux= 1\n",
      "c.shm: line 8: '#linux=': a reply without a command of its own above it"),
-    (HEAD + LINUX + RIGHT[len(HEAD):] + "#linux=\n", "c.shm: line 7: '#linux=': no reply is told behind it"),
+    (HEAD + LINUX + RIGHT[len(HEAD):] + "#linux=\n", "c.shm: line 7: '#linux=': no reply is given after it"),
     (HEAD, "c.shm: no command"),
     ("#swap disk\n" + RIGHT, "c.shm: line 1: 'disk': " + AREAS),
     ("#swap ram:0\n" + RIGHT, "c.shm: line 1: 'ram:0': " + AREAS),
@@ -123,9 +123,9 @@ not ok 2 - bad: MALFORMED: {0}/bad.shm: line 3: '1 exit': {1}
 not ok 3 - other: FAILS: the program gives another reply than the rule
 #     line 4: 1 1 shmget 0x00000000 1 600
 #         here  0
-#         told  1
+#         case  1
 #         rule  A # segment. profile
-not ok 4 - broken: STOPPED: {0}/broken.out: no event line: 'hello'
+not ok 4 - broken: STOPPED: {0}/broken.out: not an event line: 'hello'
 ok 5 - missing # SKIP there is no {0}/missing.out
 ok 6 - undone # SKIP no command can be made there
 # cases: FAILS 1, MALFORMED 1, STOPPED 1, agree 1, skipped 2
@@ -228,7 +228,7 @@ def check_junit(file: str) -> None:
     assert tuple(got) == JUNIT
     text = suite.find("testcase[@name='other']/failure")
     assert text is not None
-    assert "told  1" in (text.text or "")
+    assert "case  1" in (text.text or "")
     assert text.get("message", "").startswith("other: FAILS")
 
 
@@ -393,7 +393,7 @@ def test_no_peer_here(folder: str) -> None:
     for tool in ("sh", "echo"):
         if not os.path.exists(os.path.join(none, tool)):
             os.symlink(f"/bin/{tool}", os.path.join(none, tool))
-    lack = "no C compiler (cc) is here"
+    lack = "there is no C compiler (cc)"
     for given, status, last in (
             ([*words[:2], paths[0]], 0, f"ALL SKIPPED: no command was compared: {lack}"),
             (["--judge", "echo", "at-once", "9", "1"], 0, f"scripts: 0 run, 9 skipped: {lack}"),
@@ -405,7 +405,7 @@ def test_no_peer_here(folder: str) -> None:
 
 
 @pytest.mark.parametrize("reply, wanted, line", [
-    ("ok", 0, "mapped: as told (1 commands)"), ("EINVAL", 1, "mapped: FAILS: "),
+    ("ok", 0, "mapped: as expected (1 commands)"), ("EINVAL", 1, "mapped: FAILS: "),
     ("skipped: no", 0, "mapped: skipped: this library has no munmap and no mprotect")
 ])
 def test_mappings(folder: str, conform: Conform, reply: str, wanted: int, line: str) -> None:
@@ -462,8 +462,8 @@ def test_rules(folder: str, conform: Conform) -> None:
     write_file(folder, "nogcuvema.h", "enum nog_rule { NOG_LINUX = 1023 };\n")
     replies = ["--replies", folder]
     for rules, ours, linux, options, wanted, line in (
-            ("profile", "0", "ENOMEM", ["--no-peer"], 0, "ruled: as told (1 commands)"),
-            ("linux", "0", "ENOMEM", ["--no-peer"], 0, "ruled: as told (1 commands)"),
+            ("profile", "0", "ENOMEM", ["--no-peer"], 0, "ruled: as expected (1 commands)"),
+            ("linux", "0", "ENOMEM", ["--no-peer"], 0, "ruled: as expected (1 commands)"),
             ("profile", "ENOMEM", "ENOMEM", ["--no-peer"], 1, "ruled: FAILS: "),
             ("linux", "0", "0", ["--no-peer"], 1, "ruled: FAILS: "),
             ("profile", "0", "ENOMEM", replies, 0, "ruled: profile (huge pages 1)"),

@@ -84,7 +84,7 @@ def test_words(over: Any, words: list[str], given: str, wanted: int, said: str) 
 def test_told(over: Any, conform: Conform) -> None:
     """./conform over the library gives the replies that the rules require."""
     status, said = conform("--library=" + over.folder, "--no-peer")
-    check_lines(said, "as told", over)
+    check_lines(said, "as expected", over)
     assert status == 0
 
 
@@ -116,7 +116,7 @@ def test_linux_told(over: Any, conform: Conform) -> None:
         assert conform(*words)[0] == 3
         pytest.skip("this library has no rules")
     status, said = conform(*words, "--no-peer")
-    check_lines(said, "as told", over)
+    check_lines(said, "as expected", over)
     assert status == 0
 
 

@@ -491,7 +491,7 @@ def test_kit(prefix: Prefix, folder: str, version: str) -> None:
                   ["--rules", "linux", "--no-peer", "sizes", "keys"]):
         status, printed, said = run([conform, *words], "", "/", **WITH_PYTHON)
         assert status == 0
-        assert re.match(r"sizes: as told .*\nkeys: as told .*\ncases: as told 2\n", printed)
+        assert re.match(r"sizes: as expected .*\nkeys: as expected .*\ncases: as expected 2\n", printed)
         assert not said
     with open(f"{folder}/trace", "w", encoding="ascii") as file:
         file.write(TRACE)
@@ -527,7 +527,7 @@ def test_libdir(sources: Prefix, folder: str) -> None:
     ended = run([f"{other.path}/bin/nogcuvema-conform", "--library", "--no-peer", "sizes"], "", "/",
                 **WITH_PYTHON)
     assert ended.status == 0, ended.said
-    assert ended.out.startswith("sizes: as told")
+    assert ended.out.startswith("sizes: as expected")
     ended = run([f"{other.path}/bin/shmsim", "serial", "ram:64"], text_of("examples/page_seam.shm"), "/")
     assert ended == (0, text_of("examples/page_seam.out"), "")
 

@@ -29,23 +29,23 @@ PROGRAM = os.path.join(TOP, "conformance", "from_strace")
 NOT_REPLAYED = ("left_out", "no_order")
 CALL = '1 shmget(IPC_PRIVATE, 4096, IPC_CREAT|0600) = 0\n'
 WRONG = (
-    ("nonsense\n", "line 1: no line of strace -f: 'nonsense'"),
-    ("--- SIGSEGV {si_signo=SIGSEGV\n", "line 1: no line of strace -f: '--- SIGSEGV {si_signo=SIGSEGV'"),
+    ("nonsense\n", "line 1: not a line of strace -f: 'nonsense'"),
+    ("--- SIGSEGV {si_signo=SIGSEGV\n", "line 1: not a line of strace -f: '--- SIGSEGV {si_signo=SIGSEGV'"),
     (CALL + "1 shmat(0, NULL, 0) = 0x7f000\n1 shmdt(0x7f000\n",
-     "line 3: no line of strace -f: '1 shmdt(0x7f000'"),
+     "line 3: not a line of strace -f: '1 shmdt(0x7f000'"),
     ("1 <... shmat resumed>) = 0x7f000\n", "line 1: process 1 has no unfinished shmat"),
     ("1 shmdt(0x1 <unfinished ...>\n1 <... shmat resumed>) = 0\n",
      "line 2: process 1 has no unfinished shmat"),
     ("1 shmdt(0x1 <unfinished ...>\n1 shmdt(0x1 <unfinished ...>\n",
-     "line 2: process 1 is in a call already, of line 1"),
-    ("1 shmdt(0x1 <unfinished ...>\n1 <... shmdt resumed>) 0\n", "line 2: no end of a call: ') 0'"),
+     "line 2: process 1 is already in a call, from line 1"),
+    ("1 shmdt(0x1 <unfinished ...>\n1 <... shmdt resumed>) 0\n", "line 2: not the end of a call: ') 0'"),
     ("[pid 1] exit(0) = ?\n[pid 2] exit(0) = ?\nexit(0) = ?\n",
-     "line 3: it does not say of which process it is; strace -f -o FILE names each"),
-    ("vfork(strace: Process 2 attached\n", "line 1: the line goes on in the next one, which is missing"),
+     "line 3: it does not say which process it belongs to; strace -f -o FILE names each"),
+    ("vfork(strace: Process 2 attached\n", "line 1: the line continues in the next one, which is missing"),
     ("".join(f"{pid} {CALL[2:]}" for pid in range(1, 66)),
-     "65 processes call or inherit shared memory, and a script has 64 at most"),
+     "65 processes call or inherit shared memory, but a script has at most 64"),
     ("".join(CALL.replace("= 0", f"= {it}") for it in range(65)),
-     "there are 65 segments at a time, and 64 at most fit: see --slots"),
+     "there are 65 segments at a time, but at most 64 fit: see --slots"),
 )
 # the lock overlaps with the unlock and with the rmid, which began after the unlock had returned
 ACROSS = """1 shmget(IPC_PRIVATE, 4096, IPC_CREAT|0600) = 0
@@ -169,7 +169,7 @@ def test_next(folder: str) -> None:
         status, printed, _ = convert([*trace, "--script", script, "--log", log], stored("sizes.strace"), cwd)
         assert (status, printed) == (0, wanted)
     help_text = run([PROGRAM, "--help"]).out
-    page = text_of("docs/OUTCOMES.md").partition("## Any program's run")[2]
+    page = text_of("docs/STRACE.md")
     shown = [it for it in (help_text + page).splitlines() if re.search("shmcheck judge .* < ", it)]
     assert len(shown) >= 3
     assert all("--rules linux" in it for it in shown)

@@ -9,7 +9,7 @@ stores.
         machine.store(1, at + 4094, b"\\x01\\x02\\x03\\x04")
         print(machine.load(1, at + 4093, 6).hex())
 
-A refused call raises `Refused`, an OSError with errno; an access raises `SegmentationFault` or `BusError`.
+A call that fails raises `Refused`, an OSError with errno; an access raises `SegmentationFault` or `BusError`.
 The rules of each call are those of docs/MACHINE.md.
 """
 from ._library import LibraryMissing, library_version

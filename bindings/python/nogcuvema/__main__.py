@@ -1,5 +1,5 @@
-"""A prompt for a machine: python3 -m nogcuvema [SWAP...] reads lines of the script language and answers each
-at once.
+"""A prompt for a machine: python3 -m nogcuvema [SWAP...] reads lines of the script language and prints the
+reply to each.
 
 It also takes the lines help [CALL], show, undo, snapshot NAME, restore NAME, save FILE, and quit or exit.
 docs/SCRIPT.md has the language."""
@@ -23,7 +23,7 @@ USAGE = ("usage: python3 -m nogcuvema [SWAP...]: SWAP is ram:N, sparse:N, mirror
 # the limits and processes if the first line is no limits line
 HEAD = ("limits 65536 16 64 4 1", "process 1 100 100", "child 2", "child 3")
 OWN_WORDS = ("help", "show", "undo", "snapshot", "restore", "save", "quit", "exit")
-HELP = """A line is a call of a process: its pid, the call and its operands. A variable stores the answer.
+HELP = """A line is a call of a process: its pid, the call and its operands. A variable stores the reply.
     1 s = shmget private 8192 600
     1 a = shmat s null -
     1 store a+4094 01020304
@@ -44,13 +44,13 @@ WITHOUT = ("to see processes, frames and slots, build the program shmview in the
 
 
 def help_of(call: str) -> str:
-    """The form, the rule and the refusals of a call."""
-    rule, refusals = RULES[call]
+    """The form, the rule and the errors of a call."""
+    rule, errors = RULES[call]
     told = [f"PID {'[v =] ' * (call in ('shmget', 'shmat', 'xadd'))}{form_of(call)}",
             *textwrap.wrap(rule, 100)]
     told += [f"    {name.lower():<10} {kind.allowed}" for name, kind in CALLS[call]]
     told += [f"    {'ESRCH':<10} the process is not live"]
-    return "\n".join(told + [f"    {name:<10} {when}" for name, when in refusals])
+    return "\n".join(told + [f"    {name:<10} {when}" for name, when in errors])
 
 
 class Prompt:
@@ -68,7 +68,7 @@ class Prompt:
         self.snapshots: Dict[str, Moment] = {}
 
     def answer(self, line: str) -> List[str]:
-        """The answer to a line."""
+        """What the prompt prints for a line."""
         self.typed += 1
         words = line.split()
         if not words or words[0].startswith("#"):

@@ -9,7 +9,7 @@ CANT_WRITE, INTERRUPTED = 3, 130
 
 
 class Parser(argparse.ArgumentParser):
-    """Does not pass over a help text that can't be written, as argparse does."""
+    """A parser that fails if a help text can't be written, which argparse ignores."""
 
     def print_help(self, file: Optional[IO[str]] = None) -> None:
         print(self.format_help(), end="", file=file)
@@ -37,8 +37,8 @@ def run_command(name: str, main: Callable[[], int]) -> int:
 
 
 def drop_output() -> None:
-    """What is still in the buffer of standard output goes nowhere, so that the end of the program does not
-    fail once more."""
+    """Discards what is still in the buffer of standard output, so that the end of the program does not fail
+    once more."""
     with contextlib.suppress(OSError):
         nowhere = os.open(os.devnull, os.O_WRONLY)
         os.dup2(nowhere, 1)

@@ -1,5 +1,5 @@
-"""The prompt's help for each call: its rule in a sentence or two, and its refusals in the order in which the
-machine checks them. ESRCH, for a process that is not live, comes before all others. docs/MACHINE.md has the
+"""The prompt's help for each call: its rule in a sentence or two, and its errors in the order in which the
+machine tests them. ESRCH, for a process that is not live, comes before all others. docs/MACHINE.md has the
 complete rules."""
 from typing import Dict, Tuple
 
@@ -9,7 +9,7 @@ _READ = (("SIGSEGV", "a byte is not attached"), ("SIGBUS", "a swap area failed")
 _WRITE = (("SIGSEGV", "a byte is not attached for writing"), ("SIGBUS", "a swap area failed"))
 
 RULES: Dict[str, Tuple[str, Tuple[Tuple[str, str], ...]]] = {
-    "shmget": ("Finds the segment with the key, or makes one: always if the key is private, else if no "
+    "shmget": ("Finds the segment with the key, or makes one: always if the key is private, otherwise if no "
                "segment has the key and "
                "creat is set.", (
                    ("EEXIST", "a segment has the key, and creat and excl are set"),
@@ -27,19 +27,19 @@ RULES: Dict[str, Tuple[str, Tuple[Tuple[str, str], ...]]] = {
                    "use or out of bounds"),
                   *_NO_SEGMENT[1:], ("EACCES", "reading, or without rdonly writing, is not permitted"),
                   ("ENOMEM", "no free range is large enough"),
-                  ("EMFILE", "the process would have more than 256 pieces"))),
-    "shmdt": ("Detaches the segment that was attached at the address. The last detach of a marked segment "
-              "destroys it.",
+                  ("EMFILE", "the process would have more than 256 attachments, or parts of them"))),
+    "shmdt": ("Detaches the segment that was attached at the address. The last detach of a segment that is "
+              "marked for removal destroys it.",
               (("EINVAL", "no segment was attached there"),)),
     "load": ("Reads 1 to 64 bytes in one step.", _READ),
     "store": ("Writes 1 to 64 bytes in one step.", _WRITE),
-    "xadd": ("Adds to the eight-byte little-endian number at the address in one step; answers the number "
+    "xadd": ("Adds to the eight-byte little-endian number at the address in one step; returns the number "
              "before.", _WRITE),
     "stat": ("Shows the state of a segment; it needs read permission.",
              (*_NO_SEGMENT, ("EACCES", "it may not be read"))),
     "set": ("Sets the owner and the permission bits of a segment.", _OWNER),
-    "rmid": ("Destroys a segment that is not attached; marks any other, which is then destroyed with its "
-             "last detach.", _OWNER),
+    "rmid": ("Destroys a segment that is not attached; marks any other for removal, so that its last detach "
+             "destroys it.", _OWNER),
     "lock": ("Keeps the pages of a segment in memory.", (*_OWNER, ("ENOMEM", "MEMLOCK would be exceeded"))),
     "unlock": ("Lets the pages of a segment leave memory.", _OWNER),
     "fork": ("A declared child is born with the caller's user, group and attachments.",

@@ -1,4 +1,4 @@
-"""The exceptions that a call raises if its answer is not 0.
+"""The exceptions that a call raises if its code is not 0.
 
     Refused            an OSError with an errno of the rules, such as EINVAL; also PermissionError,
                        FileNotFoundError and others if Python has a class for the errno
@@ -14,7 +14,7 @@ NO_MEMORY, CLOSED, OUT_OF_RANGE, SPENT = 2001, 2002, 2003, 2004
 
 
 class Refused(OSError):
-    """A call that the rules refuse. `errno` has Linux's number, `name` its name, `call` the function."""
+    """A call that fails by the rules. `errno` has Linux's number, `name` its name, `call` the function."""
 
     def __init__(self, code: int, name: str, call: str) -> None:
         super().__init__(code, f"{call}: {name}")
@@ -81,7 +81,7 @@ class OutOfRange(MachineError, ValueError):
 
 
 class Spent(MachineError):
-    """The machine has answered 2^64 - 1 calls."""
+    """The machine has counted 2^64 - 1 calls."""
 
 
 class BadOpening(MachineError, ValueError):
@@ -98,8 +98,8 @@ class NotDismissed(MachineError, ValueError):
 
 
 class Incomplete(Exception):
-    """A read, write or copy that was refused after its first bytes. `done` bytes were read or written, `data`
-    holds the bytes that were read, and `__cause__` is the exception of the access that was refused."""
+    """A read, write or copy that failed after its first bytes. `done` bytes were read or written, `data`
+    holds the bytes that were read, and `__cause__` is the exception of the access that failed."""
 
     def __init__(self, done: int, data: bytes, cause: BaseException) -> None:
         super().__init__(f"{cause} after {done} bytes")

@@ -1,4 +1,4 @@
-"""A machine and its calls. docs/MACHINE.md lists the refusals of each call; a method here names only what
+"""A machine and its calls. docs/MACHINE.md lists the errors of each call; a method here names only what
 differs in Python."""
 import enum
 import operator
@@ -37,10 +37,10 @@ class Rules(enum.IntFlag):
     """Rules of Linux that differ from this project's profile, with the header's numbers. docs/MACHINE.md
     describes each."""
     REMOVED_IS_INVALID = 1   # EINVAL instead of EIDRM
-    # `get` of an existing segment: an execute bit of the mode needs execute permission, or EACCES
+    # `get` of an existing segment: an execute bit of the mode needs execute permission, otherwise EACCES
     EXECUTE_IS_ASKED = 2
     FORK_MARKS = 4           # a fork sets the attach time and the last pid of what the child inherits
-    # the rest of a piece that is cut, and a part with another protection, are attached again
+    # the rest of a piece that is cut, and a part with another protection, get an attach time
     REST_IS_ATTACHED = 8
     END_IS_ENOMEM = 16       # ENOMEM for a range that ends above 0x7ffffffff000
     LOW_IS_EPERM = 32        # EPERM below 0x10000 for all but user 0
@@ -48,7 +48,7 @@ class Rules(enum.IntFlag):
     # ENOMEM instead of EMFILE, and whenever a process has as many pieces as are allowed
     PIECES_ARE_ENOMEM = 128
     LOCKS_BY_USER = 256      # `memlock` is a limit of each user but 0; EPERM if it is 0
-    EXEC_IS_ASKED = 512      # `attach`: Flag.EXEC needs execute permission, or EACCES
+    EXEC_IS_ASKED = 512      # `attach`: Flag.EXEC needs execute permission, otherwise EACCES
     HUGE_IS_REFUSED = 1024   # `get`: Flag.HUGETLB is EPERM, or ENOMEM for user 0 and group 0
     LINUX = 2047             # all of them
 
@@ -353,7 +353,7 @@ class Machine:
     """A machine. It is open until `close` or the end of its `with` block. Only one thread at a time may call
     it.
 
-    Every call takes the pid of the process that makes it. A refused call raises `Refused`,
+    Every call takes the pid of the process that makes it. A call that fails raises `Refused`,
     `SegmentationFault`, `BusError` or a `MachineError`, and changes nothing that a process can see.
     """
 
@@ -387,8 +387,8 @@ class Machine:
     @classmethod
     def from_script(cls, text: str, swap: Union[str, Sequence[str]] = "ram:64") -> "Machine":
         """Opens the machine that a script declares, over the swap areas that `swap` names, and makes its
-        calls in the order of its lines. A refused call of the script raises nothing; `nogcuvema.script.Run`
-        gives the replies."""
+        calls in the order of its lines. A call of the script that fails raises nothing;
+        `nogcuvema.script.Run` gives the replies."""
         from .script import Run, areas_of, read_script
         if not isinstance(text, (str, bytes)):
             raise _wrong_type("text", "a script's text", text)
@@ -541,23 +541,23 @@ class Machine:
         self._call("nog_dismiss", _pid(pid))
 
     def set_user(self, pid: int, uid: int, gid: int) -> None:
-        """Sets the effective user and group of a live process, as setuid(2) and setgid(2) do. Its pieces
-        stay."""
+        """Sets the effective user and group of a live process, as setuid(2) and setgid(2) do. Its
+        attachments stay."""
         self._call("nog_set_user", _pid(pid), _number(uid, U32, "uid"), _number(gid, U32, "gid"))
 
     def set_time(self, time: int) -> None:
         """From now on, calls set this number as the time. Before the first `set_time`, the time of a call is
-        its place."""
+        its number."""
         self._call("nog_set_time", _number(time, U64, "time"))
 
     def unmap(self, pid: int, addr: int, length: int) -> None:
-        """munmap: unmaps a range of a process, rounded up to whole pages. Pieces that extend beyond it are
-        cut."""
+        """munmap: unmaps a range of a process, rounded up to whole pages. Attachments that extend beyond
+        it are cut."""
         self._call("nog_unmap", _pid(pid), _number(addr, U64, "addr"), _number(length, U64, "length"))
 
     def protect(self, pid: int, addr: int, length: int, is_writable: bool) -> None:
-        """mprotect: makes a range of a process, rounded up to whole pages, writable or read-only. If it is
-        refused with ENOMEM or EACCES, pages below the refused one may have changed, as on Linux. Raises
+        """mprotect: makes a range of a process, rounded up to whole pages, writable or read-only. If it
+        fails with ENOMEM or EACCES, pages below the one where it failed may have changed, as on Linux. Raises
         `Spent` after 2^64 - 1 calls."""
         self._call("nog_protect", _pid(pid), _number(addr, U64, "addr"), _number(length, U64, "length"),
                    _truth(is_writable, "is_writable"))
@@ -579,7 +579,7 @@ class Machine:
     # ---- accesses of any length ----
 
     def read(self, pid: int, addr: int, length: int) -> bytes:
-        """Reads bytes by one load for each page. Raises `Incomplete` if a load after the first is refused."""
+        """Reads bytes by one load for each page. Raises `Incomplete` if a load after the first fails."""
         data = bytearray(_number(length, sys.maxsize, "length"))
         self.read_into(pid, addr, data)
         return bytes(data)
@@ -596,14 +596,14 @@ class Machine:
         return self._access("nog_read", pid, addr, room, len(view))
 
     def write(self, pid: int, addr: int, data: Buffer) -> int:
-        """Writes bytes by one store for each page. Raises `Incomplete` if a store after the first is refused;
+        """Writes bytes by one store for each page. Raises `Incomplete` if a store after the first fails;
         earlier stores remain."""
         room, length = _room(data)
         return self._access("nog_write", pid, addr, room, length)
 
     def copy(self, pid: int, addr: int, to: int, to_addr: int, length: int) -> int:
         """Copies bytes from a process to another, or to the same one; the ranges may overlap. Returns their
-        number. Raises `Incomplete` if some bytes were copied before it was refused."""
+        number. Raises `Incomplete` if some bytes were copied before it failed."""
         done = c_uint64()
         try:
             self._call("nog_copy", _pid(pid), _number(addr, U64, "addr"), _pid(to, "to"),
@@ -662,7 +662,8 @@ class Machine:
         return Usage(**{name: getattr(struct, name) for name, _ in struct._fields_})
 
     def pieces(self, pid: int) -> List[Piece]:
-        """The pieces of a live process in the order of their addresses, as /proc/PID/maps lists mappings."""
+        """The pieces of a live process, which are attachments or parts of them, in the order of their
+        addresses, as /proc/PID/maps lists mappings."""
         pid, struct = _pid(pid), low.PieceStruct()
         found: List[Piece] = []
         while self._has("nog_piece_at", pid, len(found), byref(struct)):
@@ -703,7 +704,7 @@ class Machine:
         return True
 
     def calls(self) -> int:
-        """How many calls of processes were answered."""
+        """How many calls of processes were counted."""
         count = c_uint64()
         self._call("nog_calls", byref(count))
         return count.value

@@ -1,7 +1,7 @@
 """Turns the viewer's record into JSON lines, one step each: shmview --text SWAP... < SCRIPT | python3 -m
 nogcuvema.record
 
-docs/PYTHON.md lists the fields. If a line is no line of a record, the program names it and ends with status
+docs/PYTHON.md lists the fields. If a line is not one of a record, the program names it and ends with status
 1; the steps before it are written."""
 import json
 import re
@@ -19,7 +19,7 @@ COUNTS = ("events", "segments", "reserved", "locked", "resident", "frames", "dir
 
 
 class RecordFault(ValueError):
-    """A line that is no line of a record."""
+    """A line that is not one of a record."""
 
 
 def _what(words: List[str], line: str) -> Dict[str, Any]:
@@ -72,8 +72,8 @@ def _add(step: Dict[str, Any], words: List[str], line: str) -> None:
 
 
 def steps(lines: Iterable[str]) -> Iterator[Dict[str, Any]]:
-    """The steps of a record, each as a dictionary. Raises `RecordFault` with the number of a line that is no
-    line of a record."""
+    """The steps of a record, each as a dictionary. Raises `RecordFault` with the number of a line that is not
+    one of a record."""
     step: Dict[str, Any] = {}
     for number, line in enumerate(lines, 1):
         line = line.rstrip("\n")

@@ -184,7 +184,7 @@ class Command:
     """A line with a call of a process."""
     line: int
     pid: int
-    taker: str      # the variable that takes the answer, or nothing
+    taker: str      # the variable that takes the reply, or nothing
     call: str
     operands: Tuple[Any, ...]
 
@@ -271,7 +271,7 @@ class Script:
         call = words[at].text
         if is_taken and call not in TAKEN:
             raise _Bad("bad line", words[at],
-                       "shmget, shmat or xadd: other calls have no answer for a variable")
+                       "shmget, shmat or xadd: other calls have no reply for a variable")
         values = read_operands(words, at + 1, [kind for _, kind in CALLS[call]], form_of(call))
         read_range(words[0], PID, pid)
         for value, word in ((pid, words[0]), *([(values[0], words[at + 1])] if call == "fork" else [])):

@@ -1,4 +1,4 @@
-"""The viewer's record as dictionaries. The record here is written by hand, by the table of docs/SCRIPT.md."""
+"""The viewer's record as dictionaries. The record here is written by hand, by the table of docs/VIEWER.md."""
 
 from __future__ import annotations
 

@@ -1,4 +1,4 @@
-//! Finds the installed library: in the folder that NOGCUVEMA_LIB names, else by pkg-config.
+//! Finds the installed library: in the folder that NOGCUVEMA_LIB names, otherwise by pkg-config.
 use std::env;
 use std::path::Path;
 use std::process::Command;

@@ -1,4 +1,4 @@
-//! The first program: four bytes over the seam of two pages.
+//! The first program: four bytes across a page boundary.
 use nogcuvema::{Area, Limits, Machine, Process, PRIVATE};
 
 fn main() -> Result<(), nogcuvema::Error> {

@@ -1,5 +1,5 @@
 //! System V shared memory as a library: `shmget`, `shmat`, `shmdt` and `shmctl` over simulated processes, page frames and
-//! swap areas, each call with the exact answer of POSIX.1-2017 and the Linux manual pages.
+//! swap areas, each call with the exact reply of POSIX.1-2017 and the Linux manual pages.
 //!
 //! This crate wraps the C library, whose functions are proved. The wrapper itself is tested, not proved.
 //!
@@ -44,7 +44,7 @@ pub const RND: u32 = 8192;
 pub const REMAP: u32 = 16384;
 /// `SHM_EXEC`, for [`Machine::attach`]: it has an effect only under [`rules::EXEC_IS_ASKED`].
 pub const EXEC: u32 = 32768;
-/// In [`Segment::status`]: the segment is marked, and is destroyed with its last piece.
+/// In [`Segment::status`]: the segment is marked for removal, and its last detach destroys it.
 pub const DEST: u32 = 512;
 /// In [`Segment::status`]: the segment's pages stay in their frames.
 pub const LOCKED: u32 = 1024;
@@ -53,11 +53,12 @@ pub const LOCKED: u32 = 1024;
 pub mod rules {
     /// EINVAL instead of EIDRM.
     pub const REMOVED_IS_INVALID: u64 = 1;
-    /// [`get`](crate::Machine::get) of an existing segment: an execute bit of the mode needs execute permission, or EACCES.
+    /// [`get`](crate::Machine::get) of an existing segment: an execute bit of the mode needs execute permission,
+    /// otherwise EACCES.
     pub const EXECUTE_IS_ASKED: u64 = 2;
     /// A fork sets the attach time and the last pid of each segment that the child inherits.
     pub const FORK_MARKS: u64 = 4;
-    /// The rest of a piece that is cut, and a part with another protection, are attached again.
+    /// The rest of a piece that is cut, and a part with another protection, get an attach time.
     pub const REST_IS_ATTACHED: u64 = 8;
     /// [`attach`](crate::Machine::attach): ENOMEM for a range that ends above `0x7ffffffff000`.
     pub const END_IS_ENOMEM: u64 = 16;
@@ -69,7 +70,7 @@ pub mod rules {
     pub const PIECES_ARE_ENOMEM: u64 = 128;
     /// [`lock`](crate::Machine::lock): `memlock` is a limit for each user except 0; EPERM if it is 0.
     pub const LOCKS_BY_USER: u64 = 256;
-    /// [`attach`](crate::Machine::attach): [`EXEC`](crate::EXEC) needs execute permission, or EACCES.
+    /// [`attach`](crate::Machine::attach): [`EXEC`](crate::EXEC) needs execute permission, otherwise EACCES.
     pub const EXEC_IS_ASKED: u64 = 512;
     /// [`get`](crate::Machine::get): with [`HUGETLB`](crate::HUGETLB) EPERM, or ENOMEM for user 0 and group 0.
     pub const HUGE_IS_REFUSED: u64 = 1024;
@@ -77,7 +78,7 @@ pub mod rules {
     pub const LINUX: u64 = 2047;
 }
 
-/// Why a call was refused. The number is that of the C header: Linux's number of an errno, 1007 for SIGBUS, 1011 for SIGSEGV,
+/// Why a call failed. The number is that of the C header: Linux's number of an errno, 1007 for SIGBUS, 1011 for SIGSEGV,
 /// and from 2001 on the codes that are not for a guest.
 #[derive(Clone, Copy, PartialEq, Eq, Hash)]
 pub struct Errno(pub u32);
@@ -112,7 +113,7 @@ codes! {
     EEXIST = 17;
     /// An argument is not valid for the call.
     EINVAL = 22;
-    /// The process has too many pieces.
+    /// The process has too many attachments, or parts of them.
     EMFILE = 24;
     /// There are too many segments, or pages.
     ENOSPC = 28;
@@ -126,7 +127,7 @@ codes! {
     NO_MEMORY = 2001;
     /// A number that does not fit the call's parameter.
     OUT_OF_RANGE = 2003;
-    /// 2^64 - 1 calls were answered.
+    /// 2^64 - 1 calls were counted.
     SPENT = 2004;
     /// [`Machine::admit`]: the pid is 0, or above 2147483647.
     ADMIT_BAD_PID = 2031;
@@ -208,7 +209,7 @@ impl std::error::Error for BadNumber {}
 pub struct Unopened {
     /// The code of the C header: 2011 to 2019, 2021 to 2024, [`Errno::OUT_OF_RANGE`] or [`Errno::NO_MEMORY`].
     pub errno: Errno,
-    /// The number that is wrong; none if a pid is given twice, or memory was refused.
+    /// The number that is wrong; none if a pid is given twice, or there was no memory.
     pub number: Option<BadNumber>,
 }
 
@@ -243,7 +244,7 @@ impl PartialEq<Errno> for Unopened {
     }
 }
 
-/// An answer, or why there is none.
+/// The result of a call, or why it failed.
 pub type Answer<T> = Result<T, Errno>;
 
 fn done(code: u32) -> Answer<()> {
@@ -434,10 +435,10 @@ pub struct Piece {
     pub may_write: bool,
 }
 
-/// An access that was refused, and how many bytes were read or written before.
+/// An access that failed, and how many bytes were read or written before.
 #[derive(Clone, Copy, Debug, PartialEq, Eq)]
 pub struct Stopped {
-    /// Why it was refused.
+    /// Why it failed.
     pub errno: Errno,
     /// How many bytes were read or written.
     pub done: u64,
@@ -594,7 +595,7 @@ impl Machine {
         Err(Errno::OUT_OF_RANGE)
     }
 
-    /// The number for which the last call that was refused with [`Errno::OUT_OF_RANGE`] was refused, with its range.
+    /// The wrong number of the last call that failed with [`Errno::OUT_OF_RANGE`], with its range.
     pub fn bad_number(&self) -> Option<&BadNumber> {
         self.bad.as_ref()
     }
@@ -649,7 +650,7 @@ impl Machine {
         done(unsafe { raw::nog_set(&mut self.handle, pid, id, uid, gid, mode) })
     }
 
-    /// shmctl(2), IPC_RMID: destroys the segment, or marks it if it is attached.
+    /// shmctl(2), IPC_RMID: destroys the segment, or marks it for removal if it is attached.
     ///
     /// # Errors
     /// EINVAL, EIDRM, EPERM, ESRCH.
@@ -738,7 +739,7 @@ impl Machine {
         })
     }
 
-    /// fork(2): a declared child is born, with the caller's user, group and pieces.
+    /// fork(2): a declared child is born, with the caller's user, group and attachments.
     ///
     /// # Errors
     /// EAGAIN, ESRCH.
@@ -746,7 +747,7 @@ impl Machine {
         done(unsafe { raw::nog_fork(&mut self.handle, pid, child) })
     }
 
-    /// execve(2): every piece of the caller is detached.
+    /// execve(2): detaches everything that the caller has attached.
     ///
     /// # Errors
     /// ESRCH.
@@ -754,7 +755,7 @@ impl Machine {
         done(unsafe { raw::nog_exec(&mut self.handle, pid) })
     }
 
-    /// exit(2): every piece of the caller is detached, and the process ends.
+    /// exit(2): detaches everything that the caller has attached, and ends it.
     ///
     /// # Errors
     /// ESRCH.
@@ -786,8 +787,8 @@ impl Machine {
         done(unsafe { raw::nog_dismiss(&mut self.handle, pid) })
     }
 
-    /// Sets the effective user and group of a live process, as setuid(2) and setgid(2) do. Its pieces stay. It is not counted as
-    /// a call.
+    /// Sets the effective user and group of a live process, as setuid(2) and setgid(2) do. Its attachments stay. It is not
+    /// counted as a call.
     ///
     /// # Errors
     /// ESRCH.
@@ -795,13 +796,14 @@ impl Machine {
         done(unsafe { raw::nog_set_user(&mut self.handle, pid, uid, gid) })
     }
 
-    /// From now on, calls set this number as the time. Before the first `set_time`, the time of a call is its place.
+    /// From now on, calls set this number as the time. Before the first `set_time`, the time of a call is its number.
     pub fn set_time(&mut self, time: u64) {
-        // An open machine answers 0.
+        // For an open machine this returns 0.
         unsafe { raw::nog_set_time(&mut self.handle, time) };
     }
 
-    /// munmap(2): unmaps a range, rounded up to whole pages. Pieces that extend beyond it are cut. It is not counted as a call.
+    /// munmap(2): unmaps a range, rounded up to whole pages. Attachments that extend beyond it are cut. It is not counted as a
+    /// call.
     ///
     /// # Errors
     /// ESRCH, EINVAL, ENOMEM, and SPENT.
@@ -857,8 +859,8 @@ impl Machine {
     /// Copies bytes from a process to another, or to the same one; the ranges may overlap.
     ///
     /// # Errors
-    /// Those of [`Machine::store`] and of [`Machine::load`], with how many bytes were copied before; the store's if both were
-    /// refused. NO_MEMORY, with no byte copied.
+    /// Those of [`Machine::store`] and of [`Machine::load`], with how many bytes were copied before; the store's if both
+    /// failed. NO_MEMORY, with no byte copied.
     pub fn copy(&mut self, from: u32, from_addr: u64, to: u32, to_addr: u64, len: u64) -> Result<(), Stopped> {
         let mut count = 0;
         let code = unsafe { raw::nog_copy(&mut self.handle, from, from_addr, to, to_addr, len, &mut count) };
@@ -868,7 +870,7 @@ impl Machine {
     /// A flush round: writes at most this many dirty pages out to swap.
     pub fn flush(&mut self, pages: u64) -> Flushed {
         let mut flushed = Flushed::default();
-        // An open machine answers 0.
+        // For an open machine this returns 0.
         unsafe { raw::nog_flush(&mut self.handle, pages, &mut flushed) };
         flushed
     }
@@ -907,7 +909,7 @@ impl Machine {
     /// shmctl(2), SHM_INFO: sums over all segments. It looks at each page that was touched.
     pub fn info(&mut self) -> Usage {
         let mut usage = Usage::default();
-        // An open machine answers 0.
+        // For an open machine this returns 0.
         unsafe { raw::nog_info(&mut self.handle, &mut usage) };
         usage
     }
@@ -974,7 +976,7 @@ impl Machine {
         (code == 0).then_some(at)
     }
 
-    /// How many calls the machine has answered.
+    /// How many calls of processes were counted.
     pub fn calls(&mut self) -> u64 {
         let mut calls = 0;
         unsafe { raw::nog_calls(&mut self.handle, &mut calls) };
