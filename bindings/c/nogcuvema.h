@@ -75,6 +75,7 @@ enum nog_code {
     NOG_CLOSED = 2002,         /* there is no machine in the handle */
     NOG_OUT_OF_RANGE = 2003,   /* a number that no call can carry */
     NOG_SPENT = 2004,          /* 2^64 - 1 calls were counted */
+    NOG_LENT = 2005,           /* a page on loan is in the way: nog_leaver, or the page itself, must come back first */
     NOG_BAD_LIMITS = 2010,     /* never returned; 2011 to 2019: field 1 to 9 of nog_limits is out of its range */
     NOG_BAD_SHMMAX = 2011,
     NOG_BAD_SHMMNI = 2012,
@@ -226,6 +227,16 @@ typedef struct nog_piece {
     uint32_t may_write;    /* 0: it was attached with NOG_RDONLY, and nog_protect can't make it writable */
     uint32_t unused;       /* 0 */
 } nog_piece;
+
+/* A frame that has a page. */
+typedef struct nog_frame {
+    int32_t id;              /* the segment */
+    uint32_t page;           /* its page, from 0 */
+    uint32_t is_referenced;  /* 1 or 0, as the three below: the page was used since the clock's hand passed */
+    uint32_t is_dirty;       /* its bytes may differ from those in its slot */
+    uint32_t is_lent;        /* it is on loan */
+    uint32_t is_locked;      /* its segment is locked, so the page never leaves */
+} nog_frame;
 
 /* Flags, by Linux's numbers; other bits of the 16 are ignored. */
 enum nog_flag {
@@ -416,7 +427,8 @@ uint32_t nog_protect(nog_machine *machine, uint32_t pid, uint64_t addr, uint64_t
 
 /* Puts a snapshot into `copy`: a machine with the same state and memory, whose swap areas have the same pages and the
    same reads and writes still to fail. The two are independent from then on. A machine that was in `copy` is closed.
-   `copy` must be another handle than `machine`.
+   `copy` may be the handle `machine` itself, which does not change then.
+   NOG_LENT: a page is on loan, and neither handle changed.
    NOG_NO_MEMORY: the heap gave no memory, and neither handle changed. */
 uint32_t nog_snapshot(nog_machine *machine, nog_machine *copy);
 
@@ -439,6 +451,49 @@ uint32_t nog_write(nog_machine *machine, uint32_t pid, uint64_t addr, const uint
    NOG_NO_MEMORY: the heap gave no memory for the bytes between the two, and nothing changed. */
 uint32_t nog_copy(nog_machine *machine, uint32_t from, uint64_t from_addr, uint32_t to, uint64_t to_addr, uint64_t len,
                   uint64_t *done);
+
+/* ---- pages on loan ---- */
+
+/* An emulator or a kernel may keep copies of pages where its guests reach them by a pointer. It borrows a page, lets the
+   guests use the copy, and gives it back. A page on loan stays in its frame, so only as many pages are out as there are
+   frames; the machine's clock says which page has to come back first, and its swap areas keep the bytes of the others.
+   None of these functions is a call of a process.
+
+   While pages are on loan, a call that reads or writes bytes (nog_load to nog_compare_exchange, nog_read, nog_write and
+   nog_copy) returns NOG_LENT if it would touch one, or could bring in a page only if one left its frame. No byte changes
+   then, and the call is not counted. If it has two pages, the first may have come in; if a pager fails at that, the code
+   is NOG_SIGBUS, and the call is not counted either. When a segment ends, so do the loans of its pages. */
+
+/* Lends a page: it comes in as by a load, and its 4096 bytes are copied to `bytes`. From then on it is on loan.
+   NOG_OUT_OF_RANGE: `len` is not 4096.
+   NOG_EINVAL: no segment has the identifier.
+   NOG_OUT_OF_RANGE: the segment has no such page.
+   NOG_LENT: the page is on loan, or the page that nog_leaver shows is, and would have to leave.
+   NOG_SIGBUS: a pager failed. */
+uint32_t nog_lend(nog_machine *machine, int32_t id, uint32_t page, uint8_t *bytes, size_t len);
+
+/* Takes a page back, with the 4096 bytes that it has now, or with none if they did not change (`len` 0). With bytes the
+   frame becomes dirty. No page moves, and no referenced bit changes.
+   NOG_OUT_OF_RANGE: `len` is neither 0 nor 4096.
+   NOG_EINVAL: no segment has the identifier.
+   NOG_OUT_OF_RANGE: the page is not on loan. */
+uint32_t nog_give_back(nog_machine *machine, int32_t id, uint32_t page, const uint8_t *bytes, size_t len);
+
+/* The frame whose page would leave if a page came in now. Once this page is back, bringing another one in evicts it and
+   no other page.
+   NOG_OUT_OF_RANGE: a frame is free, so no page would leave. */
+uint32_t nog_leaver(nog_machine *machine, nog_frame *frame);
+
+/* The frame that the clock's hand meets after `place` others. Of those before the leaver the referenced ones lose their
+   bit when a page comes in; if the leaver is referenced itself, all do.
+   NOG_OUT_OF_RANGE: there are not that many frames, or this one is free. */
+uint32_t nog_frame_at(nog_machine *machine, uint32_t place, nog_frame *frame);
+
+/* The segment and page that an address of a process shows. `is_writable` gets 1 if the process may write there, else 0.
+   NOG_ESRCH: no live process has the pid.
+   NOG_SIGSEGV: nothing is attached at the address. */
+uint32_t nog_page_at(nog_machine *machine, uint32_t pid, uint64_t addr, int32_t *id, uint32_t *page,
+                     uint32_t *is_writable);
 
 /* ---- the machine's memory, and its state ---- */
 
@@ -501,8 +556,8 @@ uint32_t nog_text(uint32_t code, uint8_t *text, size_t size, size_t *len);
 uint32_t nog_version(void);
 
 /* The sizes and offsets of the library's structs, to compare a binding with. `which` is 0 nog_machine, 1 nog_limits, 2
-   nog_area, 3 nog_failure, 4 nog_process, 5 nog_segment, 6 nog_tally, 7 nog_flushed, 8 nog_usage, 9 nog_piece. `field`
-   0 asks for the size of the struct, and a number from 1 on for the offset of that field, in bytes.
+   nog_area, 3 nog_failure, 4 nog_process, 5 nog_segment, 6 nog_tally, 7 nog_flushed, 8 nog_usage, 9 nog_piece, 10 nog_frame.
+   `field` 0 asks for the size of the struct, and a number from 1 on for the offset of that field, in bytes.
    NOG_OUT_OF_RANGE: there is no such struct or field. */
 uint32_t nog_layout(uint32_t which, uint32_t field, size_t *value);
 
