@@ -16,13 +16,12 @@ use Rattle.shm_life.specs.declared.loans.ReturnRefusal.{ReturnRefusal}
 use Rattle.shm_life.specs.declared.loans.ReturnRefusal.TheVariants as returning
 use Rattle.shm_machine.specs.declared.machine.Machine.{Machine}
 use Rattle.nogcuvema.specs.Answers.{closed, lent, out_of_range, Unchanged}
-use Rattle.nogcuvema.specs.Hosting.{HostedThrough}
 use Rattle.nogcuvema.specs.declared.structs.NogFrame.{NogFrame}
 
--- a change of the machine in the handle, for numbers that it can carry
-abbrev pub HostedWhere : Bool → (Machine → ℕ → Machine → Type 0) → Option Machine → ℕ → Option Machine → Type 0
-HostedWhere true does before code after = HostedThrough does before code after
-HostedWhere false does before code after = Unchanged out_of_range before code after
+-- a change of a machine, if a length is right; otherwise the code says that it is not, and nothing changed
+abbrev pub IfFits : Bool → (Machine → ℕ → Machine → Type 0) → Machine → ℕ → Machine → Type 0
+IfFits true does before code after = does before code after
+IfFits false does before code after = (code ≡ out_of_range) × (after ≡ before)
 
 -- the page of a segment; none if the identifier is negative
 abbrev pub page_by : ℤ → ℕ → Option PageRef

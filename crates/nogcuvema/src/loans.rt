@@ -4,7 +4,8 @@ ghost use Rattle.shm_base.specs.declared.paging.TheConstants.{PAGE_SIZE};
 ghost use Rattle.shm_base.specs.Step.{caller_of};
 ghost use Rattle.shm_fault.specs.Loans.{frame_met};
 ghost use Rattle.shm_life.specs.Lending.{leaver_seen, page_seen};
-ghost use Rattle.nogcuvema.specs.Lending.{FrameThrough, HostedWhere, LendsBy, PageThrough, ReturnsBy, ShowsFrame, ShowsPage, given_by, is_given, lend_code, page_by, return_code};
+ghost use Rattle.nogcuvema.specs.Hosting.{HostedThrough};
+ghost use Rattle.nogcuvema.specs.Lending.{FrameThrough, IfFits, LendsBy, PageThrough, ReturnsBy, ShowsFrame, ShowsPage, given_by, is_given, lend_code, page_by, return_code};
 
 use crate::code::{DONE, LENT, OUT_OF_RANGE};
 use crate::handle::{Handle, with_machine};
@@ -47,10 +48,13 @@ fn return_code(refusal: ReturnRefusal) -> u32
 }
 
 fn lend(machine: &mut Machine, id: i32, page: u32, bytes: &mut [u8]) -> u32
-    requires { length bytes.old ≡ PAGE_SIZE }
-    ensures lends { LendsBy (page_by id page) bytes.old bytes.new machine.old result machine.new }
+    ensures lends { let fits = length bytes.old == PAGE_SIZE in
+        IfFits fits (LendsBy (page_by id page) bytes.old bytes.new) machine.old result machine.new }
     ensures bytes { result ≢ 0 → bytes.new ≡ bytes.old }
 {
+    if bytes.len() != PAGE_BYTES {
+        return OUT_OF_RANGE;
+    }
     let Some(page) = page_of(id, page) else {
         return Errno::Einval.code();
     };
@@ -71,13 +75,10 @@ pub extern "C" fn nog_lend(
     bytes: &mut [u8],
 ) -> u32
     ensures lends { let fits = length bytes.old == PAGE_SIZE in
-        HostedWhere fits (LendsBy (page_by id page) bytes.old bytes.new)
+        HostedThrough (IfFits fits (LendsBy (page_by id page) bytes.old bytes.new))
         handle.old.kept.value result handle.new.kept.value }
     ensures bytes { result ≢ 0 → bytes.new ≡ bytes.old }
 {
-    if bytes.len() != PAGE_BYTES {
-        return OUT_OF_RANGE;
-    }
     with_machine!(alloc, handle, |machine| lend(machine, id, page, bytes))
 }
 
@@ -89,9 +90,12 @@ fn given(bytes: &[u8]) -> Option<&[u8]>
 }
 
 fn give_back(machine: &mut Machine, id: i32, page: u32, bytes: &[u8]) -> u32
-    requires { is_given (length bytes.now) ≡ true }
-    ensures { ReturnsBy (page_by id page) (given_by bytes.now) machine.old result machine.new }
+    ensures { let returns = ReturnsBy (page_by id page) (given_by bytes.now) in
+        IfFits (is_given (length bytes.now)) returns machine.old result machine.new }
 {
+    if !bytes.is_empty() && bytes.len() != PAGE_BYTES {
+        return OUT_OF_RANGE;
+    }
     let Some(page) = page_of(id, page) else {
         return Errno::Einval.code();
     };
@@ -111,12 +115,10 @@ pub extern "C" fn nog_give_back(
     page: u32,
     bytes: &[u8],
 ) -> u32
-    ensures { HostedWhere (is_given (length bytes.now)) (ReturnsBy (page_by id page) (given_by bytes.now))
+    ensures { let returns = ReturnsBy (page_by id page) (given_by bytes.now) in
+        HostedThrough (IfFits (is_given (length bytes.now)) returns)
         handle.old.kept.value result handle.new.kept.value }
 {
-    if !bytes.is_empty() && bytes.len() != PAGE_BYTES {
-        return OUT_OF_RANGE;
-    }
     with_machine!(alloc, handle, |machine| give_back(machine, id, page, bytes))
 }
 
