@@ -193,6 +193,7 @@ fn refusals_are_reported(rt: HostRuntime) {
         (Refusal::Refused(Errno::Enoent), "refused: ENOENT"),
         (Refusal::HostMemory, "out of memory"),
         (Refusal::Spent, "no more calls can be counted"),
+        (Refusal::Lent, "a page on loan is in the way"),
     ];
     for (refusal, want) in texts {
         assert!(rt; text_of(rt.alloc(), refusal).is_ok_and(|t| t.as_str() == want));
