@@ -27,9 +27,10 @@ QEMU = "qemu-system-x86_64"
 COMPILERS = ("gcc", "clang")
 MOST_LINES, MOST_OF_A_FILE, WIDTH = 1500, 400, 110
 LONGEST = 60
-# qemu's usual processor lacks SSE 4.2, which the library's code may use
-MACHINE = (QEMU, "-cpu", "Nehalem", "-nographic", "-no-reboot", "-nic", "none", "-device",
-           "isa-debug-exit,iobase=0xf4,iosize=4")
+# qemu's usual processor lacks SSE 4.2, which the library's code may use. The timer counts instructions, so that
+# a run is the same on each host.
+MACHINE = (QEMU, "-cpu", "Nehalem", "-icount", "shift=3,sleep=off", "-nographic", "-no-reboot", "-nic", "none",
+           "-device", "isa-debug-exit,iobase=0xf4,iosize=4")
 # what isa-debug-exit makes of the kernel's 0
 DONE = 1
 PROGRAMS = ("counter", "paging", "hot", "wild", "failing")
@@ -177,7 +178,7 @@ def test_hot_page(example: Example) -> None:
     """A page that is used all the time stays in its frame."""
     lines, status = example.boot("frames=8", ["hot"])
     assert status == DONE
-    assert tally_of(lines)["pages lent"] <= 66
+    assert tally_of(lines)["pages lent"] <= 64
     assert 4 <= tally_of(lines)["lent again"] <= 64
 
 
