@@ -1,5 +1,4 @@
 /* shmget, shmat, shmdt and shmctl, in Linux's order of errors. */
-#include "pages.h"
 #include "shmrun.h"
 #include <nogcuvema_linux.h>
 #include <errno.h>
@@ -182,7 +181,7 @@ static int64_t show_usage(struct call *call) {
     nog_linux_usage info = {.used_ids = (int32_t)usage.used_ids, .shm_tot = usage.pages};
     for (uint32_t i = 0; i <= usage.highest; i++)
         if (nog_segment_at(&machine, i, &segment) == NOG_DONE) info.shm_rss += pages_in_memory(segment.id);
-    if (options.frames) reply_of(nog_swapped(&machine, &info.shm_swp));
+    if (options.frames) info.shm_swp = usage.swapped;
     return write_memory(call, call->args[2], &info, sizeof info) ? (int64_t)usage.highest : -EFAULT;
 }
 
@@ -195,7 +194,20 @@ static int64_t set(struct call *call, const struct guest *self, int32_t id) {
     return result;
 }
 
+/* Whether so few frames would be left for pages that are not locked that an instruction could not get its pages. */
+static bool is_too_much(int32_t id) {
+    nog_segment segment;
+    nog_tally now;
+    if (!options.frames || !segment_of(id, &segment) || segment.status & NOG_LOCKED) return false;
+    reply_of(nog_tally_of(&machine, &now));
+    return now.locked + pages_of(segment.size) / PAGE + NOT_LOCKED > options.frames;
+}
+
 static int64_t change(const struct guest *self, enum kind kind, int32_t id) {
+    if (kind == LOCK && is_too_much(id)) {
+        note_left_out("a lock that would leave too few frames");
+        return -ENOMEM;
+    }
     uint32_t code = kind == REMOVE ? nog_remove(&machine, self->pid, id) :
                     kind == LOCK ? nog_lock(&machine, self->pid, id) : nog_unlock(&machine, self->pid, id);
     record((struct event){.kind = kind, .pid = self->pid, .id = id, .result = reply_of(code)});

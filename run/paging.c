@@ -8,7 +8,6 @@
    A page that the clock's hand passes loses its referenced bit, so it is taken too: its next use is a fault, which sets the bit
    again. A page stays with the thread that asked for it for STAY_US; other threads wait for their pages until then, or TURN_US.
    So an access to two pages gets both, also if there are few frames. */
-#include "pages.h"
 #include "shmrun.h"
 #include <errno.h>
 #include <fcntl.h>
@@ -109,7 +108,7 @@ static bool is_young(const nog_frame *frame, const struct fault *fault) {
 struct way {
     const nog_frame *leaver;
     const struct fault *fault;
-    uint64_t place;   /* how many frames the hand has met */
+    uint32_t place;   /* how many frames the hand has met */
     bool is_at_end;
     nog_frame frame;  /* the last of those whose pages must be taken */
 };

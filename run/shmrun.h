@@ -9,8 +9,7 @@
    mappings.c  munmap, mremap, mprotect, mmap and madvise
    With --frames, few pages of segments are in memory:
    paging.c    how a page comes and leaves                          faults.c    accesses to pages that are not there
-   past.c      system calls that go past the page tables            pages.c     which pages are in frames
-   blocks.c    swap areas in a file
+   past.c      system calls that go past the page tables            blocks.c    swap areas in a file
 
    One thread, the tracer, handles one stop at a time, so each call is one step of the machine. An attach is made in the program
    first and then in the machine, and a detach in the machine first. So whatever the machine has attached is mapped, also while
@@ -29,6 +28,7 @@
 
 enum { MOST_AREAS = 8, MOST_FAILURES = 1024 };
 enum { PAGE = 4096 };
+enum { NOT_LOCKED = 4 };  /* frames: a copy between two addresses that are not aligned needs so many pages at once */
 /* statuses of our own: before the command runs, in the middle of a run, and of a command that does not run */
 enum { CANNOT_START = 125, CANNOT_GO_ON = 125, CANNOT_RUN = 126, NOT_FOUND = 127 };
 #define END_OF_ADDRESSES UINT64_C(0x7ffffffff000)

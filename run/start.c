@@ -1,5 +1,4 @@
 /* The first process, the signals that shmrun gets, and the exit status. */
-#include "pages.h"
 #include "shmrun.h"
 #include <elf.h>
 #include <errno.h>
@@ -17,7 +16,6 @@
 #include <unistd.h>
 
 enum { MOST_FRAMES = 1 << 20, FEWEST_FRAMES = 1 << 12, SLOTS_IN_FILE = 1 << 16 };
-enum { NOT_LOCKED = 4 };  /* frames: a copy between two addresses that are not aligned needs so many pages at once */
 nog_machine machine = NOG_MACHINE_INITIALIZER;
 static volatile sig_atomic_t first;
 
@@ -93,7 +91,9 @@ static void open_machine_with_frames(void) {
         stop(CANNOT_START, "--frames %lu: MEMLOCK is %lu; it is at most %lu, because %d frames are for pages that are not locked",
              l->frames, l->memlock, most_locked, NOT_LOCKED);
     l->memlock = least(l->memlock, most_locked);
-    uint32_t code = open_pages(&machine);
+    use_swap_file(true);
+    uint32_t code = nog_open(&machine, l, options.areas, options.area_count, options.failures, options.failure_count, NULL, 0);
+    use_swap_file(false);
     if (code == NOG_NO_MEMORY) stop(CANNOT_START, "there is not enough memory for the frames and the swap areas");
     reply_of(code);
     open_paging();
