@@ -292,6 +292,38 @@ def shown_at(blocks: Any, at: Any, told: Any, skipped: int = 0, script: Any = ()
     return want if told is None else {**want, "changes": told.get(number, [])}
 
 
+def has_gap(blocks: Any, at: int) -> bool:
+    """Returns whether a process has pages of which two neighbours are not side by side."""
+    places = sorted({it for block in blocks for it in boxes_of(pieces_of(block)[at][1])})
+    return any(two - one > 4096 for one, two in zip(places, places[1:]))
+
+
+def is_evicting(before: Block, block: Block) -> bool:
+    """Returns whether a page left its frame, though its segment stays: then the hand moved."""
+    had, has = ({tuple(line[2:4]) for line in lines_of(it, "frame")} for it in (before, block))
+    return any(seg in [line[1] for line in segments_of(block)] for seg, _ in had - has)
+
+
+def legend_of(blocks: Any) -> Any:
+    """Returns the marks of a run's legend, each with its words and the looks of its picture."""
+    lines = [line for block in blocks for line in block]
+    frames = [line for line in lines if line[0] == "frame"]
+    pieces = [line for line in lines if line[0] == "piece"]
+    rows = (("0·2 page 2 of segment 0", "", pieces), ("f1 in frame 1", "", frames),
+            ("s0 in slot 0", "", [line for line in lines if line[0] == "slot"]), ("0 zeros", "", pieces),
+            ("attachment starts", "thick", pieces),
+            ("read-only", "hatched", [line for line in pieces if line[5] == "ro"]),
+            ("⋯ unused addresses", "", any(has_gap(blocks, at) for at in range(len(pieces_of(blocks[0]))))),
+            ("accessed", "inner", any(reached_frames(block) for block in blocks)),
+            ("changed", "outer", True), ("0·2 gone", "struck", pieces),
+            ("R referenced", "", [line for line in frames if line[4][0] == "r"]),
+            ("D dirty", "", [line for line in frames if line[4][1] == "d"]),
+            ("L locked", "", any("locked" in line[6] for block in blocks for line in segments_of(block))),
+            ("☞ clock’s hand", "", True),
+            ("its way", "", any(map(is_evicting, blocks, blocks[1:]))))
+    return [(words, looks) for words, looks, is_shown in rows if is_shown]
+
+
 def wrong_parts(seen: Any, want: Any) -> Any:
     return [f"{part}: {seen.get(part)} where {want[part]} is wanted"
             for part in want if seen.get(part) != want[part]]

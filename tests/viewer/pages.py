@@ -21,6 +21,7 @@ UNPROVED = "shmview: nothing is proved on this machine by this run\n"
 VIEWER = [os.path.join(TOP, "shmview"), *["--unproved"] * ("/unproved/" in PROGRAM)]
 # the examples of the tour, and what they do not show
 EXAMPLES = ("memory_short", "failing_swap", "remap", "swap_taken_away", "deferred_removal")
+LESSONS = (*EXAMPLES, "fork", "permissions", "locks", "lost_update")
 SIZES = ((1280, 900), (390, 844))
 SCRIPTS = (*EXAMPLES, "other_changes", "ten_slots", "refused_accesses", "turns", "bytes")
 

@@ -98,6 +98,21 @@ def choose(session: Session, name: str, kind: str = "example") -> None:
     wait_for(session, f"document.body.dataset.runs !== {json.dumps(runs)}")
 
 
+TOPS = "['#script', '#lesson', '.spaces'].map((it) => document.querySelector(it).getBoundingClientRect().top)"
+
+
+def check_order(session: Session) -> None:
+    """The lesson comes before script and boxes, and on a phone between them. The table is on the first
+    screen."""
+    script, lesson, spaces = session.value(TOPS)
+    assert lesson < script == spaces
+    assert session.value("byId('segments').getBoundingClientRect().bottom") < 900
+    session.ask("Emulation.setDeviceMetricsOverride", width=390, height=844, deviceScaleFactor=1, mobile=True)
+    assert session.value(TOPS) == sorted(session.value(TOPS))
+    session.ask("Emulation.setDeviceMetricsOverride", width=1280, height=900, deviceScaleFactor=1,
+                mobile=False)
+
+
 def check_lesson(session: Session) -> None:
     """A lesson has its script, its text, its question, and the answer folded; an example has none of
     these."""
@@ -110,6 +125,8 @@ def check_lesson(session: Session) -> None:
                          "MEMLOCK, the last number')]")
     answer = "AnswerIf all frames could be locked, no frame would b"
     assert seen == [False, "step 0 of 16", LESSONS[7], 5, [[False, answer]], True]
+    choose(session, LESSONS[6], "lesson")
+    check_order(session)
     choose(session, LESSONS[8], "lesson")
     said = session.value("byId('lesson').innerText")
     assert "./shmcheck outcomes tries every order" in said
@@ -131,13 +148,13 @@ def check_editing(session: Session) -> None:
             said = session.value("byId('words').textContent").split("\n")[0]
             assert is_run
             assert (said, seen[0]) == ("line 6, column 8: unknown process", where)
-    seen = session.value("[byId('opened').value, byId('dump').rows[0].cells[1].innerText]")
+    seen = session.value("[byId('opened').value, byId('dump').querySelector('tr').cells[1].innerText]")
     assert seen == ["0·0", "ff"]
     choose(session, "locks")
     session.value("go(12), openPage('1·2')")
     choose(session, "memory_short")
-    seen = session.value("[byId('opened').value, byId('dump').rows.length]")
-    assert seen == ["", 0]
+    seen = session.value("[byId('opened').value, byId('dump').innerText]")
+    assert seen == ["", "No step so far loads or stores a byte."]
 
 
 def check_fault(session: Session) -> None:

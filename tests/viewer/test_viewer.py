@@ -16,13 +16,13 @@ from commands import TOP, environment, run as run_command
 from record import all_sentences, read_record
 from show import page as page_of
 from viewer import browser, served
-from viewer.expected import (CHARTS, REFUSALS, moves_of, notice_of, number_of, read_sentences, shown_at,
-                             wrong_chart, wrong_colours, wrong_moves, wrong_parts)
+from viewer.expected import (CHARTS, REFUSALS, legend_of, moves_of, notice_of, number_of,
+                             read_sentences, shown_at, wrong_chart, wrong_colours, wrong_moves, wrong_parts)
 from viewer.hand import check_hand
 from viewer.long_run import check_long_run
 from viewer.memory import LATE, Record, check_bytes, check_loads, records
 from viewer.moving import check_handout, check_names, check_playing, check_seeking, check_swipes
-from viewer.pages import (EXAMPLES, HERE, PROGRAM, SCRIPTS, SIZES, VIEWER, Page, example, page_by,
+from viewer.pages import (EXAMPLES, HERE, LESSONS, PROGRAM, SCRIPTS, SIZES, VIEWER, Page, example, page_by,
                           page_of_example, record_of, run)
 
 pytestmark = pytest.mark.skipif(not PROGRAM,
@@ -107,16 +107,6 @@ def test_page_without_a_step(session: browser.Session, folder: str) -> None:
     assert {*said} == {"The run has no step from 99 to 99: its last is step 9."}
 
 
-# the terms of the legends, in the order of the page, and the explanation of each
-TERMS = {"f1": "f1: the page is in frame 1", "s0:3": "s0: the page is in slot 0",
-         "0": "0: the page has neither a frame nor a slot",
-         "hatched": "Hatched: the process may read", "thick edge": "A thick left edge",
-         "inner frame": "An inner frame",
-         "struck out": "Struck out: this step took", "⋯": "⋯: addresses", "0·2": "0·2: page 2 of segment 0",
-         "R": "R: referenced",
-         "D": "D: dirty", "L": "L: locked", "→": "→: the hand’s way", "☞": "☞: the hand of the clock"}
-
-
 def wrong_layout(seen: dict[str, Any], first: dict[str, Any], wide: int, high: int) -> list[str]:
     """What is wrong with a step on the screen: a box that moved, or something that is not visible."""
     moved = [f"{was} became {box}" for was, box in zip(first["boxes"], seen["boxes"]) if was != box]
@@ -124,12 +114,39 @@ def wrong_layout(seen: dict[str, Any], first: dict[str, Any], wide: int, high: i
     wrong += ["there are other boxes"] * (len(seen["boxes"]) != len(first["boxes"]))
     wrong += [f"the page is {seen['wide']} wide"] * (seen["wide"] > wide)
     wrong += [f"frames end at {seen['lowest']}"] * (seen["lowest"] > high)
-    wrong += ["the script comes before the frames"] * (wide < 640 and seen["script"] < seen["lowest"])
+    wrong += ["the script comes after the boxes"] * (wide < 640 and seen["script"] > seen["highest"])
     wrong += ["a table does not scroll"] * (not seen["scrolls"])
     wrong += ["sentences are cut off"] * (not seen["isTold"])
-    terms = [name for name, is_shown, index,
-             told in seen["meanings"] if is_shown and index == 0 and told.startswith(TERMS.get(name, "?"))]
-    return wrong + [f"terms: {terms}"] * (terms != [*TERMS])
+    return wrong + [f"the legend is {seen['marks']}"] * (seen["marks"] != first["marks"])
+
+
+FOLD = "document.getElementById('fold').click(), document.querySelector('.key').innerText.trim()"
+
+
+@pytest.mark.parametrize("name", LESSONS)
+def test_first_screen(session: browser.Session, folder: str, name: str) -> None:
+    """The segments' table is whole on the first screen, also on a projector, where boxes and text are
+    larger. The legend is one line with the marks of the run, and a click hides it."""
+    with open(os.path.join(HERE, "measure.js"), encoding="utf-8") as file:
+        measure = file.read()
+    made, path = page_of_example(name), os.path.join(folder, "page.html")
+    with open(path, "w", encoding="utf-8") as file:
+        file.write(made.html)
+    seen = []
+    for wide, high in (SIZES[0], (1920, 1080)):
+        session.open(f"file://{path}", wide, high)
+        now = session.value(measure)
+        seen.append(now)
+        assert now["table"] < high and now["isWhole"]
+        assert [(words, looks) for words, looks, *_ in now["marks"]] == legend_of(made.blocks)
+        middles = [middle for _, _, middle, _ in now["marks"]]
+        assert max(middles) - min(middles) <= 1 and max(it[3] for it in now["marks"]) < wide
+    desk, projector = seen
+    assert projector["cell"] >= 1.2 * desk["cell"] and projector["font"] >= 1.2 * desk["font"]
+    assert session.value(FOLD) == "Show the legend"
+    assert session.value(measure)["marks"] == []
+    assert session.value(FOLD).endswith("Hide")
+    assert session.value(measure)["marks"] == projector["marks"]
 
 
 @pytest.mark.parametrize("name", EXAMPLES)
