@@ -24,8 +24,9 @@ from typing import Any
 
 import pytest
 
+import answer
 import serve
-from commands import TOP
+from commands import TOP, write_file
 from viewer.browser import Session
 from viewer.pages import VIEWER
 
@@ -129,11 +130,72 @@ def check_lesson(session: Session) -> None:
     check_order(session)
     choose(session, LESSONS[8], "lesson")
     said = session.value("byId('lesson').innerText")
-    assert "./shmcheck outcomes tries every order" in said
+    assert "./shmcheck outcomes tries every order too" in said
     assert "OUTCOMES.md says" in said
     assert not {*"`[]|$"} & {*said}
     choose(session, "memory_short")
     assert session.value("byId('lesson').hidden") is True
+
+
+# the outcomes of the ninth lesson, by hand: what each process loads first. Either both load before a store,
+# or one loads after the other has stored.
+LOST = [[f"load 0x40000000 1 = {byte}" for byte in bytes_of_both]
+        for bytes_of_both in (("00", "00"), ("00", "01"), ("01", "00"))]
+ROWS = "[...byId('outcomes').rows].map((row) => [...row.cells].slice(1).map((it) => it.textContent))"
+CURRENT = ("[...byId('outcomes').rows].findIndex((row) => "
+           "getComputedStyle(row).backgroundColor !== 'rgba(0, 0, 0, 0)')")
+LOADED = ("['1', '2'].map((pid) => steps.find((it) => it.call.includes(` ${pid} load `)).call)"
+          ".map((it) => it.split(' ').slice(3).join(' '))")
+OWN = "[1, 2].map((pid) => byId('text').value.split('\\n').filter((it) => it.startsWith(pid + ' ')))"
+
+
+def check_orders(session: Session) -> None:
+    """Every order of a script: its outcomes, a column for each process. A click replays an order that gives
+    this outcome, with the lines of each process in their order."""
+    choose(session, LESSONS[8], "lesson")
+    lines = session.value(OWN)
+    session.value("byId('every').click()")
+    assert wait_for(session, "byId('outcomes').rows.length > 0")
+    head, *rows = session.value(ROWS)
+    assert (head, sorted(rows)) == (["process 1", "process 2"], LOST)
+    assert session.value("byId('found').textContent").startswith("3 outcomes,")
+    for at, row in [*enumerate(rows, 1), (1, rows[0])]:
+        runs = session.value("document.body.dataset.runs")
+        session.value(f"byId('outcomes').rows[{at}].querySelector('button').click()")
+        assert wait_for(session, f"document.body.dataset.runs !== {json.dumps(runs)}")
+        assert (session.value(LOADED), session.value(CURRENT)) == (row, at)
+        assert session.value(OWN) == lines
+        assert session.value("[byId('where').textContent, byId('title').textContent.slice(0, 13)]") == [
+            "step 0 of 8", "Two processes"]
+    edit(session, "1 fork 2", "0 flush 1\n# both have it now\n1 fork 2\n# process 2 is born")
+    assert session.value("byId('orders').hidden")
+    session.value("byId('every').click()")
+    assert wait_for(session, "byId('outcomes').rows.length === 4")
+    runs = session.value("document.body.dataset.runs")
+    session.value("byId('outcomes').rows[1].querySelector('button').click()")
+    assert wait_for(session, f"document.body.dataset.runs !== {json.dumps(runs)}")
+    text = session.value("byId('text').value")
+    assert "# both have it now" in text and "flush" not in text
+    assert "# process 2 is born\n1 load a 1\n" in text
+    edit(session, "1 fork 2", "1 frok 2")
+    session.value("byId('every').click()")
+    assert wait_for(session, "byId('found').textContent.includes('bad line')")
+    edit(session, "1 frok 2", "1 exit")
+    session.value("byId('every').click()")
+    assert wait_for(session, "byId('found').textContent.startsWith('1 outcome:')")
+
+
+def check_search() -> None:
+    """A search that does not end says how far it came; without shmcheck the answer says what to do."""
+    with tempfile.TemporaryDirectory(prefix="viewer.") as folder:
+        program = "#!/bin/sh\ncase $3 in 100 | 1000) exit 5 ;; esac\nexec sleep 60\n"
+        slow = write_file(folder, "slow", program, 0o755)
+        answer.ORDER_SECONDS = 2
+        said = answer.orders(slow, SCRIPT["script"])
+    assert list(said) == ["words"]
+    assert "more than 1000 different beginnings" in said["words"][0]
+    said = json.loads(serve.Runner("", "").orders(SCRIPT["script"].encode()) or b"")
+    assert list(said) == ["words"] and "./shmcheck is not built" in said["words"][0]
 
 
 def check_editing(session: Session) -> None:
@@ -258,6 +320,7 @@ def check_in_browser(session: Session) -> None:
         examples = sorted(os.path.basename(path)[:-4] for path in glob.glob(f"{TOP}/examples/*.shm"))
         assert names == [LESSONS, examples]
         check_lesson(session)
+        check_orders(session)
         check_editing(session)
         check_fault(session)
         check_late(session)
@@ -355,6 +418,7 @@ def check_hostile() -> None:
         assert body.startswith(b"<!doctype html>")
         rows: tuple[tuple[tuple[Any, ...], int], ...] = (
                 ((run, good), 200), ((run, good, {"Origin": own}), 200),
+                ((f"/{token}/orders", good), 200), (("/orders", good), 404),
                 ((run, good, {"Origin": "http://evil.example"}), 404),
                 ((run, good, {"Origin": "null"}), 404),
                 ((run, good, {"Origin": f"http://localhost:{port}"}), 404),

@@ -320,7 +320,7 @@ def test_hand(all_records: list[Record]) -> None:
 
 
 @pytest.mark.parametrize("check", [served.check_headers, served.check_opened, served.check_hostile,
-                                   served.check_limits])
+                                   served.check_limits, served.check_search])
 def test_served(check: Any) -> None:
     check()
 

@@ -2,11 +2,12 @@
 """Serves a page, only on this machine, in which a script is edited next to its picture: `shmview --serve`
 starts it.
 
-    tools/viewer/serve.py PROGRAM PACKAGES EXAMPLES TOUR PORT SCRIPT SWAP...
+    tools/viewer/serve.py PROGRAM CHECKER PACKAGES EXAMPLES TOUR PORT SCRIPT SWAP...
 
-SCRIPT may be empty; PORT 0 is any free one. Only 127.0.0.1 is listened to, and only addresses that begin with
-a token, new at each start, are answered. Two things are served: the page, which is made before the first
-request, and the answer to a script (answer.py). No request names a file.
+CHECKER is shmcheck, which finds every order of a script. It may be empty, and so may SCRIPT; PORT 0 is any
+free one. Only 127.0.0.1 is listened to, and only addresses that begin with a token, new at each start, are
+answered. Two things are served: the page, which is made before the first request, and the answers to a
+script (answer.py). No request names a file.
 """
 
 from __future__ import annotations
@@ -96,23 +97,33 @@ def text_of(body: Any) -> Any:
 class Runner:
     """One run at a time, with a limit of time and of memory."""
 
-    def __init__(self, program: Any, packages: Any) -> None:
-        self.words = [sys.executable, "-B", os.path.join(HERE, "answer.py"), program]
+    def __init__(self, program: Any, packages: Any, checker: str = "") -> None:
+        self.program, self.checker = program, checker
         self.environment = {**os.environ, "PYTHONPATH": packages}
         self.turn = threading.Lock()
 
     def run(self, script: Any, swaps: Any) -> Any:
         """Returns an answer as JSON; None if other runs did not end in time."""
+        return self.in_turn(script, ["run", self.program, *swaps])
+
+    def orders(self, script: bytes) -> bytes | None:
+        """Returns every order of a script in the same way."""
+        if not self.checker:
+            return json.dumps({"words": ["./shmcheck is not built. Run it once, and start this page again."]}
+                              ).encode()
+        return self.in_turn(script, ["orders", self.checker])
+
+    def in_turn(self, script: bytes, words: list[str]) -> bytes | None:
         if not self.turn.acquire(timeout=WAIT_SECONDS):
             return None
         try:
-            return self.limited(script, swaps)
+            return self.limited(script, [sys.executable, "-B", os.path.join(HERE, "answer.py"), *words])
         finally:
             self.turn.release()
 
-    def limited(self, script: bytes, swaps: list[str]) -> bytes:
+    def limited(self, script: bytes, words: list[str]) -> bytes:
         limits = f"ulimit -S -v {RUN_BYTES >> 10}; ulimit -t {RUN_SECONDS}; exec \"$@\""
-        with subprocess.Popen(["sh", "-c", limits, "sh", *self.words, *swaps], stdin=subprocess.PIPE,
+        with subprocess.Popen(["sh", "-c", limits, "sh", *words], stdin=subprocess.PIPE,
                               stdout=subprocess.PIPE,
                               stderr=subprocess.DEVNULL, start_new_session=True,
                               env=self.environment) as process:
@@ -128,9 +139,9 @@ class Runner:
                     os.killpg(process.pid, signal.SIGKILL)
         if process.returncode == 0 and len(said) <= MOST_ANSWER:
             return said
-        words = (f"the run was ended: a run here has {RUN_SECONDS} seconds and {RUN_BYTES >> 20} MiB; "
-                 f"./shmview --steps has no such limit")
-        return json.dumps({"line": 0, "column": 0, "length": 0, "words": [words]}).encode()
+        told = (f"the run was ended: a run here has {RUN_SECONDS} seconds and {RUN_BYTES >> 20} MiB; "
+                f"./shmview --steps has no such limit")
+        return json.dumps({"line": 0, "column": 0, "length": 0, "words": [told]}).encode()
 
 
 def feed(stream: Any, data: Any) -> None:
@@ -174,8 +185,8 @@ class Handler(BaseHTTPRequestHandler):
             self.reply(404)
 
     def do_POST(self) -> None:
-        is_run = self.is_allowed("/run")
-        if not is_run and not self.is_allowed("/page"):
+        kind = next((it for it in ("run", "page", "orders") if self.is_allowed("/" + it)), "")
+        if not kind:
             self.reply(404)
             return
         length = self.headers.get("Content-Length", "")
@@ -184,9 +195,9 @@ class Handler(BaseHTTPRequestHandler):
         elif int(length) > MOST_BYTES:
             self.reply(413)
         else:
-            self.answer(self.rfile.read(int(length)), is_run)
+            self.answer(self.rfile.read(int(length)), kind)
 
-    def answer(self, body: bytes, is_run: bool) -> None:
+    def answer(self, body: bytes, kind: str) -> None:
         try:
             asked = json.loads(body)
             script = asked["script"].encode("utf-8", "surrogatepass")
@@ -197,10 +208,11 @@ class Handler(BaseHTTPRequestHandler):
         if not is_right:
             self.reply(400)
             return
-        said = self.server.runner.run(script, swaps)
+        runner = self.server.runner
+        said = runner.orders(script) if kind == "orders" else runner.run(script, swaps)
         if said is None:
             self.reply(503)
-        elif is_run:
+        elif kind != "page":
             self.reply(200, said, "application/json")
         else:
             self.save(json.loads(said), step)
@@ -251,7 +263,8 @@ def served_page(opened: Any, choices: Any) -> Any:
     return filled("", told_of("")).replace("</body>", editor.replace("@CHOICES@", data) + "</body>")
 
 
-def main(program: Any, packages: Any, examples: Any, tour: Any, port: Any, path: str, *swaps: Any) -> Any:
+def main(program: Any, checker: str, packages: Any, examples: Any, tour: Any, port: Any, path: str,
+         *swaps: Any) -> Any:
     choices = {"examples": examples_of(examples), "lessons": lessons_of(tour)}
     named = {it["name"]: it for it in choices["examples"]}
     shown = [named[it["example"]]
@@ -262,7 +275,7 @@ def main(program: Any, packages: Any, examples: Any, tour: Any, port: Any, path:
     if swaps:
         opened["swap"] = swaps
     try:
-        server = Server(int(port), Runner(program, packages), served_page(opened, choices))
+        server = Server(int(port), Runner(program, packages, checker), served_page(opened, choices))
     except OSError as error:
         print(f"shmview: port {port} of 127.0.0.1 is not free: {error.strerror}", file=sys.stderr)
         return 3
