@@ -26,9 +26,9 @@ import pytest
 
 import answer
 import serve
-from commands import TOP, write_file
+from commands import TOP, text_of, write_file
 from viewer.browser import Session
-from viewer.pages import VIEWER
+from viewer.pages import TASK, VIEWER
 
 EXPLAINED = """line 9, column 3: bad line
     1 laod a 1
@@ -40,6 +40,8 @@ LESSONS = ["1. Three pages in two frames", "2. A read of swap that fails", "3. A
            "4. An attach in the middle of another", "5. A removed segment lives on",
            "6. A child and its parent", "7. Who may do what", "8. Pages that must stay",
            "9. Two processes at once"]
+NAMES = ["memory_short", "failing_swap", "swap_taken_away", "remap", "deferred_removal", "fork",
+         "permissions", "locks", "lost_update"]
 # the edits of the page: the text to find, its replacement, and what the page must show then
 EDITS = (
     ("1 load a 1", "1 load a 2", "step 6 of 9", "process 1: load 0x40000000 2 = 0100 call 6 of the history",
@@ -198,6 +200,34 @@ def check_search() -> None:
     assert list(said) == ["words"] and "./shmcheck is not built" in said["words"][0]
 
 
+def script_of(name: str) -> str:
+    """An example without its task."""
+    lines = text_of(f"examples/{name}.shm").splitlines(keepends=True)
+    return "".join(line for line in lines if not line.startswith(TASK))
+
+
+VERDICT = ("[byId('wanted').textContent.slice(0, 6), byId('verdict').textContent, "
+           "byId('task').querySelector('details').open]")
+
+
+def check_tasks(session: Session) -> None:
+    """Each lesson has a task with a hint. The lesson's script does not solve it, and its solution does."""
+    for title, name in zip(LESSONS, NAMES):
+        choose(session, title, "lesson")
+        assert session.value(VERDICT) == ["Task: ", "Not solved by this run.", False]
+        assert session.value("byId('text').value") == script_of(name)
+        edit(session, script_of(name), script_of(f"solutions/{name}"))
+        assert session.value(VERDICT) == ["Task: ", "Solved by this run.", False]
+        assert len(session.value("byId('hint').textContent")) > 20
+    choose(session, LESSONS[0], "lesson")
+    edit(session, "64 2 0", "64 3 0")
+    assert session.value(VERDICT)[1] == "Solved by this run."
+    edit(session, "1 load a+8192 1\n", "")
+    assert session.value(VERDICT)[1] == "Not solved by this run."
+    choose(session, "page_seam")
+    assert session.value("byId('task').hidden")
+
+
 def check_editing(session: Session) -> None:
     choose(session, "memory_short")
     session.value("go(6), openPage('0·0')")
@@ -250,8 +280,7 @@ def check_swap_and_link(session: Session, address: Any) -> None:
     link = session.value("location.hash")
     data = link.removeprefix("#script=")
     linked = json.loads(base64.urlsafe_b64decode(data + "=" * (-len(data) % 4)))
-    with open(f"{TOP}/examples/failing_swap.shm", encoding="ascii") as file:
-        assert linked == {"script": file.read(), "swap": ["fuse:64:r1"], "step": 6}
+    assert linked == {"script": script_of("failing_swap"), "swap": ["fuse:64:r1"], "step": 6}
     session.open(address + link, 1280, 900)
     is_there = wait_for(session, "byId('where').textContent === 'step 6 of 7'")
     assert is_there
@@ -321,6 +350,7 @@ def check_in_browser(session: Session) -> None:
         assert names == [LESSONS, examples]
         check_lesson(session)
         check_orders(session)
+        check_tasks(session)
         check_editing(session)
         check_fault(session)
         check_late(session)

@@ -26,7 +26,7 @@ import webbrowser
 from http.server import BaseHTTPRequestHandler, ThreadingHTTPServer
 from typing import Any
 
-from show import filled, told_of
+from show import TASK, filled, task_of, told_of
 
 HERE = os.path.dirname(os.path.abspath(__file__))
 MOST_BYTES = 1 << 20            # of a request's body
@@ -60,9 +60,15 @@ def swaps_beside(path: str) -> Any:
     return read(beside).split() if os.path.isfile(beside) else ["ram:64"]
 
 
+def opened(path: str) -> dict[str, Any]:
+    """Returns a script without its task, the task, and the swap words."""
+    script = read(path)
+    return {"script": TASK.sub("", script), "task": task_of(script), "swap": swaps_beside(path)}
+
+
 def examples_of(folder: str) -> Any:
-    """Returns the examples: their names, scripts and swap words."""
-    return [{"name": os.path.basename(path)[:-4], "script": read(path), "swap": swaps_beside(path)}
+    """Returns the examples: their names, scripts, tasks and swap words."""
+    return [{"name": os.path.basename(path)[:-4], **opened(path)}
             for path in sorted(glob.glob(os.path.join(glob.escape(folder), "*.shm")))]
 
 
@@ -255,11 +261,11 @@ class Server(ThreadingHTTPServer):
         """A client that disconnected or was too slow is not an error of the server."""
 
 
-def served_page(opened: Any, choices: Any) -> Any:
+def served_page(begun: Any, choices: Any) -> Any:
     """The page with its editor, its examples and its lessons."""
     with open(os.path.join(HERE, "editor.html"), encoding="utf-8") as file:
         editor = file.read()
-    data = json.dumps({**choices, **opened}).replace("<", "\\u003c")
+    data = json.dumps({**choices, **begun}).replace("<", "\\u003c")
     return filled("", told_of("")).replace("</body>", editor.replace("@CHOICES@", data) + "</body>")
 
 
@@ -270,12 +276,11 @@ def main(program: Any, checker: str, packages: Any, examples: Any, tour: Any, po
     shown = [named[it["example"]]
              for it in choices["lessons"] if it["example"] in named] + choices["examples"]
     first = shown[0] if shown else {"script": "limits 65536 16 64 4 1\nprocess 1 1 1\n", "swap": ["ram:64"]}
-    opened = {"script": read(path),
-              "swap": swaps_beside(path)} if path else {key: first[key] for key in ("script", "swap")}
+    begun = opened(path) if path else {key: it for key, it in first.items() if key != "name"}
     if swaps:
-        opened["swap"] = swaps
+        begun["swap"] = swaps
     try:
-        server = Server(int(port), Runner(program, packages, checker), served_page(opened, choices))
+        server = Server(int(port), Runner(program, packages, checker), served_page(begun, choices))
     except OSError as error:
         print(f"shmview: port {port} of 127.0.0.1 is not free: {error.strerror}", file=sys.stderr)
         return 3

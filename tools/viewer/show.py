@@ -13,6 +13,7 @@ from __future__ import annotations
 
 import json
 import os
+import re
 import sys
 from typing import Any, Optional, Tuple
 
@@ -23,12 +24,21 @@ HERE = os.path.dirname(os.path.abspath(__file__))
 Line = Tuple[str, Optional[int]]
 
 
+# the task of a lesson, in comments of its file
+TASK = re.compile(r"^# (task|goal|hint): (.*)\n?", re.M)
+
+
+def task_of(script: str) -> dict[str, str] | None:
+    """Returns the task of a script: its words, its goal, which the page checks, and its hint."""
+    return dict(TASK.findall(script)) or None
+
+
 def lines_of(script: str) -> list[Line]:
-    """Returns the lines of a script, each with the number of its step: commands and flush lines begin with a
-    number."""
+    """Returns the lines of a script without its task, each with the number of its step: commands and flush
+    lines begin with a number."""
     lines: list[Line] = []
     step = 0
-    for line in script.rstrip("\n").split("\n"):
+    for line in TASK.sub("", script).rstrip("\n").split("\n"):
         is_step = line.strip()[:1].isdigit()
         step += is_step
         lines.append((line, step if is_step else None))
@@ -57,6 +67,7 @@ def told_of(text: str, script: str = "", asked: str = "") -> dict[str, Any]:
     return {
         "title": title_of(lines),
         "script": lines,
+        "task": task_of(script),
         "first": first,
         "last": last,
         "said": dict(all_sentences(shown, first)),
