@@ -193,11 +193,43 @@ def check_search() -> None:
         program = "#!/bin/sh\ncase $3 in 100 | 1000) exit 5 ;; esac\nexec sleep 60\n"
         slow = write_file(folder, "slow", program, 0o755)
         answer.ORDER_SECONDS = 2
-        said = answer.orders(slow, SCRIPT["script"])
+        said = answer.orders(slow, [], SCRIPT["script"])
     assert list(said) == ["words"]
     assert "more than 1000 different beginnings" in said["words"][0]
-    said = json.loads(serve.Runner("", "").orders(SCRIPT["script"].encode()) or b"")
+    runner = serve.Runner({"orders": ""}, "")
+    said = json.loads(runner.run("orders", SCRIPT["script"].encode(), []) or b"")
     assert list(said) == ["words"] and "./shmcheck is not built" in said["words"][0]
+
+
+# keeps the answer of the run with threads
+KEEP = """(() => {
+  const real = window.fetch;
+  window.fetch = async (path, how) => {
+    const answer = await real(path, how);
+    if (path === "threads") window.threaded = await answer.clone().json();
+    return answer;
+  };
+})()"""
+
+
+def check_threads(session: Session) -> None:
+    """A run with threads is shown in its order, with the replies that it had."""
+    choose(session, "shared_counter")
+    lines = session.value(OWN)
+    session.value(KEEP)
+    for _ in range(3):
+        runs = session.value("document.body.dataset.runs")
+        session.value("window.threaded = null; byId('race').click()")
+        assert wait_for(session, f"document.body.dataset.runs !== {json.dumps(runs)} && "
+                                 "byId('words').textContent.startsWith('This is the order of a run')")
+        told = session.value("threaded.lines")
+        assert len(told) == 9
+        assert session.value("steps.slice(1).map((it) => it.call.replace('call ', ''))") == told
+        assert session.value(OWN) == lines
+        assert session.value("[byId('lanes').hidden, byId('laned').rows.length]") == [False, 11]
+    edit(session, "1 fork 2", "1 frok 2")
+    session.value("byId('race').click()")
+    assert wait_for(session, "byId('words').textContent.includes('nearest form: fork')")
 
 
 def script_of(name: str) -> str:
@@ -351,6 +383,7 @@ def check_in_browser(session: Session) -> None:
         check_lesson(session)
         check_orders(session)
         check_tasks(session)
+        check_threads(session)
         check_editing(session)
         check_fault(session)
         check_late(session)
@@ -500,8 +533,9 @@ def check_limits() -> None:
             with open(f"{folder}/{name}", "w", encoding="ascii") as file:
                 file.write(f"#!/bin/sh\n{text}\n")
             os.chmod(f"{folder}/{name}", 0o755)
-            runners[name] = serve.Runner(f"{folder}/{name}", f"{TOP}/bindings/python")
-        threads = [threading.Thread(target=runners["turns"].run, args=(SCRIPT["script"].encode(), ["ram:1"]))
+            runners[name] = serve.Runner({"run": f"{folder}/{name}"}, f"{TOP}/bindings/python")
+        given = ("run", SCRIPT["script"].encode(), ["ram:1"])
+        threads = [threading.Thread(target=runners["turns"].run, args=given)
                    for _ in range(6)]
         for thread in threads:
             thread.start()
@@ -510,7 +544,7 @@ def check_limits() -> None:
         assert not os.path.exists(f"{folder}/log")
         for name in ("long", "idle", "large", "wordy"):
             began = time.monotonic()
-            said = json.loads(runners[name].run(SCRIPT["script"].encode(), ["ram:1"]))
+            said = json.loads(runners[name].run(*given) or b"")
             took = time.monotonic() - began
             assert "record" not in said
             assert took < 8

@@ -191,6 +191,33 @@ def check_paper(session: browser.Session, made: Page) -> None:
                          "document.querySelectorAll('.sheet').length") == 0
 
 
+LANES = ("[[...byId('laned').rows].map((row) => [...row.cells].map((it) => it.textContent)), "
+         "[...byId('laned').rows].findIndex((row) => getComputedStyle(row).backgroundColor !== "
+         "'rgba(0, 0, 0, 0)') - 1, byId('where').textContent]")
+
+
+@pytest.mark.parametrize("name", ["lost_update", "fork", "memory_short"])
+def test_lanes(session: browser.Session, folder: str, name: str) -> None:
+    """Each call is in the lane of its process, in its order; a click on one goes to its step. One process
+    needs no lanes."""
+    made, path = page_of_example(name), os.path.join(folder, "page.html")
+    with open(path, "w", encoding="utf-8") as file:
+        file.write(made.html)
+    session.open(f"file://{path}", *SIZES[0])
+    calls = [block[1] for block in made.blocks]
+    if name == "memory_short":
+        assert session.value("byId('lanes').hidden")
+        return
+    want = [["step", "process 1", "process 2"], ["0", "", ""]]
+    want += [[str(at), *(" ".join(words[3:]) if words[2] == pid else "" for pid in ("1", "2"))]
+             for at, words in enumerate(calls[1:], 1)]
+    for at in range(len(calls)):
+        assert session.value(LANES) == [want, at, f"step {at} of {len(calls) - 1}"]
+        session.press("ArrowRight")
+    session.value("byId('laned').rows[5].cells[2].click()")
+    assert session.value(LANES)[1:] == [4, f"step 4 of {len(calls) - 1}"]
+
+
 def record_of_replies() -> str:
     """A record of calls with each refusal, and with replies that are not refusals."""
     rest = "process 1 live 0 0\nframes 2 hand 0\narea 0 1\n" \

@@ -4,10 +4,11 @@ limited and ended.
 
     tools/viewer/answer.py run PROGRAM SWAP... < SCRIPT    with the Python package in PYTHONPATH
     tools/viewer/answer.py orders CHECKER < SCRIPT         every order, by shmcheck
+    tools/viewer/answer.py threads SHMSIM SWAP... < SCRIPT the order of a run with threads
 
 Prints JSON. A script that can be run has `record` and `told`, as tools/viewer/show.py puts them into a page,
-or the `outcomes` of its orders. Any other has `line`, `column` and `length` of its fault. `words` is what
-`shmsim --explain` says of it, warnings included.
+the `outcomes` of its orders, or the `schedule` of one. Any other has `line`, `column` and `length` of its
+fault. `words` is what `shmsim --explain` says of it, warnings included.
 """
 
 from __future__ import annotations
@@ -77,7 +78,7 @@ def outcomes_of(text: str) -> list[dict[str, Any]]:
     return found
 
 
-def orders(checker: str, text: str) -> Any:
+def orders(checker: str, _swaps: list[str], text: str) -> Any:
     """Every order of the processes, or how far the search came in its time."""
     fault, words = read_fault(text)
     if fault:
@@ -100,7 +101,22 @@ def orders(checker: str, text: str) -> Any:
                       f"{most} different beginnings of orders. Try fewer lines or processes."]}
 
 
+def threaded(program: str, swaps: list[str], text: str) -> Any:
+    """The order of the calls of a run with a thread for each process, with their replies."""
+    fault, words = read_fault(text)
+    if fault:
+        return {**fault, "words": words}
+    command, environment = limited(program)
+    done = subprocess.run([*command, "threads", *swaps], input=text.encode("latin-1"), capture_output=True,
+                          check=False, env=environment)
+    if done.returncode:
+        return {"words": [done.stderr.decode(errors="replace").strip() or "the run was ended"]}
+    lines = done.stdout.decode("latin-1").partition("key ")[0].splitlines()
+    return {"schedule": [line.split()[1] for line in lines], "lines": lines, "words": []}
+
+
+ANSWERS = {"run": answer, "orders": orders, "threads": threaded}
+
 if __name__ == "__main__":
-    given = sys.stdin.buffer.read().decode("latin-1")
-    print(json.dumps(orders(sys.argv[2], given) if sys.argv[1] == "orders"
-                     else answer(sys.argv[2], sys.argv[3:], given)))
+    kind, path, *rest = sys.argv[1:]
+    print(json.dumps(ANSWERS[kind](path, rest, sys.stdin.buffer.read().decode("latin-1"))))

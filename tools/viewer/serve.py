@@ -2,12 +2,12 @@
 """Serves a page, only on this machine, in which a script is edited next to its picture: `shmview --serve`
 starts it.
 
-    tools/viewer/serve.py PROGRAM CHECKER PACKAGES EXAMPLES TOUR PORT SCRIPT SWAP...
+    tools/viewer/serve.py SHMVIEW SHMCHECK SHMSIM PACKAGES EXAMPLES TOUR PORT SCRIPT SWAP...
 
-CHECKER is shmcheck, which finds every order of a script. It may be empty, and so may SCRIPT; PORT 0 is any
-free one. Only 127.0.0.1 is listened to, and only addresses that begin with a token, new at each start, are
-answered. Two things are served: the page, which is made before the first request, and the answers to a
-script (answer.py). No request names a file.
+The second and the third program may be empty, and so may SCRIPT; PORT 0 is any free one. Only 127.0.0.1 is
+listened to, and only addresses that begin with a token, new at each start, are answered. Two things are
+served: the page, which is made before the first request, and the answers to a script (answer.py). No request
+names a file.
 """
 
 from __future__ import annotations
@@ -35,6 +35,8 @@ MOST_AT_ONCE = 32               # requests; those beyond are answered 503
 RUN_SECONDS, RUN_BYTES = 10, 1 << 30
 WAIT_SECONDS = 30               # for other runs to end
 IDLE_SECONDS = 10               # for a request to arrive
+# the program of each kind of answer
+NEEDED = {"run": "shmview", "orders": "shmcheck", "threads": "shmsim"}
 SWAP = re.compile(r"(ram|sparse|mirror):[0-9]{1,9}|fuse:[0-9]{1,9}:[rw][0-9]{1,20}")
 # what the page may load and ask: itself alone
 HEADERS = {
@@ -103,27 +105,21 @@ def text_of(body: Any) -> Any:
 class Runner:
     """One run at a time, with a limit of time and of memory."""
 
-    def __init__(self, program: Any, packages: Any, checker: str = "") -> None:
-        self.program, self.checker = program, checker
+    def __init__(self, programs: dict[str, str], packages: str) -> None:
+        self.programs = programs
         self.environment = {**os.environ, "PYTHONPATH": packages}
         self.turn = threading.Lock()
 
-    def run(self, script: Any, swaps: Any) -> Any:
+    def run(self, kind: str, script: bytes, swaps: list[str]) -> bytes | None:
         """Returns an answer as JSON; None if other runs did not end in time."""
-        return self.in_turn(script, ["run", self.program, *swaps])
-
-    def orders(self, script: bytes) -> bytes | None:
-        """Returns every order of a script in the same way."""
-        if not self.checker:
-            return json.dumps({"words": ["./shmcheck is not built. Run it once, and start this page again."]}
-                              ).encode()
-        return self.in_turn(script, ["orders", self.checker])
-
-    def in_turn(self, script: bytes, words: list[str]) -> bytes | None:
+        if not self.programs[kind]:
+            told = f"./{NEEDED[kind]} is not built. Run it once, and start this page again."
+            return json.dumps({"words": [told]}).encode()
         if not self.turn.acquire(timeout=WAIT_SECONDS):
             return None
         try:
-            return self.limited(script, [sys.executable, "-B", os.path.join(HERE, "answer.py"), *words])
+            words = [os.path.join(HERE, "answer.py"), kind, self.programs[kind], *swaps]
+            return self.limited(script, [sys.executable, "-B", *words])
         finally:
             self.turn.release()
 
@@ -191,7 +187,7 @@ class Handler(BaseHTTPRequestHandler):
             self.reply(404)
 
     def do_POST(self) -> None:
-        kind = next((it for it in ("run", "page", "orders") if self.is_allowed("/" + it)), "")
+        kind = next((it for it in (*NEEDED, "page") if self.is_allowed("/" + it)), "")
         if not kind:
             self.reply(404)
             return
@@ -215,7 +211,7 @@ class Handler(BaseHTTPRequestHandler):
             self.reply(400)
             return
         runner = self.server.runner
-        said = runner.orders(script) if kind == "orders" else runner.run(script, swaps)
+        said = runner.run("run" if kind == "page" else kind, script, swaps)
         if said is None:
             self.reply(503)
         elif kind != "page":
@@ -269,8 +265,8 @@ def served_page(begun: Any, choices: Any) -> Any:
     return filled("", told_of("")).replace("</body>", editor.replace("@CHOICES@", data) + "</body>")
 
 
-def main(program: Any, checker: str, packages: Any, examples: Any, tour: Any, port: Any, path: str,
-         *swaps: Any) -> Any:
+def main(program: str, checker: str, shmsim: str, packages: Any, examples: Any, tour: Any, port: Any,
+         path: str, *swaps: Any) -> Any:
     choices = {"examples": examples_of(examples), "lessons": lessons_of(tour)}
     named = {it["name"]: it for it in choices["examples"]}
     shown = [named[it["example"]]
@@ -280,7 +276,8 @@ def main(program: Any, checker: str, packages: Any, examples: Any, tour: Any, po
     if swaps:
         begun["swap"] = swaps
     try:
-        server = Server(int(port), Runner(program, packages, checker), served_page(begun, choices))
+        programs = dict(zip(NEEDED, (program, checker, shmsim)))
+        server = Server(int(port), Runner(programs, packages), served_page(begun, choices))
     except OSError as error:
         print(f"shmview: port {port} of 127.0.0.1 is not free: {error.strerror}", file=sys.stderr)
         return 3
