@@ -175,7 +175,7 @@ def held(block: Block, before: Any, page: Any) -> Any:
     had, has = ([it for it in segments_of(each) if it[1] == seg] for each in (before or [["step"]], block))
     if not has:
         return (f"segment {seg} is destroyed in this step, with its bytes" if had
-                else f"segment {seg} is not there at this step")
+                else f"segment {seg} does not exist at this step")
     place = where_is(block, page.split("·"))
     is_dirty = any(line[2:4] == page.split("·") and line[4][1] == "d" for line in lines_of(block, "frame"))
     told = [{"f": f"in frame {place[1:]}{', dirty' * is_dirty}", "s": f"in slot {place[1:]}",

@@ -86,7 +86,7 @@ def test_page_of_some_steps(session: browser.Session, folder: str, address: str,
 def test_page_at_the_end(session: browser.Session, folder: str) -> None:
     script, swap = example("memory_short")
     said = TOLD["memory_short"]
-    told = {**said, 9: [*said[9], "the run ends here: it has no step 10 to 12"]}
+    told = {**said, 9: [*said[9], "the run ends here: it has no steps 10 to 12"]}
     page = page_by(["--steps", "8-12", *swap], script, "steps 8 to 12", told,
                    begins=["--steps", "7-12", *swap])
     check_page(page, shown_by(page, folder, session))
@@ -230,7 +230,7 @@ def record_of_replies() -> str:
 
 @pytest.mark.parametrize("name", SCRIPTS)
 def test_record(name: str) -> None:
-    """A record begins with the machine as it opens, and has a step for each line."""
+    """A record begins with the machine before the first call, and has a step for each line."""
     script, swap = example(name)
     ended = run([PROGRAM, *swap], script)
     lines = [line for line in script.splitlines() if re.match(r"[0-9]", line)]
