@@ -12,7 +12,7 @@ from typing import Any
 
 import pytest
 
-from commands import TOP, environment, run as run_command
+from commands import TOP, environment, run as run_command, text_of
 from record import all_sentences, read_record
 from show import page as page_of
 from viewer import browser, served
@@ -330,6 +330,18 @@ def test_stored_pages() -> None:
     ended = run_command([os.path.join(TOP, "tools", "pages"), "check"],
                         env=environment(VIEWER=" ".join(VIEWER)))
     assert ended.status == 0, ended.out + ended.said
+
+
+@pytest.mark.parametrize("name", LESSONS)
+def test_solution(session: browser.Session, name: str) -> None:
+    """The stored page of a lesson's solution shows that the task is solved, and that of the lesson shows the
+    task."""
+    said = []
+    for page in name, f"{name}-solution":
+        session.open(f"file://{TOP}/docs/pages/{page}.html", *SIZES[0])
+        said.append(session.value("[byId('wanted').innerText, byId('verdict').innerText]"))
+    [task] = re.findall("^# task: (.*)$", text_of(f"examples/{name}.shm"), re.M)
+    assert said == [[f"Task: {task}", "Not solved by this run."], [f"Task: {task}", "Solved by this run."]]
 
 
 @pytest.fixture(scope="module")
