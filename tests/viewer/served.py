@@ -105,11 +105,9 @@ TOPS = "['#script', '#lesson', '.spaces'].map((it) => document.querySelector(it)
 
 
 def check_order(session: Session) -> None:
-    """The lesson comes before script and boxes, and on a phone between them. The table is on the first
-    screen."""
+    """The lesson comes before script and boxes, and on a phone between them."""
     script, lesson, spaces = session.value(TOPS)
     assert lesson < script == spaces
-    assert session.value("byId('segments').getBoundingClientRect().bottom") < 900
     session.ask("Emulation.setDeviceMetricsOverride", width=390, height=844, deviceScaleFactor=1, mobile=True)
     assert session.value(TOPS) == sorted(session.value(TOPS))
     session.ask("Emulation.setDeviceMetricsOverride", width=1280, height=900, deviceScaleFactor=1,
@@ -243,9 +241,11 @@ VERDICT = ("[byId('wanted').textContent.slice(0, 6), byId('verdict').textContent
 
 
 def check_tasks(session: Session) -> None:
-    """Each lesson has a task with a hint. The lesson's script does not solve it, and its solution does."""
+    """Each lesson has a task with a hint. The lesson's script does not solve it, and its solution does. The
+    table is on the first screen."""
     for title, name in zip(LESSONS, NAMES):
         choose(session, title, "lesson")
+        assert session.value("byId('segments').getBoundingClientRect().bottom") < 900
         assert session.value(VERDICT) == ["Task: ", "Not solved by this run.", False]
         assert session.value("byId('text').value") == script_of(name)
         edit(session, script_of(name), script_of(f"solutions/{name}"))
@@ -457,6 +457,15 @@ def check_opened() -> None:
                 _, body = ask(port, "GET", f"/{token}/")
             opened = json.loads(re.findall(r'id="choices">(.*?)</script>', body.decode(), re.DOTALL)[0])
             assert (opened["script"], opened["swap"]) == (text, ["ram:3", "sparse:9"])
+            assert opened["task"] is None
+        task = {"task": "Make step 1 fail.", "goal": "step 1 = EINVAL", "hint": "No segment is there."}
+        told = "".join(f"# {name}: {words}\n" for name, words in task.items())
+        for given, want in (text + told, (text, task)), (text + told[:20], (text + told[:20], None)):
+            path = write_file(folder, "task.shm", given)
+            with served(path) as (_address, port, token):
+                _, body = ask(port, "GET", f"/{token}/")
+            opened = json.loads(re.findall(r'id="choices">(.*?)</script>', body.decode(), re.DOTALL)[0])
+            assert (opened["script"], opened["task"]) == want
 
 
 SCRIPT: dict[str, Any] = {"script": "limits 4096 1 1 2 0\nprocess 1 1 1\n1 stat 0\n", "swap": ["ram:1"]}

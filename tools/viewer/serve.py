@@ -26,7 +26,7 @@ import webbrowser
 from http.server import BaseHTTPRequestHandler, ThreadingHTTPServer
 from typing import Any
 
-from show import TASK, filled, task_of, told_of
+from show import filled, task_of, told_of, without_task
 
 HERE = os.path.dirname(os.path.abspath(__file__))
 MOST_BYTES = 1 << 20            # of a request's body
@@ -65,7 +65,7 @@ def swaps_beside(path: str) -> Any:
 def opened(path: str) -> dict[str, Any]:
     """Returns a script without its task, the task, and the swap words."""
     script = read(path)
-    return {"script": TASK.sub("", script), "task": task_of(script), "swap": swaps_beside(path)}
+    return {"script": without_task(script), "task": task_of(script), "swap": swaps_beside(path)}
 
 
 def examples_of(folder: str) -> Any:

@@ -29,8 +29,14 @@ TASK = re.compile(r"^# (task|goal|hint): (.*)\n?", re.M)
 
 
 def task_of(script: str) -> dict[str, str] | None:
-    """Returns the task of a script: its words, its goal, which the page checks, and its hint."""
-    return dict(TASK.findall(script)) or None
+    """Returns the task of a script: its words, its goal, which the page checks, and its hint. A script that
+    lacks one of them has no task."""
+    found = dict(TASK.findall(script))
+    return found if len(found) == 3 else None
+
+
+def without_task(script: str) -> str:
+    return TASK.sub("", script) if task_of(script) else script
 
 
 def lines_of(script: str) -> list[Line]:
@@ -38,7 +44,7 @@ def lines_of(script: str) -> list[Line]:
     lines begin with a number."""
     lines: list[Line] = []
     step = 0
-    for line in TASK.sub("", script).rstrip("\n").split("\n"):
+    for line in without_task(script).rstrip("\n").split("\n"):
         is_step = line.strip()[:1].isdigit()
         step += is_step
         lines.append((line, step if is_step else None))
