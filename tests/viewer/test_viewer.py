@@ -126,7 +126,8 @@ FOLD = "document.getElementById('fold').click(), document.querySelector('.key').
 @pytest.mark.parametrize("name", LESSONS)
 def test_first_screen(session: browser.Session, folder: str, name: str) -> None:
     """The segments' table is whole on the first screen, also on a projector, where boxes and text are
-    larger. The legend is one line with the marks of the run, and a click hides it."""
+    larger. The legend is one line with the marks of the run, and a click hides it. On a phone the script comes
+    first."""
     with open(os.path.join(HERE, "measure.js"), encoding="utf-8") as file:
         measure = file.read()
     made, path = page_of_example(name), os.path.join(folder, "page.html")
@@ -147,6 +148,9 @@ def test_first_screen(session: browser.Session, folder: str, name: str) -> None:
     assert session.value(measure)["marks"] == []
     assert session.value(FOLD).endswith("Hide")
     assert session.value(measure)["marks"] == projector["marks"]
+    session.open(f"file://{path}", *SIZES[1])
+    phone = session.value(measure)
+    assert phone["script"] <= phone["highest"] < SIZES[1][1] and phone["wide"] <= SIZES[1][0]
 
 
 @pytest.mark.parametrize("name", EXAMPLES)
