@@ -167,6 +167,10 @@ def check_orders(session: Session) -> None:
         assert session.value(OWN) == lines
         assert session.value("[byId('where').textContent, byId('title').textContent.slice(0, 13)]") == [
             "step 0 of 8", "Two processes"]
+    late = session.value("(async () => { const search = findOrders(); byId('text').value += '# late'; "
+                         "await search; return byId('outcomes').rows.length; })()")
+    assert late == 0
+    edit(session, "# late", "")
     edit(session, "1 fork 2", "0 flush 1\n# both have it now\n1 fork 2\n# process 2 is born")
     assert session.value("byId('orders').hidden")
     session.value("byId('every').click()")
