@@ -105,15 +105,29 @@ def bytes_in(row: Any, shown: Any, had: Any) -> Any:
     return [f"0x{16 * row:03x}", " ".join(cells), text.strip()]
 
 
-def table_of(memory: Any, at: Any, page: Any, is_whole: bool = False) -> Any:
-    """Returns the table of a page at a step: its rows that the run names, or all, and how far the others
-    reach."""
+MANY_ROWS = "\n".join(["limits 65536 16 64 4 1", "process 1 1 1", "1 s = shmget private 4096 600",
+                       "1 a = shmat s null -", *[f"1 store a+{40 * at} 0102" for at in range(20)],
+                       "1 store a+8 " + "aa" * 64, "1 stat s"]) + "\n"
+
+
+def followed_rows(memory: Any, at: Any, page: Any) -> Any:
+    """Returns the rows of a page that follows the steps: those that the run names, or, if these are more than
+    16, those that the last access names."""
+    used = memory.used[page]
+    last = [{place // 16 for owner, place in its if owner == page} for *_, its in memory.steps[:at + 1]]
+    return used if len(used) <= 16 else [rows for rows in last if rows][-1]
+
+
+def table_of(memory: Any, at: Any, page: Any, is_whole: bool = False, used: Any = None) -> Any:
+    """Returns the table of a page at a step: its rows that the run names, or others, or all, and how far the
+    rest reaches."""
+    used = memory.used.get(page, ()) if used is None else used
     zeros, seg = bytes(PAGE), page.split("·")[0]
     (there, before, after, named), earlier = memory.steps[at], memory.steps[at - 1] if at else (set(),)
     shown = seg in there, before.get(page, zeros), after.get(page, zeros), named, page
     rows, skipped = [], None
     for row in [*range(PAGE // 16), None]:
-        if row is not None and not is_whole and row not in memory.used.get(page, ()):
+        if row is not None and not is_whole and row not in used:
             skipped = row if skipped is None else skipped
             continue
         if skipped is not None:
@@ -223,8 +237,8 @@ def check_followed(session: Session, made: Page, memory: Any) -> None:
     """With no page kept open, each step has the bytes of the pages that it names."""
     for at, (name, seen) in enumerate(session.value(read("dump.js")), made.skipped):
         pages = pages_at(memory, at)
-        want = [[line_of(memory, made.all_blocks, at, page, len(pages) == 1), table_of(memory, at, page)]
-                for page in pages]
+        want = [[line_of(memory, made.all_blocks, at, page, len(pages) == 1),
+                 table_of(memory, at, page, used=followed_rows(memory, at, page))] for page in pages]
         assert seen == (want or [["No step so far loads or stores a byte.", []]])
         told = " of page {1} of segment {0}".format(*pages[0].split("·")) if len(pages) == 1 else ""
         assert name == f"Bytes{told}".upper()
@@ -377,7 +391,10 @@ def check_bytes(session: Session, pages: Any, others: Any, folder: str) -> None:
             check_opening(session, made)
     check_whole(session, made)
     check_room(session, made, path)
-    chosen, late, many = others
+    chosen, late, many, rows = others
+    open_in(folder, session, rows)
+    check_followed(session, rows, Memory(rows.all_blocks))
+    assert session.value("document.getElementById('dump').offsetHeight") <= 34 * 16
     check_late(session, chosen, late, folder)
     open_in(folder, session, many)
     opened(session, "0·0")

@@ -20,7 +20,7 @@ from viewer.expected import (CHARTS, REFUSALS, legend_of, moves_of, notice_of, n
                              read_sentences, shown_at, wrong_chart, wrong_colours, wrong_moves, wrong_parts)
 from viewer.hand import check_hand
 from viewer.long_run import check_long_run
-from viewer.memory import LATE, Record, check_bytes, check_loads, records
+from viewer.memory import LATE, MANY_ROWS, Record, check_bytes, check_loads, records
 from viewer.moving import check_handout, check_names, check_playing, check_seeking, check_swipes
 from viewer.pages import (EXAMPLES, HERE, LESSONS, PROGRAM, SCRIPTS, SIZES, VIEWER, Page, example, page_by,
                           page_of_example, record_of, run)
@@ -126,8 +126,8 @@ FOLD = "document.getElementById('fold').click(), document.querySelector('.key').
 @pytest.mark.parametrize("name", LESSONS)
 def test_first_screen(session: browser.Session, folder: str, name: str) -> None:
     """The segments' table is whole on the first screen, also on a projector, where boxes and text are
-    larger. The legend is one line with the marks of the run, and a click hides it. On a phone the script comes
-    first."""
+    larger. The legend is one line with the marks of the run, and a click hides it. On a phone the script
+    comes first."""
     with open(os.path.join(HERE, "measure.js"), encoding="utf-8") as file:
         measure = file.read()
     made, path = page_of_example(name), os.path.join(folder, "page.html")
@@ -396,5 +396,6 @@ def test_bytes(session: browser.Session, folder: str) -> None:
     chosen = page_by(["--steps", "9-12", "ram:64"], example("bytes")[0], "bytes, steps 9 to 12",
                      begins=["--steps", "0-12", "ram:64"], skipped=9)
     late = page_by(["--steps", "2004-2006", "ram:64"], LATE, "late")
-    others = [chosen, late, page_by(["ram:64"], example("permissions")[0], "permissions")]
+    others = [chosen, late, page_by(["ram:64"], example("permissions")[0], "permissions"),
+              page_by(["ram:64"], MANY_ROWS, "rows")]
     check_bytes(session, [page_of_example(name) for name in SCRIPTS], others, folder)
