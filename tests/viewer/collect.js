@@ -46,6 +46,7 @@
     const lines = all(byId("chart-" + kind), "line:not(.here)");
     const here = byId("chart-" + kind).querySelector(".here");
     return {
+      unit: byId("chart-" + kind).querySelector(".unit")?.textContent,
       paths: all(byId("chart-" + kind), "path").map((it) => [style(it).stroke, it.getAttribute("d")]),
       axis: lines.map((it) => [it.previousElementSibling.textContent, number(it, "y1"), number(it, "x1"), number(it, "x2")]),
       here: here && [number(here, "x1"), number(here, "x2"), here.nextElementSibling.textContent],

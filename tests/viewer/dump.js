@@ -1,4 +1,4 @@
-// Reads the bytes of a page as they are shown, at each step of a run, from the first on.
+// Reads the bytes that are shown at each step of a run, from the first on: for each page its line and its rows.
 "use strict";
 (() => {
   const byId = (id) => document.getElementById(id);
@@ -14,11 +14,12 @@
   ].join("");
   const cells = (row) => [...row.querySelectorAll("td:not(.space)")];
   const row = (it) => it.cells.length === 1 ? it.innerText.trim() : [it.cells[0].innerText, cells(it).slice(0, -1).map(byte).join(" "), cells(it).at(-1).innerText];
-  const shown = () => [byId("held").innerText, [...byId("dump").rows].map(row)];
+  const lines = () => [...byId("dump").querySelectorAll(".held")];
+  const shown = () => lines().map((it) => [it.innerText.trim(), it.nextElementSibling ? [...it.nextElementSibling.rows].map(row) : []]);
   const found = [];
   press("Home");
   do {
-    found.push(shown());
+    found.push([byId("named").innerText, shown()]);
     press("ArrowRight");
   } while (found.length < Number(byId("slider").max) + 1);
   return found;

@@ -18,8 +18,12 @@ REFUSALS = ("EPERM ENOENT ESRCH EIO EAGAIN ENOMEM EACCES EEXIST EINVAL EMFILE EN
             "SIGBUS SIGSEGV").split()
 # the lines of the charts, in the order of their legends, and the words of usage that they show: what is, and
 # what adds up
-CHARTS = ((("pages in frames", "frames"), ("dirty", "dirty"), ("slots in use", "slots")),
-          (("read from swap", "in"), ("written to swap", "out"), ("failures", "failures")))
+CHARTS = ((("pages in frames", "frames"), ("dirty pages", "dirty"), ("slots in use", "slots")),
+          (("pages read from swap", "in"), ("pages written to swap", "out"),
+           ("failed reads and writes", "failures")))
+# what the axis of each chart counts
+UNITS = {"pages in frames": "pages, at each step",
+         "pages read from swap": "pages and failures, since step 0"}
 KEYS = ("ArrowLeft", "ArrowRight", "Home", "End")
 # if counts are equal, the lines of the chart are drawn next to each other: at most this far apart
 NUDGE = 5
@@ -210,7 +214,7 @@ def areas(block: Block, blocks: Any) -> Any:
         drawn = min(size, max([FEWEST_SLOTS, *ever]))
         cells = [[str(slot), owned.get(slot, ""), ""] for slot in range(drawn)]
         rest = [f"and {size - drawn} more" + ", free" * (not is_gone)] if drawn < size else []
-        shown.append([f"swap area {at} was taken away" if is_gone
+        shown.append([f"swap area {at} was removed" if is_gone
                       else f"swap area {at}: {len(owned)} of {size} slots", cells, rest])
     return shown
 
@@ -228,7 +232,7 @@ def with_frames(cells: Any, before: Block, reached: Any = ()) -> Any:
 def call(block: Block) -> Any:
     words = block[1]
     if words[0] == "start":
-        return "the machine as it opens"
+        return "the machine before the first call"
     if words[0] == "flush":
         return (f"flush round, at most {words[1]} page{'s' * (words[1] != '1')}: {words[3]} written, "
                 f"{words[5]} failed")
@@ -292,6 +296,38 @@ def shown_at(blocks: Any, at: Any, told: Any, skipped: int = 0, script: Any = ()
     return want if told is None else {**want, "changes": told.get(number, [])}
 
 
+def has_gap(blocks: Any, at: int) -> bool:
+    """Returns whether a process has pages of which two neighbours are not side by side."""
+    places = sorted({it for block in blocks for it in boxes_of(pieces_of(block)[at][1])})
+    return any(two - one > 4096 for one, two in zip(places, places[1:]))
+
+
+def is_evicting(before: Block, block: Block) -> bool:
+    """Returns whether a page left its frame, though its segment stays: then the hand moved."""
+    had, has = ({tuple(line[2:4]) for line in lines_of(it, "frame")} for it in (before, block))
+    return any(seg in [line[1] for line in segments_of(block)] for seg, _ in had - has)
+
+
+def legend_of(blocks: Any) -> Any:
+    """Returns the marks of a run's legend, each with its words and the looks of its picture."""
+    lines = [line for block in blocks for line in block]
+    frames = [line for line in lines if line[0] == "frame"]
+    pieces = [line for line in lines if line[0] == "piece"]
+    rows = (("0·2 page 2 of segment 0", "", pieces), ("f1 in frame 1", "", frames),
+            ("s0 in slot 0", "", [line for line in lines if line[0] == "slot"]), ("0 zeros", "", pieces),
+            ("attachment starts", "thick", pieces),
+            ("read-only", "hatched", [line for line in pieces if line[5] == "ro"]),
+            ("⋯ unused addresses", "", any(has_gap(blocks, at) for at in range(len(pieces_of(blocks[0]))))),
+            ("accessed", "inner", any(reached_frames(block) for block in blocks)),
+            ("changed", "outer", True), ("0·2 gone", "struck", pieces),
+            ("R referenced", "", [line for line in frames if line[4][0] == "r"]),
+            ("D dirty", "", [line for line in frames if line[4][1] == "d"]),
+            ("L locked", "", any("locked" in line[6] for block in blocks for line in segments_of(block))),
+            ("☞ clock’s hand", "", True),
+            ("its way", "", any(map(is_evicting, blocks, blocks[1:]))))
+    return [(words, looks) for words, looks, is_shown in rows if is_shown]
+
+
 def wrong_parts(seen: Any, want: Any) -> Any:
     return [f"{part}: {seen.get(part)} where {want[part]} is wanted"
             for part in want if seen.get(part) != want[part]]
@@ -349,7 +385,8 @@ def wrong_chart(chart: Any, lines: Any, blocks: Any, at: Any) -> Any:
         wrong += [f"chart of {name}: {fault}"] * bool(fault)
     place = axis[0][2] + (axis[0][3] - axis[0][2]) * at / max(1, len(blocks) - 1)
     is_here = (here and abs(here[0] - place) < .1 and here[0] == here[1]
-               and here[2] == str(number_of(blocks[at])))
+               and here[2] == f"step {number_of(blocks[at])}")
+    wrong += [f"unit: {chart['unit']}"] * (chart["unit"] != UNITS[lines[0][0]])
     return wrong if is_here else [*wrong, f"place in the chart: {here} where {place} is wanted"]
 
 

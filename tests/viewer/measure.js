@@ -15,18 +15,31 @@
   const area = told.getBoundingClientRect();
   const isWithin = (it) => it.getBoundingClientRect().bottom <= area.bottom + 1;
   const lines = [document.getElementById("call"), ...all("#changes li")];
-  const meanings = all("#live .term").map((it) => {
-    it.focus();
-    return [it.firstChild.textContent, getComputedStyle(it.querySelector(".meaning")).display === "block", it.tabIndex, it.querySelector(".meaning").textContent];
+  // a mark of the legend: its words, how its picture looks, and where its middle is
+  const LOOKS = [
+    ["hatched", (it) => it.backgroundImage.startsWith("repeating-linear-gradient")],
+    ["thick", (it) => it.borderLeftWidth === "5px"],
+    ["inner", (it) => it.outlineStyle === "solid"],
+    ["outer", (it) => it.boxShadow !== "none"],
+    ["struck", (it) => it.textDecorationLine === "line-through"],
+  ];
+  const marks = all("#marks li").filter((it) => it.offsetWidth).map((it) => {
+    const picture = it.firstElementChild && getComputedStyle(it.firstElementChild);
+    const { top, bottom, right } = it.getBoundingClientRect();
+    return [it.innerText.trim().replace(/\s+/g, " "), picture ? LOOKS.filter(([, test]) => test(picture)).map(([name]) => name).join() : "", Math.round((top + bottom) / 2), right];
   });
-  document.activeElement.blur();
   return {
-    boxes: all("#bar, #live section, #live .cell, #segments tr, #live svg, .legend li").map(box),
+    boxes: all("#bar, #live section, .key, #live .cell, #segments tr, #live svg, .legend li").map(box),
     wide: document.documentElement.scrollWidth,
     lowest: bottom("#processes .cell, #frames .cell"),
-    script: document.getElementById("script").getBoundingClientRect().top,
+    script: bottom("#script"),
+    highest: Math.min(...all(".spaces, .memory").map((it) => it.getBoundingClientRect().top)),
     scrolls: table.scrollWidth <= table.clientWidth || style.overflowX === "auto" && style.backgroundImage.includes("gradient"),
     isTold: lines.every(isWithin) || !more.hidden,
-    meanings,
+    marks,
+    table: bottom("#segments"),
+    isWhole: table.scrollWidth <= table.clientWidth,
+    cell: document.querySelector(".cell").offsetWidth,
+    font: parseFloat(getComputedStyle(document.getElementById("call")).fontSize),
   };
 })()

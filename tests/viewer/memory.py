@@ -51,6 +51,7 @@ class Memory:
     def __init__(self, blocks: list[Block]) -> None:
         self.pages: dict[str, bytearray] = {}
         self.steps: list[Any] = []
+        self.calls: list[list[str]] = []
         self.wrong: list[str] = []
         self.answers = 0
         self.used: dict[str, set[int]] = {}
@@ -67,7 +68,8 @@ class Memory:
         for place in [it for it in places if it]:
             self.used.setdefault(place[0], set()).add(place[1] // 16)
         after = {page: bytes(its) for page, its in self.pages.items()}
-        self.steps.append((there, before, after, {place for place in places if place}))
+        self.steps.append((there, before, after, [place for place in places if place]))
+        self.calls.append(block[1])
 
     def answer(self, words: Any, places: Any) -> None:
         kind, said, reply = words[3], words[5], words[-1]
@@ -103,15 +105,29 @@ def bytes_in(row: Any, shown: Any, had: Any) -> Any:
     return [f"0x{16 * row:03x}", " ".join(cells), text.strip()]
 
 
-def table_of(memory: Any, at: Any, page: Any, is_whole: bool = False) -> Any:
-    """Returns the table of a page at a step: its rows that the run names, or all, and how far the others
-    reach."""
+MANY_ROWS = "\n".join(["limits 65536 16 64 4 1", "process 1 1 1", "1 s = shmget private 4096 600",
+                       "1 a = shmat s null -", *[f"1 store a+{40 * at} 0102" for at in range(20)],
+                       "1 store a+8 " + "aa" * 64, "1 stat s"]) + "\n"
+
+
+def followed_rows(memory: Any, at: Any, page: Any) -> Any:
+    """Returns the rows of a page that follows the steps: those that the run names, or, if these are more than
+    16, those that the last access names."""
+    used = memory.used[page]
+    last = [{place // 16 for owner, place in its if owner == page} for *_, its in memory.steps[:at + 1]]
+    return used if len(used) <= 16 else [rows for rows in last if rows][-1]
+
+
+def table_of(memory: Any, at: Any, page: Any, is_whole: bool = False, used: Any = None) -> Any:
+    """Returns the table of a page at a step: its rows that the run names, or others, or all, and how far the
+    rest reaches."""
+    used = memory.used.get(page, ()) if used is None else used
     zeros, seg = bytes(PAGE), page.split("·")[0]
     (there, before, after, named), earlier = memory.steps[at], memory.steps[at - 1] if at else (set(),)
     shown = seg in there, before.get(page, zeros), after.get(page, zeros), named, page
     rows, skipped = [], None
     for row in [*range(PAGE // 16), None]:
-        if row is not None and not is_whole and row not in memory.used.get(page, ()):
+        if row is not None and not is_whole and row not in used:
             skipped = row if skipped is None else skipped
             continue
         if skipped is not None:
@@ -123,13 +139,57 @@ def table_of(memory: Any, at: Any, page: Any, is_whole: bool = False) -> Any:
     return rows
 
 
+def parts_of(named: Any, page: Any) -> Any:
+    """Returns the bytes of a page that an access names, in parts that lie together."""
+    parts: list[list[int]] = []
+    for owner, at in named:
+        if owner == page:
+            if parts and parts[-1][-1] == at - 1:
+                parts[-1].append(at)
+            else:
+                parts.append([at])
+    return parts
+
+
+def touched(memory: Any, at: Any, page: Any) -> Any:
+    """Returns what the viewer says about the bytes of a page that a step names: their old and new values, 16
+    of them at most."""
+    zeros, said = bytes(PAGE), []
+    _there, before, after, named = memory.steps[at]
+    for part in parts_of(named, page):
+        span = f"byte {part[0]}" if len(part) == 1 else f"bytes {part[0]} to {part[-1]}"
+        old, new = (its.get(page, zeros)[part[0]:part[-1] + 1][:16].hex(" ") + " ⋯" * (len(part) > 16)
+                    for its in (before, after))
+        words = memory.calls[at]
+        if words[-1] in REFUSALS:
+            said.append(f"{span}: refused, {old} stay{'s' * (len(part) == 1)}")
+        elif words[3] == "load":
+            said.append(f"{span}: {new} loaded")
+        else:
+            said.append(f"{span}: {old} → {new}{', the same' * (old == new)}")
+    return "; ".join(said)
+
+
+def line_of(memory: Any, blocks: Any, at: Any, page: Any, is_one: bool = True) -> Any:
+    """Returns the line above the rows of a page."""
+    told = [touched(memory, at, page), held(blocks[at], blocks[at - 1] if at else None, page)]
+    name = f"page {page.split('·')[1]} of segment {page.split('·')[0]}: "
+    return name * (not is_one) + " ".join(filter(None, told))
+
+
+def pages_at(memory: Any, at: Any) -> Any:
+    """Returns the pages that a step names, or else those that the last access before it named."""
+    named = [its for _, _, _, its in memory.steps[:at + 1] if its]
+    return list(dict.fromkeys(page for page, _ in named[-1])) if named else []
+
+
 def held(block: Block, before: Any, page: Any) -> Any:
     """Returns what the viewer says about a page: where it is, and at which addresses."""
     seg = page.split("·")[0]
     had, has = ([it for it in segments_of(each) if it[1] == seg] for each in (before or [["step"]], block))
     if not has:
         return (f"segment {seg} is destroyed in this step, with its bytes" if had
-                else f"segment {seg} is not there at this step")
+                else f"segment {seg} does not exist at this step")
     place = where_is(block, page.split("·"))
     is_dirty = any(line[2:4] == page.split("·") and line[4][1] == "d" for line in lines_of(block, "frame"))
     told = [{"f": f"in frame {place[1:]}{', dirty' * is_dirty}", "s": f"in slot {place[1:]}",
@@ -161,15 +221,27 @@ def check_tables(session: Session, made: Page) -> None:
                             "[...document.getElementById('opened').options].map((it) => it.value)")
     want = ["", *pages_in(blocks, memory)]
     assert choices == want
+    check_followed(session, made, memory)
     for page in want[1:]:
         opened(session, page)
-        for at, seen in list(enumerate(session.value(dump), made.skipped)):
-            text, rows = held(blocks[at], blocks[at - 1] if at else None, page), table_of(memory, at, page)
+        for at, (_name, [seen]) in list(enumerate(session.value(dump), made.skipped)):
+            text, rows = line_of(memory, blocks, at, page), table_of(memory, at, page)
             wrong = [f"{one} where {other} is wanted" for one, other in zip(seen[1], rows) if one != other]
             wrong += [f"{len(seen[1])} rows, not {len(rows)}"] * (len(seen[1]) != len(rows))
             wrong += [f"{seen[0]!r}, not {text!r}"] * (seen[0] != text)
             assert not wrong
     opened(session, "")
+
+
+def check_followed(session: Session, made: Page, memory: Any) -> None:
+    """With no page kept open, each step has the bytes of the pages that it names."""
+    for at, (name, seen) in enumerate(session.value(read("dump.js")), made.skipped):
+        pages = pages_at(memory, at)
+        want = [[line_of(memory, made.all_blocks, at, page, len(pages) == 1),
+                 table_of(memory, at, page, used=followed_rows(memory, at, page))] for page in pages]
+        assert seen == (want or [["No step so far loads or stores a byte.", []]])
+        told = " of page {1} of segment {0}".format(*pages[0].split("·")) if len(pages) == 1 else ""
+        assert name == f"Bytes{told}".upper()
 
 
 def check_whole(session: Session, made: Page) -> None:
@@ -180,7 +252,7 @@ def check_whole(session: Session, made: Page) -> None:
     seen = session.value(read("dump.js"))
     for at in (4, 10, 16):
         want = table_of(memory, at, "0·1", True)
-        assert seen[at][1] == want
+        assert seen[at][1][0][1] == want
         assert len(want) == 256
     session.value("document.getElementById('dump').scrollTop = 300")
     session.press("ArrowLeft")
@@ -188,7 +260,7 @@ def check_whole(session: Session, made: Page) -> None:
                          "document.getElementById('dump').clientHeight < 600]")
     assert seen == [300, True]
     session.value("document.getElementById('whole').click()")
-    assert session.value(read("dump.js"))[10][1] == table_of(memory, 10, "0·1")
+    assert session.value(read("dump.js"))[10][1][0][1] == table_of(memory, 10, "0·1")
     opened(session, "")
 
 
@@ -197,24 +269,31 @@ def at_step(session: Session, step: Any) -> None:
                   f"it.dispatchEvent(new Event('input')); }})()")
 
 
-BYTES_NOW = "[document.getElementById('opened').value, document.getElementById('dump').rows.length > 0]"
+BYTES_NOW = ("[document.getElementById('opened').value, "
+             "document.getElementById('named').textContent.replace('Bytes of ', '')]")
+
+
+def name_of(page: str) -> str:
+    return "page {1} of segment {0}".format(*page.split("·"))
 
 
 def check_opening(session: Session, made: Page) -> None:
-    """A click on a box opens its page, and b the page that the step names, or closes it."""
+    """A click on a box keeps its page open; b keeps the page that the step names, or lets the bytes follow
+    the steps again."""
     for selector, number, page in (("#frames .cell", 3, "1·1"), ("#frames .cell", 0, "1·6"),
                                    (".area .cell", 0, "1·0"), ("#processes .cell", 5, "1·4"),
                                    ("#processes .cell", 8, "1·7")):
         at_step(session, 20)
         session.value(f"document.querySelectorAll('{selector}')[{number}].click()")
         seen = session.value(BYTES_NOW)
-        assert seen == [page, True]
+        assert seen == [page, name_of(page)]
     opened(session, "")
-    for step, page in ((12, "1·0"), (13, "1·4"), (13, ""), (16, ""), (14, "1·2")):
+    for step, page, shown in ((12, "1·0", "1·0"), (13, "1·4", "1·4"), (13, "", "1·4"), (16, "", "1·2"),
+                              (14, "1·2", "1·2")):
         at_step(session, step)
         session.press("b")
         seen = session.value(BYTES_NOW)
-        assert seen == [page, page != ""]
+        assert seen == [page, name_of(shown)]
     opened(session, "")
 
 
@@ -275,8 +354,8 @@ def check_late(session: Session, made: Page, late: Any, folder: str) -> None:
     seen = session.value(read("dump.js"))
     rows = [[["0x000", row, text], "⋯ 0x010 to 0xfff: unknown"] for row,
             text in zip(LATE_ROWS, ("·" * 16,) * 3)]
-    assert [rows for _, rows in seen] == rows
-    said = {text.rpartition("; ")[2] for text, _ in seen}
+    assert [its for _, [[_, its]] in seen] == rows
+    said = {text.rpartition("; ")[2] for _, [[text, _]] in seen}
     assert said == {"?? is a byte that no step from 2003 on named"}
 
 
@@ -312,7 +391,10 @@ def check_bytes(session: Session, pages: Any, others: Any, folder: str) -> None:
             check_opening(session, made)
     check_whole(session, made)
     check_room(session, made, path)
-    chosen, late, many = others
+    chosen, late, many, rows = others
+    open_in(folder, session, rows)
+    check_followed(session, rows, Memory(rows.all_blocks))
+    assert session.value("document.getElementById('dump').offsetHeight") <= 34 * 16
     check_late(session, chosen, late, folder)
     open_in(folder, session, many)
     opened(session, "0·0")

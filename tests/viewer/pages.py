@@ -20,7 +20,10 @@ UNPROVED = "shmview: nothing is proved on this machine by this run\n"
 # the start script, over the same program
 VIEWER = [os.path.join(TOP, "shmview"), *["--unproved"] * ("/unproved/" in PROGRAM)]
 # the examples of the tour, and what they do not show
+# the lines of a lesson's task, which are not lines of its script
+TASK = ("# task: ", "# goal: ", "# hint: ")
 EXAMPLES = ("memory_short", "failing_swap", "remap", "swap_taken_away", "deferred_removal")
+LESSONS = (*EXAMPLES, "fork", "permissions", "locks", "lost_update")
 SIZES = ((1280, 900), (390, 844))
 SCRIPTS = (*EXAMPLES, "other_changes", "ten_slots", "refused_accesses", "turns", "bytes")
 
@@ -70,7 +73,7 @@ def page_by(words: Sequence[str], script: str, name: str, told: dict[int, list[s
             opened: int = 0, begins: Sequence[str] = (), skipped: int = 1) -> Page:
     """The page of a script by the viewer, with its record, which may begin at an earlier step."""
     record, made = record_of(script, begins or words), run([*VIEWER, *words], script).out
-    lines = script.rstrip("\n").split("\n")
+    lines = [line for line in script.rstrip("\n").split("\n") if not line.startswith(TASK)]
     return Page(name, record, made, told, address, opened, skipped if begins else 0, lines)
 
 

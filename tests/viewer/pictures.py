@@ -10,19 +10,11 @@ import tempfile
 from commands import TOP
 from viewer import browser
 
-# for each example the step that is shown, the height of the picture, and whether the page that the step names
-# is open
-PICTURES = {
-    "memory_short": (6, 840, False),
-    "failing_swap": (6, 840, False),
-    "swap_taken_away": (7, 840, False),
-    "remap": (6, 840, False),
-    "deferred_removal": (8, 840, False),
-    "fork": (6, 840, False),
-    "permissions": (8, 840, False),
-    "locks": (9, 840, False),
-    "lost_update": (7, 840, True),
-}
+# for each example the step that is shown
+PICTURES = {"memory_short": 6, "failing_swap": 6, "swap_taken_away": 7, "remap": 6, "deferred_removal": 8,
+            "fork": 6, "permissions": 8, "locks": 9, "lost_update": 7}
+# a test has no proved program everywhere: it names a command
+VIEWER = os.environ.get("VIEWER", f"{TOP}/shmview").split()
 
 
 def main() -> int:
@@ -31,19 +23,16 @@ def main() -> int:
         return 1
     os.makedirs(os.path.join(TOP, "docs", "pictures"), exist_ok=True)
     with tempfile.TemporaryDirectory(prefix="viewer.") as folder, browser.Session() as session:
-        for name, (step, high, is_open) in PICTURES.items():
+        for name, step in PICTURES.items():
             swap = "ram:64"
             if os.path.exists(f"{TOP}/examples/{name}.swap"):
                 with open(f"{TOP}/examples/{name}.swap", encoding="ascii") as file:
                     swap = file.read()
             path = os.path.join(folder, name + ".html")
             with open(f"{TOP}/examples/{name}.shm", "rb") as script, open(path, "wb") as page:
-                subprocess.run([f"{TOP}/shmview", *swap.split()], stdin=script, stdout=page, check=True)
+                subprocess.run([*VIEWER, *swap.split()], stdin=script, stdout=page, check=True)
             to = f"{TOP}/docs/pictures/{name}.png"
-            session.open(f"file://{path}#step-{step}", 1280, high)
-            if is_open:
-                session.press("b")
-                session.value("scrollTo(0, 0)")
+            session.open(f"file://{path}#step-{step}", 1280, 900)
             with open(to, "wb") as picture:
                 picture.write(session.picture())
             print(f"{to}: {os.path.getsize(to)} bytes")

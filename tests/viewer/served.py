@@ -24,10 +24,11 @@ from typing import Any
 
 import pytest
 
+import answer
 import serve
-from commands import TOP
+from commands import TOP, text_of, write_file
 from viewer.browser import Session
-from viewer.pages import VIEWER
+from viewer.pages import TASK, VIEWER
 
 EXPLAINED = """line 9, column 3: bad line
     1 laod a 1
@@ -39,6 +40,8 @@ LESSONS = ["1. Three pages in two frames", "2. A read of swap that fails", "3. A
            "4. An attach in the middle of another", "5. A removed segment lives on",
            "6. A child and its parent", "7. Who may do what", "8. Pages that must stay",
            "9. Two processes at once"]
+NAMES = ["memory_short", "failing_swap", "swap_taken_away", "remap", "deferred_removal", "fork",
+         "permissions", "locks", "lost_update"]
 # the edits of the page: the text to find, its replacement, and what the page must show then
 EDITS = (
     ("1 load a 1", "1 load a 2", "step 6 of 9", "process 1: load 0x40000000 2 = 0100 call 6 of the history",
@@ -98,6 +101,19 @@ def choose(session: Session, name: str, kind: str = "example") -> None:
     wait_for(session, f"document.body.dataset.runs !== {json.dumps(runs)}")
 
 
+TOPS = "['#script', '#lesson', '.spaces'].map((it) => document.querySelector(it).getBoundingClientRect().top)"
+
+
+def check_order(session: Session) -> None:
+    """The lesson comes before script and boxes, and on a phone between them."""
+    script, lesson, spaces = session.value(TOPS)
+    assert lesson < script == spaces
+    session.ask("Emulation.setDeviceMetricsOverride", width=390, height=844, deviceScaleFactor=1, mobile=True)
+    assert session.value(TOPS) == sorted(session.value(TOPS))
+    session.ask("Emulation.setDeviceMetricsOverride", width=1280, height=900, deviceScaleFactor=1,
+                mobile=False)
+
+
 def check_lesson(session: Session) -> None:
     """A lesson has its script, its text, its question, and the answer folded; an example has none of
     these."""
@@ -110,13 +126,142 @@ def check_lesson(session: Session) -> None:
                          "MEMLOCK, the last number')]")
     answer = "AnswerIf all frames could be locked, no frame would b"
     assert seen == [False, "step 0 of 16", LESSONS[7], 5, [[False, answer]], True]
+    choose(session, LESSONS[6], "lesson")
+    check_order(session)
     choose(session, LESSONS[8], "lesson")
     said = session.value("byId('lesson').innerText")
-    assert "./shmcheck outcomes tries every order" in said
+    assert "./shmcheck outcomes tries every order too" in said
     assert "OUTCOMES.md says" in said
     assert not {*"`[]|$"} & {*said}
     choose(session, "memory_short")
     assert session.value("byId('lesson').hidden") is True
+
+
+# the outcomes of the ninth lesson, by hand: what each process loads first. Either both load before a store,
+# or one loads after the other has stored.
+LOST = [[f"load 0x40000000 1 = {byte}" for byte in bytes_of_both]
+        for bytes_of_both in (("00", "00"), ("00", "01"), ("01", "00"))]
+ROWS = "[...byId('outcomes').rows].map((row) => [...row.cells].slice(1).map((it) => it.textContent))"
+CURRENT = ("[...byId('outcomes').rows].findIndex((row) => "
+           "getComputedStyle(row).backgroundColor !== 'rgba(0, 0, 0, 0)')")
+LOADED = ("['1', '2'].map((pid) => steps.find((it) => it.call.includes(` ${pid} load `)).call)"
+          ".map((it) => it.split(' ').slice(3).join(' '))")
+OWN = "[1, 2].map((pid) => byId('text').value.split('\\n').filter((it) => it.startsWith(pid + ' ')))"
+
+
+def check_orders(session: Session) -> None:
+    """Every order of a script: its outcomes, a column for each process. A click replays an order that gives
+    this outcome, with the lines of each process in their order."""
+    choose(session, LESSONS[8], "lesson")
+    lines = session.value(OWN)
+    session.value("byId('every').click()")
+    assert wait_for(session, "byId('outcomes').rows.length > 0")
+    head, *rows = session.value(ROWS)
+    assert (head, sorted(rows)) == (["process 1", "process 2"], LOST)
+    assert session.value("byId('found').textContent").startswith("3 outcomes,")
+    for at, row in [*enumerate(rows, 1), (1, rows[0])]:
+        runs = session.value("document.body.dataset.runs")
+        session.value(f"byId('outcomes').rows[{at}].querySelector('button').click()")
+        assert wait_for(session, f"document.body.dataset.runs !== {json.dumps(runs)}")
+        assert (session.value(LOADED), session.value(CURRENT)) == (row, at)
+        assert session.value(OWN) == lines
+        assert session.value("[byId('where').textContent, byId('title').textContent.slice(0, 13)]") == [
+            "step 0 of 8", "Two processes"]
+    late = session.value("(async () => { const search = findOrders(); byId('text').value += '# late'; "
+                         "await search; return byId('outcomes').rows.length; })()")
+    assert late == 0
+    edit(session, "# late", "")
+    edit(session, "1 fork 2", "0 flush 1\n# both have it now\n1 fork 2\n# process 2 is born")
+    assert session.value("byId('orders').hidden")
+    session.value("byId('every').click()")
+    assert wait_for(session, "byId('outcomes').rows.length === 4")
+    runs = session.value("document.body.dataset.runs")
+    session.value("byId('outcomes').rows[1].querySelector('button').click()")
+    assert wait_for(session, f"document.body.dataset.runs !== {json.dumps(runs)}")
+    text = session.value("byId('text').value")
+    assert "# both have it now" in text and "flush" not in text
+    assert "# process 2 is born\n1 load a 1\n" in text
+    edit(session, "1 fork 2", "1 frok 2")
+    session.value("byId('every').click()")
+    assert wait_for(session, "byId('found').textContent.includes('bad line')")
+    edit(session, "1 frok 2", "1 exit")
+    session.value("byId('every').click()")
+    assert wait_for(session, "byId('found').textContent.startsWith('1 outcome:')")
+
+
+def check_search() -> None:
+    """A search that does not end says how far it came; without shmcheck the answer says what to do."""
+    with tempfile.TemporaryDirectory(prefix="viewer.") as folder:
+        program = "#!/bin/sh\ncase $3 in 100 | 1000) exit 5 ;; esac\nexec sleep 60\n"
+        slow = write_file(folder, "slow", program, 0o755)
+        answer.ORDER_SECONDS = 2
+        said = answer.orders(slow, [], SCRIPT["script"])
+    assert list(said) == ["words"]
+    assert "more than 1000 different beginnings" in said["words"][0]
+    runner = serve.Runner({"orders": ""}, "")
+    said = json.loads(runner.run("orders", SCRIPT["script"].encode(), []) or b"")
+    assert list(said) == ["words"] and "./shmcheck is not built" in said["words"][0]
+
+
+# keeps the answer of the run with threads
+KEEP = """(() => {
+  const real = window.fetch;
+  window.fetch = async (path, how) => {
+    const answer = await real(path, how);
+    if (path === "threads") window.threaded = await answer.clone().json();
+    return answer;
+  };
+})()"""
+
+
+def check_threads(session: Session) -> None:
+    """A run with threads is shown in its order, with the replies that it had."""
+    choose(session, "shared_counter")
+    lines = session.value(OWN)
+    session.value(KEEP)
+    for _ in range(3):
+        runs = session.value("document.body.dataset.runs")
+        session.value("window.threaded = null; byId('race').click()")
+        assert wait_for(session, f"document.body.dataset.runs !== {json.dumps(runs)} && "
+                                 "byId('words').textContent.startsWith('This is the order of a run')")
+        told = session.value("threaded.lines")
+        assert len(told) == 9
+        assert session.value("steps.slice(1).map((it) => it.call.replace('call ', ''))") == told
+        assert session.value(OWN) == lines
+        assert session.value("[byId('lanes').hidden, byId('laned').rows.length]") == [False, 11]
+    edit(session, "1 fork 2", "1 frok 2")
+    session.value("byId('race').click()")
+    assert wait_for(session, "byId('words').textContent.includes('nearest form: fork')")
+
+
+def script_of(name: str) -> str:
+    """An example without its task."""
+    lines = text_of(f"examples/{name}.shm").splitlines(keepends=True)
+    return "".join(line for line in lines if not line.startswith(TASK))
+
+
+VERDICT = ("[byId('wanted').textContent.slice(0, 6), byId('verdict').textContent, "
+           "byId('task').querySelector('details').open]")
+
+
+def check_tasks(session: Session) -> None:
+    """Each lesson has a task with a hint. The lesson's script does not solve it, and its solution does. The
+    table is on the first screen."""
+    for title, name in zip(LESSONS, NAMES):
+        choose(session, title, "lesson")
+        assert session.value("byId('segments').getBoundingClientRect().bottom") < 900
+        assert session.value(VERDICT) == ["Task: ", "Not solved by this run.", False]
+        assert session.value("byId('text').value") == script_of(name)
+        edit(session, script_of(name), script_of(f"solutions/{name}"))
+        assert session.value(VERDICT) == ["Task: ", "Solved by this run.", False]
+        assert len(session.value("byId('hint').textContent")) > 20
+    choose(session, LESSONS[0], "lesson")
+    edit(session, "64 2 0", "64 3 0")
+    assert session.value(VERDICT)[1] == "Solved by this run."
+    edit(session, "1 load a+8192 1\n", "")
+    assert session.value(VERDICT)[1] == "Not solved by this run."
+    choose(session, "page_seam")
+    assert session.value("byId('task').hidden")
 
 
 def check_editing(session: Session) -> None:
@@ -131,13 +276,13 @@ def check_editing(session: Session) -> None:
             said = session.value("byId('words').textContent").split("\n")[0]
             assert is_run
             assert (said, seen[0]) == ("line 6, column 8: unknown process", where)
-    seen = session.value("[byId('opened').value, byId('dump').rows[0].cells[1].innerText]")
+    seen = session.value("[byId('opened').value, byId('dump').querySelector('tr').cells[1].innerText]")
     assert seen == ["0·0", "ff"]
     choose(session, "locks")
     session.value("go(12), openPage('1·2')")
     choose(session, "memory_short")
-    seen = session.value("[byId('opened').value, byId('dump').rows.length]")
-    assert seen == ["", 0]
+    seen = session.value("[byId('opened').value, byId('dump').innerText]")
+    assert seen == ["", "No step so far loads or stores a byte."]
 
 
 def check_fault(session: Session) -> None:
@@ -171,8 +316,7 @@ def check_swap_and_link(session: Session, address: Any) -> None:
     link = session.value("location.hash")
     data = link.removeprefix("#script=")
     linked = json.loads(base64.urlsafe_b64decode(data + "=" * (-len(data) % 4)))
-    with open(f"{TOP}/examples/failing_swap.shm", encoding="ascii") as file:
-        assert linked == {"script": file.read(), "swap": ["fuse:64:r1"], "step": 6}
+    assert linked == {"script": script_of("failing_swap"), "swap": ["fuse:64:r1"], "step": 6}
     session.open(address + link, 1280, 900)
     is_there = wait_for(session, "byId('where').textContent === 'step 6 of 7'")
     assert is_there
@@ -241,6 +385,9 @@ def check_in_browser(session: Session) -> None:
         examples = sorted(os.path.basename(path)[:-4] for path in glob.glob(f"{TOP}/examples/*.shm"))
         assert names == [LESSONS, examples]
         check_lesson(session)
+        check_orders(session)
+        check_tasks(session)
+        check_threads(session)
         check_editing(session)
         check_fault(session)
         check_late(session)
@@ -314,6 +461,15 @@ def check_opened() -> None:
                 _, body = ask(port, "GET", f"/{token}/")
             opened = json.loads(re.findall(r'id="choices">(.*?)</script>', body.decode(), re.DOTALL)[0])
             assert (opened["script"], opened["swap"]) == (text, ["ram:3", "sparse:9"])
+            assert opened["task"] is None
+        task = {"task": "Make step 1 fail.", "goal": "step 1 = EINVAL", "hint": "No segment is there."}
+        told = "".join(f"# {name}: {words}\n" for name, words in task.items())
+        for given, want in (text + told, (text, task)), (text + told[:20], (text + told[:20], None)):
+            path = write_file(folder, "task.shm", given)
+            with served(path) as (_address, port, token):
+                _, body = ask(port, "GET", f"/{token}/")
+            opened = json.loads(re.findall(r'id="choices">(.*?)</script>', body.decode(), re.DOTALL)[0])
+            assert (opened["script"], opened["task"]) == want
 
 
 SCRIPT: dict[str, Any] = {"script": "limits 4096 1 1 2 0\nprocess 1 1 1\n1 stat 0\n", "swap": ["ram:1"]}
@@ -338,6 +494,7 @@ def check_hostile() -> None:
         assert body.startswith(b"<!doctype html>")
         rows: tuple[tuple[tuple[Any, ...], int], ...] = (
                 ((run, good), 200), ((run, good, {"Origin": own}), 200),
+                ((f"/{token}/orders", good), 200), (("/orders", good), 404),
                 ((run, good, {"Origin": "http://evil.example"}), 404),
                 ((run, good, {"Origin": "null"}), 404),
                 ((run, good, {"Origin": f"http://localhost:{port}"}), 404),
@@ -389,8 +546,9 @@ def check_limits() -> None:
             with open(f"{folder}/{name}", "w", encoding="ascii") as file:
                 file.write(f"#!/bin/sh\n{text}\n")
             os.chmod(f"{folder}/{name}", 0o755)
-            runners[name] = serve.Runner(f"{folder}/{name}", f"{TOP}/bindings/python")
-        threads = [threading.Thread(target=runners["turns"].run, args=(SCRIPT["script"].encode(), ["ram:1"]))
+            runners[name] = serve.Runner({"run": f"{folder}/{name}"}, f"{TOP}/bindings/python")
+        given = ("run", SCRIPT["script"].encode(), ["ram:1"])
+        threads = [threading.Thread(target=runners["turns"].run, args=given)
                    for _ in range(6)]
         for thread in threads:
             thread.start()
@@ -399,7 +557,7 @@ def check_limits() -> None:
         assert not os.path.exists(f"{folder}/log")
         for name in ("long", "idle", "large", "wordy"):
             began = time.monotonic()
-            said = json.loads(runners[name].run(SCRIPT["script"].encode(), ["ram:1"]))
+            said = json.loads(runners[name].run(*given) or b"")
             took = time.monotonic() - began
             assert "record" not in said
             assert took < 8

@@ -12,17 +12,17 @@ from typing import Any
 
 import pytest
 
-from commands import TOP, environment, run as run_command
+from commands import TOP, environment, run as run_command, text_of
 from record import all_sentences, read_record
 from show import page as page_of
 from viewer import browser, served
-from viewer.expected import (CHARTS, REFUSALS, moves_of, notice_of, number_of, read_sentences, shown_at,
-                             wrong_chart, wrong_colours, wrong_moves, wrong_parts)
+from viewer.expected import (CHARTS, REFUSALS, legend_of, moves_of, notice_of, number_of,
+                             read_sentences, shown_at, wrong_chart, wrong_colours, wrong_moves, wrong_parts)
 from viewer.hand import check_hand
 from viewer.long_run import check_long_run
-from viewer.memory import LATE, Record, check_bytes, check_loads, records
+from viewer.memory import LATE, MANY_ROWS, Record, check_bytes, check_loads, records
 from viewer.moving import check_handout, check_names, check_playing, check_seeking, check_swipes
-from viewer.pages import (EXAMPLES, HERE, PROGRAM, SCRIPTS, SIZES, VIEWER, Page, example, page_by,
+from viewer.pages import (EXAMPLES, HERE, LESSONS, PROGRAM, SCRIPTS, SIZES, VIEWER, Page, example, page_by,
                           page_of_example, record_of, run)
 
 pytestmark = pytest.mark.skipif(not PROGRAM,
@@ -86,7 +86,7 @@ def test_page_of_some_steps(session: browser.Session, folder: str, address: str,
 def test_page_at_the_end(session: browser.Session, folder: str) -> None:
     script, swap = example("memory_short")
     said = TOLD["memory_short"]
-    told = {**said, 9: [*said[9], "the run ends here: it has no step 10 to 12"]}
+    told = {**said, 9: [*said[9], "the run ends here: it has no steps 10 to 12"]}
     page = page_by(["--steps", "8-12", *swap], script, "steps 8 to 12", told,
                    begins=["--steps", "7-12", *swap])
     check_page(page, shown_by(page, folder, session))
@@ -107,16 +107,6 @@ def test_page_without_a_step(session: browser.Session, folder: str) -> None:
     assert {*said} == {"The run has no step from 99 to 99: its last is step 9."}
 
 
-# the terms of the legends, in the order of the page, and the explanation of each
-TERMS = {"f1": "f1: the page is in frame 1", "s0:3": "s0: the page is in slot 0",
-         "0": "0: the page has neither a frame nor a slot",
-         "hatched": "Hatched: the process may read", "thick edge": "A thick left edge",
-         "inner frame": "An inner frame",
-         "struck out": "Struck out: this step took", "⋯": "⋯: addresses", "0·2": "0·2: page 2 of segment 0",
-         "R": "R: referenced",
-         "D": "D: dirty", "L": "L: locked", "→": "→: the hand’s way", "☞": "☞: the hand of the clock"}
-
-
 def wrong_layout(seen: dict[str, Any], first: dict[str, Any], wide: int, high: int) -> list[str]:
     """What is wrong with a step on the screen: a box that moved, or something that is not visible."""
     moved = [f"{was} became {box}" for was, box in zip(first["boxes"], seen["boxes"]) if was != box]
@@ -124,12 +114,43 @@ def wrong_layout(seen: dict[str, Any], first: dict[str, Any], wide: int, high: i
     wrong += ["there are other boxes"] * (len(seen["boxes"]) != len(first["boxes"]))
     wrong += [f"the page is {seen['wide']} wide"] * (seen["wide"] > wide)
     wrong += [f"frames end at {seen['lowest']}"] * (seen["lowest"] > high)
-    wrong += ["the script comes before the frames"] * (wide < 640 and seen["script"] < seen["lowest"])
+    wrong += ["the script comes after the boxes"] * (wide < 640 and seen["script"] > seen["highest"])
     wrong += ["a table does not scroll"] * (not seen["scrolls"])
     wrong += ["sentences are cut off"] * (not seen["isTold"])
-    terms = [name for name, is_shown, index,
-             told in seen["meanings"] if is_shown and index == 0 and told.startswith(TERMS.get(name, "?"))]
-    return wrong + [f"terms: {terms}"] * (terms != [*TERMS])
+    return wrong + [f"the legend is {seen['marks']}"] * (seen["marks"] != first["marks"])
+
+
+FOLD = "document.getElementById('fold').click(), document.querySelector('.key').innerText.trim()"
+
+
+@pytest.mark.parametrize("name", LESSONS)
+def test_first_screen(session: browser.Session, folder: str, name: str) -> None:
+    """The segments' table is whole on the first screen, also on a projector, where boxes and text are
+    larger. The legend is one line with the marks of the run, and a click hides it. On a phone the script
+    comes first."""
+    with open(os.path.join(HERE, "measure.js"), encoding="utf-8") as file:
+        measure = file.read()
+    made, path = page_of_example(name), os.path.join(folder, "page.html")
+    with open(path, "w", encoding="utf-8") as file:
+        file.write(made.html)
+    seen = []
+    for wide, high in (SIZES[0], (1920, 1080)):
+        session.open(f"file://{path}", wide, high)
+        now = session.value(measure)
+        seen.append(now)
+        assert now["table"] < high and now["isWhole"]
+        assert [(words, looks) for words, looks, *_ in now["marks"]] == legend_of(made.blocks)
+        middles = [middle for _, _, middle, _ in now["marks"]]
+        assert max(middles) - min(middles) <= 1 and max(it[3] for it in now["marks"]) < wide
+    desk, projector = seen
+    assert projector["cell"] >= 1.2 * desk["cell"] and projector["font"] >= 1.2 * desk["font"]
+    assert session.value(FOLD) == "Show the legend"
+    assert session.value(measure)["marks"] == []
+    assert session.value(FOLD).endswith("Hide")
+    assert session.value(measure)["marks"] == projector["marks"]
+    session.open(f"file://{path}", *SIZES[1])
+    phone = session.value(measure)
+    assert phone["script"] <= phone["highest"] < SIZES[1][1] and phone["wide"] <= SIZES[1][0]
 
 
 @pytest.mark.parametrize("name", EXAMPLES)
@@ -174,6 +195,33 @@ def check_paper(session: browser.Session, made: Page) -> None:
                          "document.querySelectorAll('.sheet').length") == 0
 
 
+LANES = ("[[...byId('laned').rows].map((row) => [...row.cells].map((it) => it.textContent)), "
+         "[...byId('laned').rows].findIndex((row) => getComputedStyle(row).backgroundColor !== "
+         "'rgba(0, 0, 0, 0)') - 1, byId('where').textContent]")
+
+
+@pytest.mark.parametrize("name", ["lost_update", "fork", "memory_short"])
+def test_lanes(session: browser.Session, folder: str, name: str) -> None:
+    """Each call is in the lane of its process, in its order; a click on one goes to its step. One process
+    needs no lanes."""
+    made, path = page_of_example(name), os.path.join(folder, "page.html")
+    with open(path, "w", encoding="utf-8") as file:
+        file.write(made.html)
+    session.open(f"file://{path}", *SIZES[0])
+    calls = [block[1] for block in made.blocks]
+    if name == "memory_short":
+        assert session.value("byId('lanes').hidden")
+        return
+    want = [["step", "process 1", "process 2"], ["0", "", ""]]
+    want += [[str(at), *(" ".join(words[3:]) if words[2] == pid else "" for pid in ("1", "2"))]
+             for at, words in enumerate(calls[1:], 1)]
+    for at in range(len(calls)):
+        assert session.value(LANES) == [want, at, f"step {at} of {len(calls) - 1}"]
+        session.press("ArrowRight")
+    session.value("byId('laned').rows[5].cells[2].click()")
+    assert session.value(LANES)[1:] == [4, f"step 4 of {len(calls) - 1}"]
+
+
 def record_of_replies() -> str:
     """A record of calls with each refusal, and with replies that are not refusals."""
     rest = "process 1 live 0 0\nframes 2 hand 0\narea 0 1\n" \
@@ -186,7 +234,7 @@ def record_of_replies() -> str:
 
 @pytest.mark.parametrize("name", SCRIPTS)
 def test_record(name: str) -> None:
-    """A record begins with the machine as it opens, and has a step for each line."""
+    """A record begins with the machine before the first call, and has a step for each line."""
     script, swap = example(name)
     ended = run([PROGRAM, *swap], script)
     lines = [line for line in script.splitlines() if re.match(r"[0-9]", line)]
@@ -288,6 +336,18 @@ def test_stored_pages() -> None:
     assert ended.status == 0, ended.out + ended.said
 
 
+@pytest.mark.parametrize("name", LESSONS)
+def test_solution(session: browser.Session, name: str) -> None:
+    """The stored page of a lesson's solution shows that the task is solved, and that of the lesson shows the
+    task."""
+    said = []
+    for page in name, f"{name}-solution":
+        session.open(f"file://{TOP}/docs/pages/{page}.html", *SIZES[0])
+        said.append(session.value("[byId('wanted').innerText, byId('verdict').innerText]"))
+    [task] = re.findall("^# task: (.*)$", text_of(f"examples/{name}.shm"), re.M)
+    assert said == [[f"Task: {task}", "Not solved by this run."], [f"Task: {task}", "Solved by this run."]]
+
+
 @pytest.fixture(scope="module")
 def all_records() -> list[Record]:
     """The records of all stored scripts."""
@@ -303,7 +363,7 @@ def test_hand(all_records: list[Record]) -> None:
 
 
 @pytest.mark.parametrize("check", [served.check_headers, served.check_opened, served.check_hostile,
-                                   served.check_limits])
+                                   served.check_limits, served.check_search])
 def test_served(check: Any) -> None:
     check()
 
@@ -336,5 +396,6 @@ def test_bytes(session: browser.Session, folder: str) -> None:
     chosen = page_by(["--steps", "9-12", "ram:64"], example("bytes")[0], "bytes, steps 9 to 12",
                      begins=["--steps", "0-12", "ram:64"], skipped=9)
     late = page_by(["--steps", "2004-2006", "ram:64"], LATE, "late")
-    others = [chosen, late, page_by(["ram:64"], example("permissions")[0], "permissions")]
+    others = [chosen, late, page_by(["ram:64"], example("permissions")[0], "permissions"),
+              page_by(["ram:64"], MANY_ROWS, "rows")]
     check_bytes(session, [page_of_example(name) for name in SCRIPTS], others, folder)

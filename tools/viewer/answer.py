@@ -2,11 +2,13 @@
 """Answers one run of the page that `shmview --serve` opens. It is a process of its own, so that it can be
 limited and ended.
 
-    tools/viewer/answer.py PROGRAM SWAP... < SCRIPT, with the Python package in PYTHONPATH
+    tools/viewer/answer.py run PROGRAM SWAP... < SCRIPT    with the Python package in PYTHONPATH
+    tools/viewer/answer.py orders CHECKER < SCRIPT         every order, by shmcheck
+    tools/viewer/answer.py threads SHMSIM SWAP... < SCRIPT the order of a run with threads
 
-Prints JSON. A script that can be run has `record` and `told`, as tools/viewer/show.py puts them into a page;
-any other has `line`, `column` and `length` of its fault. `words` is what `shmsim --explain` says of it,
-warnings included.
+Prints JSON. A script that can be run has `record` and `told`, as tools/viewer/show.py puts them into a page,
+the `outcomes` of its orders, or the `schedule` of one. Any other has `line`, `column` and `length` of its
+fault. `words` is what `shmsim --explain` says of it, warnings included.
 """
 
 from __future__ import annotations
@@ -16,11 +18,16 @@ import os
 import resource
 import subprocess
 import sys
+import time
 from typing import Any
 
 from nogcuvema.explain import explain
 from nogcuvema.script import ScriptFault, read_script
 from show import shortened, told_of
+
+# the search for every order begins anew with each bound on its runs, and ends with its time
+BOUNDS, ORDER_SECONDS = [10 ** digits for digits in range(2, 8)], 8
+UNDECIDED = 5
 
 
 def read_fault(text: str) -> Any:
@@ -58,5 +65,58 @@ def answer(program: Any, swaps: Any, text: str) -> Any:
     return {"record": shortened(record), "told": told_of(record, text), "words": words}
 
 
+def outcomes_of(text: str) -> list[dict[str, Any]]:
+    """Reads the outcomes that shmcheck prints: each has its schedule, and the lines of each process."""
+    found: list[dict[str, Any]] = []
+    for words in map(str.split, text.splitlines()):
+        if words[0] == "outcome":
+            found.append({"lines": {}})
+        elif words[0] == "schedule":
+            found[-1]["schedule"] = words[1:]
+        elif words[0] != "outcomes":
+            found[-1]["lines"].setdefault(words[0], []).append(" ".join(words[1:]))
+    return found
+
+
+def orders(checker: str, _swaps: list[str], text: str) -> Any:
+    """Every order of the processes, or how far the search came in its time."""
+    fault, words = read_fault(text)
+    if fault:
+        return {**fault, "words": words}
+    command, environment = limited(checker)
+    most, end = 0, time.monotonic() + ORDER_SECONDS
+    for bound in BOUNDS:
+        try:
+            done = subprocess.run([*command, "outcomes", "--at-most", str(bound)], env=environment,
+                                  input=text.encode("latin-1"), capture_output=True, check=False,
+                                  timeout=max(.1, end - time.monotonic()))
+        except subprocess.TimeoutExpired:
+            break
+        if done.returncode == 0:
+            return {"outcomes": outcomes_of(done.stdout.decode("latin-1")), "words": []}
+        if done.returncode != UNDECIDED:
+            return {"words": [done.stderr.decode(errors="replace").strip() or "the search was ended"]}
+        most = bound
+    return {"words": [f"The script has too many orders: in {ORDER_SECONDS} seconds the search met more than "
+                      f"{most} different beginnings of orders. Try fewer lines or processes."]}
+
+
+def threaded(program: str, swaps: list[str], text: str) -> Any:
+    """The order of the calls of a run with a thread for each process, with their replies."""
+    fault, words = read_fault(text)
+    if fault:
+        return {**fault, "words": words}
+    command, environment = limited(program)
+    done = subprocess.run([*command, "threads", *swaps], input=text.encode("latin-1"), capture_output=True,
+                          check=False, env=environment)
+    if done.returncode:
+        return {"words": [done.stderr.decode(errors="replace").strip() or "the run was ended"]}
+    lines = done.stdout.decode("latin-1").partition("key ")[0].splitlines()
+    return {"schedule": [line.split()[1] for line in lines], "lines": lines, "words": []}
+
+
+ANSWERS = {"run": answer, "orders": orders, "threads": threaded}
+
 if __name__ == "__main__":
-    print(json.dumps(answer(sys.argv[1], sys.argv[2:], sys.stdin.buffer.read().decode("latin-1"))))
+    kind, path, *rest = sys.argv[1:]
+    print(json.dumps(ANSWERS[kind](path, rest, sys.stdin.buffer.read().decode("latin-1"))))

@@ -1,5 +1,5 @@
-"""Makes docs/pages, ready to open: the viewer's pages of the lessons of docs/TOUR.md, and of the record in
-docs/RUN.md.
+"""Makes docs/pages, ready to open: the viewer's pages of the lessons of docs/TOUR.md and of the solutions of
+their tasks, and of the record in docs/RUN.md.
 
     tools/pages          makes the pages
     tools/pages check    compares the stored pages with the program's; the status is 1 if one differs
@@ -24,8 +24,10 @@ VIEWER = os.environ.get("VIEWER", f"{TOP}/shmview").split()
 def made_pages() -> dict[str, bytes]:
     """Returns each page by its path."""
     pages: dict[str, bytes] = {}
-    for name in (*(lesson["example"] for lesson in lessons_of(f"{TOP}/docs/TOUR.md")), *RECORDS):
-        path = f"{TOP}/examples/{name}.shm"
+    lessons = [lesson["example"] for lesson in lessons_of(f"{TOP}/docs/TOUR.md")]
+    paths = {name: f"{TOP}/examples/{name}.shm" for name in (*lessons, *RECORDS)}
+    paths |= {f"{name}-solution": f"{TOP}/examples/solutions/{name}.shm" for name in lessons}
+    for name, path in paths.items():
         with open(path, "rb") as script:
             done = subprocess.run([*VIEWER, *swaps_beside(path)], stdin=script, stdout=subprocess.PIPE,
                                   check=True)

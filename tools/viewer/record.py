@@ -115,7 +115,7 @@ def counted(number: int, name: str) -> str:
 def say_segments(before: Step, after: Step) -> Iterator[str]:
     for seg, (pages, status, held) in after.segments.items():
         if seg not in before.segments:
-            yield f"segment {seg} was made, with {counted(pages, 'page')} of zeros"
+            yield f"segment {seg} was created with {counted(pages, 'page')} of zeros"
             continue
         had, has = before.segments[seg][1].split(","), status.split(",")
         if "dest" in has and "dest" not in had:
@@ -146,7 +146,7 @@ def left(page: tuple[str, str], before: Step, after: Step) -> str:
     """Where a page is that left its frame."""
     frame, slot = before.frame_of[page], after.slot_of.get(page)
     if slot is None:
-        return f"{named(page)}, never stored into, left frame {frame}"
+        return f"{named(page)}, which was never stored into, left frame {frame}"
     if before.frames[frame][2]:
         return f"{named(page)} went to {placed(slot, after)}"
     return f"{named(page)} was clean and stays in {placed(slot, after)}"
@@ -184,7 +184,7 @@ def say_bits(before: Step, after: Step) -> Iterator[str]:
         if dirty and not was_dirty:
             changed.append(page)
     for page, slot in written:
-        yield (f"{named(page)} was written to {placed(slot, after)} and stays in its frame, clean" if slot
+        yield (f"{named(page)} was written to {placed(slot, after)} and stays in its frame, now clean" if slot
                else f"{named(page)} is clean")
     for page in changed:
         yield f"{named(page)} is dirty"
@@ -214,13 +214,13 @@ def say_clock(before: Step, after: Step) -> Iterator[str]:
 def say_areas(before: Step, after: Step) -> Iterator[str]:
     for at, (was, is_there) in enumerate(zip(before.areas, after.areas)):
         if was and not is_there:
-            yield f"swap area {at} was taken away"
+            yield f"swap area {at} was removed"
     now = after.slot_of
     for page, slot in before.slot_of.items():
         if page in now and now[page] != slot:
             yield f"{named(page)} moved from {placed(slot, before)} to {placed(now[page], after)}"
         elif page not in now and page[0] in after.segments:
-            yield f"{named(page)} gave back {placed(slot, before)}"
+            yield f"{named(page)} released {placed(slot, before)}"
     if after.failures > before.failures:
         yield "a swap area failed, and no byte changed"
 
@@ -255,7 +255,7 @@ def bytes_of(first: int, last: int) -> str:
 def placed_now(page: tuple[str, str], step: Step) -> str:
     if page in step.frame_of:
         return f"in frame {step.frame_of[page]}"
-    return f"in {placed(step.slot_of[page], step)}" if page in step.slot_of else "with zeros alone"
+    return f"in {placed(step.slot_of[page], step)}" if page in step.slot_of else "which is all zeros"
 
 
 def say_access(_before: Step, after: Step) -> Iterator[str]:
@@ -353,24 +353,24 @@ def turns(before: Step, after: Step) -> list[list[Any]]:
 # why a call was refused: by the call and the error, or else by the error only
 REASONS = {
     ("shmget", "EINVAL"): "the size is not allowed, or the segment with this key is smaller",
-    ("shmget", "ENOMEM"): "swap space for its pages is not left",
+    ("shmget", "ENOMEM"): "there is not enough swap space for its pages",
     ("shmat", "EINVAL"): "there is no such segment, or this address may not be used",
     ("shmat", "ENOMEM"): "no gap between the attachments is large enough",
     ("shmdt", "EINVAL"): "no attachment begins at this address",
     ("lock", "ENOMEM"): "more pages would be locked than the limit allows",
     ("swapoff", "EINVAL"): "there is no such swap area",
     ("swapoff", "ENOMEM"): "the other areas have fewer slots than the segments have pages",
-    ("swapoff", "EPERM"): "only user 0 may take a swap area away",
+    ("swapoff", "EPERM"): "only user 0 may remove a swap area",
     "EPERM": "only the owner, the creator and user 0 may do this",
     "ENOENT": "no segment has this key",
     "ESRCH": "the process is not alive",
     "EIO": "a swap area failed",
-    "EAGAIN": "no process of this number waits to be born",
-    "EACCES": "the permissions of the segment do not allow it",
-    "EEXIST": "a segment has this key already",
+    "EAGAIN": "no child with this pid waits to be forked",
+    "EACCES": "the segment's permissions do not allow it",
+    "EEXIST": "a segment with this key already exists",
     "EINVAL": "there was never a segment with this identifier",
     "EMFILE": "the process would have more than 256 attachments",
-    "ENOSPC": "there are as many segments, or pages of segments, as the limits allow",
+    "ENOSPC": "the limits allow no more segments, or no more pages of segments",
     "EIDRM": "the segment with this identifier was destroyed",
 }
 # what a call answered that changed nothing
@@ -396,7 +396,7 @@ def unchanged(before: Step, after: Step) -> str:
     words = after.words
     if words[0] == "flush":
         is_dirty = any(dirty for _, _, dirty in before.frames.values())
-        return ("nothing was written: each dirty page is of a locked segment" if is_dirty
+        return ("nothing was written: each dirty page belongs to a locked segment" if is_dirty
                 else "nothing was written: no page is dirty")
     of = words[4] if len(words) > 5 else ""
     return UNCHANGED.get(words[3], "nothing changed").format(of=of, reply=after.reply, pid=words[2])
@@ -436,7 +436,7 @@ def say_start(step: Step) -> Iterator[str]:
                  f"{'are' if len(live) > 1 else 'is'} alive")
         yield (f"{counted(step.frame_count, 'frame')} {'is' if step.frame_count == 1 else 'are'} free, and "
                f"{areas}")
-        yield f"no segment is there; {alive}" if live else "no segment is there"
+        yield f"there is no segment yet; {alive}" if live else "there is no segment yet"
 
 
 def sentences(before: Step, after: Step) -> list[str]:

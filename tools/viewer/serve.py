@@ -2,11 +2,12 @@
 """Serves a page, only on this machine, in which a script is edited next to its picture: `shmview --serve`
 starts it.
 
-    tools/viewer/serve.py PROGRAM PACKAGES EXAMPLES TOUR PORT SCRIPT SWAP...
+    tools/viewer/serve.py SHMVIEW SHMCHECK SHMSIM PACKAGES EXAMPLES TOUR PORT SCRIPT SWAP...
 
-SCRIPT may be empty; PORT 0 is any free one. Only 127.0.0.1 is listened to, and only addresses that begin with
-a token, new at each start, are answered. Two things are served: the page, which is made before the first
-request, and the answer to a script (answer.py). No request names a file.
+The second and the third program may be empty, and so may SCRIPT; PORT 0 is any free one. Only 127.0.0.1 is
+listened to, and only addresses that begin with a token, new at each start, are answered. Two things are
+served: the page, which is made before the first request, and the answers to a script (answer.py). No request
+names a file.
 """
 
 from __future__ import annotations
@@ -25,7 +26,7 @@ import webbrowser
 from http.server import BaseHTTPRequestHandler, ThreadingHTTPServer
 from typing import Any
 
-from show import filled, told_of
+from show import filled, task_of, told_of, without_task
 
 HERE = os.path.dirname(os.path.abspath(__file__))
 MOST_BYTES = 1 << 20            # of a request's body
@@ -34,6 +35,8 @@ MOST_AT_ONCE = 32               # requests; those beyond are answered 503
 RUN_SECONDS, RUN_BYTES = 10, 1 << 30
 WAIT_SECONDS = 30               # for other runs to end
 IDLE_SECONDS = 10               # for a request to arrive
+# the program of each kind of answer
+NEEDED = {"run": "shmview", "orders": "shmcheck", "threads": "shmsim"}
 SWAP = re.compile(r"(ram|sparse|mirror):[0-9]{1,9}|fuse:[0-9]{1,9}:[rw][0-9]{1,20}")
 # what the page may load and ask: itself alone
 HEADERS = {
@@ -59,9 +62,15 @@ def swaps_beside(path: str) -> Any:
     return read(beside).split() if os.path.isfile(beside) else ["ram:64"]
 
 
+def opened(path: str) -> dict[str, Any]:
+    """Returns a script without its task, the task, and the swap words."""
+    script = read(path)
+    return {"script": without_task(script), "task": task_of(script), "swap": swaps_beside(path)}
+
+
 def examples_of(folder: str) -> Any:
-    """Returns the examples: their names, scripts and swap words."""
-    return [{"name": os.path.basename(path)[:-4], "script": read(path), "swap": swaps_beside(path)}
+    """Returns the examples: their names, scripts, tasks and swap words."""
+    return [{"name": os.path.basename(path)[:-4], **opened(path)}
             for path in sorted(glob.glob(os.path.join(glob.escape(folder), "*.shm")))]
 
 
@@ -96,23 +105,27 @@ def text_of(body: Any) -> Any:
 class Runner:
     """One run at a time, with a limit of time and of memory."""
 
-    def __init__(self, program: Any, packages: Any) -> None:
-        self.words = [sys.executable, "-B", os.path.join(HERE, "answer.py"), program]
+    def __init__(self, programs: dict[str, str], packages: str) -> None:
+        self.programs = programs
         self.environment = {**os.environ, "PYTHONPATH": packages}
         self.turn = threading.Lock()
 
-    def run(self, script: Any, swaps: Any) -> Any:
+    def run(self, kind: str, script: bytes, swaps: list[str]) -> bytes | None:
         """Returns an answer as JSON; None if other runs did not end in time."""
+        if not self.programs[kind]:
+            told = f"./{NEEDED[kind]} is not built. Run it once, and start this page again."
+            return json.dumps({"words": [told]}).encode()
         if not self.turn.acquire(timeout=WAIT_SECONDS):
             return None
         try:
-            return self.limited(script, swaps)
+            words = [os.path.join(HERE, "answer.py"), kind, self.programs[kind], *swaps]
+            return self.limited(script, [sys.executable, "-B", *words])
         finally:
             self.turn.release()
 
-    def limited(self, script: bytes, swaps: list[str]) -> bytes:
+    def limited(self, script: bytes, words: list[str]) -> bytes:
         limits = f"ulimit -S -v {RUN_BYTES >> 10}; ulimit -t {RUN_SECONDS}; exec \"$@\""
-        with subprocess.Popen(["sh", "-c", limits, "sh", *self.words, *swaps], stdin=subprocess.PIPE,
+        with subprocess.Popen(["sh", "-c", limits, "sh", *words], stdin=subprocess.PIPE,
                               stdout=subprocess.PIPE,
                               stderr=subprocess.DEVNULL, start_new_session=True,
                               env=self.environment) as process:
@@ -128,9 +141,9 @@ class Runner:
                     os.killpg(process.pid, signal.SIGKILL)
         if process.returncode == 0 and len(said) <= MOST_ANSWER:
             return said
-        words = (f"the run was ended: a run here has {RUN_SECONDS} seconds and {RUN_BYTES >> 20} MiB; "
-                 f"./shmview --steps has no such limit")
-        return json.dumps({"line": 0, "column": 0, "length": 0, "words": [words]}).encode()
+        told = (f"the run was ended: a run here has {RUN_SECONDS} seconds and {RUN_BYTES >> 20} MiB; "
+                f"./shmview --steps has no such limit")
+        return json.dumps({"line": 0, "column": 0, "length": 0, "words": [told]}).encode()
 
 
 def feed(stream: Any, data: Any) -> None:
@@ -174,8 +187,8 @@ class Handler(BaseHTTPRequestHandler):
             self.reply(404)
 
     def do_POST(self) -> None:
-        is_run = self.is_allowed("/run")
-        if not is_run and not self.is_allowed("/page"):
+        kind = next((it for it in (*NEEDED, "page") if self.is_allowed("/" + it)), "")
+        if not kind:
             self.reply(404)
             return
         length = self.headers.get("Content-Length", "")
@@ -184,9 +197,9 @@ class Handler(BaseHTTPRequestHandler):
         elif int(length) > MOST_BYTES:
             self.reply(413)
         else:
-            self.answer(self.rfile.read(int(length)), is_run)
+            self.answer(self.rfile.read(int(length)), kind)
 
-    def answer(self, body: bytes, is_run: bool) -> None:
+    def answer(self, body: bytes, kind: str) -> None:
         try:
             asked = json.loads(body)
             script = asked["script"].encode("utf-8", "surrogatepass")
@@ -197,10 +210,11 @@ class Handler(BaseHTTPRequestHandler):
         if not is_right:
             self.reply(400)
             return
-        said = self.server.runner.run(script, swaps)
+        runner = self.server.runner
+        said = runner.run("run" if kind == "page" else kind, script, swaps)
         if said is None:
             self.reply(503)
-        elif is_run:
+        elif kind != "page":
             self.reply(200, said, "application/json")
         else:
             self.save(json.loads(said), step)
@@ -243,26 +257,27 @@ class Server(ThreadingHTTPServer):
         """A client that disconnected or was too slow is not an error of the server."""
 
 
-def served_page(opened: Any, choices: Any) -> Any:
+def served_page(begun: Any, choices: Any) -> Any:
     """The page with its editor, its examples and its lessons."""
     with open(os.path.join(HERE, "editor.html"), encoding="utf-8") as file:
         editor = file.read()
-    data = json.dumps({**choices, **opened}).replace("<", "\\u003c")
+    data = json.dumps({**choices, **begun}).replace("<", "\\u003c")
     return filled("", told_of("")).replace("</body>", editor.replace("@CHOICES@", data) + "</body>")
 
 
-def main(program: Any, packages: Any, examples: Any, tour: Any, port: Any, path: str, *swaps: Any) -> Any:
+def main(program: str, checker: str, shmsim: str, packages: Any, examples: Any, tour: Any, port: Any,
+         path: str, *swaps: Any) -> Any:
     choices = {"examples": examples_of(examples), "lessons": lessons_of(tour)}
     named = {it["name"]: it for it in choices["examples"]}
     shown = [named[it["example"]]
              for it in choices["lessons"] if it["example"] in named] + choices["examples"]
     first = shown[0] if shown else {"script": "limits 65536 16 64 4 1\nprocess 1 1 1\n", "swap": ["ram:64"]}
-    opened = {"script": read(path),
-              "swap": swaps_beside(path)} if path else {key: first[key] for key in ("script", "swap")}
+    begun = opened(path) if path else {key: it for key, it in first.items() if key != "name"}
     if swaps:
-        opened["swap"] = swaps
+        begun["swap"] = swaps
     try:
-        server = Server(int(port), Runner(program, packages), served_page(opened, choices))
+        programs = dict(zip(NEEDED, (program, checker, shmsim)))
+        server = Server(int(port), Runner(programs, packages), served_page(begun, choices))
     except OSError as error:
         print(f"shmview: port {port} of 127.0.0.1 is not free: {error.strerror}", file=sys.stderr)
         return 3

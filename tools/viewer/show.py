@@ -13,6 +13,7 @@ from __future__ import annotations
 
 import json
 import os
+import re
 import sys
 from typing import Any, Optional, Tuple
 
@@ -23,12 +24,27 @@ HERE = os.path.dirname(os.path.abspath(__file__))
 Line = Tuple[str, Optional[int]]
 
 
+# the task of a lesson, in comments of its file
+TASK = re.compile(r"^# (task|goal|hint): (.*)\n?", re.M)
+
+
+def task_of(script: str) -> dict[str, str] | None:
+    """Returns the task of a script: its words, its goal, which the page checks, and its hint. A script that
+    lacks one of them has no task."""
+    found = dict(TASK.findall(script))
+    return found if len(found) == 3 else None
+
+
+def without_task(script: str) -> str:
+    return TASK.sub("", script) if task_of(script) else script
+
+
 def lines_of(script: str) -> list[Line]:
-    """Returns the lines of a script, each with the number of its step: commands and flush lines begin with a
-    number."""
+    """Returns the lines of a script without its task, each with the number of its step: commands and flush
+    lines begin with a number."""
     lines: list[Line] = []
     step = 0
-    for line in script.rstrip("\n").split("\n"):
+    for line in without_task(script).rstrip("\n").split("\n"):
         is_step = line.strip()[:1].isdigit()
         step += is_step
         lines.append((line, step if is_step else None))
@@ -57,6 +73,7 @@ def told_of(text: str, script: str = "", asked: str = "") -> dict[str, Any]:
     return {
         "title": title_of(lines),
         "script": lines,
+        "task": task_of(script),
         "first": first,
         "last": last,
         "said": dict(all_sentences(shown, first)),
