@@ -14,7 +14,7 @@ The rules of each call are those of docs/MACHINE.md.
 """
 from ._library import LibraryMissing, library_version
 from ._version import VERSION as __version__
-from .errors import (BadOpening, BusError, ClosedMachine, Fault, Incomplete, MachineError, NoMemory,
+from .errors import (BadOpening, BusError, ClosedMachine, Fault, Incomplete, Lent, MachineError, NoMemory,
                      NotAdmitted, NotDismissed, OutOfRange,
                      Refused, SegmentationFault, Spent)
 from .machine import (PRIVATE, Area, Failure, Flag, Flushed, Limits, Machine, Piece, Process, ProcessEntry,
@@ -24,7 +24,7 @@ from .script import Script, ScriptFault, areas_of, read_script
 
 __all__ = ["PRIVATE", "Area", "BadOpening", "BusError", "ClosedMachine", "Failure", "Fault", "Flag",
            "Flushed", "Incomplete",
-           "LibraryMissing", "Limits", "Machine", "MachineError", "NoMemory", "NotAdmitted", "NotDismissed",
+           "Lent", "LibraryMissing", "Limits", "Machine", "MachineError", "NoMemory", "NotAdmitted", "NotDismissed",
            "OutOfRange", "Piece",
            "Process", "ProcessEntry", "Refused", "Rules", "Script", "ScriptFault", "SegmentationFault",
            "Segment", "Spent", "State", "Tally",

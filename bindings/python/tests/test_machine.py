@@ -791,7 +791,7 @@ class Binding(unittest.TestCase):
                                  "uint64_t": ctypes.c_uint64, "size_t": ctypes.c_size_t,
                  "uint8_t": ctypes.c_uint8, **{f"nog_{n}": s for n, s in zip(
                      ("machine", "limits", "area", "failure", "process", "segment", "tally", "flushed",
-                      "usage", "piece"), low.STRUCTS)}}
+                      "usage", "piece", "frame"), low.STRUCTS)}}
         for name, text in re.findall(r"^uint32_t (nog_\w+)\((.*?)\);", self.header, re.S | re.M):
             wanted: list[Any] = []
             for word in text.split(","):

@@ -129,6 +129,8 @@ codes! {
     OUT_OF_RANGE = 2003;
     /// 2^64 - 1 calls were counted.
     SPENT = 2004;
+    /// A page on loan is in the way: the one that is needed, or the one that would have to leave its frame.
+    LENT = 2005;
     /// [`Machine::admit`]: the pid is 0, or above 2147483647.
     ADMIT_BAD_PID = 2031;
     /// [`Machine::admit`]: the pid is that of a live process, or of a child that is not born.

@@ -46,7 +46,8 @@ fn the_structs_are_the_librarys() {
     same!(7, raw::Flushed, written failed);
     same!(8, raw::Usage, used_ids pages resident swapped highest);
     same!(9, raw::Piece, base segment first_page pages is_writable may_write unused);
-    assert_eq!(layout(10, 0), None, "one more struct");
+    same!(10, raw::Frame, id page is_referenced is_dirty is_lent is_locked);
+    assert_eq!(layout(11, 0), None, "one more struct");
 }
 
 #[test]
@@ -299,6 +300,7 @@ fn each_errno_has_linuxs_number() {
     for (errno, number, name) in numbers {
         assert_eq!((errno.0, errno.text().as_str()), (number, name));
     }
+    assert_eq!((Errno::LENT.0, Errno::LENT.text().as_str()), (2005, "a page on loan is in the way"));
 }
 
 #[test]
