@@ -22,9 +22,9 @@
    a process, nog_get to nog_swapoff, returns NOG_SPENT if 2^64 - 1 calls were counted before it. Otherwise it returns
    NOG_ESRCH if no live process has the pid: it is unborn, has ended, or was neither declared nor admitted. Below, each
    function lists its other codes in the order in which they are tested. For a call of a process NOG_OUT_OF_RANGE is
-   tested before every other code, those three included, and so is the length of nog_lend and nog_give_back; for any
-   other function it is tested after NOG_CLOSED, where it is listed. Of the codes of errno(3) the first that applies is
-   returned. NOG_NO_MEMORY is tested last, so it replaces only 0.
+   tested before every other code, those three included; for any other function it is tested after NOG_CLOSED, where it
+   is listed. Of the codes of errno(3) the first that applies is returned. NOG_NO_MEMORY is tested last, so it replaces
+   only 0.
 
    POINTERS point to as much memory as their types, and the counts or lengths next to them, say. A pointer may be null
    if its count or length is 0, and only then. No two pointers of a call overlap, but nog_snapshot may be given one

@@ -66,9 +66,9 @@ static void test_closed(nog_machine *m) {
     ANSWER(nog_lend(m, 0, 0, out.bytes, PAGE), NOG_CLOSED);
     ANSWER(nog_give_back(m, 0, 0, out.bytes, PAGE), NOG_CLOSED);
     ANSWER(nog_give_back(m, 0, 0, out.bytes, 0), NOG_CLOSED);
-    ANSWER(nog_lend(m, 0, 0, out.bytes, 0), NOG_OUT_OF_RANGE);
-    ANSWER(nog_lend(m, 0, 0, out.bytes, PAGE - 1), NOG_OUT_OF_RANGE);
-    ANSWER(nog_give_back(m, 0, 0, out.bytes, 1), NOG_OUT_OF_RANGE);
+    ANSWER(nog_lend(m, 0, 0, out.bytes, 0), NOG_CLOSED);
+    ANSWER(nog_lend(m, 0, 0, out.bytes, PAGE - 1), NOG_CLOSED);
+    ANSWER(nog_give_back(m, 0, 0, out.bytes, 1), NOG_CLOSED);
     ANSWER(nog_leaver(m, &out.frame), NOG_CLOSED);
     ANSWER(nog_frame_at(m, 0, &out.frame), NOG_CLOSED);
     ANSWER(nog_page_at(m, ROOT, LOWEST, &out.id, &out.indexes, &out.is_writable), NOG_CLOSED);
