@@ -484,8 +484,8 @@ uint32_t nog_give_back(nog_machine *machine, int32_t id, uint32_t page, const ui
    NOG_OUT_OF_RANGE: a frame is free, so no page would leave. */
 uint32_t nog_leaver(nog_machine *machine, nog_frame *frame);
 
-/* The frame that the clock's hand meets after `place` others. Of those before the leaver the referenced ones lose their
-   bit when a page comes in; if the leaver is referenced itself, all do.
+/* The frame that the clock's hand meets after `place` others. When a page comes in, those before the leaver lose their
+   referenced bit; if the leaver is referenced itself, all do. Frames of locked segments keep theirs.
    NOG_OUT_OF_RANGE: there are not that many frames, or this one is free. */
 uint32_t nog_frame_at(nog_machine *machine, uint32_t place, nog_frame *frame);
 

@@ -421,10 +421,12 @@ static void test_locked(void) {
     TEST(leaver() == 0);
     ANSWER(load(3), NOG_DONE);
     TEST(is_in(locked, 0) && !is_in(id, 0) && leaver() == 1);
+    /* the hand passes over a locked page, whose bit it does not clear */
+    TEST(frame_of(locked, 0).is_referenced == 1 && frame_of(id, 1).is_referenced == 0);
     ANSWER(nog_unlock(&m, ROOT, locked), NOG_DONE);
     TEST(frame_of(locked, 0).is_locked == 0 && frame_of(locked, 0).is_lent == 1);
     load_each(4, 6);
-    /* the hand has come round to the page that was locked, where all are referenced */
+    /* all are referenced, and the hand has come round to the page that was locked */
     ANSWER(load(6), NOG_LENT);
     TEST(is_in(locked, 0));
     ANSWER(back(locked, 0), NOG_DONE);
