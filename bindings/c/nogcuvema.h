@@ -14,7 +14,7 @@
    may have changed before.
    NOG_SIGBUS and NOG_EIO name a swap area's failure: no byte of a segment changed, and no process, segment or
    attachment. But pages may have come into frames or left them, and the counts of the memory may have risen.
-   A code from 2001 on: nothing at all.
+   A code from 2001 on: nothing at all; NOG_LENT may have changed what "pages on loan" below says.
    nog_read, nog_write and nog_copy make several calls: the above is true of the call that failed, and those before it
    keep their effect.
 
@@ -27,8 +27,8 @@
    only 0.
 
    POINTERS point to as much memory as their types, and the counts or lengths next to them, say. A pointer may be null
-   if its count or length is 0, and only then. No two pointers of a call overlap. The library keeps no pointer: arrays,
-   buffers and outputs are the caller's.
+   if its count or length is 0, and only then. No two pointers of a call overlap, but nog_snapshot may be given one
+   handle twice. The library keeps no pointer: arrays, buffers and outputs are the caller's.
 
    THREADS. Only one thread at a time may call for a machine. Two threads may use two machines at once. */
 #ifndef NOGCUVEMA_H
@@ -484,8 +484,8 @@ uint32_t nog_give_back(nog_machine *machine, int32_t id, uint32_t page, const ui
    NOG_OUT_OF_RANGE: a frame is free, so no page would leave. */
 uint32_t nog_leaver(nog_machine *machine, nog_frame *frame);
 
-/* The frame that the clock's hand meets after `place` others. Of those before the leaver the referenced ones lose their
-   bit when a page comes in; if the leaver is referenced itself, all do.
+/* The frame that the clock's hand meets after `place` others. When a page comes in, those before the leaver lose their
+   referenced bit; if the leaver is referenced itself, all do. Frames of locked segments keep theirs.
    NOG_OUT_OF_RANGE: there are not that many frames, or this one is free. */
 uint32_t nog_frame_at(nog_machine *machine, uint32_t place, nog_frame *frame);
 

@@ -12,8 +12,9 @@ struct outputs {
     nog_segment segment;
     nog_tally tally;
     nog_flushed flushed;
-    uint32_t indexes;
-    uint8_t bytes[256];
+    uint32_t indexes, is_writable;
+    nog_frame frame;
+    uint8_t bytes[PAGE];
 };
 
 static struct outputs untouched(void) {
@@ -62,6 +63,15 @@ static void test_closed(nog_machine *m) {
     ANSWER(nog_indexes(m, &out.indexes), NOG_CLOSED);
     ANSWER(nog_segment_at(m, 0, &out.segment), NOG_CLOSED);
     ANSWER(nog_calls(m, &out.number), NOG_CLOSED);
+    ANSWER(nog_lend(m, 0, 0, out.bytes, PAGE), NOG_CLOSED);
+    ANSWER(nog_give_back(m, 0, 0, out.bytes, PAGE), NOG_CLOSED);
+    ANSWER(nog_give_back(m, 0, 0, out.bytes, 0), NOG_CLOSED);
+    ANSWER(nog_lend(m, 0, 0, out.bytes, 0), NOG_CLOSED);
+    ANSWER(nog_lend(m, 0, 0, out.bytes, PAGE - 1), NOG_CLOSED);
+    ANSWER(nog_give_back(m, 0, 0, out.bytes, 1), NOG_CLOSED);
+    ANSWER(nog_leaver(m, &out.frame), NOG_CLOSED);
+    ANSWER(nog_frame_at(m, 0, &out.frame), NOG_CLOSED);
+    ANSWER(nog_page_at(m, ROOT, LOWEST, &out.id, &out.indexes, &out.is_writable), NOG_CLOSED);
     ANSWER(nog_close(m), NOG_CLOSED);
     test_untouched(&out);
 }
@@ -439,9 +449,9 @@ static void test_table(nog_machine *m) {
 /* ---- the library ---- */
 
 static void test_texts(void) {
-    static const uint32_t codes[] = {0, 1, 2, 3, 5, 11, 12, 13, 17, 22, 24, 28, 43, 1007, 1011, 2001, 2002, 2003, 2004,
+    static const uint32_t codes[] = {0, 1, 2, 3, 5, 11, 12, 13, 17, 22, 24, 28, 43, 1007, 1011, 2001, 2002, 2003, 2004, 2005,
         2011, 2012, 2013, 2014, 2015, 2016, 2017, 2018, 2019, 2021, 2022, 2023, 2024, 2031, 2032, 2033, 2041, 2042};
-    static const uint32_t no_codes[] = {4, 44, 1008, 2000, 2005, 2010, 2020, 2025, 2030, 2034, 2040, 2043, UINT32_MAX};
+    static const uint32_t no_codes[] = {4, 44, 1008, 2000, 2006, 2010, 2020, 2025, 2030, 2034, 2040, 2043, UINT32_MAX};
     uint8_t text[64], cut[3];
     size_t len, again;
     for (size_t i = 0; i < sizeof codes / sizeof *codes; i++) {

@@ -35,7 +35,10 @@ static const struct place places[] = {
     FIELD(8, 4, nog_usage, swapped), FIELD(8, 5, nog_usage, highest),
     SIZE(9, nog_piece), FIELD(9, 1, nog_piece, base), FIELD(9, 2, nog_piece, segment), FIELD(9, 3, nog_piece, first_page),
     FIELD(9, 4, nog_piece, pages), FIELD(9, 5, nog_piece, is_writable), FIELD(9, 6, nog_piece, may_write),
-    FIELD(9, 7, nog_piece, unused) };
+    FIELD(9, 7, nog_piece, unused),
+    SIZE(10, nog_frame), FIELD(10, 1, nog_frame, id), FIELD(10, 2, nog_frame, page),
+    FIELD(10, 3, nog_frame, is_referenced), FIELD(10, 4, nog_frame, is_dirty), FIELD(10, 5, nog_frame, is_lent),
+    FIELD(10, 6, nog_frame, is_locked) };
 enum { PLACES = sizeof places / sizeof *places };
 
 static int is_as_said(const struct place *place) {

@@ -307,6 +307,49 @@ static void test_snapshot(void) {
     TEST(s.dtime == 500 && s.nattch == 0);
 }
 
+/* a handle given twice: its machine stays, with its bytes and what is still to fail, and nothing leaks */
+static void test_snapshot_of_itself(void) {
+    static const nog_failure third_write = {.is_write = 1, .call = 3};
+    nog_tally before = {0}, after = {0};
+    ANSWER(nog_close(&machine), NOG_DONE);
+    ANSWER(nog_snapshot(&machine, &machine), NOG_CLOSED);
+    ANSWER(nog_open(&machine, &limits, &ram, 1, &third_write, 1, processes, 3), NOG_DONE);
+    int32_t id = make(USER, PAGES, 0600);
+    attach(USER, id, BASE, 0);
+    for (uint64_t i = 0; i < 6; i++) ANSWER(store(USER, page(i), (uint8_t)(i + 1)), NOG_DONE);
+    ANSWER(nog_tally_of(&machine, &before), NOG_DONE);
+    for (int i = 0; i < 3; i++) ANSWER(nog_snapshot(&machine, &machine), NOG_DONE);
+    ANSWER(nog_tally_of(&machine, &after), NOG_DONE);
+    TEST(memcmp(&before, &after, sizeof before) == 0);
+    ANSWER(store(USER, page(6), 7), NOG_SIGBUS);
+    for (uint64_t i = 0; i < 6; i++) TEST(byte_at(&machine, page(i)) == i + 1);
+}
+
+/* while a page is on loan there is no snapshot, and both handles keep their machines */
+static void test_snapshot_lent(void) {
+    static uint8_t bytes[PAGE];
+    nog_machine copy = NOG_MACHINE_INITIALIZER;
+    uint64_t calls = 0;
+    int32_t id = open_attached();
+    ANSWER(store(USER, BASE, 5), NOG_DONE);
+    ANSWER(nog_lend(&machine, id, 0, bytes, PAGE), NOG_DONE);
+    ANSWER(nog_snapshot(&machine, &copy), NOG_LENT);
+    ANSWER(nog_calls(&copy, &calls), NOG_CLOSED);
+    ANSWER(open_usual(&copy), NOG_DONE);
+    ANSWER(nog_exec(&copy, ROOT), NOG_DONE);
+    ANSWER(nog_snapshot(&machine, &copy), NOG_LENT);
+    ANSWER(nog_calls(&copy, &calls), NOG_DONE);
+    TEST(calls == 1);
+    ANSWER(nog_snapshot(&machine, &machine), NOG_LENT);
+    ANSWER(nog_calls(&machine, &calls), NOG_DONE);
+    TEST(calls == 3);
+    /* what matters is what is on loan in the machine that is copied */
+    ANSWER(nog_snapshot(&copy, &machine), NOG_DONE);
+    ANSWER(nog_calls(&machine, &calls), NOG_DONE);
+    TEST(calls == 1);
+    ANSWER(nog_close(&copy), NOG_DONE);
+}
+
 int main(void) {
     test_closed();
     test_unmap();
@@ -317,6 +360,8 @@ int main(void) {
     test_processes();
     test_info();
     test_snapshot();
+    test_snapshot_of_itself();
+    test_snapshot_lent();
     ANSWER(nog_close(&machine), NOG_DONE);
     return finish("mappings");
 }

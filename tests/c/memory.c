@@ -205,6 +205,17 @@ static uint32_t snapshot(nog_machine *m) {
     return code;
 }
 
+/* into its own handle: what was copied goes again, and what lacked memory changed nothing */
+static uint32_t snapshot_here(nog_machine *m) { return nog_snapshot(m, m); }
+
+/* a page is lent, and comes back with another byte */
+static uint32_t lend(nog_machine *m) {
+    static uint8_t bytes[PAGE];
+    uint32_t code = nog_lend(m, 0, 1, bytes, PAGE);
+    bytes[9]++;
+    return code == NOG_DONE ? nog_give_back(m, 0, 1, bytes, PAGE) : code;
+}
+
 /* a copy of more bytes than a heap has */
 static void copy_too_much(nog_machine *m) {
     uint64_t done = 99, counted = 0, calls = 1;
@@ -259,7 +270,7 @@ static void give_back(nog_machine *m) {
 
 int main(void) {
     static const struct { step make; int takes_memory; } steps[] = {
-        {get, 1}, {attach, 1}, {fork_child, 0}, {store, 0}, {add, 0}, {snapshot, 1}, {exchange, 0},
+        {get, 1}, {attach, 1}, {fork_child, 0}, {store, 0}, {add, 0}, {snapshot, 1}, {snapshot_here, 1}, {lend, 0}, {exchange, 0},
         {compare, 0}, {copy_bytes, 1}, {set, 0}, {flush, 0}, {protect, 0}, {unprotect, 0}, {unmap, 0},
         {snapshot, 1}, {detach, 0}, {exec, 0}, {remove_it, 0}, {get, 1}, {attach_next, 1}, {store, 0}, {detach, 0}, {remove_next, 0}, {swapoff, 0}, {end, 0} };
     nog_machine machine = NOG_MACHINE_INITIALIZER;

@@ -13,6 +13,7 @@ static const struct { uint32_t code; const char *text; } texts[] = {
     {NOG_EMFILE, "EMFILE"}, {NOG_ENOSPC, "ENOSPC"}, {NOG_EIDRM, "EIDRM"}, {NOG_SIGBUS, "SIGBUS"}, {NOG_SIGSEGV, "SIGSEGV"},
     {NOG_NO_MEMORY, "out of memory"}, {NOG_CLOSED, "no machine in the handle"},
     {NOG_OUT_OF_RANGE, "a number that no call can carry"}, {NOG_SPENT, "no more calls can be counted"},
+    {NOG_LENT, "a page on loan is in the way"},
     {NOG_BAD_SHMMAX, "bad limits: SHMMAX"}, {NOG_BAD_SHMMNI, "bad limits: SHMMNI"}, {NOG_BAD_SHMALL, "bad limits: SHMALL"},
     {NOG_BAD_FRAMES, "bad limits: frames"}, {NOG_BAD_MEMLOCK, "bad limits: MEMLOCK"},
     {NOG_BAD_MOST_PIECES, "bad limits: the most pieces of a process"}, {NOG_BAD_MOST_PROCESSES, "bad limits: the most processes"},
@@ -30,7 +31,7 @@ static const struct { uint32_t here, there; } same[] = {
     {NOG_EIDRM, EIDRM}, {NOG_SIGBUS, 1000 + SIGBUS}, {NOG_SIGSEGV, 1000 + SIGSEGV}, {NOG_PRIVATE, IPC_PRIVATE},
     {NOG_CREAT, IPC_CREAT}, {NOG_EXCL, IPC_EXCL}, {NOG_RDONLY, SHM_RDONLY}, {NOG_RND, SHM_RND}, {NOG_REMAP, SHM_REMAP},
     {NOG_DEST, SHM_DEST}, {NOG_LOCKED, SHM_LOCKED},
-    {NOG_BAD_SHMMAX, NOG_BAD_LIMITS + 1}, {NOG_BAD_MEMLOCK, NOG_BAD_LIMITS + 5}, {NOG_BAD_AREAS, NOG_START_REFUSED + 1},
+    {NOG_LENT, 2005}, {NOG_BAD_SHMMAX, NOG_BAD_LIMITS + 1}, {NOG_BAD_MEMLOCK, NOG_BAD_LIMITS + 5}, {NOG_BAD_AREAS, NOG_START_REFUSED + 1},
     {NOG_BAD_PID, NOG_START_REFUSED + 4} };
 
 static void test_texts(void) {
@@ -82,6 +83,7 @@ static void test_kinds(nog_machine *m) {
 
 /* a null pointer with a count or a length of 0 is like any other pointer */
 static void test_nulls(nog_machine *m) {
+    static uint8_t page[PAGE];
     uint64_t done = 7, at = 0;
     size_t len = 0;
     int32_t id = -1;
@@ -98,6 +100,9 @@ static void test_nulls(nog_machine *m) {
     done = 7;
     ANSWER(nog_write(m, ROOT, at, NULL, 0, &done), NOG_DONE);
     TEST(done == 0);
+    ANSWER(nog_lend(m, id, 0, NULL, 0), NOG_OUT_OF_RANGE);
+    ANSWER(nog_lend(m, id, 0, page, PAGE), NOG_DONE);
+    ANSWER(nog_give_back(m, id, 0, NULL, 0), NOG_DONE);
     ANSWER(nog_text(NOG_EINVAL, NULL, 0, &len), NOG_DONE);
     TEST(len == 6);
 }

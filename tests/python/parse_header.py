@@ -11,7 +11,8 @@ import re
 import sys
 from typing import Any
 
-NAMES = ("machine", "limits", "area", "failure", "process", "segment", "tally", "flushed", "usage", "piece")
+NAMES = ("machine", "limits", "area", "failure", "process", "segment", "tally", "flushed", "usage", "piece",
+         "frame")
 TYPES = "typedef unsigned char uint8_t; typedef unsigned int uint32_t; typedef int int32_t;" \
     "typedef unsigned long uint64_t; typedef unsigned long size_t;"
 

@@ -14,18 +14,20 @@ The rules of each call are those of docs/MACHINE.md.
 """
 from ._library import LibraryMissing, library_version
 from ._version import VERSION as __version__
-from .errors import (BadOpening, BusError, ClosedMachine, Fault, Incomplete, MachineError, NoMemory,
+from .errors import (BadOpening, BusError, ClosedMachine, Fault, Incomplete, Lent, MachineError, NoMemory,
                      NotAdmitted, NotDismissed, OutOfRange,
                      Refused, SegmentationFault, Spent)
+from .loans import Frame, Loan, ShownPage
 from .machine import (PRIVATE, Area, Failure, Flag, Flushed, Limits, Machine, Piece, Process, ProcessEntry,
                       Rules, Segment, State,
                       Tally, Usage, child)
 from .script import Script, ScriptFault, areas_of, read_script
 
 __all__ = ["PRIVATE", "Area", "BadOpening", "BusError", "ClosedMachine", "Failure", "Fault", "Flag",
-           "Flushed", "Incomplete",
-           "LibraryMissing", "Limits", "Machine", "MachineError", "NoMemory", "NotAdmitted", "NotDismissed",
+           "Flushed", "Frame", "Incomplete",
+           "Lent", "LibraryMissing", "Limits", "Loan",
+           "Machine", "MachineError", "NoMemory", "NotAdmitted", "NotDismissed",
            "OutOfRange", "Piece",
            "Process", "ProcessEntry", "Refused", "Rules", "Script", "ScriptFault", "SegmentationFault",
-           "Segment", "Spent", "State", "Tally",
+           "Segment", "ShownPage", "Spent", "State", "Tally",
            "Usage", "__version__", "areas_of", "child", "library_version", "read_script"]

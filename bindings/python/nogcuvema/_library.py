@@ -62,10 +62,15 @@ class PieceStruct(Structure):
         (name, c_uint32) for name in ("segment", "first_page", "pages", "is_writable", "may_write", "unused")]
 
 
+class FrameStruct(Structure):
+    _fields_ = [("id", c_int32)] + [
+        (name, c_uint32) for name in ("page", "is_referenced", "is_dirty", "is_lent", "is_locked")]
+
+
 # the structs in the order in which nog_layout numbers them
 STRUCTS = (MachineStruct, LimitsStruct, AreaStruct, FailureStruct, ProcessStruct, SegmentStruct, TallyStruct,
            FlushedStruct,
-           UsageStruct, PieceStruct)
+           UsageStruct, PieceStruct, FrameStruct)
 BYTES = POINTER(c_uint8)
 # the parameters of each function, after the machine
 FUNCTIONS: Dict[str, List[type]] = {
@@ -99,6 +104,11 @@ FUNCTIONS: Dict[str, List[type]] = {
     "nog_read": [c_uint32, c_uint64, BYTES, c_size_t, POINTER(c_uint64)],
     "nog_write": [c_uint32, c_uint64, BYTES, c_size_t, POINTER(c_uint64)],
     "nog_copy": [c_uint32, c_uint64, c_uint32, c_uint64, c_uint64, POINTER(c_uint64)],
+    "nog_lend": [c_int32, c_uint32, BYTES, c_size_t],
+    "nog_give_back": [c_int32, c_uint32, BYTES, c_size_t],
+    "nog_leaver": [POINTER(FrameStruct)],
+    "nog_frame_at": [c_uint32, POINTER(FrameStruct)],
+    "nog_page_at": [c_uint32, c_uint64, POINTER(c_int32), POINTER(c_uint32), POINTER(c_uint32)],
     "nog_flush": [c_uint64, POINTER(FlushedStruct)],
     "nog_tally_of": [POINTER(TallyStruct)],
     "nog_indexes": [POINTER(c_uint32)],

@@ -10,7 +10,7 @@ from typing import Dict, Optional, Type
 
 # codes of the library that are not an errno
 SIGBUS, SIGSEGV = 1007, 1011
-NO_MEMORY, CLOSED, OUT_OF_RANGE, SPENT = 2001, 2002, 2003, 2004
+NO_MEMORY, CLOSED, OUT_OF_RANGE, SPENT, LENT = 2001, 2002, 2003, 2004, 2005
 
 
 class Refused(OSError):
@@ -84,6 +84,11 @@ class Spent(MachineError):
     """The machine has counted 2^64 - 1 calls."""
 
 
+class Lent(MachineError):
+    """A page on loan is in the way: the one that the call needs, or the one that would have to leave its
+    frame, which `leaver` shows. Give it back and repeat the call."""
+
+
 class BadOpening(MachineError, ValueError):
     """Limits, areas or processes with which no machine can be opened."""
 
@@ -112,7 +117,7 @@ _BY_ERRNO: Dict[int, Type[Refused]] = {errno.EPERM: NotPermitted, errno.EACCES: 
                                        errno.ESRCH: NoSuchProcess, errno.EEXIST: KeyTaken,
                                        errno.EAGAIN: NoSuchChild}
 _BY_CODE: Dict[int, Type[MachineError]] = {NO_MEMORY: NoMemory, CLOSED: ClosedMachine,
-                                           OUT_OF_RANGE: OutOfRange, SPENT: Spent,
+                                           OUT_OF_RANGE: OutOfRange, SPENT: Spent, LENT: Lent,
                                            **dict.fromkeys((2031, 2032, 2033), NotAdmitted),
                                            **dict.fromkeys((2041, 2042), NotDismissed)}
 

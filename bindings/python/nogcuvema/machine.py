@@ -10,6 +10,7 @@ from typing import Any, Callable, Dict, Iterable, List, Optional, Sequence, Tupl
 
 from . import _library as low
 from .errors import Incomplete, OUT_OF_RANGE, OutOfRange
+from .loans import PAGE_BYTES, Frame, Loan, ShownPage
 
 Buffer = Union[bytes, bytearray, memoryview]
 PRIVATE = 0
@@ -274,6 +275,11 @@ def _items(values: Any, kind: type, what: str) -> List[Any]:
 def _segment(struct: low.SegmentStruct) -> Segment:
     values = {name: getattr(struct, name) for name, _ in struct._fields_ if name != "status"}
     return Segment(is_marked=bool(struct.status & DEST), is_locked=bool(struct.status & LOCKED), **values)
+
+
+def _frame(struct: low.FrameStruct) -> Frame:
+    bits = (struct.is_referenced, struct.is_dirty, struct.is_lent, struct.is_locked)
+    return Frame(struct.id, struct.page, *map(bool, bits))
 
 
 # the ranges of the limits, in the profile and in a larger machine
@@ -564,7 +570,7 @@ class Machine:
 
     def snapshot(self) -> "Machine":
         """A second machine with the same state, memory and swap areas. The two are independent from then
-        on."""
+        on. Raises `Lent` while a page is on loan."""
         copy = Machine.__new__(Machine)
         copy._library, copy._machine = self._library, low.MachineStruct()
         self._call("nog_snapshot", byref(copy._machine))
@@ -623,6 +629,36 @@ class Machine:
                 raise
             raise Incomplete(done.value, bytes(room)[:done.value], error) from error
         return done.value
+
+    # ---- pages on loan ----
+
+    def lend(self, segment: int, page: int) -> Loan:
+        """Lends a page: it comes in as by a load, and stays in its frame until the loan gives it back. Raises
+        `Lent` if it is on loan, or if the page that `leaver` shows is and would have to leave."""
+        number, place, data = _identifier(segment), _number(page, U32, "page"), bytearray(PAGE_BYTES)
+        room = (c_uint8 * PAGE_BYTES).from_buffer(data)
+        self._call("nog_lend", number, place, room, PAGE_BYTES)
+        return Loan(self, number, place, data)
+
+    def leaver(self) -> Optional[Frame]:
+        """The frame whose page would leave if a page came in now. None if a frame is free. Once this page is
+        back, bringing another one in evicts it and no other page."""
+        struct = low.FrameStruct()
+        return _frame(struct) if self._has("nog_leaver", byref(struct)) else None
+
+    def frame_at(self, place: int) -> Optional[Frame]:
+        """The frame that the clock's hand meets after `place` others. None if there are not that many, or if
+        this one is free."""
+        struct, number = low.FrameStruct(), _number(place, U32, "place")
+        return _frame(struct) if self._has("nog_frame_at", number, byref(struct)) else None
+
+    def page_at(self, pid: int, addr: int) -> ShownPage:
+        """The page that an address of a process shows. Raises `SegmentationFault` if nothing is attached
+        there."""
+        segment, page, is_writable = c_int32(), c_uint32(), c_uint32()
+        self._call("nog_page_at", _pid(pid), _number(addr, U64, "addr"), byref(segment), byref(page),
+                   byref(is_writable))
+        return ShownPage(segment.value, page.value, bool(is_writable.value))
 
     # ---- the machine's memory, and its state ----
 

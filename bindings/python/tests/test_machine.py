@@ -14,10 +14,10 @@ from collections.abc import Callable
 from typing import Any, cast
 
 import nogcuvema
-from nogcuvema import (PRIVATE, Area, BadOpening, BusError, ClosedMachine, Failure, Flag, Flushed, Incomplete,
-                       Limits, Machine,
+from nogcuvema import (PRIVATE, Area, BadOpening, BusError, ClosedMachine, Failure, Flag, Flushed, Frame,
+                       Incomplete, Lent, Limits, Machine,
                        NotAdmitted, NotDismissed, OutOfRange, Piece, Process, ProcessEntry, Refused, Rules,
-                       SegmentationFault, State, Usage, child)
+                       SegmentationFault, ShownPage, State, Usage, child)
 from nogcuvema import _library as low
 
 FIRST = 0x40000000
@@ -525,6 +525,126 @@ class Snapshots(unittest.TestCase):
             self.assertRaises(ClosedMachine, call, *operands)
 
 
+class Loans(unittest.TestCase):
+    def setUp(self) -> None:
+        self.machine = machine(limits=Limits(frames=2, memlock=0))
+        self.addCleanup(self.machine.close)
+        self.segment = self.machine.get(1, PRIVATE, 4 * PAGE)
+        self.at = self.machine.attach(1, self.segment)
+        self.machine.store(1, self.at, b"before")
+
+    def frames(self) -> list[tuple[int, bool, bool]]:
+        """The pages in frames: whether each is dirty and lent."""
+        shown = [self.machine.frame_at(place) for place in range(2)]
+        return sorted((it.page, it.is_dirty, it.is_lent) for it in shown if it)
+
+    def test_bytes_go_out_and_come_back(self) -> None:
+        calls = self.machine.calls()
+        loan = self.machine.lend(self.segment, 0)
+        self.assertEqual((loan.segment, loan.page, len(loan.data), loan.data[:7]),
+                         (self.segment, 0, PAGE, b"before\0"))
+        loan.data[:6] = b"behind"
+        self.assertRaises(Lent, self.machine.load, 1, self.at, 1)
+        self.assertRaises(Lent, self.machine.lend, self.segment, 0)
+        self.assertRaises(Lent, self.machine.snapshot)
+        self.assertFalse(loan.is_given_back)
+        loan.give_back()
+        self.assertTrue(loan.is_given_back)
+        self.assertEqual(self.machine.calls(), calls)
+        self.assertEqual(self.machine.load(1, self.at, 6), b"behind")
+        self.assertRaises(OutOfRange, loan.give_back)
+
+    def test_unchanged_bytes_leave_a_clean_frame(self) -> None:
+        self.machine.flush(2)
+        loan = self.machine.lend(self.segment, 0)
+        loan.data[:6] = b"behind"
+        loan.give_back(changed=False)
+        self.assertEqual(self.frames(), [(0, False, False)])
+        self.assertEqual(self.machine.load(1, self.at, 6), b"before")
+        self.machine.lend(self.segment, 0).give_back(changed=True)
+        self.assertEqual(self.frames(), [(0, True, False)])
+
+    def test_a_block_gives_back_what_it_changed(self) -> None:
+        with self.machine.lend(self.segment, 0) as loan:
+            loan.data[:6] = b"behind"
+        self.assertEqual(self.machine.load(1, self.at, 6), b"behind")
+        with self.machine.lend(self.segment, 0) as loan:
+            loan.data[:6] = b"before"
+            loan.give_back(changed=False)
+        self.assertEqual(self.machine.load(1, self.at, 6), b"behind")
+        with self.assertRaises(KeyError), self.machine.lend(self.segment, 0):
+            raise KeyError
+        self.assertEqual(self.frames(), [(0, True, False)])
+
+    def test_a_dropped_loan_gives_back_unchanged_bytes(self) -> None:
+        self.machine.flush(2)
+        loan = self.machine.lend(self.segment, 0)
+        loan.data[:6] = b"behind"
+        self.assertEqual(self.frames(), [(0, False, True)])
+        del loan
+        gc.collect()
+        self.assertEqual(self.frames(), [(0, False, False)])
+        self.assertEqual(self.machine.load(1, self.at, 6), b"before")
+
+    def test_the_leaver_comes_back_and_leaves(self) -> None:
+        self.assertIsNone(self.machine.leaver())
+        first, second = (self.machine.lend(self.segment, page) for page in (0, 1))
+        self.assertEqual(self.machine.leaver(), Frame(self.segment, 0, True, True, True, False))
+        self.assertRaises(Lent, self.machine.lend, self.segment, 2)
+        first.give_back(changed=False)
+        third = self.machine.lend(self.segment, 2)
+        self.assertEqual(self.frames(), [(1, False, True), (2, False, True)])
+        self.assertEqual([self.machine.frame_at(place) for place in range(3)],
+                         [Frame(self.segment, 1, False, False, True, False),
+                          Frame(self.segment, 2, True, False, True, False), None])
+        for loan in (second, third):
+            loan.give_back()
+
+    def test_pages_of_addresses(self) -> None:
+        other = self.machine.attach(4, self.segment, flags=Flag.RDONLY)
+        self.assertEqual(self.machine.page_at(1, self.at + PAGE), ShownPage(self.segment, 1, True))
+        self.assertEqual(self.machine.page_at(4, other + 4 * PAGE - 1), ShownPage(self.segment, 3, False))
+        self.assertRaises(SegmentationFault, self.machine.page_at, 1, self.at - 1)
+        self.assertRaises(ProcessLookupError, self.machine.page_at, 3, self.at)
+
+    def test_what_can_not_be_lent_or_given_back(self) -> None:
+        with self.assertRaises(Refused) as caught:
+            self.machine.lend(99, 0)
+        self.assertEqual((caught.exception.errno, caught.exception.name), (errno.EINVAL, "EINVAL"))
+        rows: tuple[tuple[Any, ...], ...] = ((self.segment, 4), (self.segment, -1), (self.segment, 2 ** 32),
+                                             (2 ** 31, 0))
+        for operands in rows:
+            self.assertRaises(OutOfRange, self.machine.lend, *operands)
+        self.assertRaises(OutOfRange, self.machine.frame_at, -1)
+        self.assertRaises(TypeError, self.machine.lend, "0", 0)
+        loan = self.machine.lend(self.segment, 0)
+        loan.data.pop()
+        self.assertRaises(OutOfRange, loan.give_back)
+        loan.data.append(0)
+        self.machine.remove(1, self.segment)
+        self.machine.exit(1)
+        self.assertRaises(Refused, loan.give_back)
+
+    def test_a_swap_area_that_fails(self) -> None:
+        with machine(limits=Limits(frames=2, memlock=0), areas=[Area.ram(64, [Failure(1)])]) as it:
+            segment = it.get(1, PRIVATE, 3 * PAGE)
+            at = it.attach(1, segment)
+            for page in range(3):
+                it.store(1, at + page * PAGE, b"abc"[page:page + 1])
+            self.assertRaises(BusError, it.lend, segment, 0)
+            with it.lend(segment, 0) as loan:
+                self.assertEqual(loan.data[0], ord("a"))
+
+    def test_a_closed_machine_lends_nothing(self) -> None:
+        loan = self.machine.lend(self.segment, 0)
+        self.machine.close()
+        rows: tuple[tuple[Any, ...], ...] = ((self.machine.lend, (0, 0)), (self.machine.leaver, ()),
+                                             (self.machine.frame_at, (0,)), (self.machine.page_at, (1, 0)),
+                                             (loan.give_back, ()))
+        for call, operands in rows:
+            self.assertRaises(ClosedMachine, call, *operands)
+
+
 class Opening(unittest.TestCase):
     def test_a_closed_machine(self) -> None:
         with machine() as it:
@@ -791,7 +911,7 @@ class Binding(unittest.TestCase):
                                  "uint64_t": ctypes.c_uint64, "size_t": ctypes.c_size_t,
                  "uint8_t": ctypes.c_uint8, **{f"nog_{n}": s for n, s in zip(
                      ("machine", "limits", "area", "failure", "process", "segment", "tally", "flushed",
-                      "usage", "piece"), low.STRUCTS)}}
+                      "usage", "piece", "frame"), low.STRUCTS)}}
         for name, text in re.findall(r"^uint32_t (nog_\w+)\((.*?)\);", self.header, re.S | re.M):
             wanted: list[Any] = []
             for word in text.split(","):

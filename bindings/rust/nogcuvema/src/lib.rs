@@ -18,11 +18,16 @@ pub mod raw;
 use std::fmt;
 use std::marker::PhantomData;
 use std::ops::Deref;
-use std::ptr::null_mut;
+use std::ptr::{null, null_mut};
+use std::sync::atomic::{AtomicBool, Ordering};
+use std::sync::{Arc, Mutex, PoisonError};
 
 pub use raw::{Flushed, Segment, Tally, Usage};
 
+/// The bytes of a page.
+pub const PAGE_BYTES: usize = 4096;
 const MOST_FLAGS: u64 = 65535;
+const INDEXES: i32 = 32768;
 const MOST_BYTES: u64 = 64;
 const MIRROR: u32 = 3;
 
@@ -129,6 +134,8 @@ codes! {
     OUT_OF_RANGE = 2003;
     /// 2^64 - 1 calls were counted.
     SPENT = 2004;
+    /// A page on loan is in the way: the one that is needed, or the one that would have to leave its frame.
+    LENT = 2005;
     /// [`Machine::admit`]: the pid is 0, or above 2147483647.
     ADMIT_BAD_PID = 2031;
     /// [`Machine::admit`]: the pid is that of a live process, or of a child that is not born.
@@ -452,6 +459,98 @@ impl fmt::Display for Stopped {
 
 impl std::error::Error for Stopped {}
 
+/// A page frame that has a page.
+#[derive(Clone, Copy, Debug, PartialEq, Eq)]
+pub struct Frame {
+    /// The identifier of the page's segment.
+    pub segment: i32,
+    /// The page of the segment, from 0.
+    pub page: u32,
+    /// The page was used since the clock's hand passed.
+    pub is_referenced: bool,
+    /// Its bytes may differ from those in its slot.
+    pub is_dirty: bool,
+    /// It is on loan.
+    pub is_lent: bool,
+    /// Its segment is locked, so the page never leaves.
+    pub is_locked: bool,
+}
+
+impl Frame {
+    fn of(it: &raw::Frame) -> Frame {
+        Frame {
+            segment: it.id,
+            page: it.page,
+            is_referenced: it.is_referenced != 0,
+            is_dirty: it.is_dirty != 0,
+            is_lent: it.is_lent != 0,
+            is_locked: it.is_locked != 0,
+        }
+    }
+}
+
+/// The page that an address of a process shows.
+#[derive(Clone, Copy, Debug, PartialEq, Eq)]
+pub struct ShownPage {
+    /// The identifier of its segment.
+    pub segment: i32,
+    /// The page of the segment.
+    pub page: u32,
+    /// Whether the process may write there.
+    pub is_writable: bool,
+}
+
+// The pages of loans that were dropped; their machine takes them back before its next call.
+#[derive(Default)]
+struct Dropped {
+    is_any: AtomicBool,
+    pages: Mutex<Vec<(i32, u32)>>,
+}
+
+/// A page on loan, from [`Machine::lend`]. A loan that is dropped gives the page back with the bytes that it had when it was
+/// lent, before the machine does anything else.
+#[must_use = "a loan that is dropped gives its page back"]
+pub struct Loan {
+    segment: i32,
+    page: u32,
+    // none once it is given back
+    home: Option<Arc<Dropped>>,
+}
+
+impl Loan {
+    /// The identifier of the page's segment.
+    pub fn segment(&self) -> i32 {
+        self.segment
+    }
+
+    /// The page of the segment.
+    pub fn page(&self) -> u32 {
+        self.page
+    }
+
+    /// Gives the page back to its machine, with the bytes that it has now.
+    ///
+    /// # Errors
+    /// EINVAL if the segment was destroyed, which ended the loan, or if the page is another machine's.
+    pub fn give_back(mut self, machine: &mut Machine, bytes: &[u8; PAGE_BYTES]) -> Answer<()> {
+        match &self.home {
+            Some(home) if Arc::ptr_eq(home, &machine.dropped) => self.home = None,
+            _ => return Err(Errno::EINVAL),
+        }
+        // SAFETY: the handle is open, and the bytes are as many as is said.
+        done(unsafe { raw::nog_give_back(machine.handle(), self.segment, self.page, bytes.as_ptr(), bytes.len()) })
+    }
+}
+
+impl Drop for Loan {
+    fn drop(&mut self) {
+        if let Some(home) = self.home.take() {
+            home.pages.lock().unwrap_or_else(PoisonError::into_inner).push((self.segment, self.page));
+            home.is_any.store(true, Ordering::Release);
+        }
+    }
+}
+
 /// The processes, segments, page frames and swap areas of one guest system. It may move to another thread; only one thread at
 /// a time may use it.
 pub struct Machine {
@@ -459,6 +558,7 @@ pub struct Machine {
     // the handle's memory is this machine's own
     owns: PhantomData<Box<[u8]>>,
     bad: Option<BadNumber>,
+    dropped: Arc<Dropped>,
 }
 
 // SAFETY: the library has no state but its machines, and a machine is used by one thread at a time.
@@ -572,6 +672,7 @@ impl Machine {
             handle,
             owns: PhantomData,
             bad: None,
+            dropped: Arc::default(),
         })
     }
 
@@ -584,6 +685,24 @@ impl Machine {
             errno,
             number: bad_opening(errno.0, limits, areas, processes),
         })
+    }
+
+    // The handle for a call, after the pages of dropped loans came back.
+    fn handle(&mut self) -> &mut raw::Handle {
+        if self.dropped.is_any.load(Ordering::Acquire) {
+            self.take_back();
+        }
+        &mut self.handle
+    }
+
+    #[cold]
+    fn take_back(&mut self) {
+        let mut pages = self.dropped.pages.lock().unwrap_or_else(PoisonError::into_inner);
+        self.dropped.is_any.store(false, Ordering::Release);
+        for (segment, page) in pages.drain(..) {
+            // If the segment was destroyed, its loans have ended.
+            unsafe { raw::nog_give_back(&mut self.handle, segment, page, null(), 0) };
+        }
     }
 
     // Refuses a number that is out of its range, before the call.
@@ -608,7 +727,7 @@ impl Machine {
         self.within("mode", mode.into(), 0, 0o777)?;
         self.within("flags", flags.into(), 0, MOST_FLAGS)?;
         let mut id = 0;
-        done(unsafe { raw::nog_get(&mut self.handle, pid, key, size, mode, flags, &mut id) })?;
+        done(unsafe { raw::nog_get(self.handle(), pid, key, size, mode, flags, &mut id) })?;
         Ok(id)
     }
 
@@ -619,7 +738,7 @@ impl Machine {
     pub fn attach(&mut self, pid: u32, id: i32, addr: u64, flags: u32) -> Answer<u64> {
         self.within("flags", flags.into(), 0, MOST_FLAGS)?;
         let mut at = 0;
-        done(unsafe { raw::nog_attach(&mut self.handle, pid, id, addr, flags, &mut at) })?;
+        done(unsafe { raw::nog_attach(self.handle(), pid, id, addr, flags, &mut at) })?;
         Ok(at)
     }
 
@@ -628,7 +747,7 @@ impl Machine {
     /// # Errors
     /// EINVAL, ESRCH.
     pub fn detach(&mut self, pid: u32, addr: u64) -> Answer<()> {
-        done(unsafe { raw::nog_detach(&mut self.handle, pid, addr) })
+        done(unsafe { raw::nog_detach(self.handle(), pid, addr) })
     }
 
     /// shmctl(2), IPC_STAT: the segment, if the process may read it.
@@ -637,7 +756,7 @@ impl Machine {
     /// EINVAL, EIDRM, EACCES, ESRCH.
     pub fn stat(&mut self, pid: u32, id: i32) -> Answer<Segment> {
         let mut segment = Segment::default();
-        done(unsafe { raw::nog_stat(&mut self.handle, pid, id, &mut segment) })?;
+        done(unsafe { raw::nog_stat(self.handle(), pid, id, &mut segment) })?;
         Ok(segment)
     }
 
@@ -647,7 +766,7 @@ impl Machine {
     /// EINVAL, EIDRM, EPERM, ESRCH.
     pub fn set(&mut self, pid: u32, id: i32, uid: u32, gid: u32, mode: u32) -> Answer<()> {
         self.within("mode", mode.into(), 0, MOST_FLAGS)?;
-        done(unsafe { raw::nog_set(&mut self.handle, pid, id, uid, gid, mode) })
+        done(unsafe { raw::nog_set(self.handle(), pid, id, uid, gid, mode) })
     }
 
     /// shmctl(2), IPC_RMID: destroys the segment, or marks it for removal if it is attached.
@@ -655,7 +774,7 @@ impl Machine {
     /// # Errors
     /// EINVAL, EIDRM, EPERM, ESRCH.
     pub fn remove(&mut self, pid: u32, id: i32) -> Answer<()> {
-        done(unsafe { raw::nog_remove(&mut self.handle, pid, id) })
+        done(unsafe { raw::nog_remove(self.handle(), pid, id) })
     }
 
     /// shmctl(2), SHM_LOCK: keeps the pages of the segment in memory.
@@ -663,7 +782,7 @@ impl Machine {
     /// # Errors
     /// EINVAL, EIDRM, EPERM, ENOMEM, ESRCH.
     pub fn lock(&mut self, pid: u32, id: i32) -> Answer<()> {
-        done(unsafe { raw::nog_lock(&mut self.handle, pid, id) })
+        done(unsafe { raw::nog_lock(self.handle(), pid, id) })
     }
 
     /// shmctl(2), SHM_UNLOCK: lets the pages of the segment leave memory.
@@ -671,7 +790,7 @@ impl Machine {
     /// # Errors
     /// EINVAL, EIDRM, EPERM, ESRCH.
     pub fn unlock(&mut self, pid: u32, id: i32) -> Answer<()> {
-        done(unsafe { raw::nog_unlock(&mut self.handle, pid, id) })
+        done(unsafe { raw::nog_unlock(self.handle(), pid, id) })
     }
 
     /// Reads 1 to 64 bytes in one step.
@@ -680,7 +799,7 @@ impl Machine {
     /// SIGSEGV, SIGBUS, ESRCH, and OUT_OF_RANGE for another length.
     pub fn load(&mut self, pid: u32, addr: u64, bytes: &mut [u8]) -> Answer<()> {
         self.within("length", bytes.len() as u64, 1, MOST_BYTES)?;
-        done(unsafe { raw::nog_load(&mut self.handle, pid, addr, bytes.as_mut_ptr(), bytes.len()) })
+        done(unsafe { raw::nog_load(self.handle(), pid, addr, bytes.as_mut_ptr(), bytes.len()) })
     }
 
     /// Writes 1 to 64 bytes in one step.
@@ -689,7 +808,7 @@ impl Machine {
     /// SIGSEGV, SIGBUS, ESRCH, and OUT_OF_RANGE for another length.
     pub fn store(&mut self, pid: u32, addr: u64, bytes: &[u8]) -> Answer<()> {
         self.within("length", bytes.len() as u64, 1, MOST_BYTES)?;
-        done(unsafe { raw::nog_store(&mut self.handle, pid, addr, bytes.as_ptr(), bytes.len()) })
+        done(unsafe { raw::nog_store(self.handle(), pid, addr, bytes.as_ptr(), bytes.len()) })
     }
 
     /// Adds to an eight-byte little-endian number, modulo 2^64, in one step. Returns the number before the addition.
@@ -698,7 +817,7 @@ impl Machine {
     /// SIGSEGV, SIGBUS, ESRCH.
     pub fn add(&mut self, pid: u32, addr: u64, add: u64) -> Answer<u64> {
         let mut before = 0;
-        done(unsafe { raw::nog_add(&mut self.handle, pid, addr, add, &mut before) })?;
+        done(unsafe { raw::nog_add(self.handle(), pid, addr, add, &mut before) })?;
         Ok(before)
     }
 
@@ -710,7 +829,7 @@ impl Machine {
         self.within("length", bytes.len() as u64, 1, MOST_BYTES)?;
         self.within("length of before", before.len() as u64, bytes.len() as u64, bytes.len() as u64)?;
         done(unsafe {
-            raw::nog_exchange(&mut self.handle, pid, addr, bytes.as_ptr(), bytes.len(), before.as_mut_ptr(), before.len())
+            raw::nog_exchange(self.handle(), pid, addr, bytes.as_ptr(), bytes.len(), before.as_mut_ptr(), before.len())
         })
     }
 
@@ -726,7 +845,7 @@ impl Machine {
         self.within("length of before", before.len() as u64, wanted, wanted)?;
         done(unsafe {
             raw::nog_compare_exchange(
-                &mut self.handle,
+                self.handle(),
                 pid,
                 addr,
                 expected.as_ptr(),
@@ -744,7 +863,7 @@ impl Machine {
     /// # Errors
     /// EAGAIN, ESRCH.
     pub fn fork(&mut self, pid: u32, child: u32) -> Answer<()> {
-        done(unsafe { raw::nog_fork(&mut self.handle, pid, child) })
+        done(unsafe { raw::nog_fork(self.handle(), pid, child) })
     }
 
     /// execve(2): detaches everything that the caller has attached.
@@ -752,7 +871,7 @@ impl Machine {
     /// # Errors
     /// ESRCH.
     pub fn exec(&mut self, pid: u32) -> Answer<()> {
-        done(unsafe { raw::nog_exec(&mut self.handle, pid) })
+        done(unsafe { raw::nog_exec(self.handle(), pid) })
     }
 
     /// exit(2): detaches everything that the caller has attached, and ends it.
@@ -760,7 +879,7 @@ impl Machine {
     /// # Errors
     /// ESRCH.
     pub fn exit(&mut self, pid: u32) -> Answer<()> {
-        done(unsafe { raw::nog_exit(&mut self.handle, pid) })
+        done(unsafe { raw::nog_exit(self.handle(), pid) })
     }
 
     /// swapoff(2): moves the pages of an area elsewhere and takes the area away.
@@ -768,7 +887,7 @@ impl Machine {
     /// # Errors
     /// EPERM, EINVAL, ENOMEM, EIO, ESRCH.
     pub fn swapoff(&mut self, pid: u32, area: u32) -> Answer<()> {
-        done(unsafe { raw::nog_swapoff(&mut self.handle, pid, area) })
+        done(unsafe { raw::nog_swapoff(self.handle(), pid, area) })
     }
 
     /// Adds a process that was not declared. It replaces an ended process that has its pid. It is not counted as a call.
@@ -776,7 +895,7 @@ impl Machine {
     /// # Errors
     /// ADMIT_BAD_PID, ADMIT_TAKEN, ADMIT_MANY, NO_MEMORY.
     pub fn admit(&mut self, process: Process) -> Answer<()> {
-        done(unsafe { raw::nog_admit(&mut self.handle, &process.raw()) })
+        done(unsafe { raw::nog_admit(self.handle(), &process.raw()) })
     }
 
     /// Removes an ended process, or a child that is not born. Its pid may be admitted again. It is not counted as a call.
@@ -784,7 +903,7 @@ impl Machine {
     /// # Errors
     /// DISMISS_NONE, DISMISS_LIVE.
     pub fn dismiss(&mut self, pid: u32) -> Answer<()> {
-        done(unsafe { raw::nog_dismiss(&mut self.handle, pid) })
+        done(unsafe { raw::nog_dismiss(self.handle(), pid) })
     }
 
     /// Sets the effective user and group of a live process, as setuid(2) and setgid(2) do. Its attachments stay. It is not
@@ -793,13 +912,13 @@ impl Machine {
     /// # Errors
     /// ESRCH.
     pub fn set_user(&mut self, pid: u32, uid: u32, gid: u32) -> Answer<()> {
-        done(unsafe { raw::nog_set_user(&mut self.handle, pid, uid, gid) })
+        done(unsafe { raw::nog_set_user(self.handle(), pid, uid, gid) })
     }
 
     /// From now on, calls set this number as the time. Before the first `set_time`, the time of a call is its number.
     pub fn set_time(&mut self, time: u64) {
         // For an open machine this returns 0.
-        unsafe { raw::nog_set_time(&mut self.handle, time) };
+        unsafe { raw::nog_set_time(self.handle(), time) };
     }
 
     /// munmap(2): unmaps a range, rounded up to whole pages. Attachments that extend beyond it are cut. It is not counted as a
@@ -808,7 +927,7 @@ impl Machine {
     /// # Errors
     /// ESRCH, EINVAL, ENOMEM, and SPENT.
     pub fn unmap(&mut self, pid: u32, addr: u64, len: u64) -> Answer<()> {
-        done(unsafe { raw::nog_unmap(&mut self.handle, pid, addr, len) })
+        done(unsafe { raw::nog_unmap(self.handle(), pid, addr, len) })
     }
 
     /// mprotect(2): makes a range, rounded up to whole pages, writable or read-only. It is not counted as a call.
@@ -816,23 +935,24 @@ impl Machine {
     /// # Errors
     /// ESRCH, EINVAL, SPENT, and ENOMEM or EACCES for a page; the pages below it have then changed, as on Linux.
     pub fn protect(&mut self, pid: u32, addr: u64, len: u64, is_writable: bool) -> Answer<()> {
-        done(unsafe { raw::nog_protect(&mut self.handle, pid, addr, len, u32::from(is_writable)) })
+        done(unsafe { raw::nog_protect(self.handle(), pid, addr, len, u32::from(is_writable)) })
     }
 
     /// A second machine with the same state, memory and swap areas. The two are independent from then on.
     ///
     /// # Errors
-    /// NO_MEMORY.
+    /// LENT while a page is on loan, NO_MEMORY.
     pub fn snapshot(&mut self) -> Answer<Machine> {
         let mut handle = raw::Handle {
             is_open: 0,
             kept: null_mut(),
         };
-        done(unsafe { raw::nog_snapshot(&mut self.handle, &mut handle) })?;
+        done(unsafe { raw::nog_snapshot(self.handle(), &mut handle) })?;
         Ok(Machine {
             handle,
             owns: PhantomData,
             bad: None,
+            dropped: Arc::default(),
         })
     }
 
@@ -842,7 +962,7 @@ impl Machine {
     /// As [`Machine::load`], with how many bytes were read before.
     pub fn read(&mut self, pid: u32, addr: u64, bytes: &mut [u8]) -> Result<(), Stopped> {
         let mut count = 0;
-        let code = unsafe { raw::nog_read(&mut self.handle, pid, addr, bytes.as_mut_ptr(), bytes.len(), &mut count) };
+        let code = unsafe { raw::nog_read(self.handle(), pid, addr, bytes.as_mut_ptr(), bytes.len(), &mut count) };
         stopped(code, count)
     }
 
@@ -852,7 +972,7 @@ impl Machine {
     /// As [`Machine::store`], with how many bytes were written before; they remain written.
     pub fn write(&mut self, pid: u32, addr: u64, bytes: &[u8]) -> Result<(), Stopped> {
         let mut count = 0;
-        let code = unsafe { raw::nog_write(&mut self.handle, pid, addr, bytes.as_ptr(), bytes.len(), &mut count) };
+        let code = unsafe { raw::nog_write(self.handle(), pid, addr, bytes.as_ptr(), bytes.len(), &mut count) };
         stopped(code, count)
     }
 
@@ -863,36 +983,86 @@ impl Machine {
     /// failed. NO_MEMORY, with no byte copied.
     pub fn copy(&mut self, from: u32, from_addr: u64, to: u32, to_addr: u64, len: u64) -> Result<(), Stopped> {
         let mut count = 0;
-        let code = unsafe { raw::nog_copy(&mut self.handle, from, from_addr, to, to_addr, len, &mut count) };
+        let code = unsafe { raw::nog_copy(self.handle(), from, from_addr, to, to_addr, len, &mut count) };
         stopped(code, count)
+    }
+
+    /// Lends a page: it comes in as by a load, and its bytes are copied out. It stays in its frame until the loan ends. It is not
+    /// counted as a call.
+    ///
+    /// # Errors
+    /// EINVAL if no segment has the identifier, OUT_OF_RANGE if it has no such page, SIGBUS, and LENT if the page is on loan, or
+    /// if the page that [`Machine::leaver`] shows is, and would have to leave.
+    pub fn lend(&mut self, id: i32, page: u32, bytes: &mut [u8; PAGE_BYTES]) -> Answer<Loan> {
+        let code = unsafe { raw::nog_lend(self.handle(), id, page, bytes.as_mut_ptr(), bytes.len()) };
+        if Errno(code) == Errno::OUT_OF_RANGE {
+            let size = self.segment_at((id % INDEXES) as u32).map_or(0, |it| it.size);
+            let pages = (size + PAGE_BYTES as u64 - 1) / PAGE_BYTES as u64;
+            self.bad = Some(BadNumber::of("page", page.into(), 0, pages.saturating_sub(1)));
+        }
+        done(code)?;
+        Ok(Loan {
+            segment: id,
+            page,
+            home: Some(Arc::clone(&self.dropped)),
+        })
+    }
+
+    /// The frame whose page would leave if a page came in now; none if a frame is free. Once this page is back, bringing another
+    /// one in evicts it and no other page.
+    pub fn leaver(&mut self) -> Option<Frame> {
+        let mut frame = raw::Frame::default();
+        let code = unsafe { raw::nog_leaver(self.handle(), &mut frame) };
+        (code == 0).then(|| Frame::of(&frame))
+    }
+
+    /// The frame that the clock's hand meets after `place` others; none if there are not that many, or if this one is free.
+    pub fn frame_at(&mut self, place: u32) -> Option<Frame> {
+        let mut frame = raw::Frame::default();
+        let code = unsafe { raw::nog_frame_at(self.handle(), place, &mut frame) };
+        (code == 0).then(|| Frame::of(&frame))
+    }
+
+    /// The page that an address of a process shows.
+    ///
+    /// # Errors
+    /// ESRCH, and SIGSEGV if nothing is attached there.
+    pub fn page_at(&mut self, pid: u32, addr: u64) -> Answer<ShownPage> {
+        let (mut segment, mut page, mut is_writable) = (0, 0, 0);
+        done(unsafe { raw::nog_page_at(self.handle(), pid, addr, &mut segment, &mut page, &mut is_writable) })?;
+        Ok(ShownPage {
+            segment,
+            page,
+            is_writable: is_writable != 0,
+        })
     }
 
     /// A flush round: writes at most this many dirty pages out to swap.
     pub fn flush(&mut self, pages: u64) -> Flushed {
         let mut flushed = Flushed::default();
         // For an open machine this returns 0.
-        unsafe { raw::nog_flush(&mut self.handle, pages, &mut flushed) };
+        unsafe { raw::nog_flush(self.handle(), pages, &mut flushed) };
         flushed
     }
 
     /// The current counts.
     pub fn tally(&mut self) -> Tally {
         let mut tally = Tally::default();
-        unsafe { raw::nog_tally_of(&mut self.handle, &mut tally) };
+        unsafe { raw::nog_tally_of(self.handle(), &mut tally) };
         tally
     }
 
     /// All segments in the order of their indexes, without a permission check.
     pub fn segments(&mut self) -> Vec<Segment> {
         let mut indexes = 0;
-        unsafe { raw::nog_indexes(&mut self.handle, &mut indexes) };
+        unsafe { raw::nog_indexes(self.handle(), &mut indexes) };
         (0..indexes).filter_map(|index| self.segment_at(index)).collect()
     }
 
     /// The segment at an index of the table, if there is one.
     pub fn segment_at(&mut self, index: u32) -> Option<Segment> {
         let mut segment = Segment::default();
-        let code = unsafe { raw::nog_segment_at(&mut self.handle, index, &mut segment) };
+        let code = unsafe { raw::nog_segment_at(self.handle(), index, &mut segment) };
         (code == 0).then_some(segment)
     }
 
@@ -902,7 +1072,7 @@ impl Machine {
     /// ESRCH, EINVAL if no segment has the index, EACCES.
     pub fn stat_at(&mut self, pid: u32, index: u32) -> Answer<Segment> {
         let mut segment = Segment::default();
-        done(unsafe { raw::nog_stat_at(&mut self.handle, pid, index, &mut segment) })?;
+        done(unsafe { raw::nog_stat_at(self.handle(), pid, index, &mut segment) })?;
         Ok(segment)
     }
 
@@ -910,7 +1080,7 @@ impl Machine {
     pub fn info(&mut self) -> Usage {
         let mut usage = Usage::default();
         // For an open machine this returns 0.
-        unsafe { raw::nog_info(&mut self.handle, &mut usage) };
+        unsafe { raw::nog_info(self.handle(), &mut usage) };
         usage
     }
 
@@ -922,7 +1092,7 @@ impl Machine {
         let mut pieces = Vec::new();
         for index in 0.. {
             let mut piece = raw::Piece::default();
-            match done(unsafe { raw::nog_piece_at(&mut self.handle, pid, index, &mut piece) }) {
+            match done(unsafe { raw::nog_piece_at(self.handle(), pid, index, &mut piece) }) {
                 Err(Errno::OUT_OF_RANGE) => break,
                 other => other?,
             }
@@ -944,7 +1114,7 @@ impl Machine {
         let mut it = raw::Process::default();
         let mut processes = Vec::new();
         for index in 0.. {
-            if unsafe { raw::nog_process_at(&mut self.handle, index, &mut it) } != 0 {
+            if unsafe { raw::nog_process_at(self.handle(), index, &mut it) } != 0 {
                 break;
             }
             let state = match it.is_born {
@@ -964,7 +1134,7 @@ impl Machine {
     /// writing. None if each byte is attached as the access needs.
     pub fn failed_at(&mut self, pid: u32, addr: u64, len: u64, is_write: bool) -> Option<u64> {
         let mut at = 0;
-        let code = unsafe { raw::nog_failed_at(&mut self.handle, pid, addr, len, u32::from(is_write), &mut at) };
+        let code = unsafe { raw::nog_failed_at(self.handle(), pid, addr, len, u32::from(is_write), &mut at) };
         (code == 0).then_some(at)
     }
 
@@ -972,14 +1142,14 @@ impl Machine {
     /// attached. None if there is no such byte.
     pub fn absent_at(&mut self, pid: u32, addr: u64, len: u64) -> Option<u64> {
         let mut at = 0;
-        let code = unsafe { raw::nog_absent_at(&mut self.handle, pid, addr, len, &mut at) };
+        let code = unsafe { raw::nog_absent_at(self.handle(), pid, addr, len, &mut at) };
         (code == 0).then_some(at)
     }
 
     /// How many calls of processes were counted.
     pub fn calls(&mut self) -> u64 {
         let mut calls = 0;
-        unsafe { raw::nog_calls(&mut self.handle, &mut calls) };
+        unsafe { raw::nog_calls(self.handle(), &mut calls) };
         calls
     }
 }

@@ -115,6 +115,17 @@ pub struct Piece {
     pub unused: u32,
 }
 
+#[repr(C)]
+#[derive(Clone, Copy, Default)]
+pub struct Frame {
+    pub id: i32,
+    pub page: u32,
+    pub is_referenced: u32,
+    pub is_dirty: u32,
+    pub is_lent: u32,
+    pub is_locked: u32,
+}
+
 extern "C" {
     pub fn nog_open(
         machine: *mut Handle,
@@ -153,6 +164,11 @@ extern "C" {
     pub fn nog_snapshot(machine: *mut Handle, copy: *mut Handle) -> u32;
     pub fn nog_read(machine: *mut Handle, pid: u32, addr: u64, bytes: *mut u8, len: usize, done: *mut u64) -> u32;
     pub fn nog_write(machine: *mut Handle, pid: u32, addr: u64, bytes: *const u8, len: usize, done: *mut u64) -> u32;
+    pub fn nog_lend(machine: *mut Handle, id: i32, page: u32, bytes: *mut u8, len: usize) -> u32;
+    pub fn nog_give_back(machine: *mut Handle, id: i32, page: u32, bytes: *const u8, len: usize) -> u32;
+    pub fn nog_leaver(machine: *mut Handle, frame: *mut Frame) -> u32;
+    pub fn nog_frame_at(machine: *mut Handle, place: u32, frame: *mut Frame) -> u32;
+    pub fn nog_page_at(machine: *mut Handle, pid: u32, addr: u64, id: *mut i32, page: *mut u32, is_writable: *mut u32) -> u32;
     pub fn nog_flush(machine: *mut Handle, pages: u64, flushed: *mut Flushed) -> u32;
     pub fn nog_tally_of(machine: *mut Handle, tally: *mut Tally) -> u32;
     pub fn nog_indexes(machine: *mut Handle, indexes: *mut u32) -> u32;

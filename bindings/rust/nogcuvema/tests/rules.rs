@@ -1,6 +1,6 @@
 //! What the cover hands on, by the rules; and that its structs are the library's.
-use nogcuvema::{raw, Area, Errno, Failure, Limits, Machine, Piece, Process, Segment, State, Usage};
-use nogcuvema::{rules, CREAT, EXCL, EXEC, HUGETLB, LOCKED, NORESERVE, PRIVATE, RDONLY};
+use nogcuvema::{raw, Area, Errno, Failure, Frame, Limits, Machine, Piece, Process, Segment, ShownPage, State, Usage};
+use nogcuvema::{rules, CREAT, EXCL, EXEC, HUGETLB, LOCKED, NORESERVE, PAGE_BYTES, PRIVATE, RDONLY};
 use std::mem::size_of;
 
 fn machine() -> Machine {
@@ -46,7 +46,8 @@ fn the_structs_are_the_librarys() {
     same!(7, raw::Flushed, written failed);
     same!(8, raw::Usage, used_ids pages resident swapped highest);
     same!(9, raw::Piece, base segment first_page pages is_writable may_write unused);
-    assert_eq!(layout(10, 0), None, "one more struct");
+    same!(10, raw::Frame, id page is_referenced is_dirty is_lent is_locked);
+    assert_eq!(layout(11, 0), None, "one more struct");
 }
 
 #[test]
@@ -299,6 +300,7 @@ fn each_errno_has_linuxs_number() {
     for (errno, number, name) in numbers {
         assert_eq!((errno.0, errno.text().as_str()), (number, name));
     }
+    assert_eq!((Errno::LENT.0, Errno::LENT.text().as_str()), (2005, "a page on loan is in the way"));
 }
 
 #[test]
@@ -407,6 +409,135 @@ fn a_snapshot_goes_on_alone() {
     let mut bytes = [0; 6];
     saved.load(1, at, &mut bytes).unwrap();
     assert_eq!(&bytes, b"before");
+}
+
+// A machine of two frames, a segment of four pages that process 1 has attached, and its first bytes.
+fn with_two_frames(area: Area) -> (Machine, i32, u64) {
+    let limits = Limits {
+        frames: 2,
+        memlock: 0,
+        ..Limits::default()
+    };
+    let mut machine = Machine::open(&limits, &[area], &[Process::live(1, 100, 200)]).expect("such a machine opens");
+    let id = machine.get(1, PRIVATE, 4 * PAGE_BYTES as u64, 0o600, 0).expect("a segment");
+    let at = machine.attach(1, id, 0, 0).expect("an attachment");
+    machine.store(1, at, b"before").expect("a store");
+    (machine, id, at)
+}
+
+fn first_bytes(machine: &mut Machine, at: u64) -> [u8; 6] {
+    let mut bytes = [0; 6];
+    machine.load(1, at, &mut bytes).expect("a load");
+    bytes
+}
+
+#[test]
+fn a_page_on_loan_comes_back_with_its_bytes() {
+    let (mut machine, id, at) = with_two_frames(Area::ram(64));
+    let (mut bytes, calls) = ([9; PAGE_BYTES], machine.calls());
+    let loan = machine.lend(id, 0, &mut bytes).expect("a loan");
+    assert_eq!((&bytes[..7], &bytes[7..], loan.segment(), loan.page()), (&b"before\0"[..], &[0; PAGE_BYTES - 7][..], id, 0));
+    assert_eq!(machine.load(1, at, &mut [0]), Err(Errno::LENT));
+    assert_eq!(machine.lend(id, 0, &mut [0; PAGE_BYTES]).err(), Some(Errno::LENT));
+    assert_eq!(machine.snapshot().err(), Some(Errno::LENT));
+    bytes[..6].copy_from_slice(b"behind");
+    assert_eq!(loan.give_back(&mut machine, &bytes), Ok(()));
+    assert_eq!((machine.calls(), machine.tally().dirty), (calls, 1));
+    assert_eq!(&first_bytes(&mut machine, at), b"behind");
+    assert!(machine.snapshot().is_ok());
+}
+
+#[test]
+fn a_loan_that_is_dropped_gives_back_what_was_lent() {
+    let (mut machine, id, at) = with_two_frames(Area::ram(64));
+    machine.flush(2);
+    let mut bytes = [0; PAGE_BYTES];
+    let loan = machine.lend(id, 0, &mut bytes).expect("a loan");
+    assert_eq!(machine.frame_at(0).map(|it| it.is_lent), Some(true));
+    bytes[0] = 1;
+    drop(loan);
+    assert_eq!(machine.frame_at(0).map(|it| (it.is_lent, it.is_dirty)), Some((false, false)));
+    assert_eq!(&first_bytes(&mut machine, at), b"before");
+    // also on another thread, and after its machine
+    let loan = machine.lend(id, 0, &mut bytes).expect("a loan");
+    std::thread::spawn(move || drop(loan)).join().expect("the thread ends");
+    let loan = machine.lend(id, 0, &mut bytes).expect("it is back");
+    drop(machine);
+    drop(loan);
+}
+
+#[test]
+fn the_leaver_comes_back_and_leaves() {
+    let (mut machine, id, _) = with_two_frames(Area::ram(64));
+    let mut bytes = [0; PAGE_BYTES];
+    assert_eq!(machine.leaver(), None);
+    let first = machine.lend(id, 0, &mut bytes).expect("a loan");
+    let second = machine.lend(id, 1, &mut bytes).expect("a loan");
+    let frame = |page, is_referenced, is_dirty| Frame {
+        segment: id,
+        page,
+        is_referenced,
+        is_dirty,
+        is_lent: true,
+        is_locked: false,
+    };
+    assert_eq!(machine.leaver(), Some(frame(0, true, true)));
+    assert_eq!(machine.lend(id, 2, &mut bytes).err(), Some(Errno::LENT));
+    drop(first);
+    let third = machine.lend(id, 2, &mut bytes).expect("a loan");
+    let shown: Vec<_> = (0..3).map(|place| machine.frame_at(place)).collect();
+    assert_eq!(shown, [Some(frame(1, false, false)), Some(frame(2, true, false)), None]);
+    drop((second, third));
+}
+
+#[test]
+fn loans_that_are_refused() {
+    let (mut machine, id, at) = with_two_frames(Area::ram(64));
+    let (mut other, _, _) = with_two_frames(Area::ram(64));
+    let mut bytes = [0; PAGE_BYTES];
+    assert_eq!(machine.lend(99, 0, &mut bytes).err(), Some(Errno::EINVAL));
+    assert_eq!(machine.lend(-1, 0, &mut bytes).err(), Some(Errno::EINVAL));
+    assert_eq!(machine.lend(id, 4, &mut bytes).err(), Some(Errno::OUT_OF_RANGE));
+    assert_eq!(machine.bad_number().map(ToString::to_string).as_deref(), Some("page 4 is not from 0 to 3"));
+    // a loan of another machine goes home unchanged
+    let loan = machine.lend(id, 0, &mut bytes).expect("a loan");
+    assert_eq!(loan.give_back(&mut other, &[7; PAGE_BYTES]), Err(Errno::EINVAL));
+    assert_eq!(&first_bytes(&mut machine, at), b"before");
+    // the end of a segment ends its loans
+    let (first, second) = (machine.lend(id, 0, &mut bytes).expect("a loan"), machine.lend(id, 1, &mut bytes).expect("a loan"));
+    machine.remove(1, id).expect("it is marked");
+    machine.detach(1, at).expect("it is destroyed");
+    assert_eq!(first.give_back(&mut machine, &bytes), Err(Errno::EINVAL));
+    drop(second);
+    assert!(machine.snapshot().is_ok());
+    // a swap area fails
+    let (mut machine, id, at) = with_two_frames(Area::ram(64).failing(Failure {
+        call: 1,
+        is_write: false,
+        side: 0,
+    }));
+    for page in 1..3 {
+        machine.store(1, at + page * PAGE_BYTES as u64, b"x").expect("a store");
+    }
+    assert_eq!(machine.lend(id, 0, &mut bytes).err(), Some(Errno::SIGBUS));
+    assert!(machine.lend(id, 0, &mut bytes).is_ok());
+    assert_eq!(&bytes[..6], b"before");
+}
+
+#[test]
+fn an_address_shows_a_page() {
+    let (mut machine, id, at) = with_two_frames(Area::ram(64));
+    let page = PAGE_BYTES as u64;
+    machine.protect(1, at + page, page, false).expect("it is protected");
+    let shown = |page, is_writable| ShownPage {
+        segment: id,
+        page,
+        is_writable,
+    };
+    assert_eq!(machine.page_at(1, at), Ok(shown(0, true)));
+    assert_eq!(machine.page_at(1, at + 2 * page - 1), Ok(shown(1, false)));
+    assert_eq!(machine.page_at(1, at + 4 * page), Err(Errno::SIGSEGV));
+    assert_eq!(machine.page_at(2, at), Err(Errno::ESRCH));
 }
 
 fn machine_by(rules: u64) -> Machine {
