@@ -27,7 +27,7 @@ ended_silent IsText (errors.HistoryMismatch pid) kept = Keeps-refl kept
 ended_silent IsText errors.ThreadRefused kept = Keeps-refl kept
 
 -- an open gate ends no thread
-pub ungated : (script : ScriptView) (error : RunError) → CanEnd (λ pid n. false) script error → IsUngated error
+pub ungated : (script : ScriptView) (error : RunError) → CanEnd (λ pid n may. may) script error → IsUngated error
 ungated script errors.HostMemory can = tt
 ungated script (errors.GateExpired pid) can = absurd (false≢true can.ended)
 ungated script (errors.HistoryMismatch pid) can = can

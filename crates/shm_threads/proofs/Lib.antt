@@ -6,8 +6,10 @@ mod Keeping
 mod Least
 mod Moving
 pub mod Lives
+mod Nexts
 mod Noting
 mod Over
+mod Passing
 mod Placing
 mod Starts
 mod Stepping

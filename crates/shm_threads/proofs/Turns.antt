@@ -3,7 +3,7 @@ use Rattle.std.specs.Prelude.{◌≡◌, ◌≢◌, ◌<◌, ◌≤◌, ◌+◌,
 use Rattle.std.proofs.Common.{subst, sym, ap, ◌∙◌, refl, arith, append-nil}
 use Rattle.std.proofs.Math.ListN.{get_or, set}
 use Rattle.std.proofs.lemmas.Bool.{and_parts, ltb-true}
-use Rattle.std.proofs.lemmas.List.{ext_get_or, get_or-map, length-map, length_push, map-set, set-get_or}
+use Rattle.std.proofs.lemmas.List.{get_or-map, length-map, length_push, map-set, set-get_or}
 use Rattle.std.proofs.lemmas.List.Elements.{All-push}
 use Rattle.std.proofs.lemmas.Option.{get_or_from_slice_get, slice_get_within}
 use Rattle.shm_base.specs.Calls.{ProcessCall}
@@ -20,7 +20,7 @@ use Rattle.shm_text.specs.Script.{ScriptView}
 use Rattle.shm_threads.specs.Asked.{rounds_of}
 use Rattle.shm_threads.specs.Moves.{AreMoves, Moment}
 use Rattle.shm_threads.specs.Outcomes.{StartedFrom}
-use Rattle.shm_threads.specs.Running.{IsRunning}
+use Rattle.shm_threads.specs.Running.{IsProcessAt, IsRunning}
 use Rattle.shm_threads.specs.Strands.{IsAnswered, IsMade, IsStrand, can_go, left_in, left_of, life_from, pid_of_strand}
 use Rattle.shm_threads.specs.Transcripts.{IsAdmitted, events_of, is_end, pid_in, transcript_events}
 use Rattle.shm_threads.specs.declared.strand.Made.{Made}
@@ -76,6 +76,12 @@ module _ (ss : List Strand) (ps : List Process) (listed : map pid_of_strand ss �
       by : (qs : List Process) → k < length qs → Process
       by [] less = absurd (omega (arith, less))
       by (q ∷ qs) less = q
+
+  -- the strand of the process at an index has its pid
+  pub pid-of : (k pid : ℕ) (s : Strand) → k < length ss → ((d : Strand) → get_or ss k d ≡ s) → IsProcessAt ps k pid → s.pid ≡ pid
+  pid-of k pid s lt here at =
+      let p = some-process k at.0 in
+      ap pid_of_strand (sym (here s)) ∙ pid-at k s p lt ∙ at.1 p
 
 -- the event of a call has a place, and so has its entry
 pub has-line : (m : Machine) (s : Strand) → can_go m s ≡ true → length s.entries.items < length s.commands.items

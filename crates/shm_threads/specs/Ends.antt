@@ -15,17 +15,22 @@ HasCall script pid n =
     ⊎ ((has_pid pid script.processes ≡ true) × IsWithin n (length (commands_of pid script.lines)))
 
 -- the gate ended a thread of the script before a call that it has
-pub record IsExpired (ends : ℕ → ℕ → Bool) (script : ScriptView) (pid : ℕ) : Type 0 where
+pub record IsExpired (answers : ℕ → ℕ → Bool → Bool) (script : ScriptView) (pid : ℕ) : Type 0 where
   pub call : ℕ
   pub has : HasCall script pid call
-  pub ended : ends pid call ≡ true
+  pub ended : answers pid call false ≡ true
 
 -- a run has no outcome for want of memory or of a thread, or because its gate ended one
-abbrev pub CanEnd : (ℕ → ℕ → Bool) → ScriptView → RunError → Type 0
-CanEnd ends script HostMemory = Unit {0}
-CanEnd ends script ThreadRefused = Unit {0}
-CanEnd ends script (GateExpired pid) = IsExpired ends script pid
-CanEnd ends script (HistoryMismatch pid) = ⊥
+abbrev pub CanEnd : (ℕ → ℕ → Bool → Bool) → ScriptView → RunError → Type 0
+CanEnd answers script HostMemory = Unit {0}
+CanEnd answers script ThreadRefused = Unit {0}
+CanEnd answers script (GateExpired pid) = IsExpired answers script pid
+CanEnd answers script (HistoryMismatch pid) = ⊥
+
+-- the same of a run that has the memory it needs, and starts its threads
+abbrev pub CanStop : (ℕ → ℕ → Bool → Bool) → ScriptView → RunError → Type 0
+CanStop answers script HostMemory = ⊥
+CanStop answers script error = CanEnd answers script error
 
 -- how a run ended, once its threads are joined: a refused thread comes before the least pid of a thread that the gate ended
 abbrev pub ended_by : Bool → Option ℕ → Result (Unit {0}) RunError

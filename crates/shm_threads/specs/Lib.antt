@@ -4,6 +4,7 @@ pub mod Ends
 pub mod Keepers
 pub mod Moves
 pub mod Outcomes
+pub mod Passed
 pub mod Plans
 pub mod Running
 pub mod Strands

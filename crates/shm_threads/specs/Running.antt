@@ -1,5 +1,5 @@
 -- What holds of a run whenever its lock is free.
-use Rattle.std.specs.Prelude.{◌≡◌, ◌<◌, ◌≤◌, ◌+◌, ℕ, Bool, true, false, List, [], length, map, slice_get, slice_index_or, slice_set, All, Option, Some}
+use Rattle.std.specs.Prelude.{◌≡◌, ◌<◌, ◌≤◌, ◌+◌, ◌==◌, ℕ, Bool, true, false, List, [], length, map, slice_get, slice_index_or, slice_set, All, Option, Some}
 use Rattle.shm_base.specs.Bounds.{largest}
 use Rattle.shm_base.specs.State.{Opening, start_of}
 use Rattle.shm_base.specs.declared.call.Process.{Process}
@@ -72,9 +72,13 @@ pub record IsTurn (before : RunView) (index : ℕ) (goes_on news : Bool) (after 
   pub noted : news ≡ is_birth effect
   pub more : goes_on ≡ goes_on_by effect
 
--- no strand is at the index, or it can't go on; then nothing happens
-pub record IsIdle (before : RunView) (index : ℕ) (goes_on news : Bool) (after : RunView) : Type 0 where
-  pub stays : (d : Strand) → index < length before.strands → can_go before.world.machine (slice_index_or before.strands index d) ≡ false
+-- the next call of a strand is its n-th
+abbrev pub is_next : Strand → ℕ → Bool
+is_next s n = (length s.entries.items + 1) == n
+
+-- no strand is at the index, or it can't go on, or its next call is not the n-th; then nothing happens
+pub record IsIdle (before : RunView) (index n : ℕ) (goes_on news : Bool) (after : RunView) : Type 0 where
+  pub stays : (d : Strand) → index < length before.strands → is_next (slice_index_or before.strands index d) n ≡ true → can_go before.world.machine (slice_index_or before.strands index d) ≡ false
   pub same : after ≡ before
   pub noted : news ≡ false
   pub more : goes_on ≡ false
@@ -88,9 +92,9 @@ pub record IsFlush (before after : RunView) : Type 0 where
   pub published : HasPublished after.world after.keeper
   pub rest : after ≡ record before { world = after.world; made = before.made + 1; keeper = after.keeper }
 
--- no round is left; then nothing happens
-pub record IsFlushed (before after : RunView) : Type 0 where
-  pub none : length before.rounds ≤ before.made
+-- no round is left, or the next one is not the n-th; then nothing happens
+pub record IsFlushed (before : RunView) (n : ℕ) (after : RunView) : Type 0 where
+  pub none : n ≡ before.made + 1 → length before.rounds ≤ before.made
   pub same : after ≡ before
 
 abbrev pub no_script : ScriptView

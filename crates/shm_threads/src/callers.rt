@@ -1,5 +1,5 @@
 //! What the threads of a run use: the gate, without the lock, and what they share, under the lock.
-ghost use Rattle.std.specs.Prelude.{◌≡◌, length};
+ghost use Rattle.std.specs.Prelude.{◌≡◌, length, true};
 ghost use Rattle.shm_threads.specs.Asked.{rounds_of};
 ghost use Rattle.shm_threads.specs.Running.{IsProcessAt};
 ghost use Rattle.shm_threads.specs.Transcripts.{commands_of};
@@ -19,7 +19,7 @@ struct ProcessCaller<'a, 'l, R: Wait, G: Gate, P: Pager, O: Origin> {
     gate: &'a G,
     index: usize,
     pid: u32,
-    ghost of_run: { G.ends gate.now ≡ O.ends },
+    ghost of_run: { G.answers gate.now ≡ O.answers },
     ghost declared: { IsProcessAt O.script.processes index pid },
 }
 
@@ -27,6 +27,8 @@ impl<R: Wait, G: Gate, P: Pager, O: Origin> Caller for ProcessCaller<'_, '_, R, 
     ghost asked = { λ _ _. Unit {0} };
 
     ghost lines = { λ c. length (commands_of c.pid O.script.lines) };
+
+    ghost may = { λ c n. O.answers c.pid n true ≡ true };
 
     fn born(&mut self) -> Option<usize> {
         self.shared.wait_for_birth(self.rt, self.index, self.pid)
@@ -40,8 +42,8 @@ impl<R: Wait, G: Gate, P: Pager, O: Origin> Caller for ProcessCaller<'_, '_, R, 
         may
     }
 
-    fn step(&mut self) -> bool {
-        self.shared.step(self.rt, self.index)
+    fn step(&mut self, n: u64) -> bool {
+        self.shared.step(self.rt, self.index, self.pid, n)
     }
 
     fn after(&mut self, n: u64) {
@@ -61,7 +63,7 @@ pub(crate) fn run_process<R: Wait, G: Gate, P: Pager, O: Origin>(
     index: usize,
     pid: u32,
 )
-    requires gate { G.ends gate.now ≡ O.ends }
+    requires gate { G.answers gate.now ≡ O.answers }
     requires process { IsProcessAt O.script.processes index pid }
 {
     let mut caller = ProcessCaller {
@@ -79,13 +81,15 @@ struct RoundFlusher<'a, 'l, R: Wait, G: Gate, P: Pager, O: Origin> {
     rt: &'a R,
     shared: &'a Shared<'l, P, O>,
     gate: &'a G,
-    ghost of_run: { G.ends gate.now ≡ O.ends },
+    ghost of_run: { G.answers gate.now ≡ O.answers },
 }
 
 impl<R: Wait, G: Gate, P: Pager, O: Origin> Flusher for RoundFlusher<'_, '_, R, G, P, O> {
     ghost asked = { λ _ _. Unit {0} };
 
     ghost rounds = { λ _. length (rounds_of O.script.lines) };
+
+    ghost may = { λ _ n. O.answers 0 n true ≡ true };
 
     fn before(&mut self, n: u64) -> bool {
         let may = self.gate.before(0, n);
@@ -95,8 +99,8 @@ impl<R: Wait, G: Gate, P: Pager, O: Origin> Flusher for RoundFlusher<'_, '_, R, 
         may
     }
 
-    fn round(&mut self) {
-        self.shared.flush(self.rt);
+    fn round(&mut self, n: u64) {
+        self.shared.flush(self.rt, n);
     }
 
     fn after(&mut self, n: u64) {
@@ -111,7 +115,7 @@ pub(crate) fn run_rounds<R: Wait, G: Gate, P: Pager, O: Origin>(
     gate: &G,
     rounds: usize,
 )
-    requires gate { G.ends gate.now ≡ O.ends }
+    requires gate { G.answers gate.now ≡ O.answers }
     requires rounds { rounds ≡ length (rounds_of O.script.lines) }
 {
     let mut flusher = RoundFlusher { rt, shared, gate };

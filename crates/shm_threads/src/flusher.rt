@@ -1,5 +1,5 @@
 //! The work of the flusher's thread, independent of what makes its rounds.
-ghost use Rattle.std.specs.Prelude.{◌≡◌, [], ◌∷◌, List, ℕ, IfOk};
+ghost use Rattle.std.specs.Prelude.{◌≡◌, [], ◌∷◌, List, ℕ, IfOk, true};
 ghost use Rattle.shm_threads.specs.Asked.{RoundAsked, Adds, May, Round, Made};
 ghost use Rattle.shm_threads.specs.Asked.{IsWithin, RunsRounds, rounds_of};
 
@@ -15,14 +15,19 @@ pub(crate) trait Flusher {
     /// How many rounds there are.
     ghost rounds: { Self → ℕ };
 
+    /// Whether the n-th round may be made.
+    ghost may: { Self → ℕ → Type 0 };
+
     /// Whether the n-th round may be made. False ends the flusher.
     fn before(&mut self, n: u64) -> bool
         requires { IsWithin n (rounds self.old) }
         ensures asked { Adds (asked self.old) (May n result ∷ []) (asked self.new) }
+        ensures may { result ≡ true → may self.new n }
         ensures same { rounds self.new ≡ rounds self.old };
 
-    /// Makes the next round, and publishes the counts after it.
-    fn round(&mut self)
+    /// Makes the next round, the n-th, and publishes the counts after it.
+    fn round(&mut self, n: u64)
+        requires { may self.old n }
         ensures asked { Adds (asked self.old) (Round ∷ []) (asked self.new) }
         ensures same { rounds self.new ≡ rounds self.old };
 
@@ -42,7 +47,7 @@ pub(crate) fn flush_all<F: Flusher>(flusher: &mut F, rounds: u64) -> bool
         if !flusher.before(n) {
             return false;
         }
-        flusher.round();
+        flusher.round(n);
         flusher.after(n);
     }
     true

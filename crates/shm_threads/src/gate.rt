@@ -1,16 +1,16 @@
 //! A gate may hold a worker between its calls.
-ghost use Rattle.std.specs.Prelude.{◌≡◌, ℕ, Bool, true, false};
+ghost use Rattle.std.specs.Prelude.{◌≡◌, ℕ, Bool, true};
 
 /// A run calls its gate before and after each call of a worker, without the lock. The calls of a process are
 /// counted from 1. So are the flusher's rounds; its pid is 0. A gate that waits for another worker should not
 /// wait without bound: if the host refuses that worker's thread, it never arrives.
 pub trait Gate: Sync {
-    /// Whether the gate may end a thread before its n-th call: that of a process, or the flusher with pid 0.
-    ghost ends: { Self → ℕ → ℕ → Bool };
+    /// Whether the gate may give this answer before a thread's n-th call: that of a process, or the flusher with pid 0.
+    ghost answers: { Self → ℕ → ℕ → Bool → Bool };
 
     /// Whether the worker may make its call. False ends the worker.
     fn before(&self, pid: u32, n: u64) -> bool
-        ensures { result ≡ false → ends self.now pid n ≡ true };
+        ensures { answers self.now pid n result ≡ true };
 
     /// The call was answered.
     fn after(&self, pid: u32, n: u64);
@@ -21,9 +21,7 @@ pub trait Gate: Sync {
 pub struct OpenGate;
 
 impl Gate for OpenGate {
-    ghost use Rattle.std.specs.Prelude.{false};
-
-    ghost ends = { λ gate pid n. false };
+    ghost answers = { λ gate pid n may. may };
 
     fn before(&self, _pid: u32, _n: u64) -> bool {
         true

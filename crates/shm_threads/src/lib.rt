@@ -9,6 +9,7 @@ mod origin;
 mod outcome;
 mod run;
 mod shared;
+mod start;
 mod strand;
 mod transcript;
 mod worker;

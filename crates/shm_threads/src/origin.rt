@@ -3,7 +3,7 @@
 use std::marker::Brand;
 
 /// The script of a run, the world at its start, the cell of the keeper that was passed in and what it had
-/// stored, and the calls before which the gate may end a thread.
+/// stored, and the answers that the gate may give before each call.
 pub trait Origin {
     ghost use Rattle.std.specs.Prelude.{Option, List, ℕ, Bool};
     ghost use Rattle.shm_history.specs.Gauges.{CellName};
@@ -19,7 +19,7 @@ pub trait Origin {
 
     ghost stored: { List Reading };
 
-    ghost ends: { ℕ → ℕ → Bool };
+    ghost answers: { ℕ → ℕ → Bool → Bool };
 }
 
 impl Origin for Brand {
@@ -34,5 +34,5 @@ impl Origin for Brand {
 
     ghost stored = { [] };
 
-    ghost ends = { λ pid n. false };
+    ghost answers = { λ pid n may. false };
 }

@@ -1,7 +1,8 @@
 //! The outcome of a run, or why it has none.
-ghost use Rattle.std.specs.Prelude.{◌≡◌};
+ghost use Rattle.std.specs.Prelude.{◌≡◌, is_some};
 ghost use Rattle.shm_threads.specs.Ends.{ended_by, least};
 
+use crate::start::Refused;
 use crate::transcript::Transcript;
 use shm_base::HostMemory;
 use shm_history::World;
@@ -36,17 +37,15 @@ pub enum RunError {
     ThreadRefused,
 }
 
-/// How a run ended, once its threads are joined: whether a thread was refused, and the least pid of a
-/// thread that the gate ended.
-pub(crate) fn ended_by(is_refused: bool, expired: Option<u32>) -> Result<(), RunError>
-    ensures { result ≡ ended_by is_refused expired }
+/// How a run ended, once its threads are joined: a thread that was refused, and the least pid of a thread that the
+/// gate ended.
+pub(crate) fn ended_by(refused: Option<Refused>, expired: Option<u32>) -> Result<(), RunError>
+    ensures { result ≡ ended_by (is_some refused) expired }
 {
-    if is_refused {
-        return Err(RunError::ThreadRefused);
-    }
-    match expired {
-        Some(pid) => Err(RunError::GateExpired { pid }),
-        None => Ok(()),
+    match (refused, expired) {
+        (Some(refused), _) => Err(refused.error()),
+        (None, Some(pid)) => Err(RunError::GateExpired { pid }),
+        (None, None) => Ok(()),
     }
 }
 

@@ -1,20 +1,22 @@
 //! A run with threads: it starts them, joins them, and takes out what they share.
-ghost use Rattle.std.specs.Prelude.{◌≡◌, ◌≤◌, [], IfErr, IfOk, length, vec_capacity};
+ghost use Rattle.std.specs.Prelude.{◌≡◌, ◌≤◌, [], All, IfErr, IfOk, length, vec_capacity};
 ghost use Rattle.shm_history.specs.Gauges.{StartsWith};
 ghost use Rattle.shm_threads.specs.Asked.{rounds_of};
-ghost use Rattle.shm_threads.specs.Ends.{CanEnd};
+ghost use Rattle.shm_threads.specs.Ends.{CanEnd, CanStop};
 ghost use Rattle.shm_threads.specs.Keepers.{IsKept, cell_of, stored_of, IsCaughtUp};
 ghost use Rattle.shm_threads.specs.Outcomes.{IsOpened, IsOutcome};
+ghost use Rattle.shm_threads.specs.Passed.{AreAllPassed};
 ghost use Rattle.shm_threads.specs.Plans.{HaveRoom};
-ghost use Rattle.shm_threads.specs.Running.{IsProcessAt, IsRunning};
+ghost use Rattle.shm_threads.specs.Running.{IsRunning};
+ghost use Rattle.shm_threads.specs.Strands.{IsFresh};
 
 use crate::births::{ProcessState, states};
-use crate::callers::{run_process, run_rounds};
 use crate::flusher::rounds;
 use crate::gate::Gate;
 use crate::origin::Origin;
 use crate::outcome::{Outcome, RunError};
 use crate::shared::{Left, Shared, transcripts_of};
+use crate::start::{Refused, WorkerHandle, start_flusher, start_worker};
 use crate::strand::{Strand, strands};
 use crate::transcript::Transcript;
 use shm_base::{HostMemory, Process};
@@ -25,7 +27,7 @@ use std::alloc::Global;
 use std::marker::Brand;
 use std::sync::Wait;
 use std::thread;
-use std::thread::{JoinHandle, Scope, Threads};
+use std::thread::{Scope, Threads};
 
 /// Runs the lines of a script on the world that it opened. Each process has a worker, a thread of its own, which makes the
 /// process's command lines in order, up to the last one or to its exit. Each call takes the world's lock and releases it.
@@ -34,7 +36,7 @@ use std::thread::{JoinHandle, Scope, Threads};
 /// thread, the flusher, runs the flush lines in order, and takes the lock once for each round. Nothing is claimed about the
 /// order in which threads get the lock, or that a run ends: workers wait, and the gate may wait.
 ///
-/// The clause says about an outcome:
+/// The clause `outcome` says:
 /// - Each move of the run led to the next, from the world that was passed in to this one: the calls of the
 ///   transcripts, and the rounds of the flush lines, all of them and in their order.
 /// - Its world has the opening that was passed in, and its areas are those that were passed in: their
@@ -45,6 +47,8 @@ use std::thread::{JoinHandle, Scope, Threads};
 /// - A transcript without its marked calls is the process's part of the history. Only shmget and shmat are
 ///   marked.
 /// - The history has no other pids, and no call of a process that was not live.
+///
+/// The clause `passed` says that the gate passed each call and each round: it may have answered true before it.
 ///
 /// A run has no outcome only if the host refused memory before a worker was started, or a thread, or if the gate ended a
 /// thread before a call that the script has. It never answers `HistoryMismatch`.
@@ -57,7 +61,9 @@ pub fn run_threads<R: Threads + Wait + Sync, G: Gate, P: Pager + Send>(
 ) -> Result<Outcome<P>, RunError>
     requires { IsOpened script.now world }
     ensures outcome { IfOk result (λ o. IsOutcome script.now world o.world o.transcripts.items) }
-    ensures error { IfErr result (CanEnd (G.ends gate.now) script.now) }
+    ensures passed { let answers = G.answers gate.now in
+        IfOk result (λ o. AreAllPassed answers script.now o.transcripts.items) }
+    ensures error { IfErr result (CanEnd (G.answers gate.now) script.now) }
 {
     let (outcome, _) = run_with(rt, alloc, world, None, script, gate)?;
     Ok(outcome)
@@ -81,7 +87,9 @@ pub fn run_threads_gauged<R: Threads + Wait + Sync, G: Gate, P: Pager + Send>(
     ensures cell { IfOk result (λ r. r.1.cell ≡ keeper.cell) }
     ensures stored { IfOk result (λ r. StartsWith r.1.stored keeper.stored) }
     ensures numbers { IfOk result (λ r. IsCaughtUp r.0.world r.1.numbers) }
-    ensures error { IfErr result (CanEnd (G.ends gate.now) script.now) }
+    ensures passed { let answers = G.answers gate.now in
+        IfOk result (λ r. AreAllPassed answers script.now r.0.transcripts.items) }
+    ensures error { IfErr result (CanEnd (G.answers gate.now) script.now) }
 {
     let (outcome, keeper) = run_with(rt, alloc, world, Some(keeper), script, gate)?;
     let mut keeper = keeper.unwrap();
@@ -101,7 +109,9 @@ fn run_with<R: Threads + Wait + Sync, G: Gate, P: Pager + Send>(
     requires { IsOpened script.now world }
     ensures outcome { IfOk result (λ r. IsOutcome script.now world r.0.world r.0.transcripts.items) }
     ensures kept { IfOk result (λ r. IsKept (cell_of keeper) (stored_of keeper) r.1) }
-    ensures error { IfErr result (CanEnd (G.ends gate.now) script.now) }
+    ensures passed { let answers = G.answers gate.now in
+        IfOk result (λ r. AreAllPassed answers script.now r.0.transcripts.items) }
+    ensures error { IfErr result (CanEnd (G.answers gate.now) script.now) }
 {
     let start = match prepared(alloc, &mut world, script) {
         Ok(start) => start,
@@ -123,12 +133,14 @@ fn run_from<O: Origin + Send + Sync, R: Threads + Wait + Sync, G: Gate, P: Pager
     requires room { HaveRoom script.now.processes start.handles start.transcripts }
     requires start { O.start ≡ world }
     requires running { IsRunning O.script world world start.strands.items 0 }
+    requires fresh { All (IsFresh O.script.lines) start.strands.items }
     requires rounds { start.rounds.items ≡ rounds_of script.now.lines }
     requires kept { IsKept O.cell O.stored keeper }
-    requires gate { G.ends gate.now ≡ O.ends }
+    requires gate { G.answers gate.now ≡ O.answers }
     ensures outcome { IfOk result (λ r. IsOutcome script.now world r.0.world r.0.transcripts.items) }
     ensures kept { IfOk result (λ r. IsKept O.cell O.stored r.1) }
-    ensures error { IfErr result (CanEnd O.ends O.script) }
+    ensures passed { IfOk result (λ r. AreAllPassed O.answers script.now r.0.transcripts.items) }
+    ensures error { IfErr result (CanStop O.answers O.script) }
 {
     let Start {
         strands,
@@ -139,12 +151,12 @@ fn run_from<O: Origin + Send + Sync, R: Threads + Wait + Sync, G: Gate, P: Pager
     } = start;
     let count = rounds.len();
     let shared: Shared<'_, P, O> = Shared::new(world, strands, rounds, processes, keeper);
-    let is_refused = run_all(rt, &shared, count, &script.processes, gate, handles);
+    let refused = run_all(rt, &shared, count, &script.processes, gate, handles);
     let Left {
         world,
         strands,
         keeper,
-    } = shared.finish(rt, is_refused)?;
+    } = shared.finish(rt, refused, gate)?;
     // What the world promises: its history is legal.
     prove!({
         let _ = world.history();
@@ -174,6 +186,7 @@ fn prepared<'a, P: Pager>(
     requires { IsOpened script.now world.old }
     ensures room { IfOk result (λ s. HaveRoom script.now.processes s.handles s.transcripts) }
     ensures running { IfOk result (λ s. IsRunning script.now world.new world.new s.strands.items 0) }
+    ensures fresh { IfOk result (λ s. All (IsFresh script.now.lines) s.strands.items) }
     ensures rounds { IfOk result (λ s. s.rounds.items ≡ rounds_of script.now.lines) }
     ensures rest { IfOk result (λ _. world.new ≡ record world.old { room = world.new.room }) }
 {
@@ -197,10 +210,8 @@ fn prepared<'a, P: Pager>(
     })
 }
 
-type WorkerHandle = JoinHandle<()>;
-
 // Starts the flusher and a worker for each process, and joins them all. After a refused thread it starts no other, and
-// returns true.
+// returns the refusal.
 fn run_all<O: Origin + Send + Sync, R: Threads + Wait + Sync, G: Gate, P: Pager + Send>(
     rt: &R,
     shared: &Shared<'_, P, O>,
@@ -208,43 +219,39 @@ fn run_all<O: Origin + Send + Sync, R: Threads + Wait + Sync, G: Gate, P: Pager 
     processes: &[Process],
     gate: &G,
     handles: Vec<WorkerHandle>,
-) -> bool
+) -> Option<Refused>
     requires rounds { rounds ≡ length (rounds_of O.script.lines) }
     requires processes { O.script.processes ≡ processes.now }
-    requires gate { G.ends gate.now ≡ O.ends }
+    requires gate { G.answers gate.now ≡ O.answers }
     requires none { handles.items ≡ [] }
     requires room { length processes.now ≤ vec_capacity handles }
 {
     thread::scope(
         thread::scope_env(),
         rt,
-        move |scope| -> bool
+        move |scope| -> Option<Refused>
             requires rounds { rounds ≡ length (rounds_of O.script.lines) }
             requires processes { O.script.processes ≡ processes.now }
-            requires gate { G.ends gate.now ≡ O.ends }
+            requires gate { G.answers gate.now ≡ O.answers }
             requires none { handles.items ≡ [] }
             requires room { length processes.now ≤ vec_capacity handles }
         {
-            let Ok(flusher) = scope.spawn(
-                move ||
-                    requires gate { G.ends gate.now ≡ O.ends }
-                    requires rounds { rounds ≡ length (rounds_of O.script.lines) }
-                { run_rounds(rt, shared, gate, rounds) },
-            ) else {
-                return true;
+            let flusher = match start_flusher(scope, rt, shared, gate, rounds) {
+                Ok(flusher) => flusher,
+                Err(refused) => return Some(refused),
             };
-            let (handles, is_refused) = start_all(scope, rt, shared, processes, gate, handles);
+            let (handles, refused) = start_all(scope, rt, shared, processes, gate, handles);
             flusher.join(rt);
             for handle in handles {
                 handle.join(rt);
             }
-            is_refused
+            refused
         },
     )
 }
 
-// Starts a worker for each process until a thread is refused, and returns whether one was. The list has room for
-// each.
+// Starts a worker for each process until a thread is refused, and returns that refusal. The list has room for each. The
+// processes without a worker have left.
 fn start_all<'s, E, O: Origin + Send + Sync, R: Threads + Wait + Sync, G: Gate, P: Pager + Send>(
     scope: &Scope<'s, E>,
     rt: &'s R,
@@ -252,31 +259,23 @@ fn start_all<'s, E, O: Origin + Send + Sync, R: Threads + Wait + Sync, G: Gate, 
     processes: &[Process],
     gate: &'s G,
     mut handles: Vec<WorkerHandle>,
-) -> (Vec<WorkerHandle>, bool)
+) -> (Vec<WorkerHandle>, Option<Refused>)
     requires script { O.script.processes ≡ processes.now }
-    requires gate { G.ends gate.now ≡ O.ends }
+    requires gate { G.answers gate.now ≡ O.answers }
     requires none { handles.items ≡ [] }
     requires room { length processes.now ≤ vec_capacity handles }
 {
-    let mut is_refused = false;
     for index in 0..processes.len() {
         let pid = processes[index].pid;
-        if is_refused {
-            shared.end(rt, pid);
-            continue;
-        }
-        match scope.spawn(
-            move ||
-                requires gate { G.ends gate.now ≡ O.ends }
-                requires process { IsProcessAt O.script.processes index pid }
-            { run_process(rt, shared, gate, index, pid) },
-        ) {
+        match start_worker(scope, rt, shared, gate, index, pid) {
             Ok(handle) => handles.push_reserved(handle),
-            Err(_refused) => {
-                is_refused = true;
-                shared.end(rt, pid);
+            Err(refused) => {
+                for process in &processes[index..] {
+                    shared.end(rt, process.pid);
+                }
+                return (handles, Some(refused));
             }
         }
     }
-    (handles, is_refused)
+    (handles, None)
 }

@@ -2,20 +2,23 @@
 //!
 //! The run's guarantees are invariants of the type under the lock, so they hold whenever the lock is free. Threads only
 //! say whose turn it is. Noting a birth or an end returns news, which can only be used up by waking the waiting threads.
-ghost use Rattle.std.specs.Prelude.{◌≡◌, ◌≤◌, ◌<◌, ◌⊎◌, [], length, map, position, true, false};
-ghost use Rattle.std.specs.Prelude.{Some, IfOk, IfErr, IfSome, OnOk, MatchBool, is_some, ℕ, vec_len, vec_capacity};
+ghost use Rattle.std.specs.Prelude.{◌≡◌, ◌≤◌, ◌<◌, ◌+◌, ◌⊎◌, [], length, map, option_map, position, true, false, ◌↔◌};
+ghost use Rattle.std.specs.Prelude.{All, Some, IfOk, IfErr, IfSome, OnOk, MatchBool, is_some, ℕ, vec_len, vec_capacity};
 ghost use Rattle.shm_threads.specs.Asked.{rounds_of};
 ghost use Rattle.shm_threads.specs.Births.{births_after, is_birth, with_end};
-ghost use Rattle.shm_threads.specs.Ends.{CanEnd, HasCall, ended_by, least};
+ghost use Rattle.shm_threads.specs.Ends.{CanStop, HasCall, ended_by, least};
 ghost use Rattle.shm_threads.specs.Keepers.{IsKept, cell_of, stored_of, HasPublished};
 ghost use Rattle.shm_threads.specs.Running.{IsFlush, IsFlushed, IsIdle, IsOver, IsProcessAt};
-ghost use Rattle.shm_threads.specs.Running.{IsRunning, IsTurn};
-ghost use Rattle.shm_threads.specs.Strands.{can_go, transcript_of};
+ghost use Rattle.shm_threads.specs.Passed.{ArePassed};
+ghost use Rattle.shm_threads.specs.Running.{IsRunning, IsTurn, is_next};
+ghost use Rattle.shm_threads.specs.Strands.{IsFresh, can_go, transcript_of};
 ghost use Rattle.shm_threads.specs.Transcripts.{commands_of};
 
 use crate::births::{News, ProcessState, is_born, may_fork, note_birth, note_end};
+use crate::gate::Gate;
 use crate::origin::Origin;
 use crate::outcome::{RunError, ended_by, least};
+use crate::start::Refused;
 use crate::strand::{Made, Strand, make};
 use crate::transcript::Transcript;
 use shm_history::{Keeper, World};
@@ -44,6 +47,7 @@ impl<'a, P: Pager, O: Origin> Model for RunState<'a, P, O> {
     ghost use Rattle.shm_threads.specs.Asked.{rounds_of};
     ghost use Rattle.shm_threads.specs.Ends.{IsExpired};
     ghost use Rattle.shm_threads.specs.Keepers.{IsKept};
+    ghost use Rattle.shm_threads.specs.Passed.{ArePassed};
     ghost use Rattle.shm_threads.specs.Running.{IsRunning, RunView};
 
     ghost Value = { RunView };
@@ -60,7 +64,8 @@ impl<'a, P: Pager, O: Origin> Model for RunState<'a, P, O> {
 
     ghost invariant = { λ s. IsRunning O.script O.start s.world s.strands.items s.made
         × ((s.rounds.items ≡ rounds_of O.script.lines)
-        × (IsKept O.cell O.stored s.keeper × IfSome s.expired (IsExpired O.ends O.script))) };
+        × (IsKept O.cell O.stored s.keeper × (IfSome s.expired (IsExpired O.answers O.script)
+        × ArePassed O.answers s.strands.items s.made))) };
 }
 
 // Whether a strand can go on: its process is live, and has a line left.
@@ -71,6 +76,20 @@ fn goes<P: Pager>(world: &World<P>, strand: &Strand<'_>) -> bool
         && world.system().spaces().caller(strand.pid).is_some()
 }
 
+// Whether the next call of a strand is its n-th.
+fn is_next(strand: &Strand<'_>, n: u64) -> bool
+    ensures { result ≡ is_next strand.now n }
+{
+    strand.entries.len() as u64 + 1 == n
+}
+
+// A strand that can go on: its index, its pid, and the number of its next call.
+struct Next {
+    index: usize,
+    pid: u32,
+    n: u64,
+}
+
 // What a turn of a process left: whether it may have more of them, and news of a birth.
 struct Turn {
     goes_on: bool,
@@ -78,12 +97,17 @@ struct Turn {
 }
 
 impl<P: Pager, O: Origin> RunState<'_, P, O> {
-    // Makes the call of the next line of a strand, if it can go on.
-    fn step(&mut self, index: usize) -> Turn
-        ensures { IsIdle self.old index result.goes_on (is_some result.news) self.new
+    // Makes the call of the next line of a process, if it can go on and this is its n-th call.
+    fn step(&mut self, index: usize, pid: u32, n: u64) -> Turn
+        requires process { IsProcessAt O.script.processes index pid }
+        requires passed { O.answers pid n true ≡ true }
+        ensures { IsIdle self.old index n result.goes_on (is_some result.news) self.new
             ⊎ IsTurn self.old index result.goes_on (is_some result.news) self.new }
     {
-        if index >= self.strands.len() || !goes(&self.world, &self.strands[index]) {
+        if index >= self.strands.len()
+            || !is_next(&self.strands[index], n)
+            || !goes(&self.world, &self.strands[index])
+        {
             return Turn {
                 goes_on: false,
                 news: None,
@@ -96,8 +120,8 @@ impl<P: Pager, O: Origin> RunState<'_, P, O> {
         }
     }
 
-    // The first strand that can go on. The clauses `running` and `rounds` are what the state promises.
-    fn next(&self) -> Option<usize>
+    // The index of the first strand that can go on. The clauses `running` and `rounds` are what the state promises.
+    fn first(&self) -> Option<usize>
         ensures first { result ≡ position (can_go self.now.world.machine) self.now.strands }
         ensures running { IsRunning O.script O.start self.now.world self.now.strands self.now.made }
         ensures rounds { self.now.rounds ≡ rounds_of O.script.lines }
@@ -105,6 +129,26 @@ impl<P: Pager, O: Origin> RunState<'_, P, O> {
         self.strands
             .iter()
             .position(|strand| goes(&self.world, strand))
+    }
+
+    // The first strand that can go on, and its next call.
+    fn next(&self) -> Option<Next>
+        ensures first { option_map (λ k. k.index) result
+            ≡ position (can_go self.now.world.machine) self.now.strands }
+        ensures process { IfSome result (λ k. IsProcessAt O.script.processes k.index k.pid) }
+        ensures call { IfSome result (λ k. HasCall O.script k.pid k.n) }
+        ensures running { IsRunning O.script O.start self.now.world self.now.strands self.now.made }
+        ensures rounds { self.now.rounds ≡ rounds_of O.script.lines }
+    {
+        let Some(index) = self.first() else {
+            return None;
+        };
+        let strand = &self.strands[index];
+        Some(Next {
+            index,
+            pid: strand.pid,
+            n: strand.entries.len() as u64 + 1,
+        })
     }
 
     // How many lines the process at an index has.
@@ -115,14 +159,18 @@ impl<P: Pager, O: Origin> RunState<'_, P, O> {
         self.strands[index].commands.len()
     }
 
-    // Makes the next flush round. If there is a keeper, it publishes the counts afterwards. False if no
-    // round is left.
-    fn flush<R: Wait>(&mut self, rt: &R) -> bool
-        ensures { MatchBool result (IsFlush self.old self.new) (IsFlushed self.old self.new) }
+    // Makes the next flush round, if it is the n-th. If there is a keeper, it publishes the counts afterwards.
+    // False if no round is left.
+    fn flush<R: Wait>(&mut self, rt: &R, n: u64) -> bool
+        requires { O.answers 0 n true ≡ true }
+        ensures { MatchBool result (IsFlush self.old self.new) (IsFlushed self.old n self.new) }
     {
         let Some(pages) = self.rounds.get(self.made) else {
             return false;
         };
+        if self.made as u64 + 1 != n {
+            return false;
+        }
         let _report = self.world.flush(u64::from(*pages));
         self.made += 1;
         publish(rt, &self.world, &mut self.keeper);
@@ -139,31 +187,48 @@ impl<P: Pager, O: Origin> RunState<'_, P, O> {
     // Notes that the gate ended the thread of a process, or the flusher, before its n-th call.
     fn expire(&mut self, pid: u32, n: u64)
         requires has { HasCall O.script pid n }
-        requires ended { O.ends pid n ≡ true }
+        requires ended { O.answers pid n false ≡ true }
         ensures { self.new ≡ record self.old { expired = Some (least pid self.old.expired) } }
     {
         self.expired = Some(least(pid, self.expired));
     }
 
-    // Makes the calls of lines and the rounds that are left, once no thread is left: there are none, as
-    // each thread has made its own. It makes none if the run has no outcome.
-    fn complete<R: Wait>(
+    // Makes the calls of lines and the rounds that are left, once no thread is left: there are none, as each thread has
+    // made its own. If the run has no outcome by then, it makes none; otherwise it makes those that the gate passes.
+    fn complete<R: Wait, G: Gate>(
         &mut self,
         rt: &R,
-        is_refused: bool,
+        refused: Option<Refused>,
+        gate: &G,
         changed: &Condvar,
     ) -> Result<(), RunError>
-        ensures ended { result ≡ ended_by is_refused self.old.expired }
-        ensures error { IfErr result (CanEnd O.ends O.script) }
+        requires { G.answers gate.now ≡ O.answers }
+        ensures ended { result ≡ ended_by (is_some refused) self.new.expired }
+        ensures kept { IfErr (ended_by (is_some refused) self.old.expired) (λ _. self.new ≡ self.old) }
+        ensures error { IfErr result (CanStop O.answers O.script) }
         ensures over { OnOk result
             (IsOver O.script O.start self.new.world self.new.strands self.new.made) }
     {
-        ended_by(is_refused, self.expired)?;
+        ended_by(refused, self.expired)?;
         for _ in rt.forever() {
-            if let Some(index) = self.next() {
-                let Turn { goes_on: _, news } = self.step(index);
+            ended_by(None, self.expired)?;
+            if let Some(Next { index, pid, n }) = self.next() {
+                if !gate.before(pid, n) {
+                    self.expire(pid, n);
+                    continue;
+                }
+                let Turn { goes_on: _, news } = self.step(index, pid, n);
                 announce(news, changed);
-            } else if !self.flush(rt) {
+                gate.after(pid, n);
+            } else if self.made < self.rounds.len() {
+                let n = self.made as u64 + 1;
+                if !gate.before(0, n) {
+                    self.expire(0, n);
+                    continue;
+                }
+                self.flush(rt, n);
+                gate.after(0, n);
+            } else {
                 return Ok(());
             }
         }
@@ -222,6 +287,7 @@ impl<'a, P: Pager, O: Origin> Shared<'a, P, O> {
         keeper: Option<Keeper>,
     ) -> Shared<'a, P, O>
         requires running { IsRunning O.script O.start world strands.items 0 }
+        requires fresh { All (IsFresh O.script.lines) strands.items }
         requires rounds { rounds.items ≡ rounds_of O.script.lines }
         requires kept { IsKept O.cell O.stored keeper }
     {
@@ -255,16 +321,21 @@ impl<'a, P: Pager, O: Origin> Shared<'a, P, O> {
         self.state.lock(rt)
     }
 
-    /// Makes the call of the next line of a process. False if it can't go on.
-    pub(crate) fn step<R: Wait>(&self, rt: &R, index: usize) -> bool {
-        let Turn { goes_on, news } = self.locked(rt).step(index);
+    /// Makes the call of the next line of a process, its n-th, which the gate passed. False if it can't go on.
+    pub(crate) fn step<R: Wait>(&self, rt: &R, index: usize, pid: u32, n: u64) -> bool
+        requires process { IsProcessAt O.script.processes index pid }
+        requires passed { O.answers pid n true ≡ true }
+    {
+        let Turn { goes_on, news } = self.locked(rt).step(index, pid, n);
         announce(news, &self.changed);
         goes_on
     }
 
-    /// Makes the next flush round, under the lock. A keeper publishes in it.
-    pub(crate) fn flush<R: Wait>(&self, rt: &R) {
-        let _made = self.state.lock(rt).flush(rt);
+    /// Makes the next flush round, the n-th, which the gate passed, under the lock. A keeper publishes in it.
+    pub(crate) fn flush<R: Wait>(&self, rt: &R, n: u64)
+        requires { O.answers 0 n true ≡ true }
+    {
+        let _made = self.state.lock(rt).flush(rt, n);
     }
 
     /// Waits until the process is born, or no process is left that could fork it. Returns how many lines it has, if it
@@ -292,23 +363,33 @@ impl<'a, P: Pager, O: Origin> Shared<'a, P, O> {
     /// Notes that the gate ended the thread of a process, or the flusher, before its n-th call.
     pub(crate) fn expire<R: Wait>(&self, rt: &R, pid: u32, n: u64)
         requires has { HasCall O.script pid n }
-        requires ended { O.ends pid n ≡ true }
+        requires ended { O.answers pid n false ≡ true }
     {
         self.state.lock(rt).expire(pid, n);
     }
 
     /// What a run left, once no thread is left, or why it has no outcome.
-    pub(crate) fn finish<R: Wait>(self, rt: &R, is_refused: bool) -> Result<Left<'a, P>, RunError>
-        ensures over { IfOk result
-            (λ l. (made : ℕ) × IsOver O.script O.start l.world l.strands.items made) }
+    pub(crate) fn finish<R: Wait, G: Gate>(
+        self,
+        rt: &R,
+        refused: Option<Refused>,
+        gate: &G,
+    ) -> Result<Left<'a, P>, RunError>
+        requires { G.answers gate.now ≡ O.answers }
+        ensures over { IfOk result (λ l. (made : ℕ)
+            × (IsOver O.script O.start l.world l.strands.items made
+            × ArePassed O.answers l.strands.items made)) }
         ensures kept { IfOk result (λ l. IsKept O.cell O.stored l.keeper) }
-        ensures joined { IfOk result (λ _. is_refused ≡ false) }
-        ensures refused { is_refused ≡ true → IfErr result (λ e. e ≡ RunError.ThreadRefused) }
-        ensures error { IfErr result (CanEnd O.ends O.script) }
+        ensures joined { OnOk result (is_some refused ≡ false) }
+        ensures refused { IfErr result (λ e. (e ≡ RunError.ThreadRefused) ↔ (is_some refused ≡ true)) }
+        ensures error { IfErr result (CanStop O.answers O.script) }
     {
         let Shared { state, changed } = self;
         let mut state = state.into_inner();
-        state.complete(rt, is_refused, &changed)?;
+        match state.complete(rt, refused, gate, &changed) {
+            Ok(()) => {}
+            Err(error) => return Err(error),
+        }
         let RunState {
             world,
             strands,

@@ -2,7 +2,7 @@
 //!
 //! A worker asks its caller for each step. The worker's contract says what it asks for and in which order;
 //! the caller may do anything.
-ghost use Rattle.std.specs.Prelude.{◌≡◌, [], ◌∷◌, List, ℕ, IfSome};
+ghost use Rattle.std.specs.Prelude.{◌≡◌, [], ◌∷◌, List, ℕ, IfSome, true};
 ghost use Rattle.shm_threads.specs.Asked.{Asked, Adds, Born, Before, Stepped, After, Left};
 ghost use Rattle.shm_threads.specs.Asked.{IsWithin, RunsLines, Works};
 
@@ -14,6 +14,9 @@ pub(crate) trait Caller {
     /// How many lines the process has.
     ghost lines: { Self → ℕ };
 
+    /// Whether the process may make its n-th call.
+    ghost may: { Self → ℕ → Type 0 };
+
     /// Waits until the process is born, and returns how many lines it has. None if it never will be.
     fn born(&mut self) -> Option<usize>
         ensures asked { Adds (asked self.old) (Born result ∷ []) (asked self.new) }
@@ -23,10 +26,12 @@ pub(crate) trait Caller {
     fn before(&mut self, n: u64) -> bool
         requires { IsWithin n (lines self.old) }
         ensures asked { Adds (asked self.old) (Before n result ∷ []) (asked self.new) }
+        ensures may { result ≡ true → may self.new n }
         ensures same { lines self.new ≡ lines self.old };
 
-    /// Makes the call of the process's next line. False if the process can't go on.
-    fn step(&mut self) -> bool
+    /// Makes the call of the process's next line, its n-th. False if the process can't go on.
+    fn step(&mut self, n: u64) -> bool
+        requires { may self.old n }
         ensures asked { Adds (asked self.old) (Stepped result ∷ []) (asked self.new) }
         ensures same { lines self.new ≡ lines self.old };
 
@@ -62,7 +67,7 @@ fn run_lines<C: Caller>(caller: &mut C, lines: u64) -> bool
         if !caller.before(n) {
             return false;
         }
-        let goes_on = caller.step();
+        let goes_on = caller.step(n);
         caller.after(n);
         if !goes_on {
             return true;

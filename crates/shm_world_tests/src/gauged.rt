@@ -205,7 +205,7 @@ impl Drop for UntilRead<'_> {
 impl Gate for UntilRead<'_> {
     ghost use Rattle.std.specs.Prelude.{true};
 
-    ghost ends = { λ gate pid n. true };
+    ghost answers = { λ gate pid n may. true };
 
     fn before(&self, pid: u32, n: u64) -> bool {
         self.behind.before(pid, n)

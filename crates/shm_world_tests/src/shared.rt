@@ -176,7 +176,7 @@ impl Drop for Ruled {
 impl Gate for Ruled {
     ghost use Rattle.std.specs.Prelude.{true};
 
-    ghost ends = { λ gate pid n. true };
+    ghost answers = { λ gate pid n may. true };
 
     fn before(&self, pid: u32, n: u64) -> bool {
         self.note(self.turn(pid).ask(n));

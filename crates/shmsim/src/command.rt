@@ -1,19 +1,18 @@
 //! The command line, and why the program stops.
-ghost use Rattle.std.specs.Prelude.{◌≡◌, Some};
+ghost use Rattle.std.specs.Prelude.{◌≡◌, ◌≢◌, ◌⊎◌, [], None, Some, IfErr, IfOk, OnOk, map, string_bytes};
 ghost use Rattle.std.specs.IoError.{error_kind};
-ghost use Rattle.clap.specs.Values.{kind_of};
+ghost use Rattle.clap.specs.Words.{app_of, found_of, kind_of, rows_of};
 ghost use Rattle.shm_program.specs.declared.fault.RunFault.TheVariants as faults;
 ghost use Rattle.shmsim.specs.declared.command.Stop.TheVariants as stops;
 ghost use Rattle.shmsim.specs.Stop.{stop_text, stop_status, io_stop, clap_stop};
-ghost use Rattle.shmsim.specs.Words.{mode_of};
+ghost use Rattle.shmsim.specs.Words.{asked_of, command_line, mode_of, refusals_of, request_in, values_in};
 
 use clap::error::ErrorKind;
 use clap::{Arg, ArgAction, ArgMatches, Command, Error};
 use shm_base::{HostMemory, MOST_AREAS};
 use shm_program::{RunFault, SwapWord, read_swaps};
 use std::alloc::{AllocError, Global};
-use std::rt::Env;
-use std::{env, fmt, io};
+use std::{fmt, io};
 
 /// Why the program stops: wrong words on the command line, or a fault of the run.
 #[derive(Clone, Copy, Debug, PartialEq, Eq)]
@@ -100,36 +99,54 @@ pub(crate) enum Mode {
     Threads,
 }
 
-/// The mode and the swap areas that the command line names.
-pub(crate) fn read_command<R: Env + AllocGlobal>(
-    rt: &R,
-    alloc: Global,
-) -> Result<(Mode, Vec<SwapWord>), Stop> {
-    let args = env::args(rt)?;
-    let words: Vec<String> = args.collect(alloc)?;
-    read_words(alloc, &words)
+/// What the words ask for: how the script is run, and the swap areas.
+#[derive(Drop)]
+pub(crate) struct Asked {
+    pub(crate) mode: Mode,
+    pub(crate) swaps: Vec<SwapWord>,
 }
 
-// The mode and the areas that the words name. The first word is the program's name.
-fn read_words(alloc: Global, words: &[String]) -> Result<(Mode, Vec<SwapWord>), Stop> {
-    let matches = matched(alloc, words)?;
-    read_matches(alloc, &matches)
+/// What the words ask for: the program's name, a mode, and one to eight swap areas.
+pub(crate) fn read_words(alloc: Global, words: &[String]) -> Result<Asked, Stop>
+    ensures ok { let asked = asked_of (map string_bytes words.now) in
+        IfOk result (λ a. asked ≡ Some (record { mode = a.mode; swaps = a.swaps.items })) }
+    ensures err { let unknown = asked_of (map string_bytes words.now) ≡ None in
+        IfErr result (λ s. (s ≡ stops.Fault faults.HostMemory) ⊎ ((s ≡ stops.Usage) × unknown)) }
+{
+    match matched(alloc, words) {
+        Ok(matches) => read_matches(alloc, &matches),
+        Err(stop) => Err(stop),
+    }
 }
 
-fn matched(alloc: Global, words: &[String]) -> Result<ArgMatches<'_>, Stop> {
-    let command = command_line(alloc)?;
-    Ok(command.try_get_matches_from(words)?)
+// The words of each argument, if `clap` takes the words.
+fn matched(alloc: Global, words: &[String]) -> Result<ArgMatches<'_>, Stop>
+    ensures taken { OnOk result (refusals_of (map string_bytes words.now) ≡ []) }
+    ensures values { let values = values_in (map string_bytes words.now) in
+        IfOk result (λ m. rows_of (found_of m) ≡ values) }
+    ensures err { let refused = refusals_of (map string_bytes words.now) ≢ [] in
+        IfErr result (λ s. (s ≡ stops.Fault faults.HostMemory) ⊎ ((s ≡ stops.Usage) × refused)) }
+{
+    let Ok(command) = command_line(alloc) else {
+        return Err(Stop::Fault(RunFault::HostMemory));
+    };
+    match command.try_get_matches_from(words) {
+        Ok(matches) => Ok(matches),
+        Err(error) => Err(Stop::from(error)),
+    }
 }
 
 // A mode, and one to eight swap areas.
-fn command_line<'a>(alloc: Global) -> Result<Command<'a>, Stop> {
+fn command_line<'a>(alloc: Global) -> Result<Command<'a>, AllocError>
+    ensures { IfOk result (λ c. app_of c ≡ command_line) }
+{
     let mode = Arg::new(alloc, "mode").required(true);
     let command = Command::new(alloc, "shmsim").arg(mode)?;
     let swap = Arg::new(alloc, "swap")
         .required(true)
         .num_args(1..=MOST_AREAS)
         .action(ArgAction::Append);
-    Ok(command.arg(swap)?)
+    command.arg(swap)
 }
 
 fn mode_of(word: &str) -> Option<Mode>
@@ -142,13 +159,20 @@ fn mode_of(word: &str) -> Option<Mode>
     }
 }
 
-fn read_matches(alloc: Global, matches: &ArgMatches<'_>) -> Result<(Mode, Vec<SwapWord>), Stop> {
+// The mode and the areas that the words of the arguments name.
+fn read_matches(alloc: Global, matches: &ArgMatches<'_>) -> Result<Asked, Stop>
+    ensures ok { let asked = request_in (rows_of (found_of matches.now)) in
+        IfOk result (λ a. asked ≡ Some (record { mode = a.mode; swaps = a.swaps.items })) }
+    ensures err { let unknown = request_in (rows_of (found_of matches.now)) ≡ None in
+        IfErr result (λ s. (s ≡ stops.Fault faults.HostMemory) ⊎ ((s ≡ stops.Usage) × unknown)) }
+{
     let Some(mode) = mode_of(matches.get_str("mode").unwrap_or("")) else {
         return Err(Stop::Usage);
     };
     let words = matches.get_strs("swap").unwrap_or(&[]);
-    match read_swaps(alloc, words)? {
-        Some(swaps) => Ok((mode, swaps)),
-        None => Err(Stop::Usage),
+    match read_swaps(alloc, words) {
+        Ok(Some(swaps)) => Ok(Asked { mode, swaps }),
+        Ok(None) => Err(Stop::Usage),
+        Err(AllocError) => Err(Stop::Fault(RunFault::HostMemory)),
     }
 }

@@ -5,22 +5,20 @@
 mod command;
 mod runs;
 
-use command::{Stop, read_command};
-use runs::run_over;
-use shm_program::areas_of;
-use std::io;
+use command::Stop;
+use runs::run_words;
 use std::process::ExitCode;
 use std::rt::Env;
 use std::sync::Wait;
 use std::thread::Threads;
+use std::{env, io};
 
 // Runs the script on standard input as the command line asks.
 fn run<R: Env + Input + Print + AllocGlobal + Threads + Wait + Sync>(rt: &R) -> Result<(), Stop> {
     let alloc = rt.alloc();
-    let (mode, swaps) = read_command(rt, alloc)?;
-    let pagers = areas_of(alloc, &swaps)?;
+    let words: Vec<String> = env::args(rt)?.collect(alloc)?;
     let (mut reader, mut writer) = (rt.reader(), io::writer(rt));
-    Ok(run_over(rt, alloc, &mut reader, &mut writer, mode, pagers)?)
+    run_words(rt, alloc, &words, &mut reader, &mut writer)
 }
 
 fn main(rt: HostRuntime) -> io::Result<ExitCode> {

@@ -1,12 +1,14 @@
-use Rattle.std.proofs.Common.{◌∙◌, ◌≡◌, ◌<◌, ℕ, List, Bool, true, length, arith, inr, ap, is_some, refl, rules, slice_set, subst, sym}
+use Rattle.std.proofs.Common.{◌∙◌, ◌≡◌, ◌<◌, ◌+◌, ℕ, List, Bool, true, length, arith, inr, ap, is_some, rules, slice_set, subst, sym}
 use Rattle.std.proofs.Math.ListN.{get_or}
+use Rattle.std.proofs.lemmas.Bool.{eqb-true}
 use Rattle.std.proofs.lemmas.List.{get_or_read}
 use Rattle.shm_base.specs.State.{Machine}
-use Rattle.shm_threads.specs.Running.{IsTurn, RunView, goes_on_by}
+use Rattle.shm_threads.specs.Running.{IsTurn, RunView, goes_on_by, is_next}
 use Rattle.shm_threads.specs.Strands.{can_go}
 use Rattle.shm_threads.specs.declared.births.ProcessState.{ProcessState}
 use Rattle.shm_threads.specs.declared.strand.Strand.{Strand}
-use Rattle.shm_threads.proofs.Turns.{has-place, running-step}
+use Rattle.shm_threads.proofs.Passing.{passed-step}
+use Rattle.shm_threads.proofs.Turns.{has-place, pid-of, running-step}
 use Rattle.shm_threads.proofs.shared.RunState.step.Goals as goal
 
 -- the strand at the index, which can go on
@@ -15,23 +17,42 @@ goes machine strands k s u may on is at here =
     let same : u ≡ s = at ∙ here u in
     rw (← same) (sym is ∙ on)
 
+-- the number of its next call
+next-is : (strands : List Strand) (k n : ℕ) (s u : Strand) (is : Bool) → is ≡ true → is ≡ is_next u n → u ≡ get_or strands k u → ((d : Strand) → get_or strands k d ≡ s) → length s.entries.items + 1 ≡ n
+next-is strands k n s u is on same at here =
+    let one : u ≡ s = at ∙ here u in
+    let is : is_next s n ≡ true = ap (λ (x : Strand). is_next x n) (sym one) ∙ sym same ∙ on in
+    eqb-true (length s.entries.items + 1) n is
+
 pub make-made-requires-clause-recorded : goal.make-made-requires-clause-recorded
 make-made-requires-clause-recorded g c =
     let items = c.self.inside.strands.items in
     let s = c.index_mut.result.now in
     let lt : c.args.index < length items = omega (arith, c.if-index-len.false, c.len.ensures, c.self.inside.strands.ok.0) in
     let here = λ (d : Strand). sym (get_or_read items c.args.index s lt c.index_mut.ensures.value d) in
-    has-place c.self.inside.world.machine items c.args.index c.self.inside.world.room s lt here (goes c.self.inside.world.machine items c.args.index s _ _ c.if-not-goes.false c.goes.ensures c.index.ensures here) c.self.invariant.0.room
+    has-place c.self.inside.world.machine items c.args.index c.self.inside.world.room s lt here (goes c.self.inside.world.machine items c.args.index s _ _ c.if-not-goes.false c.goes.ensures c.index-else-not-is_next.ensures here) c.self.invariant.0.room
 
 pub invariant_of-self : goal.invariant_of-self
 invariant_of-self g c =
     let items = c.self.inside.strands.items in
     let s = c.index_mut.result.now in
     let lt : c.args.index < length items = omega (arith, c.if-index-len.false, c.len.ensures, c.self.inside.strands.ok.0) in
-    let here = λ (d : Strand). sym (get_or_read items c.args.index s lt c.index_mut.ensures.value d) in (
+    let here = λ (d : Strand). sym (get_or_read items c.args.index s lt c.index_mut.ensures.value d) in
+    let rest = c.self.invariant.1 in
+    let nth = next-is items c.args.index c.args.n s _ _ c.if-not-is_next.false c.is_next.ensures c.index.ensures here in (
       running-step g.O.Origin.script g.O.Origin.start c.self.inside.world c.make-made.new.world items c.self.inside.made c.args.index s c.make-made.new.strand c.make-made.result
-          c.self.invariant.0 lt here (goes c.self.inside.world.machine items c.args.index s _ _ c.if-not-goes.false c.goes.ensures c.index.ensures here) c.make-made.ensures,
-      c.self.invariant.1,
+          c.self.invariant.0 lt here (goes c.self.inside.world.machine items c.args.index s _ _ c.if-not-goes.false c.goes.ensures c.index-else-not-is_next.ensures here) c.make-made.ensures,
+      (
+        rest.0,
+        (
+          rest.1.0,
+          (
+            rest.1.1.0,
+            passed-step g.O.Origin.answers items c.self.inside.made c.args.index c.args.n c.args.pid s c.make-made.new.strand c.make-made.ensures.entry lt here
+                (pid-of items g.O.Origin.script.processes c.self.invariant.0.listed c.args.index c.args.pid s lt here c.requires.process) nth c.requires.passed c.make-made.ensures.pid c.make-made.ensures.entries rest.1.1.1,
+          ),
+        ),
+      ),
     )
 
 pub returns : goal.returns

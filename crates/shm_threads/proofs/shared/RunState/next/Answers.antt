@@ -1,0 +1,29 @@
+use Rattle.std.proofs.Common.{◌≡◌, ◌∙◌, arith, length, subst, sym}
+use Rattle.std.proofs.Math.ListN.{get_or}
+use Rattle.std.proofs.lemmas.List.Quantifiers.{position-Some}
+use Rattle.shm_threads.specs.Running.{RunView}
+use Rattle.shm_threads.specs.Strands.{can_go}
+use Rattle.shm_threads.proofs.Nexts.{at-process, has-call}
+use Rattle.shm_threads.proofs.shared.RunState.next.Goals as goal
+
+pub returns-clause-first : goal.returns-clause-first
+returns-clause-first g c = sym c.in-Some.is ∙ c.first.ensures.first
+
+pub returns-clause-process : goal.returns-clause-process
+returns-clause-process g c =
+    let state = c.args.self.now in
+    let s = c.index-strand.result.now in
+    let k = c.in-Some.index in
+    let at = position-Some (can_go state.world.machine) state.strands k s (sym c.first.ensures.first ∙ c.in-Some.is) in
+    let here : s ≡ get_or state.strands k s = subst (λ (v : RunView). s ≡ get_or v.strands k s) c.self.view_is c.index-strand.ensures in
+    at-process g.O.Origin.script g.O.Origin.start state.world state.strands state.made k s c.first.ensures.running at.0 here
+
+pub returns-clause-call : goal.returns-clause-call
+returns-clause-call g c =
+    let state = c.args.self.now in
+    let s = c.index-strand.result.now in
+    let k = c.in-Some.index in
+    let at = position-Some (can_go state.world.machine) state.strands k s (sym c.first.ensures.first ∙ c.in-Some.is) in
+    let here : s ≡ get_or state.strands k s = subst (λ (v : RunView). s ≡ get_or v.strands k s) c.self.view_is c.index-strand.ensures in
+    let entries : c.len.result ≡ length s.entries.items = omega (arith, c.len.ensures, s.entries.ok.0) in
+    rw entries (has-call g.O.Origin.script g.O.Origin.start state.world state.strands state.made k s c.first.ensures.running at.0 here at.1)
