@@ -59,7 +59,7 @@ def test_version() -> None:
 
 def test_sentences(folder: str) -> None:
     text = ("# One two\n\nOne two `three four`. Five!\n\n    six\n\n- Seven\n  eight\n- [nine ten](a.md)\n\n"
-            "| a | b |\n")
+            "| a | b |\n\n<details><summary>Eleven</summary>\n\n</details>\n")
     ended = run([f"{TOP}/tools/sentences", "--short", write_file(folder, "page.md", text)])
     assert ": 4 sentences, 2.0 words on average, 100 of 100 short" in ended.out
 
