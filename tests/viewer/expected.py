@@ -1,6 +1,6 @@
 """What each step of a page must show, by the record's own lines and the sentences written by hand.
 
-Nothing here uses the code that makes the page: a record is read anew, in the layout of docs/SCRIPT.md.
+Nothing here uses the code that makes the page: a record is read anew, in the layout of docs/VIEWER.md.
 """
 
 from __future__ import annotations
@@ -410,7 +410,7 @@ def moves_of(blocks: Any, script: Any = ()) -> Any:
 
 
 def place_after(name: str, at: Any, blocks: Any, script: Any = ()) -> Any:
-    """Returns the place that a page is at after a move, by docs/SCRIPT.md: at its ends it stays."""
+    """Returns the place that a page is at after a move, by docs/VIEWER.md: at its ends it stays."""
     kind, what = name.split(" ")
     last = len(blocks) - 1
     if kind == "slider":

@@ -13,7 +13,7 @@ MOST_MILLISECONDS, MOST_BYTES = 1000, 2 << 20
 
 
 def block(number: Any) -> Any:
-    """A step of a record, in the layout of docs/SCRIPT.md: each store takes a frame, and is no longer
+    """A step of a record, in the layout of docs/VIEWER.md: each store takes a frame, and is no longer
     referenced a page later."""
     address = 0x40000000 + 4096 * (number - 1)
     call = f"call {number} 1 store 0x{address:08x} 01 = ok" if number else "start"
