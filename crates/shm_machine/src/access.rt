@@ -63,10 +63,10 @@ impl Machine {
     #[inline(always)]
     pub fn load_into(&mut self, pid: u32, addr: u64, bytes: &mut [u8]) -> Result<(), Refusal>
         requires size { (1 ≤ length bytes.old) × (length bytes.old ≤ PAGE_SIZE) }
-        ensures answered { let pages = pages_asked self.old.system.machine pid addr (length bytes.old) false in
-            let load = call.Load addr (length bytes.old) in
+        ensures answered { let size = length bytes.old in
+            let pages = pages_asked self.old.system.machine pid addr size false in
             let answer = as_reply (λ _. reply.Bytes bytes.new) result in
-            AccessedBy pages self.old.system pid load answer self.new.system }
+            AccessedBy pages self.old.system pid (call.Load addr size) answer self.new.system }
         ensures kept { OnErr result (bytes.new ≡ bytes.old) }
         ensures size { length bytes.new ≡ length bytes.old }
     {
