@@ -76,6 +76,7 @@ enum nog_code {
     NOG_OUT_OF_RANGE = 2003,   /* a number that no call can carry */
     NOG_SPENT = 2004,          /* 2^64 - 1 calls were counted */
     NOG_LENT = 2005,           /* a page on loan is in the way: nog_leaver, or the page itself, must come back first */
+    NOG_TOO_FEW_COUNTS = 2006, /* nog_gone: there are more indexes of segments than counts */
     NOG_BAD_LIMITS = 2010,     /* never returned; 2011 to 2019: field 1 to 9 of nog_limits is out of its range */
     NOG_BAD_SHMMAX = 2011,
     NOG_BAD_SHMMNI = 2012,
@@ -330,12 +331,12 @@ uint32_t nog_unlock(nog_machine *machine, uint32_t pid, int32_t id);
    NOG_OUT_OF_RANGE: the length is not 1 to 64.
    NOG_SIGSEGV: some byte is not attached.
    NOG_SIGBUS: a swap area failed; no byte of any segment changed. */
-uint32_t nog_load(nog_machine *machine, uint32_t pid, uint64_t addr, uint8_t *bytes, size_t len);
+uint32_t nog_load(nog_machine *machine, uint32_t pid, uint64_t addr, void *bytes, size_t len);
 
 /* Writes 1 to 64 bytes from `addr` on, in one step.
    NOG_OUT_OF_RANGE, NOG_SIGBUS: as nog_load.
    NOG_SIGSEGV: some byte is not attached for writing. */
-uint32_t nog_store(nog_machine *machine, uint32_t pid, uint64_t addr, const uint8_t *bytes, size_t len);
+uint32_t nog_store(nog_machine *machine, uint32_t pid, uint64_t addr, const void *bytes, size_t len);
 
 /* Adds to the eight bytes from `addr` on, a number with its lowest byte first, modulo 2^64, in one step. The number
    before the addition is put into `before`. `addr` needs no alignment.
@@ -346,15 +347,15 @@ uint32_t nog_add(nog_machine *machine, uint32_t pid, uint64_t addr, uint64_t add
    atomic exchange. `before_len` must be `len`.
    NOG_OUT_OF_RANGE: the length is not 1 to 64, or the two lengths differ.
    NOG_SIGSEGV, NOG_SIGBUS: as nog_store. */
-uint32_t nog_exchange(nog_machine *machine, uint32_t pid, uint64_t addr, const uint8_t *bytes, size_t len,
-                      uint8_t *before, size_t before_len);
+uint32_t nog_exchange(nog_machine *machine, uint32_t pid, uint64_t addr, const void *bytes, size_t len,
+                      void *before, size_t before_len);
 
 /* As nog_exchange, but it replaces the bytes only if they are the expected ones. In both cases `before` gets the bytes
    that were there: they were replaced exactly when `before` and `expected` are equal. All three lengths must be equal.
    NOG_OUT_OF_RANGE, NOG_SIGSEGV, NOG_SIGBUS: as nog_exchange. Bytes that may not be written are NOG_SIGSEGV in both
    cases. */
-uint32_t nog_compare_exchange(nog_machine *machine, uint32_t pid, uint64_t addr, const uint8_t *expected,
-                              size_t expected_len, const uint8_t *bytes, size_t len, uint8_t *before, size_t before_len);
+uint32_t nog_compare_exchange(nog_machine *machine, uint32_t pid, uint64_t addr, const void *expected,
+                              size_t expected_len, const void *bytes, size_t len, void *before, size_t before_len);
 
 /* fork(2): a child that was declared or admitted is born, with the caller's user, group and pieces.
    NOG_EAGAIN: no unborn child has the pid `child`. */
@@ -398,6 +399,14 @@ uint32_t nog_set_user(nog_machine *machine, uint32_t pid, uint32_t uid, uint32_t
    number of its call. */
 uint32_t nog_set_time(nog_machine *machine, uint64_t time);
 
+/* Gives the machine other limits, as sysctl(8) and setrlimit(2) do: SHMMAX, SHMMNI, SHMALL and MEMLOCK, each within the
+   wider range of nog_limits. Segments that exist stay, even if one is larger than `shmmax` now, or if there are more
+   than `shmmni`; later calls follow the new limits. The other limits never change.
+   NOG_BAD_SHMMAX, NOG_BAD_SHMMNI, NOG_BAD_SHMALL, NOG_BAD_MEMLOCK: the first that is out of its range. Then:
+   NOG_BAD_SHMALL: all segments have more pages than `shmall`.
+   NOG_BAD_MEMLOCK: the locked segments have more pages than `memlock`, without NOG_LOCKS_BY_USER. */
+uint32_t nog_set_limits(nog_machine *machine, uint64_t shmmax, uint64_t shmmni, uint64_t shmall, uint64_t memlock);
+
 /* munmap(2): unmaps `len` bytes from `addr` on, rounded up to whole pages, of a live process. Pieces in the range are
    detached, and those that reach beyond it are cut. Each segment that lost pages gets a detach time, which is that of
    the next call, and the process as its last pid. A segment that is marked for removal is destroyed with its last
@@ -439,11 +448,11 @@ uint32_t nog_snapshot(nog_machine *machine, nog_machine *copy);
    of the loads before it. The number of bytes read is put into `done`, whatever the code, except at NOG_CLOSED.
    The codes are those of nog_load without NOG_OUT_OF_RANGE. An address past 2^64 - 1 is NOG_SIGSEGV, and that load is
    not counted. */
-uint32_t nog_read(nog_machine *machine, uint32_t pid, uint64_t addr, uint8_t *bytes, size_t len, uint64_t *done);
+uint32_t nog_read(nog_machine *machine, uint32_t pid, uint64_t addr, void *bytes, size_t len, uint64_t *done);
 
 /* Writes `len` bytes by stores, as nog_read reads them by loads, with the codes of nog_store. The first `done` bytes
    were stored and stay stored, whatever the code, also at NOG_SPENT. */
-uint32_t nog_write(nog_machine *machine, uint32_t pid, uint64_t addr, const uint8_t *bytes, size_t len, uint64_t *done);
+uint32_t nog_write(nog_machine *machine, uint32_t pid, uint64_t addr, const void *bytes, size_t len, uint64_t *done);
 
 /* Copies `len` bytes of one process to another, or to the same one. It does a nog_read of all of them, and then a
    nog_write of those that were read, so the ranges may overlap. The number of bytes written is put into `done`, except
@@ -470,14 +479,14 @@ uint32_t nog_copy(nog_machine *machine, uint32_t from, uint64_t from_addr, uint3
    NOG_OUT_OF_RANGE: the segment has no such page.
    NOG_LENT: the page is on loan, or the page that nog_leaver shows is, and would have to leave.
    NOG_SIGBUS: a pager failed. */
-uint32_t nog_lend(nog_machine *machine, int32_t id, uint32_t page, uint8_t *bytes, size_t len);
+uint32_t nog_lend(nog_machine *machine, int32_t id, uint32_t page, void *bytes, size_t len);
 
 /* Takes a page back, with the 4096 bytes that it has now, or with none if they did not change (`len` 0). With bytes the
    frame becomes dirty. No page moves, and no referenced bit changes.
    NOG_OUT_OF_RANGE: `len` is neither 0 nor 4096.
    NOG_EINVAL: no segment has the identifier.
    NOG_OUT_OF_RANGE: the page is not on loan. */
-uint32_t nog_give_back(nog_machine *machine, int32_t id, uint32_t page, const uint8_t *bytes, size_t len);
+uint32_t nog_give_back(nog_machine *machine, int32_t id, uint32_t page, const void *bytes, size_t len);
 
 /* The frame whose page would leave if a page came in now. Once this page is back, bringing another one in evicts it and
    no other page.
@@ -494,6 +503,43 @@ uint32_t nog_frame_at(nog_machine *machine, uint32_t place, nog_frame *frame);
    NOG_SIGSEGV: nothing is attached at the address. */
 uint32_t nog_page_at(nog_machine *machine, uint32_t pid, uint64_t addr, int32_t *id, uint32_t *page,
                      uint32_t *is_writable);
+
+/* How many pages are on loan. */
+uint32_t nog_loans(nog_machine *machine, uint64_t *pages);
+
+/* ---- questions of the host ---- */
+
+/* What an emulator that keeps memory, segments or tables of its own asks between calls. None of these functions is a
+   call of a process, and none changes the machine. nog_page_at, above, and nog_failed_at, below, are two more: if
+   nog_failed_at returns NOG_OUT_OF_RANGE, each byte of the range is attached, and writable if `is_write` is not 0. */
+
+/* The piece of a live process that an address is in.
+   NOG_ESRCH: no live process has the pid.
+   NOG_SIGSEGV: nothing is attached at the address. */
+uint32_t nog_piece_of(nog_machine *machine, uint32_t pid, uint64_t addr, nog_piece *piece);
+
+/* The segment of an identifier, as nog_stat shows it, without a test of permission. The machine's rules do not matter.
+   NOG_EINVAL: no segment ever had the identifier.
+   NOG_EIDRM: its segment is destroyed. */
+uint32_t nog_segment_of(nog_machine *machine, int32_t id, nog_segment *segment);
+
+/* The limits of the machine: those that it was opened with, or those of the last nog_set_limits. */
+uint32_t nog_limits_of(nog_machine *machine, nog_limits *limits);
+
+/* How many pages of a segment are in frames, and how many only in slots, as /proc/sysvipc/shm shows them. Its time
+   grows with the pages of the segment that were ever touched, and with the slots that were ever used.
+   NOG_EINVAL: no segment has the identifier. */
+uint32_t nog_pages_of(nog_machine *machine, int32_t id, uint64_t *resident, uint64_t *swapped);
+
+/* Names a destroyed segment, so that a program that keeps something for each segment knows what to free. `told` is the
+   caller's: for each index of the table of segments, how many segments that were destroyed there it was told of. All
+   counts begin with 0. If a count is too low, the identifier is put into `id`, and the count rises by 1. So repeated
+   calls name each destroyed segment once, by rising index, until they return NOG_OUT_OF_RANGE. No identifier is used
+   twice. A count for each index that nog_indexes counts is enough; when the table has grown, add counts of 0. Its time
+   grows with the indexes.
+   NOG_TOO_FEW_COUNTS: there are fewer counts than indexes. Nothing was named, and no count changed.
+   NOG_OUT_OF_RANGE: each destroyed segment was named. */
+uint32_t nog_gone(nog_machine *machine, uint32_t *told, size_t told_count, int32_t *id);
 
 /* ---- the machine's memory, and its state ---- */
 
@@ -549,8 +595,9 @@ uint32_t nog_calls(nog_machine *machine, uint64_t *calls);
 
 /* The text of a code, ended by a zero and cut to `size` - 1 bytes. Its whole length is put into `len`. The text of an
    error of errno(3) or of a signal is its name, such as EINVAL. If `size` is 0, only `len` is written.
+   nogcuvema_names.h has the name of each code, such as "NOG_LENT".
    NOG_OUT_OF_RANGE: no function returns this code. */
-uint32_t nog_text(uint32_t code, uint8_t *text, size_t size, size_t *len);
+uint32_t nog_text(uint32_t code, void *text, size_t size, size_t *len);
 
 /* The version of the library, in the form of NOG_VERSION. */
 uint32_t nog_version(void);

@@ -155,7 +155,7 @@ static inline int64_t nog_linux_sums(nog_machine *machine, uint64_t addr, const 
     return nog_linux_put(memory, addr, &shown, sizeof shown, (int64_t)usage.highest);
 }
 
-/* shmctl(2). `addr` is the third argument, of the guest's struct. `limits` are those with which the machine was opened. */
+/* shmctl(2). `addr` is the third argument, of the guest's struct. `limits` are the machine's, as nog_limits_of shows them. */
 static inline int64_t nog_linux_shmctl(nog_machine *machine, const nog_limits *limits, uint32_t pid, int32_t id, int32_t command,
                                        uint64_t addr, const nog_linux_memory *memory) {
     nog_segment segment;

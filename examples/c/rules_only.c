@@ -20,6 +20,8 @@ static nog_machine machine = NOG_MACHINE_INITIALIZER;
 
 /* the emulator's own bytes of the segment that has each index, and its identifier there */
 static struct { int32_t id; uint8_t *bytes; } kept[SEGMENTS];
+/* how many destroyed segments of each index the library named */
+static uint32_t told_of[SEGMENTS];
 
 static void die(const char *why) {
     fprintf(stderr, "rules_only: %s\n", why);
@@ -30,7 +32,7 @@ static void die(const char *why) {
 static void keep(int64_t id) {
     nog_segment segment;
     size_t index = (size_t)(id % NOG_LINUX_SEQUENCE);
-    if (nog_segment_at(&machine, (uint32_t)index, &segment) != NOG_DONE || segment.id != id) die("no such segment");
+    if (nog_segment_of(&machine, (int32_t)id, &segment) != NOG_DONE) die("no such segment");
     if (kept[index].bytes && kept[index].id == id) return;
     kept[index].id = (int32_t)id;
     kept[index].bytes = calloc((segment.size + PAGE - 1) / PAGE, PAGE);
@@ -39,11 +41,10 @@ static void keep(int64_t id) {
 
 /* After whatever may destroy a segment: shmctl, shmdt, a remap, munmap, exec and exit. */
 static void forget_destroyed(void) {
-    nog_segment segment;
-    for (uint32_t index = 0; index < SEGMENTS; index++) {
-        if (!kept[index].bytes) continue;
-        if (nog_segment_at(&machine, index, &segment) == NOG_DONE && segment.id == kept[index].id) continue;
-        printf("segment %" PRId32 " is destroyed\n", kept[index].id);
+    int32_t id;
+    while (nog_gone(&machine, told_of, SEGMENTS, &id) == NOG_DONE) {
+        size_t index = (size_t)(id % NOG_LINUX_SEQUENCE);
+        printf("segment %" PRId32 " is destroyed\n", id);
         free(kept[index].bytes);
         kept[index].bytes = NULL;
     }
@@ -53,12 +54,8 @@ static void forget_destroyed(void) {
    empties that after a call that changes the process's pieces. */
 static uint8_t *byte_at(uint32_t pid, uint64_t addr, int is_write) {
     nog_piece piece;
-    for (uint32_t i = 0; nog_piece_at(&machine, pid, i, &piece) == NOG_DONE; i++) {
-        if (addr < piece.base || addr - piece.base >= (uint64_t)piece.pages * PAGE) continue;
-        if (is_write && !piece.is_writable) return NULL;
-        return kept[piece.segment % NOG_LINUX_SEQUENCE].bytes + (uint64_t)piece.first_page * PAGE + (addr - piece.base);
-    }
-    return NULL;
+    if (nog_piece_of(&machine, pid, addr, &piece) != NOG_DONE || (is_write && !piece.is_writable)) return NULL;
+    return kept[piece.segment % NOG_LINUX_SEQUENCE].bytes + (uint64_t)piece.first_page * PAGE + (addr - piece.base);
 }
 
 static void store(uint32_t pid, uint64_t addr, uint8_t value) {

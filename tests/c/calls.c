@@ -1,6 +1,7 @@
 /* calls: each function of the interface once where it is done, and each answer that is not a call's own: a closed handle,
    numbers out of range, a process that is not there, limits and a start that are refused. The replies are those of
    docs/MACHINE.md; that each call of a process gives them is the matter of conformance/library.c. */
+#include <nogcuvema_names.h>
 #include "testing.h"
 
 enum { CALLS = 17, UNTOUCHED = 0xa5 };
@@ -450,8 +451,8 @@ static void test_table(nog_machine *m) {
 
 static void test_texts(void) {
     static const uint32_t codes[] = {0, 1, 2, 3, 5, 11, 12, 13, 17, 22, 24, 28, 43, 1007, 1011, 2001, 2002, 2003, 2004, 2005,
-        2011, 2012, 2013, 2014, 2015, 2016, 2017, 2018, 2019, 2021, 2022, 2023, 2024, 2031, 2032, 2033, 2041, 2042};
-    static const uint32_t no_codes[] = {4, 44, 1008, 2000, 2006, 2010, 2020, 2025, 2030, 2034, 2040, 2043, UINT32_MAX};
+        2006, 2011, 2012, 2013, 2014, 2015, 2016, 2017, 2018, 2019, 2021, 2022, 2023, 2024, 2031, 2032, 2033, 2041, 2042};
+    static const uint32_t no_codes[] = {4, 44, 1008, 2000, 2007, 2010, 2020, 2025, 2030, 2034, 2040, 2043, UINT32_MAX};
     uint8_t text[64], cut[3];
     size_t len, again;
     for (size_t i = 0; i < sizeof codes / sizeof *codes; i++) {
@@ -471,6 +472,13 @@ static void test_texts(void) {
         ANSWER(nog_text(no_codes[i], text, sizeof text, &len), NOG_OUT_OF_RANGE);
         TEST(len == 77 && text[0] == UNTOUCHED);
     }
+}
+
+/* the name of each code of enum nog_code, of which test_library compares the list */
+static void test_names(void) {
+    TEST(strcmp(nog_name(NOG_DONE), "NOG_DONE") == 0 && strcmp(nog_name(2005), "NOG_LENT") == 0);
+    TEST(strcmp(nog_name(NOG_DISMISS_LIVE), "NOG_DISMISS_LIVE") == 0);
+    TEST(!nog_name(4) && !nog_name(2043) && !nog_name(UINT32_MAX));
 }
 
 /* two machines are independent, and one that was moved as a whole still works */
@@ -515,6 +523,7 @@ int main(void) {
     ANSWER(nog_close(&machine), NOG_DONE);
     test_closed(&machine);
     test_texts();
+    test_names();
     test_two_machines();
     return finish("calls");
 }

@@ -119,6 +119,16 @@ static void fill_locked(uint64_t size) {
     for (uint64_t i = 0; i < 3; i++) took(nog_store(&machine, PID, at + i * PAGE, bytes, 1));
 }
 
+/* SIZE frames, all full; the page that would leave is at the clock's hand, and unreferenced */
+static void fill_clock(uint64_t size) {
+    open_with(8, 1, size);
+    usual = make(size + 1);
+    at = attach(usual, 0);
+    for (uint64_t i = 0; i <= size; i++) took(nog_store(&machine, PID, at + i * PAGE, bytes, 1));
+    at += size * PAGE;
+    length = size;
+}
+
 static void fill_none(uint64_t size) {
     open_with(8, 1, FRAMES);
     length = size;
@@ -195,6 +205,38 @@ static void fault_one(void) {
     took(nog_store(&machine, PID, at + turn++ % 3 * PAGE, bytes, 1));
 }
 
+/* a resident page is lent and comes back, with its bytes or with none */
+static void lend_and_return(void) {
+    took(nog_lend(&machine, usual, (uint32_t)length, bytes, PAGE));
+    took(nog_give_back(&machine, usual, (uint32_t)length, bytes, PAGE));
+}
+
+static void lend_unchanged(void) {
+    took(nog_lend(&machine, usual, (uint32_t)length, bytes, PAGE));
+    took(nog_give_back(&machine, usual, (uint32_t)length, bytes, 0));
+}
+
+static void find_leaver(void) {
+    nog_frame frame;
+    took(nog_leaver(&machine, &frame));
+}
+
+static void find_page(void) {
+    int32_t id;
+    uint32_t page, is_writable;
+    took(nog_page_at(&machine, PID, at, &id, &page, &is_writable));
+}
+
+static void find_piece(void) {
+    nog_piece piece;
+    took(nog_piece_of(&machine, PID, at, &piece));
+}
+
+static void find_segment(void) {
+    nog_segment segment;
+    took(nog_segment_of(&machine, usual, &segment));
+}
+
 static void open_and_close(void) {
     open_with(8, 1, length);
     took(nog_close(&machine));
@@ -232,7 +274,10 @@ static const struct { const char *name; void (*fill)(uint64_t size); void (*call
     {"bytes-read", fill_bytes, read_some}, {"bytes-write", fill_bytes, write_some}, {"bytes-copy", fill_bytes, copy_some},
     {"pages-untouched", fill_none, come_and_go}, {"pages-last", fill_none, touch_the_last},
     {"frames-flush", fill_frames, flush_nothing}, {"frames-fault", fill_locked, fault_one},
-    {"frames-open", fill_later, open_and_close} };
+    {"frames-open", fill_later, open_and_close},
+    {"clock-lend", fill_clock, lend_and_return}, {"clock-unchanged", fill_clock, lend_unchanged},
+    {"clock-leaver", fill_clock, find_leaver}, {"clock-page", fill_clock, find_page},
+    {"pieces-find", fill_pieces, find_piece}, {"segments-find", fill_segments, find_segment} };
 
 int main(int count, char **words) {
     for (size_t i = 0; count == 4 && i < sizeof kinds / sizeof *kinds; i++) {

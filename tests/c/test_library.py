@@ -24,7 +24,7 @@ SANITIZERS = ["-g", "-fsanitize=address,undefined", "-fno-sanitize-recover=all"]
 LANGUAGES = (("c", "c99"), ("c", "c11"), ("c++", "c++98"), ("c++", "c++17"))
 COMPILERS = {"c": ("cc", "clang"), "c++": ("c++", "clang++")}
 TESTS = {"layout": [], "numbers": [], "calls": [], "exchanges": [], "guests": [], "mappings": [], "rules": [],
-         "large": [], "linux_guest": [], "loans": [],
+         "large": [], "linux_guest": [], "loans": [], "lookups": [],
          "memory": ["-Wl,--wrap=malloc", "-Wl,--wrap=realloc", "-Wl,--wrap=free"],
          "bytes": ["-Wl,--wrap=malloc", "-Wl,--wrap=realloc"]}
 # words with which a program does less, for valgrind
@@ -41,10 +41,17 @@ def test_header(folder: str, language: str, standard: str, compiler: str) -> Non
     """The header alone, in each language by each compiler that is installed."""
     if shutil.which(compiler) is None:
         pytest.skip(f"there is no {compiler}")
-    text = "#include <nogcuvema_linux.h>\nnog_machine machine = NOG_MACHINE_INITIALIZER;\n"
+    text = "#include <nogcuvema_linux.h>\n#include <nogcuvema_names.h>\nnog_machine machine = NOG_MACHINE_INITIALIZER;\n"
     source = write_file(folder, "header." + language.replace("c++", "cc"), text)
     words = [compiler, f"-std={standard}", *WARNINGS, "-I", INCLUDE, "-fsyntax-only", source]
     assert run(words) == (0, "", "")
+
+
+def test_code_names() -> None:
+    """Each code of the header has its name."""
+    [codes] = re.findall(r"enum nog_code \{(.*?)\};", text_of(HEADER), re.S)
+    names = re.findall(r'case (NOG_\w+): return "(NOG_\w+)";', text_of(HEADER.replace(".h", "_names.h")))
+    assert [(name, name) for name in re.findall(r"^ *(NOG_\w+) = ", codes, re.M)] == names
 
 
 def test_version() -> None:
@@ -55,7 +62,7 @@ def test_version() -> None:
 
 
 # the types of C for the types of the library's functions
-PLAIN = {"u8": "uint8_t", "u32": "uint32_t", "i32": "int32_t", "u64": "uint64_t", "usize": "size_t",
+PLAIN = {"u8": "void", "u32": "uint32_t", "i32": "int32_t", "u64": "uint64_t", "usize": "size_t",
          "Handle": "nog_machine"}
 
 
@@ -78,7 +85,7 @@ def c_parameters(parameter: str) -> list[str]:
         return [f"{c_type(kind)} {name}"]
     if kind[0] != "[":
         return [f"{const}{c_type(kind)} *{name}"]
-    counted = "size_t " + ("LENGTH" if kind == "[u8]" else {"processes": "process"}.get(name, name[:-1])
+    counted = "size_t " + ("LENGTH" if kind == "[u8]" else {"processes": "process", "told": "told"}.get(name, name[:-1])
                            + "_count")
     return [f"{const}{c_type(kind[1:-1])} *{name}", counted]
 

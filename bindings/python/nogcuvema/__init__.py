@@ -19,7 +19,7 @@ from .errors import (BadOpening, BusError, ClosedMachine, Fault, Incomplete, Len
                      Refused, SegmentationFault, Spent)
 from .loans import Frame, Loan, ShownPage
 from .machine import (PRIVATE, Area, Failure, Flag, Flushed, Limits, Machine, Piece, Process, ProcessEntry,
-                      Rules, Segment, State,
+                      Rules, Segment, SegmentPages, State,
                       Tally, Usage, child)
 from .script import Script, ScriptFault, areas_of, read_script
 
@@ -29,5 +29,5 @@ __all__ = ["PRIVATE", "Area", "BadOpening", "BusError", "ClosedMachine", "Failur
            "Machine", "MachineError", "NoMemory", "NotAdmitted", "NotDismissed",
            "OutOfRange", "Piece",
            "Process", "ProcessEntry", "Refused", "Rules", "Script", "ScriptFault", "SegmentationFault",
-           "Segment", "ShownPage", "Spent", "State", "Tally",
+           "Segment", "SegmentPages", "ShownPage", "Spent", "State", "Tally",
            "Usage", "__version__", "areas_of", "child", "library_version", "read_script"]

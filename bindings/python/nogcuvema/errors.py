@@ -90,7 +90,7 @@ class Lent(MachineError):
 
 
 class BadOpening(MachineError, ValueError):
-    """Limits, areas or processes with which no machine can be opened."""
+    """Limits, areas or processes that the machine can't have."""
 
 
 class NotAdmitted(MachineError, ValueError):

@@ -177,6 +177,13 @@ class Usage:
 
 
 @dataclass(frozen=True)
+class SegmentPages:
+    """Where the pages of a segment are. Those that were never touched are in no frame and in no slot."""
+    resident: int  # pages in frames
+    swapped: int   # pages only in slots
+
+
+@dataclass(frozen=True)
 class Piece:
     """A range of addresses of a process with pages of a segment, as a line of /proc/PID/maps shows a
     mapping."""
@@ -277,6 +284,11 @@ def _segment(struct: low.SegmentStruct) -> Segment:
     return Segment(is_marked=bool(struct.status & DEST), is_locked=bool(struct.status & LOCKED), **values)
 
 
+def _piece(struct: low.PieceStruct) -> Piece:
+    return Piece(struct.base, struct.segment, struct.first_page, struct.pages, bool(struct.is_writable),
+                 bool(struct.may_write))
+
+
 def _frame(struct: low.FrameStruct) -> Frame:
     bits = (struct.is_referenced, struct.is_dirty, struct.is_lent, struct.is_locked)
     return Frame(struct.id, struct.page, *map(bool, bits))
@@ -367,6 +379,7 @@ class Machine:
                  processes: Iterable[Process] = (Process(1),)) -> None:
         self._library = low.load_library()
         self._machine = low.MachineStruct()
+        self._told: List[int] = []
         limits = Limits() if limits is None else limits
         if not isinstance(limits, Limits):
             raise _wrong_type("limits", "a Limits", limits)
@@ -574,6 +587,7 @@ class Machine:
         copy = Machine.__new__(Machine)
         copy._library, copy._machine = self._library, low.MachineStruct()
         self._call("nog_snapshot", byref(copy._machine))
+        copy._told = self._told
         return copy
 
     def __copy__(self) -> "Machine":
@@ -660,6 +674,62 @@ class Machine:
                    byref(is_writable))
         return ShownPage(segment.value, page.value, bool(is_writable.value))
 
+    def loans(self) -> int:
+        """How many pages are on loan."""
+        count = c_uint64()
+        self._call("nog_loans", byref(count))
+        return count.value
+
+    # ---- questions of the host ----
+
+    def piece_of(self, pid: int, addr: int) -> Piece:
+        """The piece of a live process that an address is in. Raises `SegmentationFault` if nothing is attached
+        there. Not counted as a call."""
+        struct = low.PieceStruct()
+        self._call("nog_piece_of", _pid(pid), _number(addr, U64, "addr"), byref(struct))
+        return _piece(struct)
+
+    def segment_of(self, segment: int) -> Segment:
+        """The segment of an identifier, without a permission check. It fails with EIDRM if the segment was
+        destroyed, under any rules, and with EINVAL if it never was. Not counted as a call."""
+        struct = low.SegmentStruct()
+        self._call("nog_segment_of", _identifier(segment), byref(struct))
+        return _segment(struct)
+
+    def limits(self) -> Limits:
+        """The limits that the machine has now."""
+        struct = low.LimitsStruct()
+        self._call("nog_limits_of", byref(struct))
+        return Limits(**{name: getattr(struct, name) for name, _ in struct._fields_})
+
+    def set_limits(self, shmmax: Optional[int] = None, shmmni: Optional[int] = None,
+                   shmall: Optional[int] = None, memlock: Optional[int] = None) -> None:
+        """Changes these limits of the running machine; None keeps one. Segments that exist stay. Raises
+        `BadOpening` for a number out of its range, for a `shmall` below the pages of all segments, and for a
+        `memlock` below those of the locked ones."""
+        new = {"shmmax": shmmax, "shmmni": shmmni, "shmall": shmall, "memlock": memlock}
+        now = self.limits()
+        self._call("nog_set_limits", *(_number(getattr(now, name) if value is None else value, U64, name)
+                                       for name, value in new.items()))
+
+    def pages_of(self, segment: int) -> SegmentPages:
+        """Where the pages of a segment are. It looks at each page that was touched, and at each slot."""
+        resident, swapped = c_uint64(), c_uint64()
+        self._call("nog_pages_of", _identifier(segment), byref(resident), byref(swapped))
+        return SegmentPages(resident.value, swapped.value)
+
+    def gone(self) -> List[int]:
+        """The identifiers of the segments that were destroyed since the last call of `gone`, each once. A
+        snapshot remembers the same calls."""
+        indexes, segment, found = c_uint32(), c_int32(), []
+        self._call("nog_indexes", byref(indexes))
+        count = max(indexes.value, len(self._told))
+        told = (c_uint32 * count)(*self._told)
+        while self._has("nog_gone", told, count, byref(segment)):
+            found.append(segment.value)
+        self._told = list(told)
+        return found
+
     # ---- the machine's memory, and its state ----
 
     def flush(self, pages: int) -> Flushed:
@@ -703,9 +773,7 @@ class Machine:
         pid, struct = _pid(pid), low.PieceStruct()
         found: List[Piece] = []
         while self._has("nog_piece_at", pid, len(found), byref(struct)):
-            found.append(Piece(struct.base, struct.segment, struct.first_page, struct.pages,
-                               bool(struct.is_writable),
-                               bool(struct.may_write)))
+            found.append(_piece(struct))
         return found
 
     def processes(self) -> List[ProcessEntry]:

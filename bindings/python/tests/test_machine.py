@@ -11,13 +11,14 @@ import re
 import threading
 import unittest
 from collections.abc import Callable
+from dataclasses import replace
 from typing import Any, cast
 
 import nogcuvema
 from nogcuvema import (PRIVATE, Area, BadOpening, BusError, ClosedMachine, Failure, Flag, Flushed, Frame,
                        Incomplete, Lent, Limits, Machine,
                        NotAdmitted, NotDismissed, OutOfRange, Piece, Process, ProcessEntry, Refused, Rules,
-                       SegmentationFault, ShownPage, State, Usage, child)
+                       SegmentationFault, SegmentPages, ShownPage, State, Usage, child)
 from nogcuvema import _library as low
 
 FIRST = 0x40000000
@@ -645,6 +646,70 @@ class Loans(unittest.TestCase):
             self.assertRaises(ClosedMachine, call, *operands)
 
 
+class Questions(unittest.TestCase):
+    """What a host asks and changes without a call."""
+
+    def setUp(self) -> None:
+        self.machine = machine(limits=Limits(frames=2, memlock=0), areas=[Area.ram(64)])
+        self.segment = self.machine.get(1, PRIVATE, 4 * PAGE)
+        self.at = self.machine.attach(1, self.segment)
+
+    def tearDown(self) -> None:
+        self.machine.close()
+
+    def test_a_piece_by_its_address(self) -> None:
+        self.machine.protect(1, self.at + PAGE, PAGE, False)
+        pieces = self.machine.pieces(1)
+        self.assertEqual([self.machine.piece_of(1, self.at + page * PAGE + 9) for page in range(4)],
+                         [pieces[0], pieces[1], pieces[2], pieces[2]])
+        self.assertRaises(SegmentationFault, self.machine.piece_of, 1, self.at - 1)
+        self.assertRaises(ProcessLookupError, self.machine.piece_of, 3, self.at)
+
+    def test_a_segment_by_its_identifier(self) -> None:
+        gone = self.machine.get(1, PRIVATE, 1)
+        self.machine.remove(1, gone)
+        self.machine.set(1, self.segment, 1, 1, 0)
+        self.assertEqual(self.machine.segment_of(self.segment), self.machine.segments()[0])
+        for segment, wanted in ((gone, errno.EIDRM), (gone + 32768, errno.EINVAL), (-1, errno.EINVAL)):
+            with self.assertRaises(Refused) as caught:
+                self.machine.segment_of(segment)
+            self.assertEqual(caught.exception.errno, wanted)
+
+    def test_other_limits(self) -> None:
+        before = self.machine.limits()
+        self.assertEqual((before.frames, before.memlock, before.most_pieces), (2, 0, 256))
+        self.machine.set_limits(shmmax=PAGE, shmall=5)
+        self.assertEqual(self.machine.limits(), replace(before, shmmax=PAGE, shmall=5))
+        self.assertRaises(Refused, self.machine.get, 1, PRIVATE, PAGE + 1)
+        for name, value in (("shmall", 3), ("shmmax", 0), ("memlock", 1), ("shmmni", 2 ** 15 + 1)):
+            self.assertRaises(BadOpening, self.machine.set_limits, **{name: value})
+        self.assertRaises(OutOfRange, self.machine.set_limits, shmmax=-1)
+        self.assertEqual(self.machine.limits().shmall, 5)
+
+    def test_pages_of_a_segment(self) -> None:
+        for page in range(3):
+            self.machine.store(1, self.at + page * PAGE, b"x")
+        self.assertEqual(self.machine.pages_of(self.segment), SegmentPages(resident=2, swapped=1))
+        self.assertRaises(Refused, self.machine.pages_of, 99)
+
+    def test_loans_are_counted(self) -> None:
+        self.assertEqual(self.machine.loans(), 0)
+        with self.machine.lend(self.segment, 0):
+            self.assertEqual(self.machine.loans(), 1)
+        self.assertEqual(self.machine.loans(), 0)
+
+    def test_destroyed_segments_are_named_once(self) -> None:
+        self.assertEqual(self.machine.gone(), [])
+        made = [self.machine.get(1, PRIVATE, 1) for _ in range(3)]
+        for segment in (made[2], made[0], self.segment):
+            self.machine.remove(1, segment)
+        self.assertEqual(self.machine.gone(), [made[0], made[2]])
+        copy = self.machine.snapshot()
+        self.machine.detach(1, self.at)
+        self.assertEqual((self.machine.gone(), self.machine.gone(), copy.gone()), ([self.segment], [], []))
+        copy.close()
+
+
 class Opening(unittest.TestCase):
     def test_a_closed_machine(self) -> None:
         with machine() as it:
@@ -909,7 +974,7 @@ class Binding(unittest.TestCase):
     def test_parameters_are_those_of_the_header(self) -> None:
         kinds: dict[str, Any] = {"uint32_t": ctypes.c_uint32, "int32_t": ctypes.c_int32,
                                  "uint64_t": ctypes.c_uint64, "size_t": ctypes.c_size_t,
-                 "uint8_t": ctypes.c_uint8, **{f"nog_{n}": s for n, s in zip(
+                 "void": ctypes.c_uint8, **{f"nog_{n}": s for n, s in zip(
                      ("machine", "limits", "area", "failure", "process", "segment", "tally", "flushed",
                       "usage", "piece", "frame"), low.STRUCTS)}}
         for name, text in re.findall(r"^uint32_t (nog_\w+)\((.*?)\);", self.header, re.S | re.M):

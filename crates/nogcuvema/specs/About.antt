@@ -23,6 +23,7 @@ own_texts =
     ∷ record { code = 2003; text = codes "a number that no call can carry" }
     ∷ record { code = 2004; text = codes "no more calls can be counted" }
     ∷ record { code = 2005; text = codes "a page on loan is in the way" }
+    ∷ record { code = 2006; text = codes "fewer counts than indexes of segments" }
     ∷ record { code = 2011; text = codes "bad limits: SHMMAX" }
     ∷ record { code = 2012; text = codes "bad limits: SHMMNI" }
     ∷ record { code = 2013; text = codes "bad limits: SHMALL" }

@@ -26,6 +26,9 @@ spent = 2004
 abbrev pub lent : ℕ
 lent = 2005
 
+abbrev pub too_few_counts : ℕ
+too_few_counts = 2006
+
 -- the code of a refusal
 abbrev pub refusal_code : Refusal → ℕ
 refusal_code (Refused errno) = code_of errno

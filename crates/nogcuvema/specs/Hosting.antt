@@ -1,5 +1,5 @@
 -- Changes that the host of a guest makes, through a handle.
-use Rattle.std.specs.Prelude.{ℕ, ◌≡◌, ◌⊎◌, false, Option, Some, None, Ok, Err}
+use Rattle.std.specs.Prelude.{ℕ, ◌≡◌, ◌⊎◌, ◌+◌, Option, Some, None, Result, Ok, Err}
 use Rattle.shm_base.specs.Codes.{code_of}
 use Rattle.shm_base.specs.declared.call.Process.{Process}
 use Rattle.shm_base.specs.declared.errno.Errno.{Errno}
@@ -7,8 +7,12 @@ use Rattle.shm_base.specs.declared.guest.AdmitRefusal.{AdmitRefusal}
 use Rattle.shm_base.specs.declared.guest.AdmitRefusal.TheVariants.{BadPid, PidTaken, TooManyProcesses}
 use Rattle.shm_base.specs.declared.guest.DismissRefusal.{DismissRefusal}
 use Rattle.shm_base.specs.declared.guest.DismissRefusal.TheVariants.{NoProcess, StillLive}
+use Rattle.shm_base.specs.declared.limits.BadLimits.{BadLimits}
 use Rattle.shm_base.specs.declared.owner.Cred.{Cred}
-use Rattle.shm_life.specs.Guest.{Admitted, Dismissed, Recredited, IsNotAdmitted}
+use Rattle.shm_life.specs.Guest.{Admitted, Dismissed, IsChanged, Recredited, IsNotAdmitted}
+use Rattle.shm_life.specs.Limiting.{limits}
+use Rattle.shm_life.specs.declared.limiting.NewLimits.{NewLimits}
+use Rattle.shm_life.specs.SystemState.{SystemState}
 use Rattle.shm_machine.specs.declared.machine.Machine.{Machine}
 use Rattle.nogcuvema.specs.Answers.{closed, no_memory, Unchanged}
 
@@ -49,3 +53,12 @@ RecreditsBy pid cred before code after =
 -- calls note this time from now on
 abbrev pub TellsTime : ℕ → Machine → ℕ → Machine → Type 0
 TellsTime time before code after = (code ≡ 0) × (after.system ≡ record before.system { clock = Some time })
+
+abbrev pub Limited : SystemState → NewLimits → Result (Unit {0}) BadLimits → SystemState → Type 0
+Limited before new result after = IsChanged before (limits before.machine new) result after
+
+-- the machine has these limits, or the code is that of the first that is wrong
+abbrev pub LimitsBy : NewLimits → Machine → ℕ → Machine → Type 0
+LimitsBy new before code after =
+    ((code ≡ 0) × Limited before.system new (Ok tt) after.system)
+    ⊎ ((bad : BadLimits) × (code ≡ 2010 + bad.0) × Limited before.system new (Err bad) after.system)

@@ -33,6 +33,7 @@ fn text_of(code: u32) -> Option<&'static str>
         2003 => Some("a number that no call can carry"),
         2004 => Some("no more calls can be counted"),
         2005 => Some("a page on loan is in the way"),
+        2006 => Some("fewer counts than indexes of segments"),
         2011 => Some("bad limits: SHMMAX"),
         2012 => Some("bad limits: SHMMNI"),
         2013 => Some("bad limits: SHMALL"),

@@ -22,6 +22,9 @@ pub(crate) const SPENT: u32 = 2004;
 /// A page on loan is in the way.
 pub(crate) const LENT: u32 = 2005;
 
+/// The caller has fewer counts than there are indexes.
+pub(crate) const TOO_FEW_COUNTS: u32 = 2006;
+
 /// The code of a refusal: the number of the errno, or a code of this interface.
 pub(crate) fn refusal_code(refusal: Refusal) -> u32
     ensures code { result ≡ refusal_code refusal }

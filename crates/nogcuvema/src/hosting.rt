@@ -1,13 +1,14 @@
 //! Changes that the host of a guest makes: processes join and leave, credentials change, and the time is set.
 ghost use Rattle.std.specs.Prelude.{◌≡◌};
-ghost use Rattle.nogcuvema.specs.Hosting.{admit_code, dismiss_code, HostedThrough, AdmitsBy, DismissesBy, RecreditsBy, TellsTime};
+ghost use Rattle.nogcuvema.specs.Hosting.{admit_code, dismiss_code, HostedThrough, AdmitsBy, DismissesBy, LimitsBy, RecreditsBy, TellsTime};
 ghost use Rattle.nogcuvema.specs.Opens.{process_of};
 
 use crate::code::{DONE, NO_MEMORY};
 use crate::handle::{Handle, with_machine};
-use crate::open::process_of;
+use crate::open::{BAD_LIMITS, process_of};
 use crate::structs::NogProcess;
 use shm_base::{AdmitRefusal, Cred, DismissRefusal, Process};
+use shm_life::NewLimits;
 use shm_machine::Machine;
 use std::alloc::Global;
 
@@ -55,6 +56,15 @@ fn recredited(machine: &mut Machine, pid: u32, cred: Cred) -> u32
     match machine.system.set_cred(pid, cred) {
         Ok(()) => DONE,
         Err(errno) => errno.code(),
+    }
+}
+
+fn limited(machine: &mut Machine, limits: &NewLimits) -> u32
+    ensures { LimitsBy limits.now machine.old result machine.new }
+{
+    match machine.system.set_limits(limits) {
+        Ok(()) => DONE,
+        Err(bad) => BAD_LIMITS + u32::from(bad.0),
     }
 }
 
@@ -109,4 +119,28 @@ pub extern "C" fn nog_set_time(alloc: Global, handle: &mut Handle, time: u64) ->
         machine.system.set_time(Some(time));
         DONE
     })
+}
+
+/// Gives the machine another SHMMAX, SHMMNI, SHMALL and MEMLOCK. Segments that exist stay. Not counted as a
+/// call.
+#[unsafe(no_mangle)]
+pub extern "C" fn nog_set_limits(
+    alloc: Global,
+    handle: &mut Handle,
+    shmmax: u64,
+    shmmni: u64,
+    shmall: u64,
+    memlock: u64,
+) -> u32
+    ensures { HostedThrough
+        (LimitsBy (record { shmmax = shmmax; shmmni = shmmni; shmall = shmall; memlock = memlock }))
+        handle.old.kept.value result handle.new.kept.value }
+{
+    let limits = NewLimits {
+        shmmax,
+        shmmni,
+        shmall,
+        memlock,
+    };
+    with_machine!(alloc, handle, |machine| limited(machine, &limits))
 }

@@ -14,7 +14,7 @@ use shm_life::{StartError, first_area_error};
 use shm_machine::{AreaConfig, AreaKind, Failure, Machine, Side};
 use std::alloc::{AllocError, Global};
 
-const BAD_LIMITS: u32 = 2010;
+pub(crate) const BAD_LIMITS: u32 = 2010;
 
 const START_REFUSED: u32 = 2020;
 

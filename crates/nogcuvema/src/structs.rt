@@ -3,12 +3,13 @@ ghost use Rattle.std.specs.Prelude.{◌≡◌};
 ghost use Rattle.shm_areas.specs.Arranged.{bare};
 ghost use Rattle.nogcuvema.specs.Shown.{shown_by, tally_by, report_by, sums_by, piece_by, process_shown};
 ghost use Rattle.nogcuvema.specs.Lending.{frame_by};
+ghost use Rattle.nogcuvema.specs.Lookups.{numbers_by};
 ghost use Rattle.shm_attach.specs.Views.{life_view};
 
 use bitflags::Flags;
 use shm_areas::Piece;
 use shm_attach::Life;
-use shm_base::{Cred, FlushReport, ShmidDs, Tally};
+use shm_base::{Cred, FlushReport, Limits, ShmidDs, Tally};
 use shm_fault::FrameInfo;
 use shm_life::ShmInfo;
 
@@ -27,6 +28,24 @@ pub struct NogLimits {
     pub most_processes: u64,
     pub most_slots: u64,
     pub rules: u64,
+}
+
+impl NogLimits {
+    pub(crate) fn of(limits: &Limits) -> NogLimits
+        ensures { numbers_by result ≡ limits.now }
+    {
+        NogLimits {
+            shmmax: limits.shmmax(),
+            shmmni: limits.shmmni(),
+            shmall: limits.shmall(),
+            frames: limits.frames(),
+            memlock: limits.memlock(),
+            most_pieces: u64::from(limits.most_pieces()),
+            most_processes: u64::from(limits.most_processes()),
+            most_slots: u64::from(limits.most_slots()),
+            rules: u64::from(limits.rules().bits()),
+        }
+    }
 }
 
 /// A swap area: its kind (1 ram, 2 sparse, 3 mirror) and its number of slots; of a mirror, the slots of each

@@ -1,5 +1,5 @@
 -- Pages on loan: what a host's load of a page leaves, and what an access leaves while pages are on loan.
-use Rattle.shm_life.proofs.Names.{◌≡◌, ◌<◌, ◌≤◌, ◌*◌, ◌+◌, ◌/◌, ◌∙◌, ◌∷◌, [], ℕ, Bool, true, false, not, Some, None, List, length, if◌then◌else◌, refl, sym, ap, arith, subst, IsAccess, IsCaller, Machine, pieces_at, wanted_in, All-nil, none-some, Bounds, Runner, Translation, IsWell, inl, inr, loaded, ◌⊎◌, All, OnOk, OnErr, Entry, Segment, Span, PageRef, InPage, page_of, span_places, StoreView, IsStoreSound, SpanFits, page_there, live, pages_held, Held, find_held, is_held, ShowsTable, KeepsMemory, memory-refl, memory-trans, Place, nat_tests, common_steps, eq-eqb}
+use Rattle.shm_life.proofs.Names.{◌≡◌, ◌<◌, ◌≤◌, ◌*◌, ◌+◌, ◌/◌, ◌∙◌, ◌∷◌, [], ℕ, Bool, true, false, not, Some, None, List, length, if◌then◌else◌, refl, sym, ap, arith, subst, IsAccess, IsCaller, Machine, pieces_at, wanted_in, All-nil, none-some, Bounds, Runner, Translation, IsWell, inl, inr, loaded, ◌⊎◌, OnOk, Entry, Segment, Span, PageRef, InPage, page_of, span_places, StoreView, SpanFits, page_there, live, pages_held, Held, find_held, KeepsMemory, memory-refl, memory-trans, Place, nat_tests}
 use Rattle.std.proofs.Common.{true≢false, nat_lt, cond, get_or, suc, zero}
 use Rattle.std.proofs.lemmas.List.Sums.{sum_by-cons}
 use Rattle.std.proofs.lemmas.List.Elements.{All-cons}
@@ -18,7 +18,7 @@ use Rattle.shm_fault.specs.declared.act.Act.{Act}
 use Rattle.shm_fault.specs.declared.act.Act.TheVariants.{Nothing}
 use Rattle.shm_fault.specs.Acting.{PutAt, left_by, size_of, writes}
 use Rattle.shm_fault.specs.Goes.{frame_by}
-use Rattle.shm_fault.specs.Held.{FitsPage, bytes_of}
+use Rattle.shm_fault.specs.Held.{FitsPage}
 use Rattle.shm_fault.specs.Loans.{LoansStay, SetsLent, is_barred, lent_at, loaned, with_loan}
 use Rattle.shm_fault.specs.Placing.{Places, Stops, StopsAt, after_access, after_visit, dirtied, places, visited_in, with_dirty}
 use Rattle.shm_fault.specs.Segs.{HasPage, rec_by}

@@ -23,3 +23,5 @@ pub mod Touching
 pub mod Accessing
 pub mod Lending
 mod Indexed
+pub mod Noticing
+pub mod Residing

@@ -16,3 +16,6 @@ pub mod Exchanged
 pub mod Paging
 pub mod Accessing
 pub mod Lending
+pub mod Notices
+pub mod Limiting
+pub mod Residency

@@ -2,9 +2,9 @@
 use Rattle.std.specs.Prelude.{ℕ, ℤ, pos, ◌≡◌, ◌<◌, ◌⊎◌, true, false, not, is_some, if◌then◌else◌, List, Option, Some, None, Result, Ok, Err, slice_get}
 use Rattle.shm_base.specs.declared.call.ShmidDs.{ShmidDs}
 use Rattle.shm_base.specs.declared.errno.Errno.{Errno}
-use Rattle.shm_base.specs.declared.errno.Errno.TheVariants.{Esrch, Einval, Eacces}
+use Rattle.shm_base.specs.declared.errno.Errno.TheVariants.{Esrch, Einval, Eacces, Eidrm}
 use Rattle.shm_base.specs.State.{Segment, Entry, Machine}
-use Rattle.shm_base.specs.Identifier.{identifier}
+use Rattle.shm_base.specs.Identifier.{Look, Found, Removed, Invalid, destroyed_at, identifier, look}
 use Rattle.shm_base.specs.Permission.{grants}
 use Rattle.shm_base.specs.Segments.{segment_count, reserved}
 use Rattle.shm_base.specs.Step.{Caller, caller_of, shown}
@@ -24,6 +24,16 @@ listed_entry s i (Some e) = listed_segment s (identifier i e.destroyed) e.segmen
 -- the segment's identifier, and what `stat` shows of it; none if the index has no segment
 abbrev pub segment_at : Machine → ℕ → Option (ℤ × ShmidDs)
 segment_at s i = listed_entry s i (slice_get s.table i)
+
+-- what `stat` shows of a segment that was looked up; removed or invalid if there is none, under any rules
+abbrev pub shown_look : Machine → Look → Result ShmidDs Errno
+shown_look s (Found i x) = Ok (shown s (identifier i (destroyed_at s.table i)) x)
+shown_look s Removed = Err Eidrm
+shown_look s Invalid = Err Einval
+
+-- the segment of an identifier, as `stat` shows it
+abbrev pub segment_of : Machine → ℤ → Result ShmidDs Errno
+segment_of s id = shown_look s (look s.table id)
 
 -- the highest index that has a segment; 0 if there is none
 pub record IsHighest (table : List Entry) (index : ℕ) : Type 0 where

@@ -5,7 +5,7 @@ ghost use Rattle.std.specs.Prelude.{◌≡◌};
 ghost use Rattle.shm_attach.specs.Failing.{first_absent};
 ghost use Rattle.shm_attach.specs.Spans.{pieces_by};
 ghost use Rattle.shm_fault.specs.Store.{frame_of};
-ghost use Rattle.shm_life.specs.Listed.{IsHighest, Sums, stat_at};
+ghost use Rattle.shm_life.specs.Listed.{IsHighest, Sums, segment_of, stat_at};
 
 use crate::system::System;
 use shm_base::{Errno, ShmId, ShmidDs, Want, grants};
@@ -72,6 +72,19 @@ impl<P: Pager> System<P> {
             return Err(Errno::Eacces);
         }
         Ok((found.id, self.kernel.shown(&found)))
+    }
+
+    /// The segment of an identifier, as `stat` shows it, without a permission test.
+    ///
+    /// - Eidrm: the segment was destroyed, whatever the machine's rules are.
+    /// - Einval: no segment ever had the identifier.
+    pub fn segment_of(&self, id: ShmId) -> Result<ShmidDs, Errno>
+        ensures { result ≡ segment_of self.now.machine id }
+    {
+        match self.kernel.segments.look(id) {
+            Ok(found) => Ok(self.kernel.shown(&found)),
+            Err(errno) => Err(errno),
+        }
     }
 
     /// The first address of a process's access whose page is in no frame, if all addresses below it are in

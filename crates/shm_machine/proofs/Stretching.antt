@@ -11,7 +11,6 @@ use Rattle.shm_base.specs.Calls.{ProcessCall}
 use Rattle.shm_base.specs.declared.call.Reply.{Reply}
 use Rattle.shm_fault.proofs.Written.{length-put_mid}
 use Rattle.shm_life.specs.SystemState.{SystemState, time_of}
-use Rattle.shm_life.specs.SystemState.{Replied}
 use Rattle.shm_fault.specs.Steps.{LockedPagesStay}
 use Rattle.shm_fault.specs.Store.{StoreView}
 use Rattle.shm_life.specs.MachineView.{LocksNothing}

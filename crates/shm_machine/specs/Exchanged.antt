@@ -1,5 +1,5 @@
 -- The result of an exchange, and the machine afterwards.
-use Rattle.std.specs.Prelude.{ℕ, ◌≡◌, List, Result}
+use Rattle.std.specs.Prelude.{ℕ, List, Result}
 use Rattle.shm_base.specs.declared.call.Reply.{Reply}
 use Rattle.shm_base.specs.declared.call.Reply.TheVariants as replies
 use Rattle.shm_base.specs.declared.paging.PageRef.{PageRef}

@@ -303,6 +303,20 @@ impl Default for Limits {
 }
 
 impl Limits {
+    fn of(it: &raw::Limits) -> Limits {
+        Limits {
+            shmmax: it.shmmax,
+            shmmni: it.shmmni,
+            shmall: it.shmall,
+            frames: it.frames,
+            memlock: it.memlock,
+            most_pieces: it.most_pieces,
+            most_processes: it.most_processes,
+            most_slots: it.most_slots,
+            rules: it.rules,
+        }
+    }
+
     /// Whether one of the last three sizes is given: then the machine is not one of the profile.
     fn is_larger(&self) -> bool {
         self.most_pieces != 0 || self.most_processes != 0 || self.most_slots != 0
@@ -442,6 +456,29 @@ pub struct Piece {
     pub may_write: bool,
 }
 
+impl Piece {
+    fn of(it: &raw::Piece) -> Piece {
+        Piece {
+            base: it.base,
+            // an identifier is at most 2^31 - 1
+            segment: it.segment as i32,
+            first_page: it.first_page,
+            pages: it.pages,
+            is_writable: it.is_writable != 0,
+            may_write: it.may_write != 0,
+        }
+    }
+}
+
+/// Where the pages of a segment are. Those that were never touched are in no frame and in no slot.
+#[derive(Clone, Copy, Debug, PartialEq, Eq)]
+pub struct SegmentPages {
+    /// Pages in frames.
+    pub resident: u64,
+    /// Pages only in slots.
+    pub swapped: u64,
+}
+
 /// An access that failed, and how many bytes were read or written before.
 #[derive(Clone, Copy, Debug, PartialEq, Eq)]
 pub struct Stopped {
@@ -559,6 +596,8 @@ pub struct Machine {
     owns: PhantomData<Box<[u8]>>,
     bad: Option<BadNumber>,
     dropped: Arc<Dropped>,
+    // how many destroyed segments of each index were named
+    told: Vec<u32>,
 }
 
 // SAFETY: the library has no state but its machines, and a machine is used by one thread at a time.
@@ -673,6 +712,7 @@ impl Machine {
             owns: PhantomData,
             bad: None,
             dropped: Arc::default(),
+            told: Vec::new(),
         })
     }
 
@@ -953,6 +993,7 @@ impl Machine {
             owns: PhantomData,
             bad: None,
             dropped: Arc::default(),
+            told: self.told.clone(),
         })
     }
 
@@ -1037,6 +1078,76 @@ impl Machine {
         })
     }
 
+    /// How many pages are on loan.
+    pub fn loans(&mut self) -> u64 {
+        let mut pages = 0;
+        // For an open machine this returns 0.
+        unsafe { raw::nog_loans(self.handle(), &mut pages) };
+        pages
+    }
+
+    /// The piece of a live process that an address is in. It is not counted as a call.
+    ///
+    /// # Errors
+    /// ESRCH, and SIGSEGV if nothing is attached there.
+    pub fn piece_of(&mut self, pid: u32, addr: u64) -> Answer<Piece> {
+        let mut piece = raw::Piece::default();
+        done(unsafe { raw::nog_piece_of(self.handle(), pid, addr, &mut piece) })?;
+        Ok(Piece::of(&piece))
+    }
+
+    /// The segment of an identifier, without a permission check. It is not counted as a call.
+    ///
+    /// # Errors
+    /// EINVAL if no segment ever had the identifier, and EIDRM, under any rules, if it was destroyed.
+    pub fn segment_of(&mut self, id: i32) -> Answer<Segment> {
+        let mut segment = Segment::default();
+        done(unsafe { raw::nog_segment_of(self.handle(), id, &mut segment) })?;
+        Ok(segment)
+    }
+
+    /// The limits that the machine has now.
+    pub fn limits(&mut self) -> Limits {
+        let mut limits = raw::Limits::default();
+        // For an open machine this returns 0.
+        unsafe { raw::nog_limits_of(self.handle(), &mut limits) };
+        Limits::of(&limits)
+    }
+
+    /// Changes `shmmax`, `shmmni`, `shmall` and `memlock` of the running machine. Segments that exist stay. It is not counted as
+    /// a call.
+    ///
+    /// # Errors
+    /// 2011, 2012, 2013 and 2015 for the first that is out of its wider range; 2013 if `shmall` is below the pages of all
+    /// segments, and 2015 if `memlock` is below those of the locked ones.
+    pub fn set_limits(&mut self, shmmax: u64, shmmni: u64, shmall: u64, memlock: u64) -> Answer<()> {
+        done(unsafe { raw::nog_set_limits(self.handle(), shmmax, shmmni, shmall, memlock) })
+    }
+
+    /// How many pages of a segment are in frames, and how many only in slots. It looks at each page that was touched, and at each
+    /// slot.
+    ///
+    /// # Errors
+    /// EINVAL if no segment has the identifier.
+    pub fn pages_of(&mut self, id: i32) -> Answer<SegmentPages> {
+        let (mut resident, mut swapped) = (0, 0);
+        done(unsafe { raw::nog_pages_of(self.handle(), id, &mut resident, &mut swapped) })?;
+        Ok(SegmentPages { resident, swapped })
+    }
+
+    /// The identifiers of the segments that were destroyed since the last call of `gone`, each once. A snapshot remembers the
+    /// same calls.
+    pub fn gone(&mut self) -> Vec<i32> {
+        let (mut indexes, mut id, mut gone) = (0, 0, Vec::new());
+        unsafe { raw::nog_indexes(self.handle(), &mut indexes) };
+        let count = self.told.len().max(indexes as usize);
+        self.told.resize(count, 0);
+        while unsafe { raw::nog_gone(&mut self.handle, self.told.as_mut_ptr(), count, &mut id) } == 0 {
+            gone.push(id);
+        }
+        gone
+    }
+
     /// A flush round: writes at most this many dirty pages out to swap.
     pub fn flush(&mut self, pages: u64) -> Flushed {
         let mut flushed = Flushed::default();
@@ -1096,15 +1207,7 @@ impl Machine {
                 Err(Errno::OUT_OF_RANGE) => break,
                 other => other?,
             }
-            pieces.push(Piece {
-                base: piece.base,
-                // an identifier is at most 2^31 - 1
-                segment: piece.segment as i32,
-                first_page: piece.first_page,
-                pages: piece.pages,
-                is_writable: piece.is_writable != 0,
-                may_write: piece.may_write != 0,
-            });
+            pieces.push(Piece::of(&piece));
         }
         Ok(pieces)
     }

@@ -1,5 +1,5 @@
 //! What the cover hands on, by the rules; and that its structs are the library's.
-use nogcuvema::{raw, Area, Errno, Failure, Frame, Limits, Machine, Piece, Process, Segment, ShownPage, State, Usage};
+use nogcuvema::{raw, Area, Errno, Failure, Frame, Limits, Machine, Piece, Process, Segment, SegmentPages, ShownPage, State, Usage};
 use nogcuvema::{rules, CREAT, EXCL, EXEC, HUGETLB, LOCKED, NORESERVE, PAGE_BYTES, PRIVATE, RDONLY};
 use std::mem::size_of;
 
@@ -538,6 +538,64 @@ fn an_address_shows_a_page() {
     assert_eq!(machine.page_at(1, at + 2 * page - 1), Ok(shown(1, false)));
     assert_eq!(machine.page_at(1, at + 4 * page), Err(Errno::SIGSEGV));
     assert_eq!(machine.page_at(2, at), Err(Errno::ESRCH));
+}
+
+#[test]
+fn questions_about_pieces_and_segments() {
+    let (mut machine, id, at) = with_two_frames(Area::ram(64));
+    let (page, calls) = (PAGE_BYTES as u64, machine.calls());
+    machine.protect(1, at + page, page, false).expect("it is protected");
+    let pieces = machine.pieces(1).expect("the pieces");
+    assert_eq!((machine.piece_of(1, at + page - 1), machine.piece_of(1, at + page)), (Ok(pieces[0]), Ok(pieces[1])));
+    assert_eq!(machine.piece_of(1, at + 4 * page), Err(Errno::SIGSEGV));
+    assert_eq!(machine.piece_of(2, at), Err(Errno::ESRCH));
+    machine.store(1, at + 2 * page, b"x").expect("a store");
+    machine.store(1, at + 3 * page, b"x").expect("a store");
+    assert_eq!(machine.pages_of(id), Ok(SegmentPages { resident: 2, swapped: 1 }));
+    assert_eq!(machine.pages_of(id + 1), Err(Errno::EINVAL));
+    assert_eq!(machine.segment_of(id), Ok(machine.segments()[0]));
+    assert_eq!(machine.segment_of(id + 1), Err(Errno::EINVAL));
+    let loan = machine.lend(id, 3, &mut [0; PAGE_BYTES]).expect("a loan");
+    assert_eq!(machine.loans(), 1);
+    drop(loan);
+    assert_eq!((machine.loans(), machine.calls()), (0, calls + 2));
+}
+
+#[test]
+fn destroyed_segments_are_named_once() {
+    let (mut machine, id, at) = with_two_frames(Area::ram(64));
+    let made: Vec<_> = (0..3).map(|_| machine.get(1, PRIVATE, 1, 0o600, 0).expect("a segment")).collect();
+    assert_eq!(machine.gone(), []);
+    for segment in [made[2], made[0], id] {
+        machine.remove(1, segment).expect("it is removed");
+    }
+    assert_eq!(machine.gone(), [made[0], made[2]]);
+    assert_eq!(machine.segment_of(made[2]), Err(Errno::EIDRM));
+    let mut copy = machine.snapshot().expect("a snapshot");
+    machine.detach(1, at).expect("it is destroyed");
+    assert_eq!((machine.gone(), machine.gone(), copy.gone()), (vec![id], vec![], vec![]));
+}
+
+#[test]
+fn limits_change_while_the_machine_runs() {
+    let (mut machine, _, _) = with_two_frames(Area::ram(64));
+    let before = machine.limits();
+    assert_eq!((before.frames, before.most_pieces, before.most_slots), (2, 256, 65536));
+    assert_eq!(machine.set_limits(4096, 1, 4, 0), Ok(()));
+    let wanted = Limits {
+        shmmax: 4096,
+        shmmni: 1,
+        shmall: 4,
+        memlock: 0,
+        ..before
+    };
+    assert_eq!(machine.limits(), wanted);
+    assert_eq!(machine.get(1, PRIVATE, 4097, 0o600, 0), Err(Errno::EINVAL));
+    assert_eq!(machine.get(1, PRIVATE, 1, 0o600, 0), Err(Errno::ENOSPC));
+    assert_eq!(machine.set_limits(0, 0, 0, 9), Err(Errno(2011)));
+    assert_eq!(machine.set_limits(1, 1, 3, 9), Err(Errno(2015)));
+    assert_eq!(machine.set_limits(1, 1, 3, 0), Err(Errno(2013)));
+    assert_eq!(machine.limits(), wanted);
 }
 
 fn machine_by(rules: u64) -> Machine {

@@ -1,5 +1,4 @@
 use Rattle.shm_life.proofs.Names.{◌∙◌, sym}
-use Rattle.shm_fault.specs.Store.{frame_of}
 use Rattle.shm_life.proofs.Lending.{second-asked}
 use Rattle.shm_life.proofs.kernel.Kernel.are_clear.Goals as goal
 

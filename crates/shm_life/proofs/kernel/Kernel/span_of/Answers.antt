@@ -1,4 +1,3 @@
-use Rattle.shm_life.proofs.Names.{sym, ap}
 use Rattle.shm_fault.specs.Store.{frame_of}
 use Rattle.shm_life.proofs.Lending.{has-page, span-named}
 use Rattle.shm_life.proofs.kernel.Kernel.span_of.Goals as goal

@@ -1,11 +1,9 @@
-use Rattle.std.proofs.Common.{◌≡◌, Bool, true}
-use Rattle.std.specs.Prelude.{Ok, Err, Result}
+use Rattle.std.proofs.Common.{true}
+use Rattle.std.specs.Prelude.{Ok, Err}
 use Rattle.shm_base.specs.State.{Machine as Flat}
 use Rattle.shm_base.specs.declared.call.Call.TheVariants as call
-use Rattle.shm_base.specs.declared.call.Reply.{Reply}
 use Rattle.shm_base.specs.declared.call.Reply.TheVariants as reply
-use Rattle.shm_base.specs.declared.errno.Errno.{Errno}
-use Rattle.shm_life.specs.SystemState.{SystemState, Replied}
+use Rattle.shm_life.specs.SystemState.{Replied}
 use Rattle.shm_machine.proofs.Readying.{Access, made}
 use Rattle.shm_machine.proofs.machine.Machine.add.Goals as goal
 

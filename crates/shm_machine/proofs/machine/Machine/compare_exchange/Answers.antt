@@ -1,9 +1,8 @@
-use Rattle.std.proofs.Common.{Bool, length, true, false}
+use Rattle.std.proofs.Common.{length, true}
 use Rattle.shm_base.specs.State.{Machine as Flat}
-use Rattle.shm_base.specs.declared.call.Call.TheVariants as call
 use Rattle.shm_base.specs.declared.call.Reply.{Reply}
-use Rattle.shm_life.specs.Exchanged.{Exchanged, comparing, exchanging}
-use Rattle.shm_life.specs.SystemState.{SystemState, Replied}
+use Rattle.shm_life.specs.Exchanged.{Exchanged, comparing}
+use Rattle.shm_life.specs.SystemState.{SystemState}
 use Rattle.shm_machine.proofs.Readying.{made}
 use Rattle.shm_machine.proofs.machine.Machine.compare_exchange.Goals as goal
 

@@ -1,8 +1,7 @@
-use Rattle.std.proofs.Common.{Bool, length, true, false}
+use Rattle.std.proofs.Common.{length, false}
 use Rattle.shm_base.specs.State.{Machine as Flat}
 use Rattle.shm_base.specs.declared.call.Call.TheVariants as call
 use Rattle.shm_base.specs.declared.call.Reply.{Reply}
-use Rattle.shm_life.specs.Exchanged.{Exchanged, comparing, exchanging}
 use Rattle.shm_life.specs.SystemState.{SystemState, Replied}
 use Rattle.shm_machine.proofs.Readying.{made}
 use Rattle.shm_machine.proofs.machine.Machine.load_into.Goals as goal

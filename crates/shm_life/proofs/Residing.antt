@@ -1,0 +1,43 @@
+-- How many pages of a segment are in frames, and how many only in slots.
+use Rattle.shm_life.proofs.Names.{◌≡◌, ◌≤◌, ◌+◌, ◌∙◌, ℕ, if◌then◌else◌, zero, suc, None, refl, sym, ap, arith, length, List, [], ◌∷◌, ◌++◌, replicate, Entry, pages_held, pages_of, pages_at, IsFound, live-found, sum_by-append, StoreView, frame_of, PageRef}
+use Rattle.std.proofs.Common.{◌-◌, Option, count_by}
+use Rattle.shm_base.specs.Stored.{padded}
+use Rattle.shm_segments.specs.declared.head.Found.{Found}
+use Rattle.shm_life.specs.Residency.{is_away, resident_below}
+
+nothing : (n : ℕ) → 0 + n ≡ n
+nothing n = omega arith
+
+and-nothing : (n : ℕ) → n + 0 ≡ n
+and-nothing n = omega arith
+
+next : (m n : ℕ) → suc m + n ≡ suc (m + n)
+next m n = omega arith
+
+-- pages that were never touched are in no frame
+untouched : (s : StoreView) (seg first more : ℕ) → ((page : ℕ) → first ≤ page → frame_of s seg page ≡ None) → resident_below s seg (more + first) ≡ resident_below s seg first
+untouched s seg first zero none = ap (resident_below s seg) (nothing first)
+untouched s seg first (suc more) none =
+    rw (next more first, none (more + first) (omega arith)) (omega (arith, untouched s seg first more none))
+
+pub all-touched : (s : StoreView) (seg first pages : ℕ) → first ≤ pages → ((page : ℕ) → first ≤ page → frame_of s seg page ≡ None) → resident_below s seg first ≡ resident_below s seg pages
+all-touched s seg first pages le none =
+    let same : (pages - first) + first ≡ pages = omega (arith, le) in
+    sym (untouched s seg first (pages - first) none) ∙ ap (resident_below s seg) same
+
+-- free slots have no page
+none-away : (s : StoreView) (seg n : ℕ) → count_by (is_away s seg) (replicate n None) ≡ 0
+none-away s seg zero = refl
+none-away s seg (suc n) = none-away s seg n
+
+away-free : (s : StoreView) (seg : ℕ) (xs : List (Option PageRef)) (n : ℕ) → count_by (is_away s seg) (xs ++ replicate n None) ≡ count_by (is_away s seg) xs
+away-free s seg xs n =
+    sum_by-append (λ (x : Option PageRef). if is_away s seg x then 1 else 0) xs (replicate n None)
+    ∙ ap (λ k. count_by (is_away s seg) xs + k) (none-away s seg n)
+    ∙ and-nothing (count_by (is_away s seg) xs)
+
+pub away-padded : (s : StoreView) (seg : ℕ) (owners used : List (Option PageRef)) → owners ≡ padded used (length owners) None → count_by (is_away s seg) owners ≡ count_by (is_away s seg) used
+away-padded s seg owners used is = ap (count_by (is_away s seg)) is ∙ away-free s seg used (length owners - length used)
+
+pub pages-found : (t : List Entry) (f : Found) → IsFound t f → pages_of f.head.size ≡ pages_at t f.seg
+pages-found t f found = sym (ap pages_held (live-found t f found) ∙ (omega (arith, found.long)))

@@ -1,0 +1,7 @@
+use Rattle.std.proofs.Common.{◌≡◌, ◌≤◌, count_by, take}
+use Rattle.shm_life.specs.Residency.{is_away}
+use Rattle.shm_life.proofs.residency.away_among.Given as goal
+
+abbrev pub invariant-loop-owner : goal.invariant-loop-owner
+invariant-loop-owner g l =
+    (l.count ≡ count_by (is_away l.fn.store l.fn.seg) (take l.owner-index l.fn.owners)) × (l.count ≤ l.owner-index)
