@@ -3,6 +3,7 @@ use Rattle.std.proofs.Common.{◌≡◌, ℕ, true, false, List, Ok, Option}
 use Rattle.std.proofs.KnownBytes.{Keeps-refl}
 use Rattle.std.proofs.lemmas.Bool.{false≢true}
 use Rattle.std.specs.Prelude.{Err, IfErr, Result}
+use Rattle.shm_history.specs.WorldState.{WorldState}
 use Rattle.shm_text.specs.Script.{ScriptView}
 use Rattle.shm_threads.specs.declared.outcome.RunError.{RunError}
 use Rattle.shm_threads.specs.declared.outcome.RunError.TheVariants as errors
@@ -27,11 +28,11 @@ ended_silent IsText (errors.HistoryMismatch pid) kept = Keeps-refl kept
 ended_silent IsText errors.ThreadRefused kept = Keeps-refl kept
 
 -- an open gate ends no thread
-pub ungated : (script : ScriptView) (error : RunError) → CanEnd (λ pid n may. may) script error → IsUngated error
-ungated script errors.HostMemory can = tt
-ungated script (errors.GateExpired pid) can = absurd (false≢true can.ended)
-ungated script (errors.HistoryMismatch pid) can = can
-ungated script errors.ThreadRefused can = tt
+pub ungated : (script : ScriptView) (passed : WorldState) (error : RunError) → CanEnd (λ pid n may. may) script passed error → IsUngated error
+ungated script passed errors.HostMemory can = tt
+ungated script passed (errors.GateExpired pid) can = absurd (false≢true can.here.ended)
+ungated script passed (errors.HistoryMismatch pid) can = can
+ungated script passed errors.ThreadRefused can = tt
 
 pub ended_fails : (error : RunError) → IsUngated error → CanFail (ended_as error)
 ended_fails errors.HostMemory can = tt

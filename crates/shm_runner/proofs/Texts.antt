@@ -44,7 +44,7 @@ pub record Known {P : Type 0} (failed : P → ℕ) (swap : SwapView) (script : S
   pub is_world : IsWorldOf IsWorldSound script areas w
   pub counted : AreCountsOf failed w.memory.swap
   pub began : GoesOn swap w.memory.swap
-  pub run : AreTranscripts script w.events transcripts
+  pub run : AreTranscripts script w transcripts
   pub start : WorldState
   pub begins : IsStart IsWorldSound swap script areas start
   pub moments : List Moment

@@ -32,7 +32,7 @@ pub record IsThreadedOutput {P : Type 0} (failed : P → ℕ) (swap : SwapView) 
   pub is_world : IsWorldOf IsWorldSound script areas world
   pub unfailing : NeverFails failed → failures_in world.events ≡ 0
   pub bounded : are_finite swap ≡ true → failures_in world.events ≤ most_total swap
-  pub is_run : AreTranscripts script world.events transcripts
+  pub is_run : AreTranscripts script world transcripts
   pub marks : have_mark transcripts ≡ marked
   pub printed : text ≡ world_text world
 

@@ -1,7 +1,6 @@
 -- The entries of a transcript are the calls that a script's process makes next.
-use Rattle.std.proofs.Common.{◌≡◌, ◌⊎◌, ℕ, ◌==◌, ◌++◌, ◌||◌, Bool, true, false, List, [], ◌∷◌, map, get_or, Option, Some, None, drop, MatchBool, inl, inr, refl, sym, ap, subst, ◌∙◌, true≢false}
-use Rattle.std.proofs.lemmas.Bool.{cases_Bool, or_parts, or_left, or_right}
-use Rattle.shm_base.specs.History.{own_part}
+use Rattle.std.proofs.Common.{◌≡◌, ◌≤◌, ℕ, ◌==◌, ◌++◌, Bool, true, false, List, [], ◌∷◌, map, length, get_or, Option, Some, None, drop, MatchBool, inl, inr, refl, sym, ap, subst, ◌∙◌, arith, true≢false}
+use Rattle.std.proofs.lemmas.Bool.{cases_Bool, or_parts}
 use Rattle.shm_base.specs.Calls.{ProcessCall}
 use Rattle.shm_base.specs.declared.call.Event.{Event}
 use Rattle.shm_base.specs.declared.call.Reply.{Reply}
@@ -15,7 +14,6 @@ use Rattle.shm_threads.specs.declared.transcript.Answer.{Answer}
 use Rattle.shm_threads.specs.declared.transcript.Answer.TheVariants.{Reply as Replied, HostMemory}
 use Rattle.shm_threads.specs.declared.transcript.Entry.{Entry}
 use Rattle.shm_runner.specs.Marks.{has_mark, is_marked}
-use Rattle.shm_scheduled.proofs.Lives.{has_exit, has_exited, is_exit}
 
 -- a line of another process is passed over
 pub skipped : (pid : ℕ) (values : List (Option ℕ)) (c : CommandView) (ls : List Line) (replies : List Reply) → c.pid == pid ≡ false → next_call pid values (Command c ∷ ls) replies ≡ next_call pid values ls replies
@@ -96,43 +94,43 @@ asked pid values (Command c ∷ ls) es olds e more follows clear told =
       | inr other ↦ skipped pid values c ls (map reply_of olds) other ∙ asked pid values ls es olds e more (rw other at follows) clear told
     ]
 
--- after its events a process has no call left, or it has exited
-abbrev IsOut : ℕ → List (Option ℕ) → List Line → List Entry → Type 0
-IsOut pid values ls es = (next_call pid values ls (map reply_of (transcript_events pid es)) ≡ None) ⊎ (has_exit (transcript_events pid es) ≡ true)
+-- a process without lines asks for no call
+pub none-left : (pid : ℕ) (values : List (Option ℕ)) (ls : List Line) → length (commands_of pid ls) ≤ 0 → next_call pid values ls [] ≡ None
+none-left pid values [] none = refl
+none-left pid values (Flush pages ∷ ls) none = none-left pid values ls none
+none-left pid values (Command c ∷ ls) none =
+    elim (cases_Bool (c.pid == pid)) [
+      | inl own ↦ (let some : length (c ∷ commands_of pid ls) ≤ 0 = rw own at none in absurd (omega (arith, some)))
+      | inr other ↦ rw other (none-left pid values ls (rw other at none))
+    ]
 
-own_out :
+-- after all its lines a process has no call left
+abbrev IsOut : ℕ → List (Option ℕ) → List Line → List Entry → Type 0
+IsOut pid values ls es = next_call pid values ls (map reply_of (transcript_events pid es)) ≡ None
+
+own_made :
     (pid : ℕ) (values : List (Option ℕ)) (c : CommandView) (ls : List Line)
-    → ((later : List (Option ℕ)) (xs : List Entry) → Follows later (commands_of pid ls) xs → has_mark xs ≡ false → IsOut pid later ls xs)
-    → c.pid == pid ≡ true → (es : List Entry) → Follows values (c ∷ commands_of pid ls) es → has_mark es ≡ false → IsOut pid values (Command c ∷ ls) es
-own_out pid values c ls next own [] follows clear = absurd follows
-own_out pid values c ls next own (x ∷ xs) follows clear =
+    → ((later : List (Option ℕ)) (xs : List Entry) → Follows later (commands_of pid ls) xs → has_mark xs ≡ false → length (commands_of pid ls) ≤ length xs → IsOut pid later ls xs)
+    → c.pid == pid ≡ true → (es : List Entry) → Follows values (c ∷ commands_of pid ls) es → has_mark es ≡ false → length (c ∷ commands_of pid ls) ≤ length es → IsOut pid values (Command c ∷ ls) es
+own_made pid values c ls next own [] follows clear all = absurd follows
+own_made pid values c ls next own (x ∷ xs) follows clear all =
     let parts = or_parts (is_marked x.answer) (has_mark xs) clear in
     let r = answered x.answer parts.0 in
     let events = own_events pid values c ls own x xs follows.0 follows.1 r.0 r.1 in
-    let first : is_end x.call (Replied r.0) ≡ is_end x.call x.answer = ap (is_end x.call) (sym r.1) in
-    rw events (elim (cases_Bool (is_end x.call x.answer)) [
-      | inl ends ↦ inr (or_left (is_end x.call (Replied r.0)) (has_exit (transcript_events pid xs)) (first ∙ ends))
-      | inr goes ↦
-          elim (next (values_after values c.var (Some r.0)) xs (follows_on pid values c ls own x xs follows.0 follows.1 r.0 r.1 goes) parts.1) [
-            | inl none ↦ inl (rw own none)
-            | inr exit ↦ inr (or_right (is_end x.call (Replied r.0)) (has_exit (transcript_events pid xs)) exit)
-          ]
-    ])
+    let later = values_after values c.var (Some r.0) in
+    let rest : length (commands_of pid ls) ≤ length xs = omega (arith, all) in
+    rw events (rw own (elim (cases_Bool (is_end x.call x.answer)) [
+      | inl ends ↦
+          let none : xs ≡ [] = last (is_end x.call x.answer) xs _ follows.1 ends in
+          subst (IsOut pid later ls) (sym none) (none-left pid later ls (subst (λ (ys : List Entry). length (commands_of pid ls) ≤ length ys) none rest))
+      | inr goes ↦ next later xs (follows_on pid values c ls own x xs follows.0 follows.1 r.0 r.1 goes) parts.1 rest
+    ]))
 
-pub asked-out : (pid : ℕ) (values : List (Option ℕ)) (ls : List Line) (es : List Entry) → Follows values (commands_of pid ls) es → has_mark es ≡ false → IsOut pid values ls es
-asked-out pid values [] es follows clear = inl refl
-asked-out pid values (Flush pages ∷ ls) es follows clear = asked-out pid values ls es follows clear
-asked-out pid values (Command c ∷ ls) es follows clear =
+pub all-made : (pid : ℕ) (values : List (Option ℕ)) (ls : List Line) (es : List Entry) → Follows values (commands_of pid ls) es → has_mark es ≡ false → length (commands_of pid ls) ≤ length es → IsOut pid values ls es
+all-made pid values [] es follows clear all = refl
+all-made pid values (Flush pages ∷ ls) es follows clear all = all-made pid values ls es follows clear all
+all-made pid values (Command c ∷ ls) es follows clear all =
     elim (cases_Bool (c.pid == pid)) [
-      | inl own ↦ own_out pid values c ls (λ later xs. asked-out pid later ls xs) own es (rw own at follows) clear
-      | inr other ↦ (let none = skipped pid values c ls (map reply_of (transcript_events pid es)) other in rw none (asked-out pid values ls es (rw other at follows) clear))
-    ]
-
--- an exit among the events of a process is one of the whole history
-pub own-exit : (pid : ℕ) (es : List Event) → has_exit (own_part pid es) ≡ has_exited pid es
-own-exit pid [] = refl
-own-exit pid (e ∷ es) =
-    elim (cases_Bool (e.pid == pid)) [
-      | inl own ↦ rw own (ap (λ (b : Bool). is_exit e || b) (own-exit pid es))
-      | inr other ↦ rw other (own-exit pid es)
+      | inl own ↦ own_made pid values c ls (λ later xs. all-made pid later ls xs) own es (rw own at follows) clear (rw own at all)
+      | inr other ↦ skipped pid values c ls (map reply_of (transcript_events pid es)) other ∙ all-made pid values ls es (rw other at follows) clear (rw other at all)
     ]

@@ -1,4 +1,3 @@
-mod Lives
 mod Asking
 mod Reordering
 mod Scheduling

@@ -1,5 +1,5 @@
 -- A run with threads is that of a schedule.
-use Rattle.std.proofs.Common.{◌≡◌, ◌≢◌, ◌⊎◌, ℕ, ◌+◌, ◌==◌, ◌++◌, Bool, true, false, List, [], ◌∷◌, map, length, Option, Some, None, cond, is_some, All, option_map, inl, inr, refl, sym, ap, subst, ◌∙◌, arith, eq-eqb, true≢false, append-nil, append_assoc, length-append}
+use Rattle.std.proofs.Common.{◌≡◌, ◌≢◌, ◌≤◌, ◌⊎◌, ℕ, ◌+◌, ◌==◌, ◌++◌, Bool, true, false, List, [], ◌∷◌, map, length, Option, Some, None, cond, is_some, All, option_map, inl, inr, refl, sym, ap, subst, ◌∙◌, arith, eq-eqb, true≢false, append-nil, append_assoc, length-append}
 use Rattle.std.proofs.lemmas.Bool.{and_from, cases_Bool, or_parts}
 use Rattle.std.proofs.lemmas.List.Elements.{All-head, All-tail, filter-append}
 use Rattle.shm_base.specs.History.{IsHistory, IsStep, LeadsFrom, own_part}
@@ -12,15 +12,14 @@ use Rattle.shm_base.specs.declared.call.Process.{Process}
 use Rattle.shm_base.specs.declared.call.Reply.{Reply}
 use Rattle.shm_base.specs.declared.call.Reply.TheVariants.{Refused}
 use Rattle.shm_base.specs.declared.errno.Errno.TheVariants.{Esrch}
-use Rattle.shm_life.specs.Start.{are_pids}
 use Rattle.shm_history.proofs.Clear.{clear_step, first_clear, rest_clear}
 use Rattle.shm_history.specs.WorldState.{WorldState, failures_in}
 use Rattle.shm_text.specs.Script.{ScriptView}
 use Rattle.shm_text.specs.Variables.{no_values}
-use Rattle.shm_threads.specs.Transcripts.{Follows, IsAdmitted, IsTranscript, commands_of, is_child, is_forked, pid_in, pid_of, transcript_events}
+use Rattle.shm_threads.specs.Transcripts.{Follows, IsAdmitted, IsThrough, IsTranscript, commands_of, is_child, is_forked, pid_in, pid_of, transcript_events}
 use Rattle.shm_threads.specs.declared.transcript.Entry.{Entry}
 use Rattle.shm_threads.specs.declared.transcript.Transcript.{Transcript}
-use Rattle.shm_program.specs.Runs.{IsOpening, opening_of}
+use Rattle.shm_program.specs.Runs.{opening_of}
 use Rattle.shm_schedules.specs.Schedules.{IsOver, IsSchedule, Leads, Run, after, goes, is_live, next, next_call, replies_to, reply_of, schedule_of, start}
 use Rattle.shm_outcomes.specs.Masking.{AreMaskedOutcomes}
 use Rattle.shm_outcomes.specs.Search.{AreOutcomes}
@@ -34,34 +33,34 @@ use Rattle.shm_runner.specs.Marks.{has_mark, have_mark}
 use Rattle.shm_runner.specs.Threaded.{IsThreadedOutput}
 use Rattle.shm_scheduled.specs.Ordered.{in_order}
 use Rattle.shm_scheduled.specs.Scheduled.{AreSerial, IsClear, IsScheduled, IsSerial, run_of}
-use Rattle.shm_scheduled.proofs.Asking.{asked, asked-out, none-more, own-exit}
+use Rattle.shm_scheduled.proofs.Asking.{all-made, asked, none-left, none-more}
 use Rattle.shm_scheduled.proofs.Reordering.{as-serial}
-use Rattle.shm_scheduled.proofs.Lives.{child-unborn, ended-still, exited-ended, has_exit, has_exited, unborn-stays, unborn-still}
 
 -- ONE TRANSCRIPT FOR EACH PROCESS
 
--- what a declared process was asked and told: a transcript without marks
-record Told (script : ScriptView) (history : List Event) (pid : ℕ) : Type 0 where
+-- what a declared process was asked and told: a transcript without marks, with all its lines if it is live at the end
+record Told (script : ScriptView) (history : List Event) (end : Machine) (pid : ℕ) : Type 0 where
   entries : List Entry
   clear : has_mark entries ≡ false
   own : transcript_events pid entries ≡ own_part pid history
   lines : Follows no_values (commands_of pid script.lines) entries ⊎ ((is_child pid script.processes ≡ true) × (entries ≡ []) × (is_forked pid history ≡ false))
+  through : is_live end pid ≡ true → length (commands_of pid script.lines) ≤ length entries
 
-module _ (script : ScriptView) (history : List Event) where
-  told-by : (t : Transcript) → IsTranscript script history t → has_mark t.entries.items ≡ false → Told script history t.pid
-  told-by t is clear = record { entries = t.entries.items; clear = clear; own = is.own; lines = is.lines }
+module _ (script : ScriptView) (history : List Event) (end : Machine) where
+  told-by : (t : Transcript) → IsTranscript script history t → IsThrough script end t → has_mark t.entries.items ≡ false → Told script history end t.pid
+  told-by t is through clear = record { entries = t.entries.items; clear = clear; own = is.own; lines = is.lines; through = through }
 
-  told-in : (ps : List Process) (all : List Transcript) → map pid_of all ≡ map pid_in ps → All (IsTranscript script history) all → have_mark all ≡ false
-      → (pid : ℕ) → has_pid pid ps ≡ true → Told script history pid
-  told-in [] all same each clear pid has = absurd (cc has)
-  told-in (p ∷ ps) [] same each clear pid has = absurd (cc same)
-  told-in (p ∷ ps) (t ∷ ts) same each clear pid has =
+  told-in : (ps : List Process) (all : List Transcript) → map pid_of all ≡ map pid_in ps → All (IsTranscript script history) all → All (IsThrough script end) all → have_mark all ≡ false
+      → (pid : ℕ) → has_pid pid ps ≡ true → Told script history end pid
+  told-in [] all same each through clear pid has = absurd (cc has)
+  told-in (p ∷ ps) [] same each through clear pid has = absurd (cc same)
+  told-in (p ∷ ps) (t ∷ ts) same each through clear pid has =
       let parts = or_parts (has_mark t.entries.items) (have_mark ts) clear in
       let first : t.pid ≡ p.pid = cc same in
       let rest : map pid_of ts ≡ map pid_in ps = cc same in
       elim (cases_Bool (p.pid == pid)) [
-        | inl own ↦ (let here : t.pid ≡ pid = grind (arith, first, own) in subst (Told script history) here (told-by t (All-head (IsTranscript script history) t ts each) parts.0))
-        | inr other ↦ told-in ps ts rest (All-tail (IsTranscript script history) t ts each) parts.1 pid (rw other at has)
+        | inl own ↦ (let here : t.pid ≡ pid = grind (arith, first, own) in subst (Told script history end) here (told-by t (All-head (IsTranscript script history) t ts each) (All-head (IsThrough script end) t ts through) parts.0))
+        | inr other ↦ told-in ps ts rest (All-tail (IsTranscript script history) t ts each) (All-tail (IsThrough script end) t ts through) parts.1 pid (rw other at has)
       ]
 
 -- THE WALK
@@ -79,12 +78,12 @@ asked-if : (b : Bool) (o : Option ProcessCall) → b ≡ true → cond b o None 
 asked-if true o is = refl
 asked-if false o is = absurd (true≢false (sym is))
 
-module _ (script : ScriptView) (history : List Event) (told : (pid : ℕ) → has_pid pid script.processes ≡ true → Told script history pid) where
+module _ (script : ScriptView) (history : List Event) (end : Machine) (told : (pid : ℕ) → has_pid pid script.processes ≡ true → Told script history end pid) where
   next-is : (before : List Event) (e : Event) (more : List Event) → before ++ e ∷ more ≡ history → has_pid e.pid script.processes ≡ true
       → next_call e.pid no_values script.lines (replies_to e.pid before) ≡ Some e.call
   next-is before e more whole has = by t.lines
     where
-      t : Told script history e.pid
+      t : Told script history end e.pid
       t = told e.pid has
 
       own : transcript_events e.pid t.entries ≡ own_part e.pid before ++ e ∷ own_part e.pid more
@@ -123,52 +122,43 @@ module _ (script : ScriptView) (history : List Event) (told : (pid : ℕ) → ha
 
   -- THE END
 
-  module _ (areas : List ℕ) (t : Machine) (leads : LeadsFrom 1 (start_of (opening_of script areas)) history t) (once : are_pids script.processes ≡ true) where
-    -- a declared process that lives at the end has no line left
-    out : (pid : ℕ) → has_pid pid script.processes ≡ true → is_live t pid ≡ true → next_call pid no_values script.lines (replies_to pid history) ≡ None
-    out pid has live = by told-here.lines
-      where
-        told-here : Told script history pid
-        told-here = told pid has
+  -- a declared process that lives at the end has no line left
+  out : (pid : ℕ) → has_pid pid script.processes ≡ true → is_live end pid ≡ true → next_call pid no_values script.lines (replies_to pid history) ≡ None
+  out pid has live = subst (λ (l : List Reply). next_call pid no_values script.lines l ≡ None) replies (by t.lines)
+    where
+      t : Told script history end pid
+      t = told pid has
 
-        replies : map reply_of (transcript_events pid told-here.entries) ≡ replies_to pid history
-        replies = ap (λ (es : List Event). map reply_of es) told-here.own
+      replies : map reply_of (transcript_events pid t.entries) ≡ replies_to pid history
+      replies = ap (λ (es : List Event). map reply_of es) t.own
 
-        ended : has_exit (transcript_events pid told-here.entries) ≡ true → ⊥
-        ended exit =
-            let exited : has_exited pid history ≡ true = sym (own-exit pid history) ∙ sym (ap has_exit told-here.own) ∙ exit in
-            true≢false (sym live ∙ ended-still t pid (exited-ended pid 1 (start_of (opening_of script areas)) history t leads exited))
+      all : length (commands_of pid script.lines) ≤ length t.entries
+      all = t.through live
 
-        by : Follows no_values (commands_of pid script.lines) told-here.entries ⊎ ((is_child pid script.processes ≡ true) × (told-here.entries ≡ []) × (is_forked pid history ≡ false))
-            → next_call pid no_values script.lines (replies_to pid history) ≡ None
-        by (inl follows) =
-            elim (asked-out pid no_values script.lines told-here.entries follows told-here.clear) [
-              | inl none ↦ subst (λ (l : List Reply). next_call pid no_values script.lines l ≡ None) replies none
-              | inr exit ↦ absurd (ended exit)
-            ]
-        by (inr (child, none, unforked)) =
-            absurd (true≢false (sym live ∙ unborn-still t pid (unborn-stays pid 1 (start_of (opening_of script areas)) history t leads (child-unborn pid script.processes once child) unforked)))
+      by : Follows no_values (commands_of pid script.lines) t.entries ⊎ ((is_child pid script.processes ≡ true) × (t.entries ≡ []) × (is_forked pid history ≡ false))
+          → next_call pid no_values script.lines (map reply_of (transcript_events pid t.entries)) ≡ None
+      by (inl follows) = all-made pid no_values script.lines t.entries follows t.clear all
+      by (inr (child, none, unforked)) =
+          subst (λ (es : List Entry). next_call pid no_values script.lines (map reply_of (transcript_events pid es)) ≡ None) (sym none)
+          (none-left pid no_values script.lines (subst (λ (es : List Entry). length (commands_of pid script.lines) ≤ length es) none all))
 
-    over : IsOver script (run_of history t)
-    over pid = ap (option_map (after (run_of history t) pid)) (none (has_pid pid script.processes) (is_live t pid) refl refl)
-      where
-        none : (has live : Bool) → has_pid pid script.processes ≡ has → is_live t pid ≡ live → next script (run_of history t) pid ≡ None
-        none true true h l = asked-if _ (next_call pid no_values script.lines (replies_to pid history)) (and_from (has_pid pid script.processes) (is_live t pid) h l) ∙ out pid h l
-        none true false h l = rw (h, l) refl
-        none false live h l = rw h refl
+  over : IsOver script (run_of history end)
+  over pid = ap (option_map (after (run_of history end) pid)) (none (has_pid pid script.processes) (is_live end pid) refl refl)
+    where
+      none : (has live : Bool) → has_pid pid script.processes ≡ has → is_live end pid ≡ live → next script (run_of history end) pid ≡ None
+      none true true h l = asked-if _ (next_call pid no_values script.lines (replies_to pid history)) (and_from (has_pid pid script.processes) (is_live end pid) h l) ∙ out pid h l
+      none true false h l = rw (h, l) refl
+      none false live h l = rw h refl
 
 -- THE LAW
-
-once-declared : (script : ScriptView) (opening : Opening) → IsOpening script opening → are_pids script.processes ≡ true
-once-declared script opening o = grind (arith, o.started)
 
 pub are_scheduled : (script : ScriptView) (w : WorldState) (all : List Transcript) → IsHistory w.opening w.events w.machine → IsClear script w all → IsScheduled script w.opening.areas w.events w.machine
 are_scheduled script w all legal clear =
     let areas = w.opening.areas in
     let leads : LeadsFrom 1 (start_of (opening_of script areas)) w.events w.machine = subst (λ (o : Opening). LeadsFrom 1 (start_of o) w.events w.machine) clear.opened.is legal in
-    let told = told-in script w.events script.processes all clear.run.processes clear.run.each clear.unmarked in
-    let walked = walk script w.events told [] (start_of (opening_of script areas)) w.events w.machine refl leads clear.unfailing clear.run.events in
-    let ended = over script w.events told areas w.machine leads (once-declared script w.opening clear.opened) in
+    let told = told-in script w.events w.machine script.processes all clear.run.processes clear.run.each clear.run.through clear.unmarked in
+    let walked = walk script w.events w.machine told [] (start_of (opening_of script areas)) w.events w.machine refl leads clear.unfailing clear.run.events in
+    let ended = over script w.events w.machine told in
     let serial = as-serial script areas (schedule_of w.events) (run_of w.events w.machine) walked in
     let start = start_of (opening_of script areas) in
     let hs = map fresh_holder script.processes in

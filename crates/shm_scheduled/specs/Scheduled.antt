@@ -40,7 +40,7 @@ pub record IsScheduled (script : ScriptView) (areas : List ℕ) (events : List E
 -- a run of the script in which the host refused no memory, and no reply names a pager's failure
 pub record IsClear (script : ScriptView) (world : WorldState) (transcripts : List Transcript) : Type 0 where
   pub opened : IsOpening script world.opening
-  pub run : AreTranscripts script world.events transcripts
+  pub run : AreTranscripts script world transcripts
   pub unmarked : have_mark transcripts ≡ false
   pub unfailing : failures_in world.events ≡ 0
 

@@ -2,6 +2,7 @@
 use Rattle.std.proofs.Common.{◌≡◌, ℕ, Option, Some, None, arith, inl, inr, refl, subst, sym}
 use Rattle.std.specs.Prelude.{Bool, true, false, IfErr, IfSome, OnOk, Result, min, ◌↔◌}
 use Rattle.std.proofs.lemmas.Bool.{cases_lt, false≢true}
+use Rattle.shm_history.specs.WorldState.{WorldState}
 use Rattle.shm_text.specs.Script.{ScriptView}
 use Rattle.shm_threads.specs.Ends.{CanEnd, CanStop, IsExpired, ended_by, least}
 use Rattle.shm_threads.specs.declared.outcome.RunError.{RunError}
@@ -14,12 +15,6 @@ least-kept P pid (Some n) mine theirs = elim (cases_lt pid n) [
   | inl lt ↦ (let same : min pid n ≡ pid = omega (arith, lt) in rw same mine)
   | inr ge ↦ (let same : min pid n ≡ n = omega (arith, ge) in rw same theirs)
 ]
-
--- a thread that ended is one of the script
-pub can-stop : (answers : ℕ → ℕ → Bool → Bool) (script : ScriptView) (refused : Bool) (expired : Option ℕ) → IfSome expired (IsExpired answers script) → IfErr (ended_by refused expired) (CanStop answers script)
-can-stop answers script true expired is = tt
-can-stop answers script false (Some pid) is = is
-can-stop answers script false None is = tt
 
 -- a thread was refused exactly if the run ends with that
 refused-only : (refused : Bool) (expired : Option ℕ) → IfErr (ended_by refused expired) (λ e. (e ≡ errors.ThreadRefused) ↔ (refused ≡ true))
@@ -40,8 +35,23 @@ module _ (result : Result (Unit {0}) RunError) (refused : Bool) (expired : Optio
   pub refused-ends : IfErr result (λ e. (e ≡ errors.ThreadRefused) ↔ (refused ≡ true))
   refused-ends = subst (λ (r : Result (Unit {0}) RunError). IfErr r (λ e. (e ≡ errors.ThreadRefused) ↔ (refused ≡ true))) (sym is) (refused-only refused expired)
 
-pub stop-end : (answers : ℕ → ℕ → Bool → Bool) (script : ScriptView) (error : RunError) → CanStop answers script error → CanEnd answers script error
-stop-end answers script errors.HostMemory can = absurd can
-stop-end answers script errors.ThreadRefused can = can
-stop-end answers script (errors.GateExpired pid) can = can
-stop-end answers script (errors.HistoryMismatch pid) can = can
+-- room that was reserved before is no part of a cause
+pub stop-end : (answers : ℕ → ℕ → Bool → Bool) (script : ScriptView) (old new : WorldState) (error : RunError) → new ≡ record old { room = new.room } → CanStop answers script new error → CanEnd answers script old error
+stop-end answers script old new errors.HostMemory same can = absurd can
+stop-end answers script old new errors.ThreadRefused same can = can
+stop-end answers script old new (errors.GateExpired pid) same can =
+    let is : IsExpired answers script (record old { room = new.room }) pid = subst (λ (w : WorldState). IsExpired answers script w pid) same can in
+    record {
+      here = is.here;
+      room = is.room;
+      moments = is.moments;
+      world = is.world;
+      all = is.all;
+      leads = is.leads;
+      processes = is.processes;
+      entries = is.entries;
+      calls = is.calls;
+      lesser = is.lesser;
+      rounds = is.rounds;
+    }
+stop-end answers script old new (errors.HistoryMismatch pid) same can = can

@@ -1,11 +1,12 @@
-pub mod Ages
+mod Ages
 mod Answering
 mod Entries
+mod Expiring
 mod Idle
 mod Keeping
 mod Least
 mod Moving
-pub mod Lives
+mod Lives
 mod Nexts
 mod Noting
 mod Over

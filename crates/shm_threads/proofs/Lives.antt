@@ -23,7 +23,7 @@ use Rattle.shm_threads.proofs.Ages.{Ages, IsLive}
 
 -- THE FIRST PROCESS WITH A PID
 
-abbrev pub is_alive : Option Life → Bool
+abbrev is_alive : Option Life → Bool
 is_alive None = false
 is_alive (Some Unborn) = false
 is_alive (Some (Live cred)) = true
@@ -54,10 +54,6 @@ lives m pid calls = live-is (life_from pid m.runners) (sym (alive-from 0 pid m.r
 
 pub calls : (m : Machine) (pid : ℕ) → IsLive pid m.runners → is_some (caller_of m pid) ≡ true
 calls m pid live = alive-from 0 pid m.runners ∙ ap is_alive live.1
-
--- who is not born or has ended does not call
-pub silent : (m : Machine) (pid : ℕ) → is_alive (life_from pid m.runners) ≡ false → is_some (caller_of m pid) ≡ false
-silent m pid still = alive-from 0 pid m.runners ∙ still
 
 -- the process at this place is the first with the pid, and has this life
 abbrev FirstAt : ℕ → Life → List Runner → ℕ → Type 0

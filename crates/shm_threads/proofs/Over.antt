@@ -1,5 +1,5 @@
 -- The end of a run: no process can continue, so each transcript is whole.
-use Rattle.std.specs.Prelude.{◌≡◌, ◌≤◌, ℕ, false, List, [], ◌∷◌, Option, Some, None, length, map, nat_lt, is_some, All}
+use Rattle.std.specs.Prelude.{◌≡◌, ◌≤◌, ℕ, true, false, List, [], ◌∷◌, Option, Some, None, length, map, nat_lt, is_some, All}
 use Rattle.std.proofs.Common.{subst, sym, ap, ◌∙◌, refl, arith, inl, inr}
 use Rattle.std.proofs.Math.ListN.{get_or}
 use Rattle.std.proofs.lemmas.Bool.{and_cases, ltb-false, true≢false}
@@ -16,36 +16,36 @@ use Rattle.shm_threads.specs.Moves.{entries_in}
 use Rattle.shm_threads.specs.Outcomes.{AreAllMoves, IsOutcome}
 use Rattle.shm_threads.specs.Running.{IsOver}
 use Rattle.shm_threads.specs.Strands.{IsStrand, StandsAt, can_go, life_from, now_of, pid_of_strand, transcript_of}
-use Rattle.shm_threads.specs.Transcripts.{HasLines, IsTranscript, commands_of, pid_of}
+use Rattle.shm_threads.specs.Transcripts.{HasLines, IsThrough, IsTranscript, commands_of, pid_of}
 use Rattle.shm_threads.specs.declared.strand.Strand.{Strand}
 use Rattle.shm_threads.specs.declared.transcript.Transcript.{Transcript}
-use Rattle.shm_threads.proofs.Ages.{IsLive}
 use Rattle.shm_threads.proofs.Entries.{underway-whole}
 use Rattle.shm_threads.proofs.Lives.{calls}
 
 module _ (script : ScriptView) (m : Machine) (h : List Event) (s : Strand) (is : IsStrand script m h s) (none : can_go m s ≡ false) where
-  no-line : IsLive s.pid m.runners → length (commands_of s.pid script.lines) ≤ length s.entries.items
+  -- a live process has made all its lines
+  pub no-line : is_some (caller_of m s.pid) ≡ true → length (commands_of s.pid script.lines) ≤ length s.entries.items
   no-line live =
       elim (and_cases (nat_lt (length s.entries.items) (length s.commands.items)) (is_some (caller_of m s.pid)) none) [
         | inl few ↦ (let le = ltb-false (length s.entries.items) (length s.commands.items) few in omega (arith, le, ap length is.commands, length-map s.commands.items now_of))
-        | inr gone ↦ absurd (true≢false (sym (calls m s.pid live) ∙ gone))
+        | inr gone ↦ absurd (true≢false (sym live ∙ gone))
       ]
 
   lines : (l : Option Life) → life_from s.pid m.runners ≡ l → StandsAt script h s l → HasLines script h (transcript_of s)
   lines None life at = absurd at
   lines (Some Unborn) life at = inr (at.0, at.1, at.3)
-  lines (Some (Live cred)) life at = inl (underway-whole (commands_of s.pid script.lines) s.vars s.entries.items at (no-line (cred, life)))
+  lines (Some (Live cred)) life at = inl (underway-whole (commands_of s.pid script.lines) s.vars s.entries.items at (no-line (calls m s.pid (cred, life))))
   lines (Some Ended) life at = inl at
 
   pub is-whole : IsTranscript script h (transcript_of s)
   is-whole = record { lines = lines (life_from s.pid m.runners) refl is.place; own = is.own; marks = is.marks }
 
-pids-of : (ss : List Strand) → map pid_of (map transcript_of ss) ≡ map pid_of_strand ss
+pub pids-of : (ss : List Strand) → map pid_of (map transcript_of ss) ≡ map pid_of_strand ss
 pids-of [] = refl
 pids-of (s ∷ ss) = ap (λ (l : List ℕ). s.pid ∷ l) (pids-of ss)
 
 -- the moves of a run that is over are those of the whole script
-all-moves : (script : ScriptView) (start w : WorldState) (ss : List Strand) (made : ℕ) (all : List Transcript) (over : IsOver script start w ss made) → all ≡ map transcript_of ss
+all-moves : (script : ScriptView) (start w : WorldState) (ss : List Strand) (made : ℕ) (all : List Transcript) (over : IsOver script start w ss made None) → all ≡ map transcript_of ss
     → AreAllMoves script start w all over.running.moments
 all-moves script start w ss made all over is =
     let moves = over.running.moves in
@@ -54,14 +54,16 @@ all-moves script start w ss made all over is =
     record {
       leads = moves.leads;
       entries = subst (All Has) (sym is) (All-map Has transcript_of ss moves.entries);
-      rounds = moves.rounds ∙ take_all made (rounds_of script.lines) over.flushed;
+      rounds = moves.rounds ∙ take_all made (rounds_of script.lines) (over.flushed refl);
     }
 
 pub outcome-of : (script : ScriptView) (passed w : WorldState) (room : ℕ) (ss : List Strand) (made : ℕ) (all : List Transcript)
-    → IsOver script (record passed { room = room }) w ss made → IsHistory w.opening w.events w.machine → all ≡ map transcript_of ss → IsOutcome script passed w all
+    → IsOver script (record passed { room = room }) w ss made None → IsHistory w.opening w.events w.machine → all ≡ map transcript_of ss → IsOutcome script passed w all
 outcome-of script passed w room ss made all over legal is =
     let each : All (IsTranscript script w.events) (map transcript_of ss) =
     All-map (IsTranscript script w.events) transcript_of ss (λ k d lt. is-whole script w.machine w.events (get_or ss k d) (over.running.each k d lt) (over.none k d lt)) in
+    let through : All (IsThrough script w.machine) (map transcript_of ss) =
+    All-map (IsThrough script w.machine) transcript_of ss (λ k d lt. no-line script w.machine w.events (get_or ss k d) (over.running.each k d lt) (over.none k d lt)) in
     record {
       room = room;
       moments = over.running.moments;
@@ -71,6 +73,7 @@ outcome-of script passed w room ss made all over legal is =
       transcripts = record {
         processes = ap (map pid_of) is ∙ pids-of ss ∙ over.running.listed;
         each = subst (All (IsTranscript script w.events)) (sym is) each;
+        through = subst (All (IsThrough script w.machine)) (sym is) through;
         events = over.running.events;
       };
     }

@@ -38,4 +38,4 @@ pub record IsOutcome (script : ScriptView) (passed world : WorldState) (all : Li
   pub moves : AreAllMoves script (record passed { room = room }) world all moments
   pub started : StartedFrom passed.opening passed.memory.swap world
   pub legal : IsHistory world.opening world.events world.machine
-  pub transcripts : AreTranscripts script world.events all
+  pub transcripts : AreTranscripts script world all

@@ -1,7 +1,7 @@
 -- What holds of a run whenever its lock is free.
-use Rattle.std.specs.Prelude.{◌≡◌, ◌<◌, ◌≤◌, ◌+◌, ◌==◌, ℕ, Bool, true, false, List, [], length, map, slice_get, slice_index_or, slice_set, All, Option, Some}
+use Rattle.std.specs.Prelude.{◌≡◌, ◌<◌, ◌≤◌, ◌+◌, ◌==◌, ◌&&◌, ℕ, Bool, true, false, List, [], length, map, slice_get, slice_index_or, slice_set, All, Option, Some}
 use Rattle.shm_base.specs.Bounds.{largest}
-use Rattle.shm_base.specs.State.{Opening, start_of}
+use Rattle.shm_base.specs.State.{Machine, Opening, start_of}
 use Rattle.shm_base.specs.declared.call.Process.{Process}
 use Rattle.shm_base.specs.declared.paging.FlushReport.{FlushReport}
 use Rattle.shm_history.specs.Gauges.{Seat}
@@ -12,6 +12,7 @@ use Rattle.shm_text.specs.Script.{ScriptView}
 use Rattle.shm_threads.specs.Outcomes.{StartedFrom}
 use Rattle.shm_threads.specs.Asked.{rounds_of}
 use Rattle.shm_threads.specs.Births.{births_after, is_birth}
+use Rattle.shm_threads.specs.Ends.{comes_before}
 use Rattle.shm_threads.specs.Keepers.{HasPublished}
 use Rattle.shm_threads.specs.Moves.{AreMoves, Moment}
 use Rattle.shm_threads.specs.Strands.{IsMade, IsStrand, can_go, left_in, pid_of_strand}
@@ -34,11 +35,16 @@ pub record IsRunning (script : ScriptView) (start world : WorldState) (strands :
   pub events : All (IsAdmitted script.processes) world.events
   pub room : left_in strands ≤ world.room
 
--- the same, and no process can continue, and no round is left
-pub record IsOver (script : ScriptView) (start world : WorldState) (strands : List Strand) (made : ℕ) : Type 0 where
+-- the process can continue, and comes before the thread that the gate ended, if it ended one
+abbrev pub can_come : Option ℕ → Machine → Strand → Bool
+can_come expired machine s = comes_before s.pid expired && can_go machine s
+
+-- the same, and no thread can continue that comes before the one that the gate ended, if it ended one: no process, and no round is
+-- left to the flusher
+pub record IsOver (script : ScriptView) (start world : WorldState) (strands : List Strand) (made : ℕ) (expired : Option ℕ) : Type 0 where
   pub running : IsRunning script start world strands made
-  pub none : All (λ (s : Strand). can_go world.machine s ≡ false) strands
-  pub flushed : length (rounds_of script.lines) ≤ made
+  pub none : All (λ (s : Strand). can_come expired world.machine s ≡ false) strands
+  pub flushed : comes_before 0 expired ≡ true → length (rounds_of script.lines) ≤ made
 
 -- the process at an index has this pid
 abbrev pub IsProcessAt : List Process → ℕ → ℕ → Type 0

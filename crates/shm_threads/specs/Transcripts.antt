@@ -1,5 +1,5 @@
 -- How transcripts match a history.
-use Rattle.std.specs.Prelude.{◌≡◌, ◌≢◌, ◌⊎◌, ◌==◌, ℕ, List, [], ◌∷◌, map, Bool, true, false, not, ◌&&◌, is_some, if◌then◌else◌, Option, Some, None, MatchBool, All}
+use Rattle.std.specs.Prelude.{◌≡◌, ◌≢◌, ◌≤◌, ◌⊎◌, ◌==◌, ℕ, List, [], ◌∷◌, length, map, Bool, true, false, not, ◌&&◌, is_some, if◌then◌else◌, Option, Some, None, MatchBool, All}
 use Rattle.std.specs.List.{list_any}
 use Rattle.shm_base.specs.History.{own_part}
 use Rattle.shm_base.specs.Calls.{ProcessCall}
@@ -11,6 +11,9 @@ use Rattle.shm_base.specs.declared.call.Process.{Process}
 use Rattle.shm_base.specs.declared.errno.Errno.TheVariants.{Esrch}
 use Rattle.shm_base.specs.Memory.{takes_memory}
 use Rattle.shm_base.specs.Processes.{has_pid}
+use Rattle.shm_base.specs.State.{Machine}
+use Rattle.shm_base.specs.Step.{caller_of}
+use Rattle.shm_history.specs.WorldState.{WorldState}
 use Rattle.shm_text.specs.Form.{CommandView}
 use Rattle.shm_text.specs.Script.{ScriptView}
 use Rattle.shm_text.specs.Variables.{no_values, call_of, values_after}
@@ -100,8 +103,14 @@ pub record IsAdmitted (processes : List Process) (e : Event) : Type 0 where
 abbrev pub AreListed : ScriptView → List Transcript → Type 0
 AreListed script all = map pid_of all ≡ map pid_in script.processes
 
--- All transcripts are right: there is one for each process, in the script's order, and the history has no events of others
-pub record AreTranscripts (script : ScriptView) (history : List Event) (all : List Transcript) : Type 0 where
+-- a process that is live at the end has made all its lines
+abbrev pub IsThrough : ScriptView → Machine → Transcript → Type 0
+IsThrough script machine t = is_some (caller_of machine t.pid) ≡ true → length (commands_of t.pid script.lines) ≤ length t.entries.items
+
+-- All transcripts are right: there is one for each process, in the script's order, no live process has a line left, and the
+-- history has no events of others
+pub record AreTranscripts (script : ScriptView) (world : WorldState) (all : List Transcript) : Type 0 where
   pub processes : AreListed script all
-  pub each : All (IsTranscript script history) all
-  pub events : All (IsAdmitted script.processes) history
+  pub each : All (IsTranscript script world.events) all
+  pub through : All (IsThrough script world.machine) all
+  pub events : All (IsAdmitted script.processes) world.events

@@ -1,8 +1,7 @@
 //! The outcome of a run, or why it has none.
-ghost use Rattle.std.specs.Prelude.{◌≡◌, is_some};
-ghost use Rattle.shm_threads.specs.Ends.{ended_by, least};
+ghost use Rattle.std.specs.Prelude.{◌≡◌, false};
+ghost use Rattle.shm_threads.specs.Ends.{comes_before, ended_by, least};
 
-use crate::start::Refused;
 use crate::transcript::Transcript;
 use shm_base::HostMemory;
 use shm_history::World;
@@ -20,8 +19,8 @@ pub struct Outcome<P: Pager> {
 ///
 /// - `HostMemory`: the host refused memory before a worker was started.
 /// - `ThreadRefused`: the host refused a thread.
-/// - `GateExpired`: the gate ended a thread: the least such pid, 0 for the flusher. A gate that never does, as
-///   `OpenGate`, never causes it.
+/// - `GateExpired`: the gate ended a thread: the least such pid, 0 for the flusher. So each process with a lesser
+///   pid made all its calls. A gate that ends no thread, as `OpenGate`, never causes it.
 /// - `HistoryMismatch`: no run ends with it.
 ///
 /// `ThreadRefused` takes precedence over `GateExpired`.
@@ -37,15 +36,13 @@ pub enum RunError {
     ThreadRefused,
 }
 
-/// How a run ended, once its threads are joined: a thread that was refused, and the least pid of a thread that the
-/// gate ended.
-pub(crate) fn ended_by(refused: Option<Refused>, expired: Option<u32>) -> Result<(), RunError>
-    ensures { result ≡ ended_by (is_some refused) expired }
+/// How a run ended whose threads were all started, by the least pid of a thread that the gate ended.
+pub(crate) fn ended_by(expired: Option<u32>) -> Result<(), RunError>
+    ensures { result ≡ ended_by false expired }
 {
-    match (refused, expired) {
-        (Some(refused), _) => Err(refused.error()),
-        (None, Some(pid)) => Err(RunError::GateExpired { pid }),
-        (None, None) => Ok(()),
+    match expired {
+        Some(pid) => Err(RunError::GateExpired { pid }),
+        None => Ok(()),
     }
 }
 
@@ -56,6 +53,16 @@ pub(crate) fn least(pid: u32, other: Option<u32>) -> u32
     match other {
         Some(other) => pid.min(other),
         None => pid,
+    }
+}
+
+/// Whether a thread with this pid comes before the one that the gate ended, if it ended one.
+pub(crate) fn comes_before(pid: u32, expired: Option<u32>) -> bool
+    ensures { result ≡ comes_before pid expired }
+{
+    match expired {
+        Some(ended) => pid < ended,
+        None => true,
     }
 }
 

@@ -51,7 +51,8 @@ use std::thread::{Scope, Threads};
 /// The clause `passed` says that the gate passed each call and each round: it may have answered true before it.
 ///
 /// A run has no outcome only if the host refused memory before a worker was started, or a thread, or if the gate ended a
-/// thread before a call that the script has. It never answers `HistoryMismatch`.
+/// thread before a call that the script has. Of the threads that the gate ended, the error names the least pid: processes
+/// with lesser pids followed all their lines. It never answers `HistoryMismatch`.
 pub fn run_threads<R: Threads + Wait + Sync, G: Gate, P: Pager + Send>(
     rt: &R,
     alloc: Global,
@@ -63,7 +64,7 @@ pub fn run_threads<R: Threads + Wait + Sync, G: Gate, P: Pager + Send>(
     ensures outcome { IfOk result (λ o. IsOutcome script.now world o.world o.transcripts.items) }
     ensures passed { let answers = G.answers gate.now in
         IfOk result (λ o. AreAllPassed answers script.now o.transcripts.items) }
-    ensures error { IfErr result (CanEnd (G.answers gate.now) script.now) }
+    ensures error { IfErr result (CanEnd (G.answers gate.now) script.now world) }
 {
     let (outcome, _) = run_with(rt, alloc, world, None, script, gate)?;
     Ok(outcome)
@@ -89,7 +90,7 @@ pub fn run_threads_gauged<R: Threads + Wait + Sync, G: Gate, P: Pager + Send>(
     ensures numbers { IfOk result (λ r. IsCaughtUp r.0.world r.1.numbers) }
     ensures passed { let answers = G.answers gate.now in
         IfOk result (λ r. AreAllPassed answers script.now r.0.transcripts.items) }
-    ensures error { IfErr result (CanEnd (G.answers gate.now) script.now) }
+    ensures error { IfErr result (CanEnd (G.answers gate.now) script.now world) }
 {
     let (outcome, keeper) = run_with(rt, alloc, world, Some(keeper), script, gate)?;
     let mut keeper = keeper.unwrap();
@@ -111,7 +112,7 @@ fn run_with<R: Threads + Wait + Sync, G: Gate, P: Pager + Send>(
     ensures kept { IfOk result (λ r. IsKept (cell_of keeper) (stored_of keeper) r.1) }
     ensures passed { let answers = G.answers gate.now in
         IfOk result (λ r. AreAllPassed answers script.now r.0.transcripts.items) }
-    ensures error { IfErr result (CanEnd (G.answers gate.now) script.now) }
+    ensures error { IfErr result (CanEnd (G.answers gate.now) script.now world) }
 {
     let start = match prepared(alloc, &mut world, script) {
         Ok(start) => start,
@@ -140,7 +141,7 @@ fn run_from<O: Origin + Send + Sync, R: Threads + Wait + Sync, G: Gate, P: Pager
     ensures outcome { IfOk result (λ r. IsOutcome script.now world r.0.world r.0.transcripts.items) }
     ensures kept { IfOk result (λ r. IsKept O.cell O.stored r.1) }
     ensures passed { IfOk result (λ r. AreAllPassed O.answers script.now r.0.transcripts.items) }
-    ensures error { IfErr result (CanStop O.answers O.script) }
+    ensures error { IfErr result (CanStop O.answers script.now world) }
 {
     let Start {
         strands,

@@ -3,21 +3,21 @@
 //! The run's guarantees are invariants of the type under the lock, so they hold whenever the lock is free. Threads only
 //! say whose turn it is. Noting a birth or an end returns news, which can only be used up by waking the waiting threads.
 ghost use Rattle.std.specs.Prelude.{◌≡◌, ◌≤◌, ◌<◌, ◌+◌, ◌⊎◌, [], length, map, option_map, position, true, false, ◌↔◌};
-ghost use Rattle.std.specs.Prelude.{All, Some, IfOk, IfErr, IfSome, OnOk, MatchBool, is_some, ℕ, vec_len, vec_capacity};
+ghost use Rattle.std.specs.Prelude.{All, Some, None, IfOk, IfErr, IfSome, OnOk, MatchBool, is_some, ℕ, vec_len, vec_capacity};
 ghost use Rattle.shm_threads.specs.Asked.{rounds_of};
 ghost use Rattle.shm_threads.specs.Births.{births_after, is_birth, with_end};
-ghost use Rattle.shm_threads.specs.Ends.{CanStop, HasCall, ended_by, least};
+ghost use Rattle.shm_threads.specs.Ends.{CanStop, HasCall, IsEnded, ended_by, least};
 ghost use Rattle.shm_threads.specs.Keepers.{IsKept, cell_of, stored_of, HasPublished};
 ghost use Rattle.shm_threads.specs.Running.{IsFlush, IsFlushed, IsIdle, IsOver, IsProcessAt};
 ghost use Rattle.shm_threads.specs.Passed.{ArePassed};
-ghost use Rattle.shm_threads.specs.Running.{IsRunning, IsTurn, is_next};
+ghost use Rattle.shm_threads.specs.Running.{IsRunning, IsTurn, can_come, is_next};
 ghost use Rattle.shm_threads.specs.Strands.{IsFresh, can_go, transcript_of};
 ghost use Rattle.shm_threads.specs.Transcripts.{commands_of};
 
 use crate::births::{News, ProcessState, is_born, may_fork, note_birth, note_end};
 use crate::gate::Gate;
 use crate::origin::Origin;
-use crate::outcome::{RunError, ended_by, least};
+use crate::outcome::{RunError, comes_before, ended_by, least};
 use crate::start::Refused;
 use crate::strand::{Made, Strand, make};
 use crate::transcript::Transcript;
@@ -45,7 +45,7 @@ pub(crate) struct RunState<'a, P: Pager, O: Origin> {
 impl<'a, P: Pager, O: Origin> Model for RunState<'a, P, O> {
     ghost use Rattle.std.specs.Prelude.{◌≡◌, IfSome};
     ghost use Rattle.shm_threads.specs.Asked.{rounds_of};
-    ghost use Rattle.shm_threads.specs.Ends.{IsExpired};
+    ghost use Rattle.shm_threads.specs.Ends.{IsEnded};
     ghost use Rattle.shm_threads.specs.Keepers.{IsKept};
     ghost use Rattle.shm_threads.specs.Passed.{ArePassed};
     ghost use Rattle.shm_threads.specs.Running.{IsRunning, RunView};
@@ -64,7 +64,7 @@ impl<'a, P: Pager, O: Origin> Model for RunState<'a, P, O> {
 
     ghost invariant = { λ s. IsRunning O.script O.start s.world s.strands.items s.made
         × ((s.rounds.items ≡ rounds_of O.script.lines)
-        × (IsKept O.cell O.stored s.keeper × (IfSome s.expired (IsExpired O.answers O.script)
+        × (IsKept O.cell O.stored s.keeper × (IfSome s.expired (IsEnded O.answers O.script)
         × ArePassed O.answers s.strands.items s.made))) };
 }
 
@@ -74,6 +74,13 @@ fn goes<P: Pager>(world: &World<P>, strand: &Strand<'_>) -> bool
 {
     strand.entries.len() < strand.commands.len()
         && world.system().spaces().caller(strand.pid).is_some()
+}
+
+// Whether a strand can go on, and comes before the thread that the gate ended, if it ended one.
+fn comes<P: Pager>(world: &World<P>, strand: &Strand<'_>, expired: Option<u32>) -> bool
+    ensures { result ≡ can_come expired world.now.machine strand.now }
+{
+    comes_before(strand.pid, expired) && goes(world, strand)
 }
 
 // Whether the next call of a strand is its n-th.
@@ -120,25 +127,31 @@ impl<P: Pager, O: Origin> RunState<'_, P, O> {
         }
     }
 
-    // The index of the first strand that can go on. The clauses `running` and `rounds` are what the state promises.
+    // The index of the first strand that can go on and comes before the thread that the gate ended. The clauses after the
+    // first one are what the state promises.
     fn first(&self) -> Option<usize>
-        ensures first { result ≡ position (can_go self.now.world.machine) self.now.strands }
+        ensures first { result
+            ≡ position (can_come self.now.expired self.now.world.machine) self.now.strands }
         ensures running { IsRunning O.script O.start self.now.world self.now.strands self.now.made }
         ensures rounds { self.now.rounds ≡ rounds_of O.script.lines }
+        ensures ended { IfSome self.now.expired (IsEnded O.answers O.script) }
+        ensures passed { ArePassed O.answers self.now.strands self.now.made }
     {
         self.strands
             .iter()
-            .position(|strand| goes(&self.world, strand))
+            .position(|strand| comes(&self.world, strand, self.expired))
     }
 
-    // The first strand that can go on, and its next call.
+    // The first strand that can go on and comes before the thread that the gate ended, and its next call.
     fn next(&self) -> Option<Next>
         ensures first { option_map (λ k. k.index) result
-            ≡ position (can_go self.now.world.machine) self.now.strands }
+            ≡ position (can_come self.now.expired self.now.world.machine) self.now.strands }
         ensures process { IfSome result (λ k. IsProcessAt O.script.processes k.index k.pid) }
         ensures call { IfSome result (λ k. HasCall O.script k.pid k.n) }
         ensures running { IsRunning O.script O.start self.now.world self.now.strands self.now.made }
         ensures rounds { self.now.rounds ≡ rounds_of O.script.lines }
+        ensures ended { IfSome self.now.expired (IsEnded O.answers O.script) }
+        ensures passed { ArePassed O.answers self.now.strands self.now.made }
     {
         let Some(index) = self.first() else {
             return None;
@@ -194,7 +207,8 @@ impl<P: Pager, O: Origin> RunState<'_, P, O> {
     }
 
     // Makes the calls of lines and the rounds that are left, once no thread is left: there are none, as each thread has
-    // made its own. If the run has no outcome by then, it makes none; otherwise it makes those that the gate passes.
+    // made its own. After a refused thread it makes none; otherwise it makes those that the gate passes, of the threads
+    // that come before the one that it ended.
     fn complete<R: Wait, G: Gate>(
         &mut self,
         rt: &R,
@@ -204,14 +218,15 @@ impl<P: Pager, O: Origin> RunState<'_, P, O> {
     ) -> Result<(), RunError>
         requires { G.answers gate.now ≡ O.answers }
         ensures ended { result ≡ ended_by (is_some refused) self.new.expired }
-        ensures kept { IfErr (ended_by (is_some refused) self.old.expired) (λ _. self.new ≡ self.old) }
-        ensures error { IfErr result (CanStop O.answers O.script) }
+        ensures kept { is_some refused ≡ true → self.new ≡ self.old }
+        ensures error { IfErr result (CanStop O.answers O.script O.start) }
         ensures over { OnOk result
-            (IsOver O.script O.start self.new.world self.new.strands self.new.made) }
+            (IsOver O.script O.start self.new.world self.new.strands self.new.made None) }
     {
-        ended_by(refused, self.expired)?;
+        if let Some(refused) = refused {
+            return Err(refused.error());
+        }
         for _ in rt.forever() {
-            ended_by(None, self.expired)?;
             if let Some(Next { index, pid, n }) = self.next() {
                 if !gate.before(pid, n) {
                     self.expire(pid, n);
@@ -220,7 +235,7 @@ impl<P: Pager, O: Origin> RunState<'_, P, O> {
                 let Turn { goes_on: _, news } = self.step(index, pid, n);
                 announce(news, changed);
                 gate.after(pid, n);
-            } else if self.made < self.rounds.len() {
+            } else if comes_before(0, self.expired) && self.made < self.rounds.len() {
                 let n = self.made as u64 + 1;
                 if !gate.before(0, n) {
                     self.expire(0, n);
@@ -229,7 +244,7 @@ impl<P: Pager, O: Origin> RunState<'_, P, O> {
                 self.flush(rt, n);
                 gate.after(0, n);
             } else {
-                return Ok(());
+                return ended_by(self.expired);
             }
         }
         unreachable!()
@@ -377,12 +392,12 @@ impl<'a, P: Pager, O: Origin> Shared<'a, P, O> {
     ) -> Result<Left<'a, P>, RunError>
         requires { G.answers gate.now ≡ O.answers }
         ensures over { IfOk result (λ l. (made : ℕ)
-            × (IsOver O.script O.start l.world l.strands.items made
+            × (IsOver O.script O.start l.world l.strands.items made None
             × ArePassed O.answers l.strands.items made)) }
         ensures kept { IfOk result (λ l. IsKept O.cell O.stored l.keeper) }
         ensures joined { OnOk result (is_some refused ≡ false) }
         ensures refused { IfErr result (λ e. (e ≡ RunError.ThreadRefused) ↔ (is_some refused ≡ true)) }
-        ensures error { IfErr result (CanStop O.answers O.script) }
+        ensures error { IfErr result (CanStop O.answers O.script O.start) }
     {
         let Shared { state, changed } = self;
         let mut state = state.into_inner();

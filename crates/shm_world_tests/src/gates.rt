@@ -43,7 +43,8 @@ fn a_gate_is_called_after_the_answer(rt: HostRuntime) -> Result<(), Fail> {
     Ok(())
 }
 
-/// How runs end if the gate ends workers: all of them, those of the processes, one, or none.
+/// How runs end if the gate ends workers: all of them, those of the processes, one, or none. What a gate says
+/// is noted when it says it, so a gate that would answer otherwise if it were asked again changes nothing.
 const ENDED: &[(&str, &[u8], Rule, Option<RunError>)] = &[
     (
         "the flusher before a process",
@@ -75,6 +76,18 @@ const ENDED: &[(&str, &[u8], Rule, Option<RunError>)] = &[
         TWO,
         Rule::Below(2),
         Some(RunError::GateExpired { pid: 2 }),
+    ),
+    (
+        "one that might pass later",
+        TWO,
+        Rule::OnceWithout(1),
+        Some(RunError::GateExpired { pid: 1 }),
+    ),
+    (
+        "the flusher, which might pass later",
+        ROUNDS,
+        Rule::OnceWithout(0),
+        Some(RunError::GateExpired { pid: 0 }),
     ),
     (
         "a parent, whose run ends",

@@ -46,6 +46,8 @@ pub(crate) enum Rule {
     Below(u32),
     /// Ends one worker.
     Without(u32),
+    /// Ends one worker, or the flusher with pid 0, before its first call, and would let it pass if it were asked again.
+    OnceWithout(u32),
     /// Lets this many of the flusher's rounds pass.
     Rounds(u64),
     /// Holds each of two processes until the other has come as far.
@@ -179,11 +181,13 @@ impl Gate for Ruled {
     ghost answers = { λ gate pid n may. true };
 
     fn before(&self, pid: u32, n: u64) -> bool {
-        self.note(self.turn(pid).ask(n));
+        let is_in_turn = self.turn(pid).ask(n);
+        self.note(is_in_turn);
         match self.rule {
             Rule::Open => true,
             Rule::Below(end) => pid < end,
             Rule::Without(ended) => pid != ended,
+            Rule::OnceWithout(ended) => pid != ended || n > 1 || !is_in_turn,
             Rule::Rounds(most) => pid != 0 || n <= most,
             Rule::Meet => comes_to(&self.turn(3u32.wrapping_sub(pid)).asked, n),
             Rule::ChildFirst => pid != 1 || n == 1 || comes_to(&self.second.told, 1),

@@ -30,7 +30,7 @@ returns-in-Ok-clause-written g c =
     marked_text g.P.Pager.failed w.memory.swap c.args.script.now w.opening.areas c.in-Ok.outcome.world c.in-Ok.outcome.transcripts.items known c.write_outcome.result (g.W.Write.contents c.args.writer.now) (g.W.Write.contents c.write_outcome.new.writer) c.write_outcome.ensures.written
 
 pub run_fault-requires : goal.run_fault-requires
-run_fault-requires g c = ungated c.args.script.now c.in-Err.error c.in-Err.ensures.error
+run_fault-requires g c = ungated c.args.script.now c.args.world c.in-Err.error c.in-Err.ensures.error
 
 pub returns-in-Err-clause-cause : goal.returns-in-Err-clause-cause
 returns-in-Err-clause-cause g c = rw c.run_fault.ensures (ended_cause c.in-Err.error c.args.world.opening.areas c.args.script.now)
@@ -42,4 +42,4 @@ pub returns-in-Ok-clause-ended : goal.returns-in-Ok-clause-ended
 returns-in-Ok-clause-ended g c = serials_fail c.write_outcome.result (world_serials c.write_outcome.result c.write_outcome.ensures.fault)
 
 pub returns-in-Err-clause-ended : goal.returns-in-Err-clause-ended
-returns-in-Err-clause-ended g c = rw c.run_fault.ensures (ended_fails c.in-Err.error (ungated c.args.script.now c.in-Err.error c.in-Err.ensures.error))
+returns-in-Err-clause-ended g c = rw c.run_fault.ensures (ended_fails c.in-Err.error (ungated c.args.script.now c.args.world c.in-Err.error c.in-Err.ensures.error))

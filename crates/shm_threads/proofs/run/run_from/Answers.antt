@@ -1,4 +1,4 @@
-use Rattle.std.proofs.Common.{◌≡◌, ◌≤◌, ap, arith, length, subst}
+use Rattle.std.proofs.Common.{◌≡◌, ◌≤◌, None, ap, arith, length, refl, subst}
 use Rattle.shm_history.specs.WorldState.{WorldState}
 use Rattle.shm_text.specs.Script.{ScriptView}
 use Rattle.shm_threads.specs.Running.{IsOver}
@@ -21,7 +21,7 @@ returns-clause-outcome g c =
     let script = c.args.script.now in
     let left = c.in_ok-world.field-0 in
     let (made, (over, passed)) = c.in_ok-world.ensures.over in
-    let Ends : ScriptView → WorldState → Type 0 = λ s start. IsOver s start left.world left.strands.items made in
+    let Ends : ScriptView → WorldState → Type 0 = λ s start. IsOver s start left.world left.strands.items made None in
     let here : Ends script w = subst (λ (s : ScriptView). Ends s w) c.requires.script (subst (Ends g.O.Origin.script) c.requires.start over) in
     outcome-of script w left.world w.room left.strands.items made c.transcripts_of-transcripts.result.items here c.history.ensures.legal c.transcripts_of-transcripts.ensures
 
@@ -30,5 +30,5 @@ returns-clause-passed g c =
     let script = c.args.script.now in
     let left = c.in_ok-world.field-0 in
     let (made, (over, passed)) = c.in_ok-world.ensures.over in
-    let few : length (rounds_of script.lines) ≤ made = subst (λ (s : ScriptView). length (rounds_of s.lines) ≤ made) c.requires.script over.flushed in
+    let few : length (rounds_of script.lines) ≤ made = subst (λ (s : ScriptView). length (rounds_of s.lines) ≤ made) c.requires.script (over.flushed refl) in
     passed-all g.O.Origin.answers script left.strands.items made c.transcripts_of-transcripts.result.items few c.transcripts_of-transcripts.ensures passed

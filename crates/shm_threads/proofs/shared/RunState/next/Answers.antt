@@ -1,7 +1,9 @@
 use Rattle.std.proofs.Common.{◌≡◌, ◌∙◌, arith, length, subst, sym}
 use Rattle.std.proofs.Math.ListN.{get_or}
+use Rattle.std.proofs.lemmas.Bool.{and_parts}
 use Rattle.std.proofs.lemmas.List.Quantifiers.{position-Some}
-use Rattle.shm_threads.specs.Running.{RunView}
+use Rattle.shm_threads.specs.Ends.{comes_before}
+use Rattle.shm_threads.specs.Running.{RunView, can_come}
 use Rattle.shm_threads.specs.Strands.{can_go}
 use Rattle.shm_threads.proofs.Nexts.{at-process, has-call}
 use Rattle.shm_threads.proofs.shared.RunState.next.Goals as goal
@@ -14,7 +16,7 @@ returns-clause-process g c =
     let state = c.args.self.now in
     let s = c.index-strand.result.now in
     let k = c.in-Some.index in
-    let at = position-Some (can_go state.world.machine) state.strands k s (sym c.first.ensures.first ∙ c.in-Some.is) in
+    let at = position-Some (can_come state.expired state.world.machine) state.strands k s (sym c.first.ensures.first ∙ c.in-Some.is) in
     let here : s ≡ get_or state.strands k s = subst (λ (v : RunView). s ≡ get_or v.strands k s) c.self.view_is c.index-strand.ensures in
     at-process g.O.Origin.script g.O.Origin.start state.world state.strands state.made k s c.first.ensures.running at.0 here
 
@@ -23,7 +25,9 @@ returns-clause-call g c =
     let state = c.args.self.now in
     let s = c.index-strand.result.now in
     let k = c.in-Some.index in
-    let at = position-Some (can_go state.world.machine) state.strands k s (sym c.first.ensures.first ∙ c.in-Some.is) in
+    let at = position-Some (can_come state.expired state.world.machine) state.strands k s (sym c.first.ensures.first ∙ c.in-Some.is) in
     let here : s ≡ get_or state.strands k s = subst (λ (v : RunView). s ≡ get_or v.strands k s) c.self.view_is c.index-strand.ensures in
+    let first = get_or state.strands k s in
+    let go = (and_parts (comes_before first.pid state.expired) (can_go state.world.machine first) at.1).1 in
     let entries : c.len.result ≡ length s.entries.items = omega (arith, c.len.ensures, s.entries.ok.0) in
-    rw entries (has-call g.O.Origin.script g.O.Origin.start state.world state.strands state.made k s c.first.ensures.running at.0 here at.1)
+    rw entries (has-call g.O.Origin.script g.O.Origin.start state.world state.strands state.made k s c.first.ensures.running at.0 here go)
