@@ -8,7 +8,8 @@ its outcome.
 logs/ has answers that a system may give to a script: NAME.CASE.log is a log, and NAME.CASE.out the verdict,
 by hand. It also has a script with too many schedules for a list of its outcomes.
 
-Runs that sample draws are run again by ./shmsim serial, which prints the same event lines.
+Runs that sample draws are run again by ./shmsim serial, which prints the same event lines. Each answer to a
+question is worked out by hand, or follows from the outcomes of a stored script.
 """
 
 from __future__ import annotations
@@ -25,7 +26,8 @@ from commands import run, text_of
 
 HERE = os.path.dirname(os.path.realpath(__file__))
 
-USAGE = "shmcheck outcomes|judge LOG|sample SEED [--rules profile|linux] [--at-most N] [--masked] [--runs N]"
+USAGE = ("shmcheck outcomes|judge LOG|sample SEED [--exists|--forbid CONDITION] [--rules profile|linux] "
+         "[--at-most N] [--masked] [--runs N]")
 NAMES = sorted(it[:-4] for it in os.listdir(HERE) if it.endswith(".shm"))
 LOGS = sorted(it[:-4] for it in os.listdir(os.path.join(HERE, "logs")) if it.endswith(".log"))
 
@@ -391,3 +393,189 @@ def test_masked(shmcheck: str) -> None:
     status, printed, _ = ask(shmcheck, ["outcomes", "--masked"], stored("additions.shm"))
     assert status == 0
     assert printed.endswith("outcomes 2\n")
+
+
+# QUESTIONS
+
+HEADS = "limits 65536 16 64 4 1\nprocess 1 0 0\n"
+PAIR = HEADS + "child 2\n1 s = shmget private 4096 600\n1 a = shmat s null -\n1 fork 2\n"
+# each process loads a byte and then stores to it
+UPDATES = PAIR + "1 load a 1\n1 store a 01\n2 load 0x40000000 1\n2 store 0x40000000 01\n"
+# the parent creates the segment before it forks
+BORN = HEADS + "child 2\n1 s = shmget 7 4096 600,creat\n1 fork 2\n2 t = shmget 7 4096 600\n"
+REMOVED = HEADS + "1 s = shmget 7 4096 600,creat\n1 rmid s\n1 stat s\n"
+
+ANSWERS: tuple[tuple[str, str, bool], ...] = (
+    # store buffering: the processes store, and then each loads what the other stores
+    ("store_buffering", r"1:5=00 /\ 2:2=00", False),
+    ("store_buffering", r"1:5=00 /\ 2:2=01", True),
+    ("store_buffering", r"1:5=01 /\ 2:2=00", True),
+    ("store_buffering", r"1:5=01 /\ 2:2=01", True),
+    ("store_buffering", r"~(1:5=01 \/ 2:2=01)", False),
+    ("store_buffering", r"~1:5=01 \/ ~2:2=01", True),
+    ("message_passing", r"2:1=01 /\ 2:2=00", False),
+    ("message_passing", r"2:1=01 /\ 2:2=2a", True),
+    ("message_passing", r"2:1=00 /\ 2:2=2a", True),
+    # an update by load and store can be lost, and one by xadd can't
+    (UPDATES, r"1:4=00 /\ 2:1=00", True),
+    (UPDATES, r"1:4=01 /\ 2:1=01", False),
+    ("additions", r"1:4=0 /\ 2:1=0", False),
+    ("additions", r"1:4=1 /\ 2:1=0", True),
+    # of two creations with excl just one succeeds
+    ("racing_creations", r"1:1=? /\ 2:1=?", False),
+    ("racing_creations", r"1:1=EEXIST /\ 2:1=EEXIST", False),
+    ("racing_creations", r"~1:1=? /\ ~2:1=EEXIST", True),
+    ("racing_creations", r"2:1=0", True),
+    ("removal_and_attach", r"2:1=? /\ 2:2=EIDRM", True),
+    ("removal_and_attach", r"2:1=ENOENT /\ 2:2=?", False),
+    # a child runs after its fork, and nothing after an exit; a call that is not made has no reply
+    (BORN, "2:1=ENOENT", False),
+    (BORN, "2:1=0", True),
+    ("never_born", r"1:2=? \/ 2:1=?", False),
+    ("never_born", r"1:2=EINVAL \/ 2:1=ENOENT", False),
+    ("never_born", r"1:1=ok /\ ~1:2=? /\ ~2:1=?", True),
+    ("two_parents", r"3:1=00", True),
+    ("two_parents", r"1:3=ok /\ 3:1=SIGSEGV", False),
+    ("two_parents", r"2:1=ok /\ 3:1=SIGSEGV", True),
+    # ~ binds first, then /\, then \/
+    ("racing_creations", r"~1:1=0 /\ 1:1=0", False),
+    ("racing_creations", r"~(1:1=0 /\ 1:1=0)", True),
+    ("racing_creations", r"1:1=0 \/ 2:1=0 /\ 2:1=EEXIST", True),
+    ("racing_creations", r"(1:1=0 \/ 2:1=0) /\ 2:1=EEXIST /\ 1:1=EEXIST", False),
+    ("racing_creations", r"~~1:1=0 /\ ~~~2:1=0", True),
+    ("racing_creations", r"((1:1=0)/\(2:1=EEXIST))", True),
+    ("racing_creations", r" ( 1:1=0 ) ", True),
+    # a word of the reply, with times as 0 or set
+    ("times", r"1:2=nattch=0 /\ 1:2=atime=0 /\ 1:2=ctime=set", True),
+    ("times", r"1:2=nattch=1", False),
+    ("times", r"1:2=nattch", False),
+)
+
+
+def script_of(name: str) -> str:
+    return name if "\n" in name else str(stored(f"{name}.shm"))
+
+
+@pytest.mark.parametrize("name, condition, possible", ANSWERS)
+def test_answers(name: str, condition: str, possible: bool, shmcheck: str, shmsim: str) -> None:
+    """The answer, its status by either word, and a schedule that gives the printed lines in ./shmsim."""
+    script = script_of(name)
+    asked = ask(shmcheck, ["outcomes", "--exists", condition], script)
+    assert ask(shmcheck, ["outcomes", "--forbid", condition], script) == (6 if possible else 0, asked.out, "")
+    assert (asked.status, asked.said) == (0 if possible else 6, "")
+    if not possible:
+        assert asked.out == "no\n"
+        return
+    answer, first, *lines, last, count = asked.out.splitlines()
+    schedule = last.split()[1:]
+    assert (answer, first, last.split()[0], count) == ("yes", "outcome 1", "schedule", "outcomes 1")
+    assert len(schedule) == len(lines)
+    ended = ask(shmsim, ["serial", "ram:64"], in_order(script, schedule))
+    assert ended.status == 0
+    assert sorted(placeless(ended.out, len(schedule))) == sorted(lines)
+
+
+def test_answer_text(shmcheck: str) -> None:
+    """The whole text of an answer."""
+    line = "shmget 0x00000007 4096 600,creat,excl ="
+    ended = ask(shmcheck, ["outcomes", "--exists", "1:1=EEXIST"], stored("racing_creations.shm"))
+    assert ended == (0, f"yes\noutcome 1\n1 {line} EEXIST\n2 {line} 0\nschedule 2 1\noutcomes 1\n", "")
+
+
+def saying(lines: list[str]) -> str:
+    """Returns the condition that these lines of the processes are answered as they are."""
+    parts: list[str] = []
+    numbers: dict[str, int] = {}
+    for line in lines:
+        call, reply = line.split(" = ", 1)
+        pid = call.split()[0]
+        numbers[pid] = numbers.get(pid, 0) + 1
+        parts += [f"{pid}:{numbers[pid]}={word}" for word in reply.split()]
+    return r" /\ ".join(parts)
+
+
+@pytest.mark.parametrize("name", NAMES)
+def test_listed_outcomes(name: str, shmcheck: str) -> None:
+    """Each outcome of the list is possible, and one outside of the list is not."""
+    script = stored(f"{name}.shm")
+    found = [lines for lines, _ in outcomes_in(ask(shmcheck, ["outcomes"], script).out)[0]]
+    for lines in found:
+        ended = ask(shmcheck, ["outcomes", "--exists", saying(lines)], script)
+        assert (ended.status, ended.out.splitlines()[2:-2]) == (0, lines)
+    other = r" \/ ".join(f"({saying(lines)})" for lines in found)
+    assert ask(shmcheck, ["outcomes", "--forbid", f"~({other})"], script) == (0, "no\n", "")
+
+
+def test_question_bound(shmcheck: str) -> None:
+    """No answer is given before all runs are covered: none, 1, 1 2, 2 and 2 1."""
+    script = stored("racing_creations.shm")
+    for word, status in ("--exists", 6), ("--forbid", 0):
+        asked = ["outcomes", word, r"1:1=? /\ 2:1=?", "--at-most"]
+        assert ask(shmcheck, [*asked, "5"], script) == (status, "no\n", "")
+        said = "shmcheck: undecided: more than 4 runs, no two of them alike\n"
+        assert ask(shmcheck, [*asked, "4"], script) == (5, "", said)
+
+
+def test_question_rules(shmcheck: str) -> None:
+    """An identifier that was removed is unknown under Linux's rules."""
+    rules: tuple[tuple[list[str], str, str], ...] = (([], "EIDRM", "EINVAL"),
+                                                     (["--rules", "linux"], "EINVAL", "EIDRM"))
+    for words, reply, other in rules:
+        assert ask(shmcheck, ["outcomes", "--exists", f"1:3={reply}", *words], REMOVED).status == 0
+        assert ask(shmcheck, ["outcomes", "--exists", f"1:3={other}", *words], REMOVED).status == 6
+
+
+WRONG: tuple[tuple[str, int, str], ...] = (
+    ("", 1, "P:N=REPLY, ~ or ( is missing"),
+    ("1:1=0 /\\", 9, "P:N=REPLY, ~ or ( is missing"),
+    ("~ /\\ 1:1=0", 3, "P:N=REPLY, ~ or ( is missing"),
+    ("()", 2, "P:N=REPLY, ~ or ( is missing"),
+    ("1:1=0 2:1=0", 7, "/\\, \\/ or ) is missing"),
+    ("1:1=0 ~2:1=0", 7, "/\\, \\/ or ) is missing"),
+    ("1:1=0(", 6, "/\\, \\/ or ) is missing"),
+    ("1:1=0)", 6, ") without ("),
+    ("((1:1=0)", 9, "( without )"),
+    ("1:1", 1, "not of the form P:N=REPLY"),
+    ("1:1=", 1, "not of the form P:N=REPLY"),
+    ("11=0", 1, "not of the form P:N=REPLY"),
+    ("a:1=0", 1, "not of the form P:N=REPLY"),
+    ("  / 1:1=0", 3, "not of the form P:N=REPLY"),
+    ("1:1=0 \\/ x", 10, "not of the form P:N=REPLY"),
+    ("3:1=0", 1, "the script declares no such process"),
+    ("1:1=0 /\\ 1:2=0", 10, "the process has no such line"),
+    ("1:0=0", 1, "the process has no such line"),
+)
+
+
+@pytest.mark.parametrize("condition, at, said", WRONG)
+def test_wrong_conditions(condition: str, at: int, said: str, shmcheck: str) -> None:
+    """The first fault of a condition."""
+    for word in "--exists", "--forbid":
+        ended = ask(shmcheck, ["outcomes", word, condition], stored("racing_creations.shm"))
+        assert ended == (2, "", f"shmcheck: condition, byte {at}: {said}\n")
+
+
+def test_question_words(shmcheck: str) -> None:
+    """Wrong words, and a wrong script."""
+    script = stored("racing_creations.shm")
+    wrong = (["outcomes", "--exists"], ["outcomes", "--forbid"],
+             ["outcomes", "--exists", "1:1=0", "--masked"],
+             ["outcomes", "--exists", "1:1=0", "--forbid", "1:1=0"], ["judge", "a", "--exists", "1:1=0"],
+             ["outcomes", "--exists", "1:1=0", "--at-most"], ["sample", "1", "--forbid", "1:1=0"])
+    for words in wrong:
+        assert ask(shmcheck, words, script) == (2, "", f"shmcheck: usage: {USAGE}\n")
+    ended = ask(shmcheck, ["outcomes", "--exists", "1:1=0"], HEADS + "1 shmgt\n")
+    assert ended == (1, "", "shmcheck: line 3: bad line\n")
+
+
+def test_question_page(shmcheck: str) -> None:
+    """The questions that docs/OUTCOMES.md shows."""
+    page = text_of("docs/OUTCOMES.md").split("## Questions\n")[1].split("\n## ")[0]
+    shown = page.split("```")[1].strip().split("$ ./shmcheck ")[1:]
+    assert shown
+    for command in shown:
+        first, *printed = command.splitlines()
+        words, path = first.split(" < ")
+        word, condition = words.split("'")[0].split()[1], words.split("'")[1]
+        ended: Any = ask(shmcheck, ["outcomes", word, condition], text_of(path))
+        assert ended.out.splitlines() == printed

@@ -1,3 +1,4 @@
 mod Left
+pub mod Questions
 pub mod Stops
 pub mod Texts

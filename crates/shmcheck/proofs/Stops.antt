@@ -19,8 +19,9 @@ use Rattle.shmcheck.specs.Answers.{IsStopIn}
 use Rattle.shmcheck.specs.Judged.{doubt_of}
 use Rattle.shmcheck.specs.Stop.{engine_stop, stop_of}
 use Rattle.shmcheck.specs.declared.command.Asked.{Asked}
-use Rattle.shmcheck.specs.declared.command.Asked.TheVariants.{Outcomes, Judge}
+use Rattle.shmcheck.specs.declared.command.Asked.TheVariants.{Outcomes, Question, Judge}
 use Rattle.shmcheck.specs.declared.command.Options.{Options}
+use Rattle.shmcheck.specs.declared.command.Wish.{Wish}
 use Rattle.shmcheck.specs.declared.stop.Stop.TheVariants as stops
 
 -- the machine was not opened
@@ -48,6 +49,15 @@ bound_from searches.Bound o log areas script h = (refl, h)
 pub bound_stop : (error : SearchError) (o : Options) (log areas : List ℕ) (script : ScriptView) (machine : Machine)
     → machine ≡ (start script areas).machine → IsSearchCause script (fresh machine) o.most error → IsStopIn (stop_of error o.most) (Outcomes o) log areas script
 bound_stop error o log areas script machine is h = bound_from error o log areas script (subst (λ (m : Machine). IsSearchCause script (fresh m) o.most error) is h)
+
+question_from : (error : SearchError) (wish : Wish) (o : Options) (log areas : List ℕ) (script : ScriptView) → IsSearchCause script (start script areas) o.most error → IsStopIn (stop_of error o.most) (Question wish o) log areas script
+question_from (searches.Engine e) wish o log areas script h = engine_cause e (Question wish o) log areas script
+question_from searches.Bound wish o log areas script h = (refl, h)
+
+-- the same for a question
+pub question_stop : (error : SearchError) (wish : Wish) (o : Options) (log areas : List ℕ) (script : ScriptView) (machine : Machine)
+    → machine ≡ (start script areas).machine → IsSearchCause script (fresh machine) o.most error → IsStopIn (stop_of error o.most) (Question wish o) log areas script
+question_stop error wish o log areas script machine is h = question_from error wish o log areas script (subst (λ (m : Machine). IsSearchCause script (fresh m) o.most error) is h)
 
 doubt_from : (error : SearchError) (o : Options) (log areas : List ℕ) (script : ScriptView) (entries : List Entry)
     → entries_of script log ≡ Ok entries → IsDoubt script (log_of script entries) (start script areas) o.most error → IsStopIn (doubt_of error o.most) (Judge o) log areas script

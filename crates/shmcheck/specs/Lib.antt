@@ -5,3 +5,4 @@ pub mod Judged
 pub mod Sampled
 pub mod Stop
 pub mod Answers
+pub mod Questioned

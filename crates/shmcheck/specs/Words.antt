@@ -7,7 +7,9 @@ use Rattle.shmcheck.specs.declared.ruling.RuleSet.TheVariants.{Profile, Linux}
 use Rattle.shmcheck.specs.declared.command.Options.{Options}
 use Rattle.shmcheck.specs.declared.command.Draws.{Draws}
 use Rattle.shmcheck.specs.declared.command.Asked.{Asked}
-use Rattle.shmcheck.specs.declared.command.Asked.TheVariants.{Outcomes, Judge, Sample}
+use Rattle.shmcheck.specs.declared.command.Asked.TheVariants.{Outcomes, Question, Judge, Sample}
+use Rattle.shmcheck.specs.declared.command.Wish.{Wish}
+use Rattle.shmcheck.specs.declared.command.Wish.TheVariants.{Exists, Forbid}
 
 abbrev pub rules_by : List ℕ → Option RuleSet
 rules_by w = if bytes_eq w (codes "profile") then Some Profile else if bytes_eq w (codes "linux") then Some Linux else None
@@ -61,6 +63,29 @@ draws_of (w ∷ v ∷ ws) d = option_and_then (draws_of ws) (draw_by w v d)
 
 -- THE WORDS
 
+abbrev pub wish_by : List ℕ → Option Wish
+wish_by w = if bytes_eq w (codes "--exists") then Some Exists else if bytes_eq w (codes "--forbid") then Some Forbid else None
+
+abbrev pub asked_by : Wish → Options → Option Asked
+asked_by wish o = if o.masked then None else Some (Question wish o)
+
+-- options other than `--masked`; at most 10,000,000 runs if there is no `--at-most`
+abbrev pub question_of : Wish → List (List ℕ) → Option Asked
+question_of wish ws = option_and_then (asked_by wish) (options_of ws (plain 10000000))
+
+abbrev pub listed_of : List (List ℕ) → Option Asked
+listed_of ws = option_map Outcomes (options_of ws (plain 10000000))
+
+abbrev pub outcomes_by : Option Wish → List (List ℕ) → List (List ℕ) → Option Asked
+outcomes_by None all ws = listed_of all
+outcomes_by (Some wish) all [] = None
+outcomes_by (Some wish) all (condition ∷ ws) = question_of wish ws
+
+-- `--exists` or `--forbid`, a condition and its options; or the options of a list
+abbrev pub outcomes_of : List (List ℕ) → Option Asked
+outcomes_of [] = listed_of []
+outcomes_of (w ∷ ws) = outcomes_by (wish_by w) (w ∷ ws) ws
+
 abbrev pub judged_by : Options → Option Asked
 judged_by o = if o.masked then None else Some (Judge o)
 
@@ -80,12 +105,12 @@ abbrev pub sample_of : List (List ℕ) → Option Asked
 sample_of [] = None
 sample_of (seed ∷ ws) = option_and_then (sampled_by ws) (decimal_of seed)
 
--- the program's name, what to do, and its words; at most 10,000,000 runs of a list if there is no `--at-most`
+-- the program's name, what to do, and its words
 abbrev pub asked_of : List (List ℕ) → Option Asked
 asked_of [] = None
 asked_of (name ∷ []) = None
 asked_of (name ∷ command ∷ ws) =
-    if bytes_eq command (codes "outcomes") then option_map Outcomes (options_of ws (plain 10000000)) else
+    if bytes_eq command (codes "outcomes") then outcomes_of ws else
     if bytes_eq command (codes "judge") then judge_of ws else
     if bytes_eq command (codes "sample") then sample_of ws else
     None

@@ -1,7 +1,7 @@
 //! The words of the command line.
 ghost use Rattle.std.specs.Prelude.{◌≡◌, map, string_bytes};
 ghost use Rattle.shm_text.specs.Number.{decimal_of};
-ghost use Rattle.shmcheck.specs.Words.{asked_of, draw_by, draws_of, judge_of, option_by, options_of, plain, rules_by, sample_of};
+ghost use Rattle.shmcheck.specs.Words.{asked_of, draw_by, draws_of, judge_of, listed_of, option_by, options_of, outcomes_by, outcomes_of, plain, question_of, rules_by, sample_of, wish_by};
 
 use crate::ruling::RuleSet;
 use shm_text::read_decimal;
@@ -29,11 +29,19 @@ pub(crate) struct Draws {
     pub rules: RuleSet,
 }
 
-/// What the program is to do: list every outcome, judge the log in the file that the third word names, or
-/// sample runs.
+/// What is wanted of a condition: that a schedule meets it, or that none does.
+#[derive(Clone, Copy, Debug, PartialEq, Eq)]
+pub(crate) enum Wish {
+    Exists,
+    Forbid,
+}
+
+/// What the program is to do: list every outcome, say whether a schedule meets the condition that is the fourth
+/// word, judge the log in the file that the third word names, or sample runs.
 #[derive(Clone, Copy, Debug, PartialEq, Eq)]
 pub(crate) enum Asked {
     Outcomes(Options),
+    Question(Wish, Options),
     Judge(Options),
     Sample(Draws),
 }
@@ -46,9 +54,59 @@ pub(crate) fn read_words(words: &[String]) -> Option<Asked>
         return None;
     };
     match command.as_str() {
-        "outcomes" => Some(Asked::Outcomes(read_options(rest, MOST_LISTED)?)),
+        "outcomes" => read_outcomes(rest),
         "judge" => read_judge(rest),
         "sample" => read_sample(rest),
+        _ => None,
+    }
+}
+
+// The words after `outcomes`: a question, a condition and options, of which none masks; or options.
+fn read_outcomes(words: &[String]) -> Option<Asked>
+    ensures { result ≡ outcomes_of (map string_bytes words.now) }
+{
+    match words {
+        [] => read_list(words),
+        [name, rest @ ..] => read_listed(read_wish(name.as_str()), words, rest),
+    }
+}
+
+// A question with the condition and the options in `rest`, or else the options of a list.
+fn read_listed(wish: Option<Wish>, words: &[String], rest: &[String]) -> Option<Asked>
+    ensures { result ≡ outcomes_by wish (map string_bytes words.now) (map string_bytes rest.now) }
+{
+    let Some(wish) = wish else {
+        return read_list(words);
+    };
+    let [_, options @ ..] = rest else {
+        return None;
+    };
+    read_question(wish, options)
+}
+
+fn read_list(words: &[String]) -> Option<Asked>
+    ensures { result ≡ listed_of (map string_bytes words.now) }
+{
+    Some(Asked::Outcomes(read_options(words, MOST_LISTED)?))
+}
+
+// The words after a condition: options, of which none masks.
+fn read_question(wish: Wish, words: &[String]) -> Option<Asked>
+    ensures { result ≡ question_of wish (map string_bytes words.now) }
+{
+    let options = read_options(words, MOST_LISTED)?;
+    if options.masked {
+        return None;
+    }
+    Some(Asked::Question(wish, options))
+}
+
+fn read_wish(word: &str) -> Option<Wish>
+    ensures { result ≡ wish_by word.now }
+{
+    match word {
+        "--exists" => Some(Wish::Exists),
+        "--forbid" => Some(Wish::Forbid),
         _ => None,
     }
 }

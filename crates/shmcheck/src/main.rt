@@ -1,7 +1,9 @@
 //! The checker: reads a script of processes and calls from standard input. It writes every outcome that the
-//! script can have, or a verdict on a log of what a system answered, or sampled runs.
+//! script can have, or whether one meets a condition, or a verdict on a log of what a system answered, or sampled
+//! runs.
 #![tactic(auto)]
 
+mod asking;
 mod command;
 mod judging;
 mod listing;
@@ -19,14 +21,18 @@ use std::{env, fs, io};
 use stop::{Stop, log_unread};
 use swap::swap_area;
 
-// The log that the words name, for a judge.
-fn read_log<R: Files + AllocGlobal>(
+// The log that the words name, for a judge, or the condition of a question.
+fn read_given<R: Files + AllocGlobal>(
     rt: &R,
     asked: Asked,
     words: &[String],
 ) -> Result<Vec<u8>, Stop> {
-    match (asked, words.get(2)) {
-        (Asked::Judge(_), Some(path)) => fs::read(rt, path.as_str()).map_err(log_unread),
+    match (asked, words) {
+        (Asked::Judge(_), [_, _, path, ..]) => fs::read(rt, path.as_str()).map_err(log_unread),
+        (Asked::Question(..), [_, _, _, condition, ..]) => {
+            let bytes = Vec::from_slice(rt.alloc(), condition.as_bytes())?;
+            Ok(bytes)
+        }
         _ => Ok(Vec::new(rt.alloc())),
     }
 }
@@ -35,7 +41,7 @@ fn run<R: Env + Files + Input + Print + AllocGlobal>(rt: &R) -> Result<u8, Stop>
     let alloc = rt.alloc();
     let words: Vec<String> = env::args(rt)?.collect(alloc)?;
     let asked = read_words(&words).ok_or(Stop::Usage)?;
-    let log = read_log(rt, asked, &words)?;
+    let given = read_given(rt, asked, &words)?;
     let (mut reader, mut writer) = (rt.reader(), io::writer(rt));
     run_over(
         alloc,
@@ -43,7 +49,7 @@ fn run<R: Env + Files + Input + Print + AllocGlobal>(rt: &R) -> Result<u8, Stop>
         &mut writer,
         swap_area(alloc)?,
         asked,
-        &log,
+        &given,
     )
 }
 

@@ -4,6 +4,7 @@ ghost use Rattle.std.specs.Io.KnownBytes.{IsAtEnd};
 ghost use Rattle.shm_program.specs.Runs.{IsTextFor};
 ghost use Rattle.shmcheck.specs.Answers.{IsAnswer, IsAnswered, IsAnyAnswer, IsStopIn, IsStopOf, WritesNothing, rules_asked};
 
+use crate::asking::answer_question;
 use crate::command::Asked;
 use crate::judging::judge_script;
 use crate::listing::list_outcomes;
@@ -24,23 +25,23 @@ pub(crate) struct Answer {
 }
 
 /// Answers what was asked about the script that the reader gives, opened over swap areas with these pagers, and
-/// returns the exit status. Only a judge needs the log. The answer is complete before its first byte is written.
+/// returns the exit status. A judge is given a log, and a question a condition. The answer is complete before its first byte is written.
 pub(crate) fn run_over<R: Read, W: Write, P: ClonePager>(
     alloc: Global,
     reader: &mut R,
     writer: &mut W,
     pagers: Vec<P>,
     asked: Asked,
-    log: &[u8],
+    given: &[u8],
 ) -> Result<u8, Stop>
     ensures ok { let areas = map (λ p. length (P.content p)) pagers.items in
-        let answers = IsAnswered asked log.now areas (R.remaining reader.old) in
+        let answers = IsAnswered asked given.now areas (R.remaining reader.old) in
         IfOk result (answers (W.contents writer.old) (W.contents writer.new)) }
     ensures whole { OnOk result (IsAtEnd (R.remaining reader.new)) }
     ensures cause { let areas = map (λ p. length (P.content p)) pagers.items in
-        IfErr result (λ s. IfSome (R.remaining reader.old) (λ input. IsStopOf s asked log.now areas input)) }
+        IfErr result (λ s. IfSome (R.remaining reader.old) (λ input. IsStopOf s asked given.now areas input)) }
     ensures silent { let areas = map (λ p. length (P.content p)) pagers.items in
-        let text = IsTextFor (IsAnyAnswer asked log.now) areas (R.remaining reader.old) in
+        let text = IsTextFor (IsAnyAnswer asked given.now) areas (R.remaining reader.old) in
         IfErr result (λ s. WritesNothing text s (W.contents writer.old) (W.contents writer.new)) }
 {
     let mut script = match whole_script(alloc, reader) {
@@ -48,7 +49,7 @@ pub(crate) fn run_over<R: Read, W: Write, P: ClonePager>(
         Err(fault) => return Err(Stop::Fault(fault)),
     };
     put_rules(&mut script, rules_asked(asked));
-    let answer = match answer_of(alloc, &script, pagers, asked, log) {
+    let answer = match answer_of(alloc, &script, pagers, asked, given) {
         Ok(answer) => answer,
         Err(stop) => return Err(stop),
     };
@@ -62,7 +63,9 @@ fn rules_asked(asked: Asked) -> RuleSet
     ensures { result ≡ rules_asked asked }
 {
     match asked {
-        Asked::Outcomes(options) | Asked::Judge(options) => options.rules,
+        Asked::Outcomes(options) | Asked::Question(_, options) | Asked::Judge(options) => {
+            options.rules
+        }
         Asked::Sample(draws) => draws.rules,
     }
 }
@@ -73,16 +76,19 @@ fn answer_of<P: ClonePager>(
     script: &Script,
     pagers: Vec<P>,
     asked: Asked,
-    log: &[u8],
+    given: &[u8],
 ) -> Result<Answer, Stop>
     ensures ok { let areas = map (λ p. length (P.content p)) pagers.items in
-        IfOk result (λ a. IsAnswer asked log.now a.status script.now areas a.text.items) }
+        IfOk result (λ a. IsAnswer asked given.now a.status script.now areas a.text.items) }
     ensures cause { let areas = map (λ p. length (P.content p)) pagers.items in
-        IfErr result (λ s. IsStopIn s asked log.now areas script.now) }
+        IfErr result (λ s. IsStopIn s asked given.now areas script.now) }
 {
     match asked {
         Asked::Outcomes(options) => list_outcomes(alloc, script, pagers, options),
-        Asked::Judge(options) => judge_script(alloc, script, pagers, options, log),
+        Asked::Question(wish, options) => {
+            answer_question(alloc, script, pagers, wish, options, given)
+        }
+        Asked::Judge(options) => judge_script(alloc, script, pagers, options, given),
         Asked::Sample(draws) => sample_runs(alloc, script, pagers, draws),
     }
 }

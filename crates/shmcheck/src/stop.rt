@@ -3,9 +3,10 @@ ghost use Rattle.std.specs.Prelude.{◌≡◌, Some};
 ghost use Rattle.std.specs.IoError.{error_kind};
 ghost use Rattle.shm_program.specs.declared.fault.RunFault.TheVariants as faults;
 ghost use Rattle.shmcheck.specs.declared.stop.Stop.TheVariants as stops;
-ghost use Rattle.shmcheck.specs.Stop.{engine_stop, kind_name, stop_text, stop_status, io_stop, log_unread};
+ghost use Rattle.shmcheck.specs.Stop.{condition_fault_name, engine_stop, kind_name, stop_text, stop_status, io_stop, log_unread};
 
 use shm_base::HostMemory;
+use shm_conditions::{ConditionFault, ConditionFaultKind};
 use shm_judge::{LogFault, LogFaultKind};
 use shm_program::RunFault;
 use shm_schedules::EngineError;
@@ -14,7 +15,7 @@ use std::{fmt, io};
 
 /// Why the program stops: wrong words on the command line; a fault of the run; a pager that failed; or more
 /// schedules than the bound. For a log also: its file can't be read, a line has a fault, or it has more
-/// beginnings than the bound.
+/// beginnings than the bound. For a question also: its condition has a fault.
 #[derive(Clone, Copy, Debug, PartialEq, Eq)]
 pub(crate) enum Stop {
     Usage,
@@ -24,10 +25,11 @@ pub(crate) enum Stop {
     LogUnread,
     BadLog(LogFault),
     Doubt(u64),
+    BadCondition(ConditionFault),
 }
 
 impl Stop {
-    /// The exit status: 1 for a fault of the log, 2 for usage, 5 at the bound, 3 for a pager or a file that
+    /// The exit status: 1 for a fault of the log, 2 for usage and a fault of a condition, 5 at the bound, 3 for a pager or a file that
     /// can't be read, otherwise that of the fault.
     pub(crate) fn status(self) -> u8
         ensures { result ≡ stop_status self }
@@ -39,6 +41,7 @@ impl Stop {
             Stop::Bound(_) | Stop::Doubt(_) => 5,
             Stop::LogUnread => 3,
             Stop::BadLog(_) => 1,
+            Stop::BadCondition(_) => 2,
         }
     }
 }
@@ -53,13 +56,28 @@ fn kind_name(kind: LogFaultKind) -> &'static str
     }
 }
 
+// What is wrong with a condition.
+fn condition_fault_name(kind: ConditionFaultKind) -> &'static str
+    ensures { result.now ≡ condition_fault_name kind }
+{
+    match kind {
+        ConditionFaultKind::NoOperand => "P:N=REPLY, ~ or ( is missing",
+        ConditionFaultKind::NoOperator => "/\\, \\/ or ) is missing",
+        ConditionFaultKind::Unopened => ") without (",
+        ConditionFaultKind::Unclosed => "( without )",
+        ConditionFaultKind::BadWord => "not of the form P:N=REPLY",
+        ConditionFaultKind::UnknownProcess => "the script declares no such process",
+        ConditionFaultKind::UnknownLine => "the process has no such line",
+    }
+}
+
 impl fmt::Display for Stop {
     ghost output = { λ s. Some (stop_text s) };
 
     fn fmt<W: fmt::Write>(&self, f: &mut fmt::Formatter<W>) -> fmt::Result {
         match self {
             Stop::Usage => f.write_str(
-                "usage: shmcheck outcomes|judge LOG|sample SEED [--rules profile|linux] [--at-most N] [--masked] [--runs N]",
+                "usage: shmcheck outcomes|judge LOG|sample SEED [--exists|--forbid CONDITION] [--rules profile|linux] [--at-most N] [--masked] [--runs N]",
             ),
             Stop::Fault(fault) => write!(f, "{fault}"),
             Stop::PagerFailed => f.write_str("a pager failed"),
@@ -70,6 +88,10 @@ impl fmt::Display for Stop {
             Stop::BadLog(fault) => {
                 let (line, kind) = (fault.line, kind_name(fault.kind));
                 write!(f, "log line {line}: {kind}")
+            }
+            Stop::BadCondition(fault) => {
+                let (at, kind) = (fault.at, condition_fault_name(fault.kind));
+                write!(f, "condition, byte {at}: {kind}")
             }
             Stop::Doubt(most) => { write!(f, "undecided: more than {most} beginnings of the log") }
         }
