@@ -146,6 +146,9 @@ CURRENT = ("[...byId('outcomes').rows].findIndex((row) => "
            "getComputedStyle(row).backgroundColor !== 'rgba(0, 0, 0, 0)')")
 LOADED = ("['1', '2'].map((pid) => steps.find((it) => it.call.includes(` ${pid} load `)).call)"
           ".map((it) => it.split(' ').slice(3).join(' '))")
+# the first load of each process in the only row
+SHOWN = ("[...byId('outcomes').rows[1].cells].slice(1)"
+         ".map((it) => it.textContent.split('\\n').find((line) => line.startsWith('load ')))")
 OWN = "[1, 2].map((pid) => byId('text').value.split('\\n').filter((it) => it.startsWith(pid + ' ')))"
 
 
@@ -187,6 +190,31 @@ def check_orders(session: Session) -> None:
     edit(session, "1 frok 2", "1 exit")
     session.value("byId('every').click()")
     assert wait_for(session, "byId('found').textContent.startsWith('1 outcome:')")
+
+
+# lines 4 and 5 of process 1 and lines 1 and 2 of process 2 are its loads and stores
+ASKED: list[tuple[str, list[list[str]], str]] = [
+    ("1:4=00 /\\ 2:1=00", [LOST[0]], "Yes: "), ("~(1:4=00) /\\ ~(2:1=00)", [], "No: "),
+    ("2:1=01", [LOST[1]], "Yes: "), ("1:4=", [], "shmcheck: condition, byte ")]
+
+
+def check_condition(session: Session) -> None:
+    """An order whose replies meet a condition: it is the only one below, and a click replays it. For a condition
+    that none meets, and for a wrong one, the page says so."""
+    choose(session, LESSONS[8], "lesson")
+    session.value("byId('every').click()")
+    assert wait_for(session, "byId('outcomes').rows.length === 4")
+    for condition, found, said in ASKED:
+        session.value(f"byId('condition').value = {json.dumps(condition)}; "
+                      "byId('exists').querySelector('button').click()")
+        assert wait_for(session, f"byId('found').textContent.startsWith({json.dumps(said)})")
+        assert session.value("byId('outcomes').rows.length") == 2 * len(found)
+        for loads in found:
+            assert session.value(SHOWN) == loads
+            runs = session.value("document.body.dataset.runs")
+            session.value("byId('outcomes').rows[1].querySelector('button').click()")
+            assert wait_for(session, f"document.body.dataset.runs !== {json.dumps(runs)}")
+            assert (session.value(LOADED), session.value(CURRENT)) == (loads, 1)
 
 
 def check_search() -> None:
@@ -386,6 +414,7 @@ def check_in_browser(session: Session) -> None:
         assert names == [LESSONS, examples]
         check_lesson(session)
         check_orders(session)
+        check_condition(session)
         check_tasks(session)
         check_threads(session)
         check_editing(session)
@@ -510,7 +539,10 @@ def check_hostile() -> None:
                 ((run, json.dumps({**SCRIPT, "swap": ["--steps"]}).encode()), 400),
                 ((run, json.dumps({**SCRIPT, "swap": []}).encode()), 400),
                 ((run, json.dumps({**SCRIPT, "swap": "ram:1"}).encode()), 400),
-                ((run, json.dumps({**SCRIPT, "script": 7}).encode()), 400))
+                ((run, json.dumps({**SCRIPT, "script": 7}).encode()), 400),
+                *(((f"/{token}/exists", json.dumps({**SCRIPT, "condition": condition}).encode()), want)
+                  for condition, want in (("1:1=EINVAL", 200), ("--at-most", 200), (7, 400), ("\0", 400),
+                                          ("1:1=\xe9", 400), ("~" * 2000, 200), ("~" * 2001, 400))))
         for words, want in rows:
             status, _ = ask(port, "POST", *words)
             assert status == want

@@ -4,10 +4,12 @@ limited and ended.
 
     tools/viewer/answer.py run PROGRAM SWAP... < SCRIPT    with the Python package in PYTHONPATH
     tools/viewer/answer.py orders CHECKER < SCRIPT         every order, by shmcheck
+    tools/viewer/answer.py exists CHECKER CONDITION < SCRIPT
+                                                           an order whose replies meet the condition
     tools/viewer/answer.py threads SHMSIM SWAP... < SCRIPT the order of a run with threads
 
 Prints JSON. A script that can be run has `record` and `told`, as tools/viewer/show.py puts them into a page,
-the `outcomes` of its orders, or the `schedule` of one. Any other has `line`, `column` and `length` of its
+the `outcomes` of its orders or of the one that was found, or the `schedule` of one. Any other has `line`, `column` and `length` of its
 fault. `words` is what `shmsim --explain` says of it, warnings included.
 """
 
@@ -27,7 +29,8 @@ from show import shortened, told_of
 
 # the search for every order begins anew with each bound on its runs, and ends with its time
 BOUNDS, ORDER_SECONDS = [10 ** digits for digits in range(2, 8)], 8
-UNDECIDED = 5
+# the statuses of shmcheck: undecided, and no order
+UNDECIDED, NO_ORDER = 5, 6
 
 
 def read_fault(text: str) -> Any:
@@ -78,8 +81,9 @@ def outcomes_of(text: str) -> list[dict[str, Any]]:
     return found
 
 
-def orders(checker: str, _swaps: list[str], text: str) -> Any:
-    """Every order of the processes, or how far the search came in its time."""
+def searched(checker: str, question: list[str], ends: tuple[int, ...], text: str) -> Any:
+    """What `shmcheck outcomes` prints for a question, if its status is one of `ends`; otherwise an answer that
+    says why not, or how far the search came in its time."""
     fault, words = read_fault(text)
     if fault:
         return {**fault, "words": words}
@@ -87,18 +91,33 @@ def orders(checker: str, _swaps: list[str], text: str) -> Any:
     most, end = 0, time.monotonic() + ORDER_SECONDS
     for bound in BOUNDS:
         try:
-            done = subprocess.run([*command, "outcomes", "--at-most", str(bound)], env=environment,
+            done = subprocess.run([*command, "outcomes", *question, "--at-most", str(bound)], env=environment,
                                   input=text.encode("latin-1"), capture_output=True, check=False,
                                   timeout=max(.1, end - time.monotonic()))
         except subprocess.TimeoutExpired:
             break
-        if done.returncode == 0:
-            return {"outcomes": outcomes_of(done.stdout.decode("latin-1")), "words": []}
+        if done.returncode in ends:
+            return done.stdout.decode("latin-1")
         if done.returncode != UNDECIDED:
             return {"words": [done.stderr.decode(errors="replace").strip() or "the search was ended"]}
         most = bound
     return {"words": [f"The script has too many orders: in {ORDER_SECONDS} seconds the search met more than "
                       f"{most} different beginnings of orders. Try fewer lines or processes."]}
+
+
+def orders(checker: str, _swaps: list[str], text: str) -> Any:
+    """Every order of the processes, or how far the search came in its time."""
+    said = searched(checker, [], (0,), text)
+    return {"outcomes": outcomes_of(said), "words": []} if isinstance(said, str) else said
+
+
+def exists(checker: str, condition: list[str], text: str) -> Any:
+    """An order whose replies meet a condition: its outcome; no outcome if every order was covered and none
+    does."""
+    said = searched(checker, ["--exists", *condition], (0, NO_ORDER), text)
+    if not isinstance(said, str):
+        return said
+    return {"outcomes": outcomes_of(said.partition("\n")[2]), "words": []}
 
 
 def threaded(program: str, swaps: list[str], text: str) -> Any:
@@ -115,7 +134,7 @@ def threaded(program: str, swaps: list[str], text: str) -> Any:
     return {"schedule": [line.split()[1] for line in lines], "lines": lines, "words": []}
 
 
-ANSWERS = {"run": answer, "orders": orders, "threads": threaded}
+ANSWERS = {"run": answer, "orders": orders, "exists": exists, "threads": threaded}
 
 if __name__ == "__main__":
     kind, path, *rest = sys.argv[1:]

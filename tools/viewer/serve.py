@@ -32,11 +32,12 @@ HERE = os.path.dirname(os.path.abspath(__file__))
 MOST_BYTES = 1 << 20            # of a request's body
 MOST_ANSWER = 64 << 20          # of an answer
 MOST_AT_ONCE = 32               # requests; those beyond are answered 503
+MOST_CONDITION = 2000           # characters
 RUN_SECONDS, RUN_BYTES = 10, 1 << 30
 WAIT_SECONDS = 30               # for other runs to end
 IDLE_SECONDS = 10               # for a request to arrive
 # the program of each kind of answer
-NEEDED = {"run": "shmview", "orders": "shmcheck", "threads": "shmsim"}
+NEEDED = {"run": "shmview", "orders": "shmcheck", "exists": "shmcheck", "threads": "shmsim"}
 SWAP = re.compile(r"(ram|sparse|mirror):[0-9]{1,9}|fuse:[0-9]{1,9}:[rw][0-9]{1,20}")
 # what the page may load and ask: itself alone
 HEADERS = {
@@ -110,15 +111,16 @@ class Runner:
         self.environment = {**os.environ, "PYTHONPATH": packages}
         self.turn = threading.Lock()
 
-    def run(self, kind: str, script: bytes, swaps: list[str]) -> bytes | None:
-        """Returns an answer as JSON; None if other runs did not end in time."""
+    def run(self, kind: str, script: bytes, more: list[str]) -> bytes | None:
+        """Returns an answer as JSON; None if other runs did not end in time. `more` has the swap words, or the
+        condition of `exists`."""
         if not self.programs[kind]:
             told = f"./{NEEDED[kind]} is not built. Run it once, and start this page again."
             return json.dumps({"words": [told]}).encode()
         if not self.turn.acquire(timeout=WAIT_SECONDS):
             return None
         try:
-            words = [os.path.join(HERE, "answer.py"), kind, self.programs[kind], *swaps]
+            words = [os.path.join(HERE, "answer.py"), kind, self.programs[kind], *more]
             return self.limited(script, [sys.executable, "-B", *words])
         finally:
             self.turn.release()
@@ -203,15 +205,17 @@ class Handler(BaseHTTPRequestHandler):
         try:
             asked = json.loads(body)
             script = asked["script"].encode("utf-8", "surrogatepass")
-            swaps, step = asked["swap"], asked.get("step", 0)
-            is_right = isinstance(step, int) and 1 <= len(swaps) <= 8 and all(map(SWAP.fullmatch, swaps))
+            swaps, step, condition = asked["swap"], asked.get("step", 0), asked.get("condition", "")
+            is_right = (isinstance(step, int) and 1 <= len(swaps) <= 8 and all(map(SWAP.fullmatch, swaps))
+                        and len(condition.encode("ascii")) <= MOST_CONDITION and "\0" not in condition)
         except (ValueError, KeyError, TypeError, AttributeError, RecursionError):
             is_right = False
         if not is_right:
             self.reply(400)
             return
         runner = self.server.runner
-        said = runner.run("run" if kind == "page" else kind, script, swaps)
+        said = runner.run("run" if kind == "page" else kind, script,
+                          [condition] if kind == "exists" else swaps)
         if said is None:
             self.reply(503)
         elif kind != "page":
@@ -276,7 +280,7 @@ def main(program: str, checker: str, shmsim: str, packages: Any, examples: Any, 
     if swaps:
         begun["swap"] = swaps
     try:
-        programs = dict(zip(NEEDED, (program, checker, shmsim)))
+        programs = {"run": program, "orders": checker, "exists": checker, "threads": shmsim}
         server = Server(int(port), Runner(programs, packages), served_page(begun, choices))
     except OSError as error:
         print(f"shmview: port {port} of 127.0.0.1 is not free: {error.strerror}", file=sys.stderr)
