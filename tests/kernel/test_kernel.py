@@ -18,11 +18,10 @@ from threading import Timer
 import pytest
 
 from built import NotBuilt, program_of
+from case_groups import CASES, MEMLOCK, Group, groups_of_cases, is_right
 from commands import TOP, run, text_of
-from nogconform.script import read_case
 
 KERNEL = f"{TOP}/examples/kernel"
-CASES = f"{TOP}/conformance/cases"
 QEMU = "qemu-system-x86_64"
 COMPILERS = ("gcc", "clang")
 MOST_LINES, MOST_OF_A_FILE, WIDTH = 1500, 400, 110
@@ -52,14 +51,8 @@ failing: status 0
 # the segments of one page that crowd.c has attached; and few frames
 CROWD = 5
 FEW = 4
-# the usual one of cases
-MEMLOCK = 4
 FLAGS_OF_LINUX = 2047
-# as on Linux, the cases of failing areas are made over one that does not fail, and no area is taken away
-FAILING = ("failing_read", "failing_reads_of_stores", "failing_write", "failing_swapoff_without_room")
-EXPLAINED = {"swap_taken_away": "reserved swap"} | dict.fromkeys(FAILING, "failing pager")
 TRACE = re.compile(r"\[\d+\.\d+\]")
-Group = tuple[int, int, int, int, int]
 
 
 # ---- the text of the example ----
@@ -201,23 +194,6 @@ def test_failing_write(example: Example) -> None:
 
 # ---- the conformance peer ----
 
-def slots_of(swap: list[str]) -> int:
-    areas = [re.fullmatch(r"ram:(\d+)", word) for word in swap]
-    return sum(int(area[1]) for area in areas if area) if all(areas) else 2048
-
-
-def groups_of_cases() -> dict[Group, list[str]]:
-    """The paths of all cases by what they need: shmmax, shmmni, shmall, slots, and the memlock of locks."""
-    groups: dict[Group, list[str]] = {}
-    for path in sorted(glob.glob(f"{CASES}/*.shm")) + sorted(glob.glob(f"{CASES}/rules/*.shm")):
-        case = read_case(path, text_of(path), has_mappings="/rules/" in path)
-        locks = any(command.text.split()[1] == "lock" for command in case.commands)
-        shmmax, shmmni, shmall, _frames, memlock = case.limits
-        group = (shmmax, shmmni, shmall, slots_of(case.swap), memlock if locks else MEMLOCK)
-        groups.setdefault(group, []).append(path)
-    return groups
-
-
 def plan_of(group: Group, is_linux: bool) -> tuple[str, list[str]]:
     """The kernel's words, and its programs before the peer. Under Linux's rules there are few frames. Two
     frames are never locked, and up to three users lock pages. The cases with the usual MEMLOCK lock at most
@@ -259,12 +235,6 @@ def run_group(example: Example, group: Group, paths: list[str], is_linux: bool, 
         file.write("\n".join(record) + "\n")
         file.flush()
         assert run([f"{TOP}/tools/small_peer", "replies", file.name, folder]).status == 0
-
-
-def is_right(name: str, verdict: str) -> bool:
-    """A case agrees, or it is one of failing areas."""
-    why = EXPLAINED.get(name)
-    return verdict == "agree" or bool(why and re.match(rf"profile \({why} \d+\)", verdict))
 
 
 @pytest.mark.parametrize("rules", ["profile", "linux"])
