@@ -1,4 +1,4 @@
-"""The programs alone: words that are no command line, threads that the host refuses, and the quick run."""
+"""The programs alone: words that are no command line, threads that the host refuses, and an unproved one."""
 
 from __future__ import annotations
 
@@ -49,9 +49,13 @@ def test_no_child_waits(proved_shmsim: str, place: int) -> None:
     assert refused(proved_shmsim, script, 60000) == (3, "", "shmsim: thread refused\n")
 
 
-def test_fault_of_a_quick_run(folder: str) -> None:
-    """The quick run says that nothing was proved, and passes on what the program answers."""
+def test_fault_of_an_unproved_program(folder: str) -> None:
+    """The start script says that nothing was proved, compiles the programs if none is there yet, and passes on
+    what the program says."""
     with open(write_file(folder, "bad.shm", "limits 65536 16 64 4 1\nno form\n"), encoding="ascii") as file:
-        ended = run([f"{TOP}/shmsim", "--unproved", "serial", "ram:1"], file.read(), seconds=600)
-    assert ended == (1, "", "shmsim: nothing is proved on this machine by this run\nshmsim: line 2: bad "
-                            "line\n")
+        ended = run([f"{TOP}/shmsim", "--unproved", "serial", "ram:1"], file.read(), seconds=900)
+    first, *compiled, last = ended.said.splitlines()
+    assert (ended.status, ended.out) == (1, "")
+    assert first == "shmsim: nothing is proved on this machine by this run"
+    assert last == "shmsim: line 2: bad line"
+    assert compiled == [] or compiled[0].startswith("shmsim: compiling ")

@@ -101,33 +101,18 @@ run_program() {
     exit "$status"
 }
 
-# Runs the sources without any proof. If an earlier run kept a program and no source is newer, that program runs. Otherwise the
-# toolchain's quick run does, and its own last lines follow the program's output.
-run_unproved() {
+# Compiles the program without any proof, unless an earlier run did and no source is newer. The first time that compiles the other
+# programs too.
+compile_unproved() {
     if [ -f "$installed" ]; then
         echo "$name: --unproved runs the sources, and is for the repository: this program is installed" >&2
         exit 2
     fi
-    kept=$top/build/unproved/$name
+    program=$top/build/unproved/$name
     echo "$name: nothing is proved on this machine by this run" >&2
-    if is_current "$kept"; then run_program "$kept" "$@"; fi
+    is_current "$program" && return
     has_toolchain
-    said=$(mktemp) || exit 125
-    trap 'rm -f "$said"' EXIT
-    "$top/tools/unproved" "$name" "$kept" "$@" 2> "$said"
-    tried=$?
-    status=$(sed -n 's/^run=ended status=\([0-9]*\) .*/\1/p' "$said" | tail -n 1)
-    if [ -z "$status" ]; then
-        if grep -q '^checked: no-answer: the program wrote more than' "$said"; then
-            echo "$name: the output is longer than the quick run carries, 1 MiB: run without --unproved" >&2
-        else
-            tail -n 20 "$said" >&2
-            echo "$name: the quick run gave no answer (rt try ended with status $tried)" >&2
-        fi
-        exit 125
-    fi
-    grep -vE '^(checked: ended status=|races: |run=ended status=|interpreter: )' "$said" | hint
-    exit "$status"
+    "$top/tools/unproved" "$name" || exit 125
 }
 
 # Proves and builds the program if it is missing, or older than a source.
@@ -141,4 +126,9 @@ build_current() {
         exit 125
     fi
     touch "$program"
+}
+
+# Proves and builds the program, or compiles it without any proof, where --unproved asks for that.
+make_program() {
+    if [ -n "$unproved" ]; then compile_unproved; else build_current; fi
 }
