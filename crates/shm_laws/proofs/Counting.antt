@@ -1,5 +1,5 @@
 -- By how much each move changes how many pieces there are.
-use Rattle.shm_laws.proofs.Names.{◌≡◌, ◌≢◌, ◌⊎◌, ℕ, ◌+◌, ◌<◌, ◌==◌, ℤ, pos, Bool, true, false, not, if◌then◌else◌, List, [], ◌∷◌, Option, Some, slice_set, refl, sym, ap, ◌∙◌, inl, inr, arith, common_steps, filter, flat_map-cons, none-some, ShmidDs, ProcessCall, Shmat, Shmdt, Fork, Exec, Exit, Addr, Done, Event, AtFlags, Piece, Live, Runner, Machine, Look, look, occupied, cut, origin_of, is_named, without_named, pieces_of, attach_count, Caller, Outcome, caller_of, acts, step_by, is_remap, stat, gives, is_refusal, IsMove, one_more, pieces_of-inserted, pieces_of-filter, sum-set, piece_count, hands_pieces, CountsPieces, pieces_of_caller}
+use Rattle.shm_laws.proofs.Names.{◌≡◌, ◌≢◌, ◌⊎◌, ℕ, ◌+◌, ◌*◌, ◌%◌, ◌<◌, ◌==◌, ℤ, pos, Bool, true, false, not, if◌then◌else◌, List, [], ◌∷◌, Option, Some, slice_set, refl, sym, ap, ◌∙◌, inl, inr, arith, common_steps, filter, subst, flat_map-cons, none-some, ShmidDs, ProcessCall, Shmat, Shmdt, Fork, Exec, Exit, Addr, Done, Event, AtFlags, Segment, Piece, Live, Runner, Machine, Look, look, occupied, cut, origin_of, is_named, without_named, pieces_of, attach_count, Caller, Outcome, caller_of, acts, step_by, is_remap, stat, gives, is_refusal, IsMove, one_more, pieces_of-inserted, pieces_of-filter, sum-set, piece_count, hands_pieces, CountsPieces, IsFreeFor, Stands, pages_in, Found, pieces_of_caller}
 use Rattle.shm_base.specs.declared.call.Call.TheVariants as calls
 use Rattle.shm_base.specs.declared.call.Reply.TheVariants as replies
 use Rattle.shm_laws.proofs.Handing.{Takes, caller-at, Rests, Attaches, Leaves, Forks, Hands, none-stay, hands-acts}
@@ -38,6 +38,9 @@ no-rest s call o k gives clear = grind arith
 no-fork : (c : Caller) (call : ProcessCall) (stays : Piece → Bool) (child : ℕ) → Takes c call stays → call ≡ Fork child → ⊥
 no-fork c call stays child taken asked = grind arith
 
+no-attach : (c : Caller) (call : ProcessCall) (stays : Piece → Bool) (id addr : ℕ) (flags : AtFlags) → Takes c call stays → call ≡ Shmat (pos id) addr flags → ⊥
+no-attach c call stays id addr flags taken asked = grind arith
+
 all-hands : (call : ProcessCall) → (call ≡ Exec) ⊎ (call ≡ Exit) → hands_pieces call ≡ true
 all-hands call which = grind arith
 
@@ -55,9 +58,33 @@ module _ (s : Machine) (pid : ℕ) (c : Caller) (live : caller_of s pid ≡ Some
   mine : (j : ℕ) → piece_count s pid j ≡ pieces_of j c.pieces
   mine j = ap (λ h. pieces_of j (pieces_of_caller h)) live
 
-  attach-counts : Hands s c call o → (id addr base : ℕ) (flags : AtFlags) → call ≡ Shmat (pos id) addr flags → o.reply ≡ Addr base → is_remap flags ≡ false
-      → (j : ℕ) → attach_count o.state.runners j ≡ attach_count s.runners j + (if id == j then 1 else 0)
-  attach-counts h1 id addr base flags asked answer plain j = grind (arith, cut-free, pieces_of-inserted, swap, no-rest)
+  -- the segment that a look-up finds is one
+  same-segment : (l : Look) (i : ℕ) (x y : Segment) → l ≡ Found i x → l ≡ Found i y → x ≡ y
+  same-segment l i x y first second = cc
+
+  -- nothing lies in the range, because the call asked for that, or because it was so
+  range-free : (k : Attaches s c call o) (id addr base : ℕ) (flags : AtFlags) → call ≡ Shmat (pos id) addr flags → o.reply ≡ Addr base
+      → (is_remap flags ≡ false) ⊎ IsFreeFor s pid id base → occupied c.pieces k.base (k.base + 4096 * pages_in k.segment) ≡ false
+  range-free k id addr base flags asked answer (inl plain) = k.free (grind arith)
+  range-free k id addr base flags asked answer (inr f) =
+      let named : id ≡ k.seg = cc (asked, k.asked) in
+      let there : base ≡ k.base = cc (answer, k.answer) in
+      let one : f.segment ≡ k.segment = same-segment (look s.table (pos k.seg)) (k.seg % 32768) f.segment k.segment (subst (λ n. Stands s n f.segment) named f.stands) k.stands in
+      let whose : pieces_of_caller (caller_of s pid) ≡ c.pieces = ap pieces_of_caller live in
+      subst (λ x. occupied c.pieces k.base (k.base + 4096 * pages_in x) ≡ false) one
+      (subst (λ b. occupied c.pieces b (b + 4096 * pages_in f.segment) ≡ false) there (subst (λ ps. occupied ps base (base + 4096 * pages_in f.segment) ≡ false) whose f.free))
+
+  attached-counts : (k : Attaches s c call o) → occupied c.pieces k.base (k.base + 4096 * pages_in k.segment) ≡ false → (j : ℕ) → attach_count o.state.runners j ≡ attach_count s.runners j + (if k.seg == j then 1 else 0)
+  attached-counts k free j = grind (arith, cut-free, pieces_of-inserted, swap)
+
+  attach-counts : Hands s c call o → (id addr base : ℕ) (flags : AtFlags) → call ≡ Shmat (pos id) addr flags → o.reply ≡ Addr base
+      → (is_remap flags ≡ false) ⊎ IsFreeFor s pid id base → (j : ℕ) → attach_count o.state.runners j ≡ attach_count s.runners j + (if id == j then 1 else 0)
+  attach-counts (inr (inl k)) id addr base flags asked answer free j =
+      let named : id ≡ k.seg = cc (asked, k.asked) in
+      rw named (attached-counts k (range-free k id addr base flags asked answer free) j)
+  attach-counts (inl k) id addr base flags asked answer free j = absurd (no-rest s call o k (ap hands_pieces asked) (ap is_refusal answer))
+  attach-counts (inr (inr (inl k))) id addr base flags asked answer free j = absurd (no-attach c call k.stays id addr flags k.taken asked)
+  attach-counts (inr (inr (inr k))) id addr base flags asked answer free j = absurd (cc)
 
   fork-counts : Hands s c call o → (child : ℕ) → call ≡ Fork child → o.reply ≡ Done → (j : ℕ) → attach_count o.state.runners j ≡ attach_count s.runners j + piece_count s pid j
   fork-counts h1 child asked answer j = grind (arith, common_steps, unborn-bare, sum-set, mine, no-rest, no-fork)

@@ -45,12 +45,12 @@ pub use Rattle.shm_life.proofs.Pieces.{all-cons, all-head, all-slice_set, all-ta
 pub use Rattle.shm_segments.proofs.Entries.{get-set_other, get-set_same, length-slice_set, sum-set}
 pub use Rattle.shm_segments.specs.Orphan.{orphan, orphan_in}
 pub use Rattle.shm_segments.specs.Table.{segment_in}
-pub use Rattle.shm_laws.specs.Identity.{IsMadeBy, IsSame, KeepsNames, NamesAnew, NamesOneSegment, StandsAs}
+pub use Rattle.shm_laws.specs.Identity.{AreNamesKept, IsMadeBy, IsSame, KeepsNames, NamesAnew, NamesOneSegment, StandsAs}
 pub use Rattle.shm_laws.specs.Isolation.{DifferIn, HasNone, IsAsked, IsBlindOn, IsIsolated, IsPrivate, veil, veiled, veiled_entry, veiled_from}
 pub use Rattle.shm_laws.specs.Keys.{FindsByKey, HasKey, IsCreated, KeepsKeys, KeysAreApart, KeysLeadToOne}
 pub use Rattle.shm_laws.specs.Lawful.{IsLawful}
 pub use Rattle.shm_laws.specs.Permission.{GoesBack, Granted, Inherited, IsBornWith, IsGranted, IsInherited, IsPart, IsUserZero, KeepsCredentials, KeepsOut, Kept, MayAsk, NoWayIn, OwnerAsks, Reach, StaysInside, controlled, reach}
-pub use Rattle.shm_laws.specs.Pieces.{CountsPieces, GivesPieces, PiecesAreOfSegments, PiecesNameWhatStands, hands_pieces, piece_count}
+pub use Rattle.shm_laws.specs.Pieces.{CountsPieces, GivesPieces, IsFreeFor, PiecesAreOfSegments, PiecesNameWhatStands, hands_pieces, piece_count}
 pub use Rattle.shm_laws.specs.Removal.{AreRemoved, DestroysWhatIsDue, GoesWhenItMust, IsDue, IsMarked, IsRemoval, KeepsMarks, MarkedHavePieces, Removes}
 pub use Rattle.shm_laws.specs.Replay.{IsReplayed, undone, without_failures}
 pub use Rattle.shm_laws.specs.Size.{AllFillPages, FillsPages, HaveTheirPages, KeepsSizes}

@@ -1,5 +1,5 @@
 -- An identifier names one segment.
-use Rattle.shm_laws.proofs.Names.{◌≡◌, ◌⊎◌, ℕ, ◌+◌, ◌/◌, ◌%◌, ◌<◌, ◌||◌, pos, false, List, [], ◌∷◌, ◌++◌, length, replicate, Option, Some, None, slice_get, refl, sym, ap, subst, ◌∙◌, inl, inr, arith, common_steps, Id, Event, Segment, Entry, Runner, Machine, Opening, start_of, Invalid, identifier, destroyed_in, look, swept_at, Caller, caller_of, IsMove, IsHistory, segment_in, Stands, IsGone, Since, Began, Lasted, IsSame, KeepsNames, NamesAnew, IsMadeBy, StandsAs, NamesOneSegment, Makes}
+use Rattle.shm_laws.proofs.Names.{◌≡◌, ◌⊎◌, ℕ, ◌+◌, ◌/◌, ◌%◌, ◌<◌, ◌||◌, pos, false, List, [], ◌∷◌, ◌++◌, length, replicate, Option, Some, None, slice_get, refl, sym, ap, subst, ◌∙◌, inl, inr, arith, common_steps, Id, Event, Segment, Entry, Runner, Machine, Opening, start_of, Invalid, identifier, destroyed_in, look, swept_at, Caller, caller_of, IsMove, IsHistory, segment_in, Stands, IsGone, Since, Began, Lasted, IsSame, KeepsNames, NamesAnew, IsMadeBy, StandsAs, AreNamesKept, NamesOneSegment, Makes}
 use Rattle.shm_laws.specs.Identity.{AreMade}
 use Rattle.shm_laws.proofs.Fresh.{IsEmpty, never}
 use Rattle.shm_laws.proofs.Turning.{same_refl, same_trans}
@@ -180,13 +180,16 @@ start-made : (o : Opening) → AreMade o [] (start_of o)
 unfolding AreMade
 start-made o id y stands = absurd (cc stands)
 
+names-kept : (o : Opening) (before : List Event) (s : Machine) → IsHistory o before s → AreNamesKept o before s
+names-kept o before s h =
+    (each_moment IsMachineSound KeepsNames keeps-refl keeps-trans (λ s n e t sound m. let one = one_move s n e t sound m in (one.sound, one.kept)) 1 (start_of o) before s (sound-start o) h).1
+
 -- of every legal history
 pub names_one_segment : (o : Opening) (events : List Event) (end : Machine) → IsHistory o events end → NamesOneSegment o events end
 names_one_segment o events end h =
-    let kept = each_moment IsMachineSound KeepsNames keeps-refl keeps-trans (λ s n e t sound m. let one = one_move s n e t sound m in (one.sound, one.kept)) 1 (start_of o) events end (sound-start o) h in
     let new = each_move IsMachineSound NamesAnew (λ s n e t sound m. let one = one_move s n e t sound m in (one.sound, one.new)) 1 (start_of o) events end (sound-start o) h in
     record {
-      kept = kept.1;
+      kept = λ before s m. names-kept o before s m.leads;
       new = new.1;
       made = λ before s m. (at_all_times o (Known o) (known-on o) (record { sound = sound-start o; made = start-made o }) events before s m).made;
     }

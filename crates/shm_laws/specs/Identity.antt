@@ -54,9 +54,13 @@ AreMade o before s =
     (id : ℕ) (y : Segment) → Stands s id y
     → Since o (λ u e. IsMadeBy u e id y) (λ u e. StandsAs u id y) before
 
--- THE LAW. From each moment of the history to its end identifiers keep their segments; a new segment gets an identifier that was
--- never issued before; and at each moment each segment was made by an event
+-- from each of these moments to the last of them, identifiers keep their segments
+abbrev pub AreNamesKept : Opening → List Event → Machine → Type 0
+AreNamesKept o before s = EachMoment KeepsNames o before s
+
+-- THE LAW. From each moment of the history to each later one identifiers keep their segments; a new segment gets an identifier
+-- that was never issued before; and at each moment each segment was made by an event
 pub record NamesOneSegment (o : Opening) (events : List Event) (end : Machine) : Type 0 where
-  pub kept : EachMoment KeepsNames o events end
+  pub kept : Always (AreNamesKept o) o events
   pub new : EachMove NamesAnew o events end
   pub made : Always (AreMade o) o events

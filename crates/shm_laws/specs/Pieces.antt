@@ -1,5 +1,5 @@
 -- Pieces: a segment with a piece exists, and its pieces are counted.
-use Rattle.std.specs.Prelude.{◌≡◌, ◌≢◌, ◌≤◌, ◌<◌, ◌⊎◌, ℕ, ◌+◌, ◌==◌, ℤ, pos, Bool, true, false, if◌then◌else◌, List}
+use Rattle.std.specs.Prelude.{◌≡◌, ◌≢◌, ◌≤◌, ◌<◌, ◌⊎◌, ℕ, ◌+◌, ◌*◌, ◌==◌, ℤ, pos, Bool, true, false, if◌then◌else◌, List}
 use Rattle.shm_base.specs.declared.flags.AtFlags.{AtFlags}
 use Rattle.shm_base.specs.declared.call.ShmidDs.{ShmidDs}
 use Rattle.shm_base.specs.Calls.{ProcessCall}
@@ -8,12 +8,13 @@ use Rattle.shm_base.specs.declared.call.Call.TheVariants as calls
 use Rattle.shm_base.specs.declared.call.Reply.TheVariants.{Addr, Done}
 use Rattle.shm_base.specs.declared.call.Reply.TheVariants as replies
 use Rattle.shm_base.specs.declared.call.Event.{Event}
-use Rattle.shm_base.specs.State.{Segment, Machine, Opening}
-use Rattle.shm_base.specs.Space.{pieces_of}
+use Rattle.shm_base.specs.State.{Segment, Machine, Opening, pages_in}
+use Rattle.shm_base.specs.Space.{occupied, pieces_of}
 use Rattle.shm_base.specs.Segments.{attach_count}
 use Rattle.shm_base.specs.Processes.{pieces_of_caller}
 use Rattle.shm_base.specs.Step.{caller_of, is_remap}
 use Rattle.shm_base.specs.History.{is_refusal}
+use Rattle.shm_base.specs.declared.paging.TheConstants.{PAGE_SIZE}
 use Rattle.shm_laws.specs.Standing.{Stands, EachMove}
 
 -- a segment of which a process has a piece exists
@@ -40,7 +41,13 @@ hands_pieces Exec = true
 hands_pieces Exit = true
 hands_pieces _ = false
 
--- the attach count of stat is the number of pieces; a shmat that replaces no other piece adds one and changes
+-- the process has no piece where the segment's pages would lie
+pub record IsFreeFor (s : Machine) (pid id base : ℕ) : Type 0 where
+  pub segment : Segment
+  pub stands : Stands s id segment
+  pub free : occupied (pieces_of_caller (caller_of s pid)) base (base + PAGE_SIZE * pages_in segment) ≡ false
+
+-- the attach count of stat is the number of pieces; a shmat without SHM_REMAP, or one into a free range, adds one and changes
 -- no other count; a fork adds as many as the parent has; exec and exit subtract those of the process; a shmdt
 -- subtracts pieces of one segment; and nothing else changes a count
 pub record CountsPieces (s : Machine) (e : Event) (t : Machine) : Type 0 where
@@ -49,7 +56,7 @@ pub record CountsPieces (s : Machine) (e : Event) (t : Machine) : Type 0 where
       → (n : ℕ) × (id ≡ pos n) × (d.nattch ≡ attach_count s.runners n)
   pub attached :
       (id addr base : ℕ) (flags : AtFlags) → e.call ≡ Shmat (pos id) addr flags → e.reply ≡ Addr base
-      → is_remap flags ≡ false
+      → (is_remap flags ≡ false) ⊎ IsFreeFor s e.pid id base
       → (k : ℕ) → attach_count t.runners k ≡ attach_count s.runners k + (if id == k then 1 else 0)
   pub forked :
       (child : ℕ) → e.call ≡ Fork child → e.reply ≡ Done → (k : ℕ)

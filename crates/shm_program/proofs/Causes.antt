@@ -1,6 +1,6 @@
 -- What faults say of the input, and from what was read to the whole of it.
 use Rattle.std.proofs.Common.{◌≡◌, ◌≤◌, ◌⊎◌, ◌∙◌, ap, subst, sym, refl, inl, inr, ℕ, true, List, ◌++◌, length, Option, Some, None, Ok, append-nil}
-use Rattle.std.specs.Prelude.{IfSome, OnOk, IfErr, Result, Err}
+use Rattle.std.specs.Prelude.{OnOk, IfErr, Result, Err}
 use Rattle.std.specs.Io.KnownBytes.{Consumes, IsAtEnd}
 use Rattle.std.proofs.KnownBytes.{Keeps-refl}
 use Rattle.shm_life.specs.Start.{start_error}
@@ -12,22 +12,25 @@ use Rattle.shm_text.proofs.ItemSteps.{same_fault}
 use Rattle.shm_life.specs.declared.start.StartError.{StartError}
 use Rattle.shm_program.specs.Ends.{is_reading}
 use Rattle.shm_program.specs.Faults.{refused_as}
-use Rattle.shm_program.specs.Runs.{IsCause, IsCauseIn, IsSilent, IsStop, IsTextFor, is_serial}
+use Rattle.shm_program.specs.Runs.{IsCause, IsCauseIn, IsReadAs, IsSilent, IsStop, IsTextFor, MayBe, is_serial}
 use Rattle.shm_program.specs.declared.fault.RunFault.{RunFault}
 use Rattle.shm_program.specs.declared.fault.RunFault.TheVariants.{Script, StartRefused, ReadFailed, WriteFailed, Gate, Mismatch, ThreadRefused, HostMemory}
 
 -- a fault of what was read is the fault of the input
-pub refusals : (refusal : ReadRefused) (old new : Option (List ℕ)) (read : List ℕ) → Consumes old new read → (length read ≤ 1048576 → IsAtEnd new) → IsFaultOf refusal (script_of read) → IfSome old (λ input. (areas : List ℕ) → IsCause (refused_as refusal) areas input)
-refusals refusal None new read taken whole e = tt
-refusals refusal (Some input) None read taken whole e = absurd taken
-refusals refused.HostMemory (Some input) (Some rest) read taken whole e = λ areas. tt
-refusals (refused.Fault fault) (Some input) (Some rest) read taken whole e = λ areas. same_fault input read rest fault taken whole e
+pub refusals : (refusal : ReadRefused) (old new : Option (List ℕ)) (read : List ℕ) → Consumes old new read → (length read ≤ 1048576 → IsAtEnd new) → IsFaultOf refusal (script_of read) → (areas : List ℕ) → IsCause (refused_as refusal) areas old
+refusals refused.HostMemory old new read taken whole e areas = tt
+refusals (refused.Fault fault) None new read taken whole e areas = record { bytes = read; given = tt; reads = e }
+refusals (refused.Fault fault) (Some input) None read taken whole e areas = absurd taken
+refusals (refused.Fault fault) (Some input) (Some rest) read taken whole e areas = record { bytes = input; given = refl; reads = same_fault input read rest fault taken whole e }
 
 -- what was read to its end is the input
-pub whole_input : (old new : Option (List ℕ)) (read : List ℕ) (P : List ℕ → Type 0) → Consumes old new read → IsAtEnd new → P read → IfSome old P
-whole_input None new read P taken end p = tt
-whole_input (Some input) None read P taken end p = absurd taken
-whole_input (Some input) (Some rest) read P taken end p = rw (taken ∙ ap (λ l. read ++ l) end ∙ append-nil read) p
+may_be : (old new : Option (List ℕ)) (read : List ℕ) → Consumes old new read → IsAtEnd new → MayBe old read
+may_be None new read taken end = tt
+may_be (Some input) None read taken end = absurd taken
+may_be (Some input) (Some rest) read taken end = sym (taken ∙ ap (λ l. read ++ l) end ∙ append-nil read)
+
+pub whole_input : (old new : Option (List ℕ)) (read : List ℕ) (script : ScriptView) → Consumes old new read → IsAtEnd new → script_of read ≡ Ok script → IsReadAs old (Ok script)
+whole_input old new read script taken end reads = record { bytes = read; given = may_be old new read taken end; reads = reads }
 
 -- where nothing is written, a fault is silent, unless the writer failed
 pub unwritten : (IsText : List ℕ → Type 0) (fault : RunFault) (kept : Option (List ℕ)) → (fault ≡ WriteFailed → ⊥) → IsSilent IsText fault kept kept
@@ -60,15 +63,14 @@ silent_as IsText IsOther ThreadRefused old new to silent = silent
 silent_as IsText IsOther HostMemory old new to silent = silent
 
 -- the text of the script that was read is one for the input
-pub text_for : (IsText : ScriptView → List ℕ → List ℕ → Type 0) (areas : List ℕ) (input : Option (List ℕ)) (script : ScriptView) → IfSome input (λ bytes. script_of bytes ≡ Ok script) → (text : List ℕ) → IsText script areas text → IsTextFor IsText areas input text
-text_for IsText areas None script read text is = tt
-text_for IsText areas (Some bytes) script read text is = (script, read, is)
+pub text_for : (IsText : ScriptView → List ℕ → List ℕ → Type 0) (areas : List ℕ) (input : Option (List ℕ)) (script : ScriptView) → IsReadAs input (Ok script) → (text : List ℕ) → IsText script areas text → IsTextFor IsText areas input text
+text_for IsText areas input script read text is = (script, read, is)
 
 pub silents_as : (IsText IsOther : List ℕ → Type 0) (result : Result (Unit {0}) RunFault) (old new : Option (List ℕ)) → ((text : List ℕ) → IsText text → IsOther text) → IfErr result (λ f. IsSilent IsText f old new) → IfErr result (λ f. IsSilent IsOther f old new)
 silents_as IsText IsOther (Ok done) old new to silent = tt
 silents_as IsText IsOther (Err fault) old new to silent = silent_as IsText IsOther fault old new to silent
 
-pub silent_for : (IsText : ScriptView → List ℕ → List ℕ → Type 0) (result : Result (Unit {0}) RunFault) (areas : List ℕ) (input old new : Option (List ℕ)) (script : ScriptView) → IfSome input (λ bytes. script_of bytes ≡ Ok script) → IfErr result (λ f. IsSilent (IsText script areas) f old new) → IfErr result (λ f. IsSilent (IsTextFor IsText areas input) f old new)
+pub silent_for : (IsText : ScriptView → List ℕ → List ℕ → Type 0) (result : Result (Unit {0}) RunFault) (areas : List ℕ) (input old new : Option (List ℕ)) (script : ScriptView) → IsReadAs input (Ok script) → IfErr result (λ f. IsSilent (IsText script areas) f old new) → IfErr result (λ f. IsSilent (IsTextFor IsText areas input) f old new)
 silent_for IsText result areas input old new script read silent = silents_as (IsText script areas) (IsTextFor IsText areas input) result old new (text_for IsText areas input script read) silent
 
 -- why a world was not opened
@@ -88,10 +90,9 @@ no_cause fault areas script (inl e) = λ input read. subst (λ f. IsCause f area
 no_cause fault areas script (inr e) = λ input read. subst (λ f. IsCause f areas input) (sym e) tt
 
 -- input that was not read says nothing
-pub unread_cause : (fault : RunFault) (input : Option (List ℕ)) → (fault ≡ HostMemory) ⊎ (fault ≡ ReadFailed) → IfSome input (λ bytes. (areas : List ℕ) → IsCause fault areas bytes)
-unread_cause fault None e = tt
-unread_cause fault (Some input) (inl e) = λ areas. subst (λ f. IsCause f areas input) (sym e) tt
-unread_cause fault (Some input) (inr e) = λ areas. subst (λ f. IsCause f areas input) (sym e) tt
+pub unread_cause : (fault : RunFault) (input : Option (List ℕ)) → (fault ≡ HostMemory) ⊎ (fault ≡ ReadFailed) → (areas : List ℕ) → IsCause fault areas input
+unread_cause fault input (inl e) = λ areas. subst (λ f. IsCause f areas input) (sym e) tt
+unread_cause fault input (inr e) = λ areas. subst (λ f. IsCause f areas input) (sym e) tt
 
 pub unread_serial : (fault : RunFault) → (fault ≡ HostMemory) ⊎ (fault ≡ ReadFailed) → is_serial fault ≡ true
 unread_serial fault (inl e) = ap is_serial e
@@ -126,14 +127,9 @@ world_serial fault (inl e) = ap is_serial e
 world_serial fault (inr e) = ap is_serial e
 
 -- a fault of the run says of the input what it says of the script
-pub causes : (result : Result (Unit {0}) RunFault) (input : Option (List ℕ)) (areas : List ℕ) (script : ScriptView) → IfSome input (λ bytes. script_of bytes ≡ Ok script) → IfErr result (λ f. IsCauseIn f areas script) → IfErr result (λ f. IfSome input (λ bytes. IsCause f areas bytes))
+pub causes : (result : Result (Unit {0}) RunFault) (input : Option (List ℕ)) (areas : List ℕ) (script : ScriptView) → IsReadAs input (Ok script) → IfErr result (λ f. IsCauseIn f areas script) → IfErr result (λ f. IsCause f areas input)
 causes (Ok done) input areas script read cause = tt
-causes (Err fault) None areas script read cause = tt
-causes (Err fault) (Some bytes) areas script read cause = cause bytes read
-
-pub early_cause : (fault : RunFault) (input : Option (List ℕ)) (areas : List ℕ) → IfSome input (λ bytes. (over : List ℕ) → IsCause fault over bytes) → IfSome input (λ bytes. IsCause fault areas bytes)
-early_cause fault None areas cause = tt
-early_cause fault (Some bytes) areas cause = cause areas
+causes (Err fault) input areas script read cause = cause input read
 
 pub world_causes : (result : Result (Unit {0}) RunFault) (areas : List ℕ) (script : ScriptView) → IfErr result (λ f. (f ≡ HostMemory) ⊎ (f ≡ WriteFailed)) → IfErr result (λ f. IsCauseIn f areas script)
 world_causes (Ok done) areas script e = tt

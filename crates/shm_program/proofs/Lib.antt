@@ -5,5 +5,6 @@ pub mod Texts
 pub mod Zipped
 pub mod Rows
 pub mod Words
+pub mod Sizes
 mod Numbered
 pub mod Named

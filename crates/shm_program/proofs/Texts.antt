@@ -1,17 +1,15 @@
 -- What was written, as that of the input.
 use Rattle.std.proofs.Common.{◌≡◌, ℕ, List, Option, Some, None, Ok}
-use Rattle.std.specs.Prelude.{IfSome, OnOk, Result, Err}
+use Rattle.std.specs.Prelude.{OnOk, Result, Err}
 use Rattle.std.specs.Io.KnownBytes.{Appends}
 use Rattle.shm_text.specs.Script.{ScriptView}
-use Rattle.shm_text.specs.Reading.{script_of}
-use Rattle.shm_program.specs.Runs.{IsWritten, Prints}
+use Rattle.shm_program.specs.Runs.{IsReadAs, IsWritten, Prints}
 
 -- of the input that was read as a script
-pub shown : (IsText : ScriptView → List ℕ → List ℕ → Type 0) (input old new : Option (List ℕ)) (areas : List ℕ) (script : ScriptView) → IfSome input (λ bytes. script_of bytes ≡ Ok script) → IsWritten (IsText script areas) old new → IfSome input (λ bytes. Prints IsText old new areas bytes)
-shown IsText None old new areas script read written = tt
-shown IsText (Some bytes) old new areas script read written = (script, read, written)
+pub shown : (IsText : ScriptView → List ℕ → List ℕ → Type 0) (input old new : Option (List ℕ)) (areas : List ℕ) (script : ScriptView) → IsReadAs input (Ok script) → IsWritten (IsText script areas) old new → Prints IsText old new areas input
+shown IsText input old new areas script read written = (script, read, written)
 
-pub shows : {E : Type 0} → (IsText : ScriptView → List ℕ → List ℕ → Type 0) (result : Result (Unit {0}) E) (input old new : Option (List ℕ)) (areas : List ℕ) (script : ScriptView) → IfSome input (λ bytes. script_of bytes ≡ Ok script) → OnOk result (IsWritten (IsText script areas) old new) → OnOk result (IfSome input (λ bytes. Prints IsText old new areas bytes))
+pub shows : {E : Type 0} → (IsText : ScriptView → List ℕ → List ℕ → Type 0) (result : Result (Unit {0}) E) (input old new : Option (List ℕ)) (areas : List ℕ) (script : ScriptView) → IsReadAs input (Ok script) → OnOk result (IsWritten (IsText script areas) old new) → OnOk result (Prints IsText old new areas input)
 shows IsText (Ok done) input old new areas script read written = shown IsText input old new areas script read written
 shows IsText (Err fault) input old new areas script read written = tt
 

@@ -1,5 +1,5 @@
 -- The world that a script opens, what a run writes, and what its faults say about its input.
-use Rattle.std.specs.Prelude.{◌≡◌, ◌<◌, ℕ, Bool, true, false, List, length, map, take, Option, Some, None, Ok, Err, IfSome}
+use Rattle.std.specs.Prelude.{◌≡◌, ◌<◌, ℕ, Bool, true, false, List, length, map, take, Option, Some, None, Result, Ok, Err}
 use Rattle.std.specs.Io.KnownBytes.{Appends, Keeps}
 use Rattle.shm_base.specs.State.{Opening}
 use Rattle.shm_pager.specs.Pages.{pager_seen}
@@ -9,6 +9,7 @@ use Rattle.shm_life.specs.declared.start.StartError.{StartError}
 use Rattle.shm_life.specs.Start.{start_error, error_number}
 use Rattle.shm_history.specs.WorldState.{WorldState}
 use Rattle.shm_text.specs.Script.{ScriptView}
+use Rattle.shm_text.specs.declared.fault.ScriptFault.{ScriptFault}
 use Rattle.shm_text.specs.Reading.{script_of}
 use Rattle.shm_program.specs.declared.fault.RunFault.{RunFault}
 use Rattle.shm_program.specs.declared.fault.RunFault.TheVariants.{Script, StartRefused, WriteFailed, Gate, Mismatch, ThreadRefused, HostMemory}
@@ -39,25 +40,36 @@ pub record IsWorldOf (Holds : WorldState → Type 0) (script : ScriptView) (area
 abbrev pub IsWritten : (List ℕ → Type 0) → Option (List ℕ) → Option (List ℕ) → Type 0
 IsWritten IsText old new = (text : List ℕ) × IsText text × Appends old new text
 
+-- these bytes may be the input: no others, if it is known
+abbrev pub MayBe : Option (List ℕ) → List ℕ → Type 0
+MayBe None bytes = Unit {0}
+MayBe (Some input) bytes = bytes ≡ input
+
+-- The input was read as this script, or has this first fault. Of input that is not known, as standard input, some bytes were read
+pub record IsReadAs (input : Option (List ℕ)) (read : Result ScriptView ScriptFault) : Type 0 where
+  pub bytes : List ℕ
+  pub given : MayBe input bytes
+  pub reads : script_of bytes ≡ read
+
 -- the input is a script, and exactly the text of its run was written
-abbrev pub Prints : (ScriptView → List ℕ → List ℕ → Type 0) → Option (List ℕ) → Option (List ℕ) → List ℕ → List ℕ → Type 0
+abbrev pub Prints : (ScriptView → List ℕ → List ℕ → Type 0) → Option (List ℕ) → Option (List ℕ) → List ℕ → Option (List ℕ) → Type 0
 Prints IsText old new areas input =
-    (script : ScriptView) × (script_of input ≡ Ok script) × IsWritten (IsText script areas) old new
+    (script : ScriptView) × IsReadAs input (Ok script) × IsWritten (IsText script areas) old new
 
 -- the input is a script, and this text has the property for it
 abbrev pub IsTextFor : (ScriptView → List ℕ → List ℕ → Type 0) → List ℕ → Option (List ℕ) → List ℕ → Type 0
-IsTextFor IsText areas input text = IfSome input (λ bytes. (script : ScriptView) × (script_of bytes ≡ Ok script) × IsText script areas text)
+IsTextFor IsText areas input text = (script : ScriptView) × IsReadAs input (Ok script) × IsText script areas text
 
 -- a script fault is that of the input, and a refused start is the first start error
-abbrev pub IsCause : RunFault → List ℕ → List ℕ → Type 0
-IsCause (Script fault) areas input = script_of input ≡ Err fault
+abbrev pub IsCause : RunFault → List ℕ → Option (List ℕ) → Type 0
+IsCause (Script fault) areas input = IsReadAs input (Err fault)
 IsCause (StartRefused n) areas input =
-    (script : ScriptView) × (script_of input ≡ Ok script) × ((e : StartError) × (start_error script.limits areas script.processes ≡ Some e) × (error_number e ≡ n))
+    (script : ScriptView) × IsReadAs input (Ok script) × ((e : StartError) × (start_error script.limits areas script.processes ≡ Some e) × (error_number e ≡ n))
 IsCause _ areas input = Unit {0}
 
 -- the cause of a fault after the input was read as this script
 abbrev pub IsCauseIn : RunFault → List ℕ → ScriptView → Type 0
-IsCauseIn fault areas script = (input : List ℕ) → script_of input ≡ Ok script → IsCause fault areas input
+IsCauseIn fault areas script = (input : Option (List ℕ)) → IsReadAs input (Ok script) → IsCause fault areas input
 
 -- a run without threads can have this fault
 abbrev pub is_serial : RunFault → Bool

@@ -1,8 +1,7 @@
 //! Reads the whole input, which is a script, and writes the whole output.
-ghost use Rattle.std.specs.Prelude.{◌≡◌, ◌⊎◌, ◌++◌, ◌<◌, ◌≤◌, ◌+◌, ◌-◌, List, ℕ, Ok, true, length, OnErr, OnOk, IfOk, IfErr, IfSome};
+ghost use Rattle.std.specs.Prelude.{◌≡◌, ◌⊎◌, ◌++◌, ◌<◌, ◌≤◌, ◌+◌, ◌-◌, List, ℕ, Ok, true, length, OnErr, OnOk, IfOk, IfErr};
 ghost use Rattle.std.specs.Io.KnownBytes.{Appends, Consumes, IsAtEnd};
-ghost use Rattle.shm_text.specs.Reading.{script_of};
-ghost use Rattle.shm_program.specs.Runs.{IsCause, IsPart, is_serial};
+ghost use Rattle.shm_program.specs.Runs.{IsCause, IsPart, IsReadAs, is_serial};
 ghost use Rattle.shm_program.specs.Ends.{is_asked_again, is_reading};
 ghost use Rattle.shm_program.specs.declared.fault.RunFault.TheVariants as faults;
 
@@ -68,11 +67,9 @@ fn read_input<R: Read>(alloc: Global, reader: &mut R) -> Result<Vec<u8>, RunFaul
 /// The whole input as a script. Fails with the script's first fault, or if the reader failed or the host
 /// refused memory.
 pub fn whole_script<R: Read>(alloc: Global, reader: &mut R) -> Result<Script, RunFault>
-    ensures read { IfOk result
-        (λ script. IfSome (R.remaining reader.old) (λ input. script_of input ≡ Ok script)) }
+    ensures read { IfOk result (λ script. IsReadAs (R.remaining reader.old) (Ok script)) }
     ensures whole { OnOk result (IsAtEnd (R.remaining reader.new)) }
-    ensures cause { IfErr result
-        (λ f. IfSome (R.remaining reader.old) (λ input. (areas : List ℕ) → IsCause f areas input)) }
+    ensures cause { IfErr result (λ f. (areas : List ℕ) → IsCause f areas (R.remaining reader.old)) }
     ensures serial { IfErr result (λ f. is_serial f ≡ true) }
     ensures which { IfErr result (λ f. is_reading f ≡ true) }
 {

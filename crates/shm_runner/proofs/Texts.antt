@@ -1,15 +1,14 @@
 -- The text of a world, as that of a script's run.
 use Rattle.std.proofs.Common.{◌≡◌, refl, ap, sym, subst, inl, inr, ℕ, Bool, true, false, List, Option, map, Ok}
-use Rattle.std.specs.Prelude.{IfSome, OnOk, IfErr, Result, Err}
+use Rattle.std.specs.Prelude.{OnOk, IfErr, Result, Err}
 use Rattle.std.specs.Io.KnownBytes.{Appends, IsAtEnd}
 use Rattle.shm_slots.specs.View.{SwapView, AreCountsOf}
 use Rattle.shm_slots.specs.Cause.{GoesOn}
 use Rattle.shm_history.specs.WorldState.{WorldState}
 use Rattle.shm_text.specs.Script.{ScriptView}
-use Rattle.shm_text.specs.Reading.{script_of}
 use Rattle.shm_threads.specs.declared.transcript.Transcript.{Transcript}
 use Rattle.shm_program.specs.Running.{IsRunOf, IsStart, RunStep}
-use Rattle.shm_program.specs.Runs.{IsWorldOf, IsTextFor, IsWritten, Prints}
+use Rattle.shm_program.specs.Runs.{IsReadAs, IsWorldOf, IsTextFor, IsWritten, Prints}
 use Rattle.shm_laws.specs.Worlds.{IsWorldSound}
 use Rattle.shm_runner.specs.Output.{IsOutput, world_text}
 use Rattle.shm_runner.proofs.Flatness.{began, flat_printed, flat_unfailing, flat_bounded, few_failures, none_unfailing}
@@ -87,12 +86,12 @@ module _ {P : Type 0} (failed : P → ℕ) (swap : SwapView) (script : ScriptVie
     marked_text (Ok done) old new e = tt
     marked_text (Err fault) old new e = marked_by fault old new e
 
-  marked_shown : (fault : RunFault) (input rest old new : Option (List ℕ)) → IfSome input (λ bytes. script_of bytes ≡ Ok script) → IsAtEnd rest → IsAllOrNothing (IsAnyOutput failed swap script areas) fault old new (IsWritten (IsThreadedOutput failed swap true script areas) old new)
+  marked_shown : (fault : RunFault) (input rest old new : Option (List ℕ)) → IsReadAs input (Ok script) → IsAtEnd rest → IsAllOrNothing (IsAnyOutput failed swap script areas) fault old new (IsWritten (IsThreadedOutput failed swap true script areas) old new)
       → IsWrittenAt failed swap areas input rest old new fault
   marked_shown fault input rest old new read end (inl silent) = inl (silent_as (IsAnyOutput failed swap script areas) (IsTextFor (IsAnyOutput failed swap) areas input) fault old new (text_for (IsAnyOutput failed swap) areas input script read) silent)
   marked_shown fault input rest old new read end (inr (e, written)) = inr (e, record { whole = end; printed = shown (IsThreadedOutput failed swap true) input old new areas script read written })
 
-  pub marked_shows : (result : Result (Unit {0}) RunFault) (input rest old new : Option (List ℕ)) → IfSome input (λ bytes. script_of bytes ≡ Ok script) → IsAtEnd rest → IfErr result (λ f. IsAllOrNothing (IsAnyOutput failed swap script areas) f old new (IsWritten (IsThreadedOutput failed swap true script areas) old new))
+  pub marked_shows : (result : Result (Unit {0}) RunFault) (input rest old new : Option (List ℕ)) → IsReadAs input (Ok script) → IsAtEnd rest → IfErr result (λ f. IsAllOrNothing (IsAnyOutput failed swap script areas) f old new (IsWritten (IsThreadedOutput failed swap true script areas) old new))
       → IfErr result (IsWrittenAt failed swap areas input rest old new)
   marked_shows (Ok done) input rest old new read end e = tt
   marked_shows (Err fault) input rest old new read end e = marked_shown fault input rest old new read end e

@@ -1,5 +1,5 @@
 -- The output of a run with threads, and what its faults say about its input.
-use Rattle.std.specs.Prelude.{◌≡◌, ◌≤◌, ◌⊎◌, ℕ, Bool, true, false, List, Option, Result, OnOk, IfErr, IfSome}
+use Rattle.std.specs.Prelude.{◌≡◌, ◌≤◌, ◌⊎◌, ℕ, Bool, true, false, List, Option, Result, OnOk, IfErr}
 use Rattle.std.specs.Io.KnownBytes.{IsAtEnd}
 use Rattle.shm_slots.specs.View.{SwapView, are_finite}
 use Rattle.shm_slots.specs.Cause.{most_total}
@@ -48,7 +48,7 @@ IsAllOrNothing IsText fault old new Marked = IsSilent IsText fault old new ⊎ (
 -- the input was read to its end, and exactly the text of its run was written, one of whose calls is marked as out of memory
 pub record IsMarkedOutput {P : Type 0} (failed : P → ℕ) (swap : SwapView) (areas : List ℕ) (input rest old new : Option (List ℕ)) : Type 0 where
   pub whole : IsAtEnd rest
-  pub printed : IfSome input (λ bytes. Prints (IsThreadedOutput failed swap true) old new areas bytes)
+  pub printed : Prints (IsThreadedOutput failed swap true) old new areas input
 
 -- what an error leaves written
 abbrev pub IsWrittenAt : {P : Type 0} → (P → ℕ) → SwapView → List ℕ → Option (List ℕ) → Option (List ℕ) → Option (List ℕ) → Option (List ℕ) → RunFault → Type 0
@@ -58,8 +58,8 @@ IsWrittenAt failed swap areas input rest old new fault =
 
 -- a run with threads: the input before it and the rest after it, and the output
 pub record IsThreadedRun {P : Type 0} (failed : P → ℕ) (swap : SwapView) (result : Result (Unit {0}) RunFault) (input rest old new : Option (List ℕ)) (areas : List ℕ) : Type 0 where
-  pub ok : OnOk result (IfSome input (λ bytes. Prints (IsThreadedOutput failed swap false) old new areas bytes))
+  pub ok : OnOk result (Prints (IsThreadedOutput failed swap false) old new areas input)
   pub whole : OnOk result (IsAtEnd rest)
-  pub cause : IfErr result (λ f. IfSome input (λ bytes. IsCause f areas bytes))
+  pub cause : IfErr result (λ f. IsCause f areas input)
   pub ended : IfErr result CanFail
   pub written : IfErr result (IsWrittenAt failed swap areas input rest old new)

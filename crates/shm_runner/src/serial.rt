@@ -1,5 +1,5 @@
 //! A serial run: reads a script, runs its lines in file order, and writes the replies.
-ghost use Rattle.std.specs.Prelude.{◌≡◌, ◌⊎◌, List, [], length, true, map, OnOk, IfErr, IfSome};
+ghost use Rattle.std.specs.Prelude.{◌≡◌, ◌⊎◌, List, [], length, true, map, OnOk, IfErr};
 ghost use Rattle.std.specs.Io.KnownBytes.{IsAtEnd};
 ghost use Rattle.shm_history.specs.WorldState.{WorldState};
 ghost use Rattle.shm_laws.specs.Worlds.{IsWorldSound};
@@ -31,12 +31,10 @@ pub fn run_serial<R: Read, W: Write, P: Pager>(
 ) -> Result<(), RunFault>
     ensures ok { let text = IsOutput P.failed (handed_in P.content P.failed P.most pagers.items) in
         let areas = map (λ p. length (P.content p)) pagers.items in
-        OnOk result (IfSome (R.remaining reader.old) (λ input.
-        Prints text (W.contents writer.old) (W.contents writer.new) areas input)) }
+        OnOk result (Prints text (W.contents writer.old) (W.contents writer.new) areas (R.remaining reader.old)) }
     ensures whole { OnOk result (IsAtEnd (R.remaining reader.new)) }
-    ensures cause { IfErr result
-        (λ f. IfSome (R.remaining reader.old)
-        (λ input. IsCause f (map (λ p. length (P.content p)) pagers.items) input)) }
+    ensures cause { let areas = map (λ p. length (P.content p)) pagers.items in
+        IfErr result (λ f. IsCause f areas (R.remaining reader.old)) }
     ensures serial { IfErr result (λ f. is_serial f ≡ true) }
     ensures silent { let output = IsOutput P.failed (handed_in P.content P.failed P.most pagers.items) in
         let text = IsTextFor output (map (λ p. length (P.content p)) pagers.items) (R.remaining reader.old) in

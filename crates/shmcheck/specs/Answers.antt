@@ -1,12 +1,11 @@
 -- What the program writes for what it is asked, or why it writes nothing.
-use Rattle.std.specs.Prelude.{◌≡◌, ◌⊎◌, ℕ, Bool, true, false, List, Option, Some, Ok, Err, IfSome}
+use Rattle.std.specs.Prelude.{◌≡◌, ◌⊎◌, ℕ, Bool, true, false, List, Option, Some, Ok, Err}
 use Rattle.std.specs.Io.KnownBytes.{Keeps}
-use Rattle.shm_text.specs.Reading.{script_of}
 use Rattle.shm_text.specs.Script.{ScriptView}
 use Rattle.shm_life.specs.declared.start.StartError.{StartError}
 use Rattle.shm_life.specs.Start.{start_error, error_number}
 use Rattle.shm_program.specs.Ends.{is_reading}
-use Rattle.shm_program.specs.Runs.{IsCause, IsSilent, Prints}
+use Rattle.shm_program.specs.Runs.{IsCause, IsReadAs, IsSilent, Prints}
 use Rattle.shm_program.specs.declared.fault.RunFault.TheVariants.{StartRefused, WriteFailed, HostMemory}
 use Rattle.shm_program.specs.declared.fault.RunFault.{RunFault}
 use Rattle.shm_schedules.specs.Schedules.{start}
@@ -53,11 +52,11 @@ rules_asked (Sample d) = d.rules
 abbrev pub IsRuledAnswer : Asked → List ℕ → ℕ → ScriptView → List ℕ → List ℕ → Type 0
 IsRuledAnswer asked given status script = IsAnswer asked given status (under (rules_asked asked) script)
 
--- the input, if it is known, is a script, and its answer was written, for this exit status
+-- the input is a script, and its answer was written, for this exit status
 abbrev pub IsAnswered :
     Asked → List ℕ → List ℕ → Option (List ℕ) → Option (List ℕ) → Option (List ℕ) → ℕ → Type 0
 IsAnswered asked given areas input old new status =
-    IfSome input (λ bytes. Prints (IsRuledAnswer asked given status) old new areas bytes)
+    Prints (IsRuledAnswer asked given status) old new areas input
 
 -- with any exit status
 abbrev pub IsAnyAnswer : Asked → List ℕ → ScriptView → List ℕ → List ℕ → Type 0
@@ -112,16 +111,16 @@ IsStopIn (BadCondition fault) asked given areas script = IsBadCondition asked gi
 IsStopIn _ asked given areas script = ⊥
 
 -- the input was not read, or it is not a script and has this first fault
-abbrev pub IsUnread : Stop → List ℕ → List ℕ → Type 0
+abbrev pub IsUnread : Stop → List ℕ → Option (List ℕ) → Type 0
 IsUnread (Fault fault) areas input = (is_reading fault ≡ true) × IsCause fault areas input
 IsUnread _ areas input = ⊥
 
 -- why the answer about an input is not written: the input is no script, there is no answer, or the writer failed
-abbrev pub IsStopOf : Stop → Asked → List ℕ → List ℕ → List ℕ → Type 0
+abbrev pub IsStopOf : Stop → Asked → List ℕ → List ℕ → Option (List ℕ) → Type 0
 IsStopOf stop asked given areas input =
     IsUnread stop areas input
     ⊎ ((script : ScriptView)
-    × (script_of input ≡ Ok script)
+    × IsReadAs input (Ok script)
     × (IsStopIn stop asked given areas (under (rules_asked asked) script) ⊎ (stop ≡ Fault WriteFailed)))
 
 -- nothing is written; or if the writer failed, a beginning of a text with this property, and not all of it

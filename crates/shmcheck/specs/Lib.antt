@@ -6,3 +6,4 @@ pub mod Sampled
 pub mod Stop
 pub mod Answers
 pub mod Questioned
+pub mod Runs

@@ -14,24 +14,17 @@ mod stop;
 mod swap;
 
 use command::{Asked, read_words};
-use runs::run_over;
+use runs::run_words;
 use std::process::ExitCode;
 use std::rt::{Env, Files};
 use std::{env, fs, io};
 use stop::{Stop, log_unread};
-use swap::swap_area;
 
-// The log that the words name, for a judge, or the condition of a question.
-fn read_given<R: Files + AllocGlobal>(
-    rt: &R,
-    asked: Asked,
-    words: &[String],
-) -> Result<Vec<u8>, Stop> {
-    match (asked, words) {
-        (Asked::Judge(_), [_, _, path, ..]) => fs::read(rt, path.as_str()).map_err(log_unread),
-        (Asked::Question(..), [_, _, _, condition, ..]) => {
-            let bytes = Vec::from_slice(rt.alloc(), condition.as_bytes())?;
-            Ok(bytes)
+// The contents of the log that the words name, if they ask for a verdict.
+fn read_log<R: Files + AllocGlobal>(rt: &R, words: &[String]) -> Result<Vec<u8>, Stop> {
+    match (read_words(words), words) {
+        (Some(Asked::Judge(_)), [_, _, path, ..]) => {
+            fs::read(rt, path.as_str()).map_err(log_unread)
         }
         _ => Ok(Vec::new(rt.alloc())),
     }
@@ -40,17 +33,9 @@ fn read_given<R: Files + AllocGlobal>(
 fn run<R: Env + Files + Input + Print + AllocGlobal>(rt: &R) -> Result<u8, Stop> {
     let alloc = rt.alloc();
     let words: Vec<String> = env::args(rt)?.collect(alloc)?;
-    let asked = read_words(&words).ok_or(Stop::Usage)?;
-    let given = read_given(rt, asked, &words)?;
+    let log = read_log(rt, &words)?;
     let (mut reader, mut writer) = (rt.reader(), io::writer(rt));
-    run_over(
-        alloc,
-        &mut reader,
-        &mut writer,
-        swap_area(alloc)?,
-        asked,
-        &given,
-    )
+    run_words(alloc, &words, &log, &mut reader, &mut writer)
 }
 
 fn main(rt: HostRuntime) -> io::Result<ExitCode> {

@@ -1,16 +1,18 @@
 //! A whole run: reads a script, answers what was asked about it, and writes the answer.
-ghost use Rattle.std.specs.Prelude.{◌≡◌, OnOk, IfErr, IfOk, IfSome, length, map};
-ghost use Rattle.std.specs.Io.KnownBytes.{IsAtEnd};
-ghost use Rattle.shm_program.specs.Runs.{IsTextFor};
-ghost use Rattle.shmcheck.specs.Answers.{IsAnswer, IsAnswered, IsAnyAnswer, IsStopIn, IsStopOf, WritesNothing, rules_asked};
+ghost use Rattle.std.specs.Prelude.{◌≡◌, IfErr, IfOk, length, map, string_bytes};
+ghost use Rattle.shmcheck.specs.Answers.{IsAnswer, IsStopIn, rules_asked};
+ghost use Rattle.shmcheck.specs.Runs.{IsAnswerOver, IsAsked, condition_in, given_for};
+ghost use Rattle.shmcheck.specs.Words.{asked_of};
 
 use crate::asking::answer_question;
-use crate::command::Asked;
+use crate::command::{Asked, read_words};
 use crate::judging::judge_script;
 use crate::listing::list_outcomes;
 use crate::ruling::{RuleSet, put_rules};
 use crate::sampling::sample_runs;
 use crate::stop::Stop;
+use crate::swap::swap_area;
+use shm_base::HostMemory;
 use shm_pager::ClonePager;
 use shm_program::{RunFault, whole_script, write_output};
 use shm_text::Script;
@@ -24,9 +26,55 @@ pub(crate) struct Answer {
     pub(crate) status: u8,
 }
 
-/// Answers what was asked about the script that the reader gives, opened over swap areas with these pagers, and
-/// returns the exit status. A judge is given a log, and a question a condition. The answer is complete before its first byte is written.
-pub(crate) fn run_over<R: Read, W: Write, P: ClonePager>(
+/// Does what the words of the command line ask for: answers about the script that the reader gives, over one swap area
+/// of 64 slots, writes the answer, and returns the exit status. A judge is given the contents of its log. Other words are
+/// a usage error.
+pub(crate) fn run_words<R: Read, W: Write>(
+    alloc: Global,
+    words: &[String],
+    log: &[u8],
+    reader: &mut R,
+    writer: &mut W,
+) -> Result<u8, Stop>
+    ensures { let texts = map string_bytes words.now in
+        let done = IsAsked (asked_of texts) texts log.now result in
+        let run = done (R.remaining reader.old) (R.remaining reader.new) in
+        run (W.contents writer.old) (W.contents writer.new) }
+{
+    let Some(asked) = read_words(words) else {
+        return Err(Stop::Usage);
+    };
+    let pagers = match swap_area(alloc) {
+        Ok(pagers) => pagers,
+        Err(HostMemory) => return Err(Stop::Fault(RunFault::HostMemory)),
+    };
+    let given = given_for(asked, words, log);
+    run_over(alloc, reader, writer, pagers, asked, given)
+}
+
+// What a question or a judge is given: the condition, which is the fourth word, or the contents of the log.
+fn given_for<'a>(asked: Asked, words: &'a [String], log: &'a [u8]) -> &'a [u8]
+    ensures { result.now ≡ given_for asked (map string_bytes words.now) log.now }
+{
+    match asked {
+        Asked::Outcomes(_) | Asked::Sample(_) => &[],
+        Asked::Judge(_) => log,
+        Asked::Question(..) => condition_in(words),
+    }
+}
+
+fn condition_in(words: &[String]) -> &[u8]
+    ensures { result.now ≡ condition_in (map string_bytes words.now) }
+{
+    match words {
+        [_, _, _, condition, ..] => condition.as_bytes(),
+        _ => &[],
+    }
+}
+
+// Answers what was asked about the script that the reader gives, opened over swap areas with these pagers, and
+// returns the exit status. A judge is given a log, and a question a condition. The answer is complete before its first byte is written.
+fn run_over<R: Read, W: Write, P: ClonePager>(
     alloc: Global,
     reader: &mut R,
     writer: &mut W,
@@ -34,15 +82,9 @@ pub(crate) fn run_over<R: Read, W: Write, P: ClonePager>(
     asked: Asked,
     given: &[u8],
 ) -> Result<u8, Stop>
-    ensures ok { let areas = map (λ p. length (P.content p)) pagers.items in
-        let answers = IsAnswered asked given.now areas (R.remaining reader.old) in
-        IfOk result (answers (W.contents writer.old) (W.contents writer.new)) }
-    ensures whole { OnOk result (IsAtEnd (R.remaining reader.new)) }
-    ensures cause { let areas = map (λ p. length (P.content p)) pagers.items in
-        IfErr result (λ s. IfSome (R.remaining reader.old) (λ input. IsStopOf s asked given.now areas input)) }
-    ensures silent { let areas = map (λ p. length (P.content p)) pagers.items in
-        let text = IsTextFor (IsAnyAnswer asked given.now) areas (R.remaining reader.old) in
-        IfErr result (λ s. WritesNothing text s (W.contents writer.old) (W.contents writer.new)) }
+    ensures { let areas = map (λ p. length (P.content p)) pagers.items in
+        let ended = IsAnswerOver asked given.now result (R.remaining reader.old) (R.remaining reader.new) in
+        ended (W.contents writer.old) (W.contents writer.new) areas }
 {
     let mut script = match whole_script(alloc, reader) {
         Ok(script) => script,

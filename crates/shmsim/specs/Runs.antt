@@ -1,5 +1,5 @@
 -- What a run in either mode reads and writes.
-use Rattle.std.specs.Prelude.{◌≡◌, ◌⊎◌, ℕ, true, List, map, Option, Some, None, Result, Ok, Err, OnOk, IfErr, IfSome}
+use Rattle.std.specs.Prelude.{◌≡◌, ◌⊎◌, ℕ, true, List, map, Option, Some, None, Result, Ok, Err, OnOk, IfErr}
 use Rattle.std.specs.Io.KnownBytes.{IsAtEnd, Keeps}
 use Rattle.shm_pager.specs.Areas.{failed_in}
 use Rattle.shm_slots.specs.View.{SwapView}
@@ -18,9 +18,9 @@ use Rattle.shmsim.specs.Words.{Request}
 
 -- a serial run: the input before it and the rest after it, and the output
 pub record IsSerialRun {P : Type 0} (failed : P → ℕ) (swap : SwapView) (result : Result (Unit {0}) RunFault) (input rest old new : Option (List ℕ)) (areas : List ℕ) : Type 0 where
-  pub ok : OnOk result (IfSome input (λ bytes. Prints (IsOutput failed swap) old new areas bytes))
+  pub ok : OnOk result (Prints (IsOutput failed swap) old new areas input)
   pub whole : OnOk result (IsAtEnd rest)
-  pub cause : IfErr result (λ f. IfSome input (λ bytes. IsCause f areas bytes))
+  pub cause : IfErr result (λ f. IsCause f areas input)
   pub serial : IfErr result (λ f. is_serial f ≡ true)
   pub silent : IfErr result (λ f. IsSilent (IsTextFor (IsOutput failed swap) areas input) f old new)
 

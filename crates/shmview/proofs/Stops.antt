@@ -1,10 +1,9 @@
 -- What the stops say of the input, and what they leave of the output.
 use Rattle.std.proofs.Common.{◌≡◌, ◌⊎◌, refl, sym, subst, inl, inr, ℕ, true, List, Option, Some, None, Ok}
-use Rattle.std.specs.Prelude.{IfSome, IfErr, Result, Err}
+use Rattle.std.specs.Prelude.{IfErr, Result, Err}
 use Rattle.shm_life.specs.Start.{start_error}
 use Rattle.shm_text.specs.Script.{ScriptView}
-use Rattle.shm_text.specs.Reading.{script_of}
-use Rattle.shm_program.specs.Runs.{IsCause, IsStop, is_serial}
+use Rattle.shm_program.specs.Runs.{IsReadAs, IsStop}
 use Rattle.shm_program.specs.declared.fault.RunFault.{RunFault}
 use Rattle.shm_program.specs.declared.fault.RunFault.TheVariants.{WriteFailed, HostMemory}
 use Rattle.shm_program.proofs.Causes.{silent_as, stop_cause, stop_serial}
@@ -21,20 +20,14 @@ nothing_as IsText IsOther (Err (TooLong n)) old new to silent = silent
 nothing_as IsText IsOther (Err (Fault fault)) old new to silent = silent_as IsText IsOther fault old new to silent
 
 -- what a stop says of the input, from what it says of the script that the input is
-stop_of : (s : Stop) (asked : Option Steps) (areas : List ℕ) (script : ScriptView) (input : List ℕ) → script_of input ≡ Ok script → IsStopIn s asked areas script → IsStopOf s asked areas input
+stop_of : (s : Stop) (asked : Option Steps) (areas : List ℕ) (script : ScriptView) (input : Option (List ℕ)) → IsReadAs input (Ok script) → IsStopIn s asked areas script → IsStopOf s asked areas input
 stop_of Usage asked areas script input read stop = absurd stop
 stop_of (TooLong n) asked areas script input read stop = (script, read, stop)
 stop_of (Fault fault) asked areas script input read (cause, serial) = (cause input read, serial)
 
-pub stops : (result : Result (Unit {0}) Stop) (input : Option (List ℕ)) (asked : Option Steps) (areas : List ℕ) (script : ScriptView) → IfSome input (λ bytes. script_of bytes ≡ Ok script) → IfErr result (λ s. IsStopIn s asked areas script) → IfErr result (λ s. IfSome input (λ bytes. IsStopOf s asked areas bytes))
+pub stops : (result : Result (Unit {0}) Stop) (input : Option (List ℕ)) (asked : Option Steps) (areas : List ℕ) (script : ScriptView) → IsReadAs input (Ok script) → IfErr result (λ s. IsStopIn s asked areas script) → IfErr result (λ s. IsStopOf s asked areas input)
 stops (Ok done) input asked areas script read stop = tt
-stops (Err s) None asked areas script read stop = tt
-stops (Err s) (Some bytes) asked areas script read stop = stop_of s asked areas script bytes read stop
-
--- the input was not read, or is not a script
-pub early_stop : (fault : RunFault) (input : Option (List ℕ)) (asked : Option Steps) (areas : List ℕ) → IfSome input (λ bytes. (over : List ℕ) → IsCause fault over bytes) → is_serial fault ≡ true → IfSome input (λ bytes. IsStopOf (Fault fault) asked areas bytes)
-early_stop fault None asked areas cause serial = tt
-early_stop fault (Some bytes) asked areas cause serial = (cause areas, serial)
+stops (Err s) input asked areas script read stop = stop_of s asked areas script input read stop
 
 -- the world was not opened
 pub open_stop : (fault : RunFault) (asked : Option Steps) (areas : List ℕ) (script : ScriptView) → IsStop fault (start_error script.limits areas script.processes) → IsStopIn (Fault fault) asked areas script

@@ -4,9 +4,8 @@ use Rattle.std.specs.Fmt.{decimal}
 use Rattle.std.specs.declared.io.ErrorKind.{ErrorKind}
 use Rattle.std.specs.declared.io.ErrorKind.TheVariants.{OutOfMemory}
 use Rattle.shm_text.specs.Script.{ScriptView}
-use Rattle.shm_text.specs.Reading.{script_of}
 use Rattle.shm_program.specs.Faults.{fault_text, exit_status}
-use Rattle.shm_program.specs.Runs.{IsCause, IsSilent, is_serial}
+use Rattle.shm_program.specs.Runs.{IsCause, IsCauseIn, IsReadAs, IsSilent, is_serial}
 use Rattle.shm_program.specs.declared.fault.RunFault.TheVariants.{HostMemory}
 use Rattle.std.specs.Io.KnownBytes.{Keeps}
 use Rattle.shmview.specs.declared.steps.Steps.{Steps}
@@ -38,12 +37,12 @@ pub record IsTooLong (asked : Option Steps) (script : ScriptView) (n : ℕ) : Ty
 abbrev pub IsStopIn : Stop → Option Steps → List ℕ → ScriptView → Type 0
 IsStopIn Usage asked areas script = ⊥
 IsStopIn (TooLong n) asked areas script = IsTooLong asked script n
-IsStopIn (Fault fault) asked areas script = ((input : List ℕ) → script_of input ≡ Ok script → IsCause fault areas input) × (is_serial fault ≡ true)
+IsStopIn (Fault fault) asked areas script = IsCauseIn fault areas script × (is_serial fault ≡ true)
 
 -- what a stop says about its input
-abbrev pub IsStopOf : Stop → Option Steps → List ℕ → List ℕ → Type 0
+abbrev pub IsStopOf : Stop → Option Steps → List ℕ → Option (List ℕ) → Type 0
 IsStopOf Usage asked areas input = ⊥
-IsStopOf (TooLong n) asked areas input = (script : ScriptView) × (script_of input ≡ Ok script) × IsTooLong asked script n
+IsStopOf (TooLong n) asked areas input = (script : ScriptView) × IsReadAs input (Ok script) × IsTooLong asked script n
 IsStopOf (Fault fault) asked areas input = IsCause fault areas input × (is_serial fault ≡ true)
 
 -- nothing is written; or if the writer failed, a beginning of a text with this property, and not all of it

@@ -3,26 +3,23 @@
 
 mod command;
 mod lines;
+mod runs;
 mod steps;
 mod stop;
 mod view;
 
-use command::{Asked, read_words};
-use shm_program::areas_of;
+use runs::run_words;
 use std::process::ExitCode;
 use std::rt::Env;
 use std::{env, io};
 use stop::Stop;
-use view::view;
 
 // Views the script on standard input as the command line asks.
 fn run<R: Env + Input + Print + AllocGlobal>(rt: &R) -> Result<(), Stop> {
     let alloc = rt.alloc();
     let words: Vec<String> = env::args(rt)?.collect(alloc)?;
-    let Asked { steps, swaps } = read_words(alloc, &words)?;
-    let pagers = areas_of(alloc, &swaps)?;
     let (mut reader, mut writer) = (rt.reader(), io::writer(rt));
-    view(alloc, &mut reader, &mut writer, pagers, steps)
+    run_words(alloc, &words, &mut reader, &mut writer)
 }
 
 fn main(rt: HostRuntime) -> io::Result<ExitCode> {

@@ -1,9 +1,10 @@
 //! The viewer's run: reads a script, runs its lines in file order, and writes the record of each step.
-ghost use Rattle.std.specs.Prelude.{◌≡◌, ◌⊎◌, ◌≤◌, ℕ, List, [], length, map, None, OnOk, IfErr, IfSome, MatchOption};
-ghost use Rattle.std.specs.Io.KnownBytes.{Appends, IsAtEnd};
-ghost use Rattle.shm_program.specs.Runs.{Prints, IsWritten, IsTextFor, IsOpening, IsFresh, handed_in};
+ghost use Rattle.std.specs.Prelude.{◌≡◌, ◌⊎◌, ◌≤◌, ℕ, List, [], length, map, None, OnOk, IfErr, MatchOption};
+ghost use Rattle.std.specs.Io.KnownBytes.{Appends};
+ghost use Rattle.shm_program.specs.Runs.{IsWritten, IsOpening, IsFresh, handed_in};
 ghost use Rattle.shmview.specs.Record.{IsRecord};
-ghost use Rattle.shmview.specs.Stop.{IsStopIn, IsStopOf, IsTooLong, WritesNothing};
+ghost use Rattle.shmview.specs.Runs.{IsView};
+ghost use Rattle.shmview.specs.Stop.{IsStopIn, IsTooLong, WritesNothing};
 
 use crate::lines::record;
 use crate::steps::{MOST_STEPS, Steps};
@@ -27,18 +28,9 @@ pub(crate) fn view<R: Read, W: Write, P: Pager>(
     pagers: Vec<P>,
     asked: Option<Steps>,
 ) -> Result<(), Stop>
-    ensures ok { let text = IsRecord (handed_in P.content P.failed P.most pagers.items) asked in
-        let areas = map (λ p. length (P.content p)) pagers.items in
-        OnOk result (IfSome (R.remaining reader.old) (λ input.
-        Prints text (W.contents writer.old) (W.contents writer.new) areas input)) }
-    ensures whole { OnOk result (IsAtEnd (R.remaining reader.new)) }
-    ensures cause { IfErr result
-        (λ s. IfSome (R.remaining reader.old)
-        (λ input. IsStopOf s asked (map (λ p. length (P.content p)) pagers.items) input)) }
-    ensures silent { let run = IsRecord (handed_in P.content P.failed P.most pagers.items) asked in
-        let areas = map (λ p. length (P.content p)) pagers.items in
-        let text = IsTextFor run areas (R.remaining reader.old) in
-        IfErr result (λ s. WritesNothing text s (W.contents writer.old) (W.contents writer.new)) }
+    ensures { let swap = handed_in P.content P.failed P.most pagers.items in
+        let ended = IsView swap asked result (R.remaining reader.old) (R.remaining reader.new) in
+        ended (W.contents writer.old) (W.contents writer.new) (map (λ p. length (P.content p)) pagers.items) }
 {
     match whole_script(alloc, reader) {
         Ok(script) => view_script(alloc, writer, &script, pagers, asked),

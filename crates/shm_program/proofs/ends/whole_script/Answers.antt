@@ -9,7 +9,7 @@ use Rattle.shm_program.proofs.ends.whole_script.Goals as goal
 pub returns-in-Ok-read_script-clause-read : goal.returns-in-Ok-read_script-clause-read
 returns-in-Ok-read_script-clause-read g c =
     let read : script_of c.in-Ok.input.items ≡ Ok c.in-Ok-read_script.script = ap script_of (sym c.deref.ensures.value) ∙ c.in-Ok-read_script.ensures.read in
-    whole_input _ _ c.in-Ok.input.items (λ input. script_of input ≡ Ok c.in-Ok-read_script.script) c.in-Ok.ensures.taken (c.in-Ok.ensures.whole (short_script _ _ read)) read
+    whole_input _ _ c.in-Ok.input.items c.in-Ok-read_script.script c.in-Ok.ensures.taken (c.in-Ok.ensures.whole (short_script _ _ read)) read
 
 pub returns-in-Ok-read_script-clause-whole : goal.returns-in-Ok-read_script-clause-whole
 returns-in-Ok-read_script-clause-whole g c =

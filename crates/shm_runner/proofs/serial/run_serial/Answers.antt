@@ -2,7 +2,7 @@ use Rattle.std.proofs.Common.{map, length}
 use Rattle.std.specs.Io.KnownBytes.{IsAtEnd}
 use Rattle.shm_program.specs.Runs.{handed_in}
 use Rattle.shm_runner.specs.Output.{IsOutput}
-use Rattle.shm_program.proofs.Causes.{anyway, causes, early_cause, read_silent, silent_for}
+use Rattle.shm_program.proofs.Causes.{anyway, causes, read_silent, silent_for}
 use Rattle.shm_program.proofs.Texts.{shows}
 use Rattle.shm_runner.proofs.serial.run_serial.Goals as goal
 
@@ -19,7 +19,7 @@ pub returns-in-Ok-clause-silent : goal.returns-in-Ok-clause-silent
 returns-in-Ok-clause-silent g c = silent_for (IsOutput g.P.Pager.failed (handed_in g.P.Pager.content g.P.Pager.failed g.P.Pager.most c.args.pagers.items)) c.run_script.result (map (λ p. length (g.P.Pager.content p)) c.args.pagers.items) (g.R.Read.remaining c.args.reader.now) _ _ c.in-Ok.script c.in-Ok.ensures.read c.run_script.ensures.silent
 
 pub returns-in-Err-clause-cause : goal.returns-in-Err-clause-cause
-returns-in-Err-clause-cause g c = early_cause c.in-Err.fault (g.R.Read.remaining c.args.reader.now) (map (λ p. length (g.P.Pager.content p)) c.args.pagers.items) c.in-Err.ensures.cause
+returns-in-Err-clause-cause g c = c.in-Err.ensures.cause (map (λ p. length (g.P.Pager.content p)) c.args.pagers.items)
 
 pub returns-in-Err-clause-silent : goal.returns-in-Err-clause-silent
 returns-in-Err-clause-silent g c = read_silent _ c.in-Err.fault (g.W.Write.contents c.args.writer.now) c.in-Err.ensures.which

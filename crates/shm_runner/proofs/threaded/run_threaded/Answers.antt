@@ -3,7 +3,7 @@ use Rattle.std.specs.Prelude.{false}
 use Rattle.std.specs.Io.KnownBytes.{IsAtEnd}
 use Rattle.shm_runner.specs.Threaded.{IsThreadedOutput}
 use Rattle.shm_program.specs.Runs.{handed_in}
-use Rattle.shm_program.proofs.Causes.{anyway, causes, early_cause, read_silent}
+use Rattle.shm_program.proofs.Causes.{anyway, causes, read_silent}
 use Rattle.shm_program.proofs.Texts.{shows}
 use Rattle.shm_runner.proofs.Causes.{serial_fails}
 use Rattle.shm_runner.proofs.Texts.{marked_shows}
@@ -22,7 +22,7 @@ pub returns-in-Err : goal.returns-in-Err
 returns-in-Err g c = record {
   ok = tt;
   whole = tt;
-  cause = early_cause c.in-Err.fault (g.R.Read.remaining c.args.reader.now) (map (λ p. length (g.P.Pager.content p)) c.args.pagers.items) c.in-Err.ensures.cause;
+  cause = c.in-Err.ensures.cause (map (λ p. length (g.P.Pager.content p)) c.args.pagers.items);
   ended = serial_fails c.in-Err.fault c.in-Err.ensures.serial;
   written = inl (read_silent _ c.in-Err.fault (g.W.Write.contents c.args.writer.now) c.in-Err.ensures.which);
 }
