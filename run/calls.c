@@ -180,8 +180,11 @@ static int64_t show_usage(struct call *call) {
     reply_of(nog_info(&machine, &usage));
     nog_linux_usage info = {.used_ids = (int32_t)usage.used_ids, .shm_tot = usage.pages};
     for (uint32_t i = 0; i <= usage.highest; i++)
-        if (nog_segment_at(&machine, i, &segment) == NOG_DONE) info.shm_rss += pages_in_memory(segment.id);
-    if (options.frames) info.shm_swp = usage.swapped;
+        if (nog_segment_at(&machine, i, &segment) == NOG_DONE) {
+            struct residency of = residency_of(segment.id);
+            info.shm_rss += of.resident;
+            info.shm_swp += of.swapped;
+        }
     return write_memory(call, call->args[2], &info, sizeof info) ? (int64_t)usage.highest : -EFAULT;
 }
 

@@ -54,11 +54,14 @@ int file_for_reading(const nog_segment *segment) {
     return open(path, O_RDONLY | O_CLOEXEC);
 }
 
-uint64_t pages_in_memory(int32_t id) {
+struct residency residency_of(int32_t id) {
+    struct residency of = {0, 0};
     uint32_t index = (uint32_t)id % INDEXES;
     struct stat found;
-    if (!files[index].file || files[index].id != id || fstat(files[index].file, &found) == -1) return 0;
-    return (uint64_t)found.st_blocks * BYTES_OF_BLOCK / PAGE;
+    if (options.frames) reply_of(nog_pages_of(&machine, id, &of.resident, &of.swapped));
+    else if (files[index].file && files[index].id == id && fstat(files[index].file, &found) == 0)
+        of.resident = (uint64_t)found.st_blocks * BYTES_OF_BLOCK / PAGE;
+    return of;
 }
 
 /* The files are looked through only if the machine has fewer segments than at the last time. */

@@ -174,7 +174,9 @@ bool segment_of(int32_t id, nog_segment *segment);
 /* A descriptor of the segment's bytes; -1 and errno: there is none. The caller closes a file for reading only. */
 int file_of(const nog_segment *segment);
 int file_for_reading(const nog_segment *segment);
-uint64_t pages_in_memory(int32_t id);
+/* How many of a segment's pages are in memory, and how many only in swap areas. */
+struct residency { uint64_t resident, swapped; };
+struct residency residency_of(int32_t id);
 /* Closes the files of segments that the machine has no more. */
 void close_destroyed(void);
 

@@ -20,9 +20,10 @@ static void print_segments(FILE *to) {
     nog_indexes(&machine, &count);
     for (uint32_t i = 0; i < count; i++) {
         if (nog_segment_at(&machine, i, &s) != NOG_DONE) continue;
-        fprintf(to, "%10d %10d  %4o %21lu %5u %5u  %5u %5u %5u %5u %5u %10lu %10lu %10lu %21lu %21d\n", (int)s.key, s.id,
+        struct residency of = residency_of(s.id);
+        fprintf(to, "%10d %10d  %4o %21lu %5u %5u  %5u %5u %5u %5u %5u %10lu %10lu %10lu %21lu %21lu\n", (int)s.key, s.id,
                 s.mode | s.status, s.size, s.cpid, s.lpid, s.nattch, s.uid, s.gid, s.cuid, s.cgid, s.atime, s.dtime, s.ctime,
-                pages_in_memory(s.id) * PAGE, 0);
+                of.resident * PAGE, of.swapped * PAGE);
     }
 }
 static void print_most_bytes(FILE *to) { fprintf(to, "%lu\n", options.limits.shmmax); }

@@ -490,17 +490,32 @@ static void bound(void) {
     shmctl(id, IPC_RMID, NULL);
 }
 
+/* The line of a segment in /proc/sysvipc/shm ends with its pages in memory and those in swap areas, in bytes. */
+static void check_columns(int id, unsigned long resident, unsigned long swapped) {
+    char line[512];
+    int shown = -1;
+    unsigned long rss = 0, swap = 0;
+    FILE *file = fopen("/proc/sysvipc/shm", "r");
+    check(file != NULL, "/proc/sysvipc/shm");
+    while (shown != id && fgets(line, sizeof line, file))
+        if (sscanf(line, "%*d %d %*o %*u %*u %*u %*u %*u %*u %*u %*u %*u %*u %*u %lu %lu", &shown, &rss, &swap) != 3) shown = -1;
+    fclose(file);
+    check(shown == id && rss == resident * PAGE && swap == swapped * PAGE, "segment %d: %lu and %lu bytes", shown, rss, swap);
+}
+
 /* WORD is the number of frames. Each page was stored to, so those that are in no frame are in slots. */
 static void swapped(void) {
     struct shm_info info;
     int first = make(BYTES);
     shared = attach(first, 0);
-    make_shared();
+    int segment = make_shared();
     for (int i = 0; i < PAGES; i++) shared[i * PAGE] = 1;
     check(shmctl(0, SHM_INFO, (void *)&info) >= 0, "SHM_INFO");
     check(info.shm_tot == 2 * PAGES, "%lu pages", info.shm_tot);
     check(info.shm_swp == PAGES - (unsigned long)atoi(word), "%lu pages are swapped", info.shm_swp);
-    check(info.shm_rss > 0 && info.shm_rss <= (unsigned long)atoi(word), "%lu pages are resident", info.shm_rss);
+    check(info.shm_rss == (unsigned long)atoi(word), "%lu pages are resident", info.shm_rss);
+    check_columns(first, 0, 0);
+    check_columns(segment, (unsigned long)atoi(word), PAGES - (unsigned long)atoi(word));
     shmdt(shared);
     check(shmctl(0, SHM_INFO, (void *)&info) >= 0 && info.shm_tot == PAGES && info.shm_swp == 0, "%lu pages are swapped at the end", info.shm_swp);
     shmctl(first, IPC_RMID, NULL);

@@ -1,7 +1,9 @@
 //! A whole run: reads a script, answers what was asked about it, and writes the answer.
-ghost use Rattle.std.specs.Prelude.{◌≡◌, IfErr, IfOk, length, map, string_bytes};
-ghost use Rattle.shmcheck.specs.Answers.{IsAnswer, IsStopIn, rules_asked};
-ghost use Rattle.shmcheck.specs.Runs.{IsAnswerOver, IsAsked, condition_in, given_for};
+ghost use Rattle.std.specs.Prelude.{◌≡◌, OnOk, IfErr, IfOk, length, map, string_bytes};
+ghost use Rattle.std.specs.Io.KnownBytes.{IsAtEnd};
+ghost use Rattle.shm_program.specs.Runs.{IsTextFor};
+ghost use Rattle.shmcheck.specs.Answers.{IsAnswer, IsAnswered, IsAnyAnswer, IsStopIn, IsStopOf, WritesNothing, rules_asked};
+ghost use Rattle.shmcheck.specs.Runs.{IsAsked, condition_in, given_for};
 ghost use Rattle.shmcheck.specs.Words.{asked_of};
 
 use crate::asking::answer_question;
@@ -82,9 +84,15 @@ fn run_over<R: Read, W: Write, P: ClonePager>(
     asked: Asked,
     given: &[u8],
 ) -> Result<u8, Stop>
-    ensures { let areas = map (λ p. length (P.content p)) pagers.items in
-        let ended = IsAnswerOver asked given.now result (R.remaining reader.old) (R.remaining reader.new) in
-        ended (W.contents writer.old) (W.contents writer.new) areas }
+    ensures ok { let areas = map (λ p. length (P.content p)) pagers.items in
+        let answers = IsAnswered asked given.now areas (R.remaining reader.old) in
+        IfOk result (answers (W.contents writer.old) (W.contents writer.new)) }
+    ensures whole { OnOk result (IsAtEnd (R.remaining reader.new)) }
+    ensures cause { let areas = map (λ p. length (P.content p)) pagers.items in
+        IfErr result (λ s. IsStopOf s asked given.now areas (R.remaining reader.old)) }
+    ensures silent { let areas = map (λ p. length (P.content p)) pagers.items in
+        let text = IsTextFor (IsAnyAnswer asked given.now) areas (R.remaining reader.old) in
+        IfErr result (λ s. WritesNothing text s (W.contents writer.old) (W.contents writer.new)) }
 {
     let mut script = match whole_script(alloc, reader) {
         Ok(script) => script,
