@@ -7,7 +7,7 @@
 
 enum { LONGEST_WAIT = 4096, SPINS = 200 };
 
-/* what a process was answered to a command, and when; `why` tells that the command could not be made */
+/* the reply to a process's command, and when it came; `why` says why the command could not be made */
 struct told { struct answer answer; uint64_t began, ended; const char *why; int is_made; };
 
 /* memory of all processes. Each begins when all are ready, and ends when all are done, because an end detaches. */

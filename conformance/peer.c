@@ -428,7 +428,7 @@ static void wait_a_little(void) {
     if (poll(&life, 1, 5) > 0) lose_guardian();
 }
 
-/* the answer of a worker, or its end where that is what it was told */
+/* the answer of a worker, or its end if it was asked to end */
 static struct answer ask(struct process *p, const struct request *q) {
     struct answer a = {0};
     time_t end = time(NULL) + limit_seconds + 1;
@@ -699,7 +699,7 @@ static void enter_namespace(void) {
     if (!is_root && processes[0].uid != 0) drop_capabilities();
 }
 
-/* an interrupt ends the director at whatever moment it comes: it is held up till there is one, and handed on */
+/* an interrupt ends the director whenever it comes: it is held until there is one, and then passed on */
 static volatile sig_atomic_t director;
 static sigset_t interrupts;
 static void on_interrupt(int signal) {
@@ -721,7 +721,7 @@ static void take_interrupts(void) {
     sigprocmask(SIG_UNBLOCK, &interrupts, NULL);
 }
 
-/* how the director ended; it is not handed anything from its end on */
+/* how the director ended; nothing is passed on to it after its end */
 static int await_director(void) {
     siginfo_t ended;
     int status = 0;

@@ -220,7 +220,7 @@ static void print_call(const struct script *s, int place, uint64_t values[OPERAN
     }
 }
 
-/* the variable of a command becomes what it was answered, UINT64_MAX where it was refused */
+/* the variable of a command gets the reply, or UINT64_MAX if the command failed */
 static void keep_result(struct script *s, const struct command *c, uint64_t result) {
     if (c->variable >= 0) s->processes[c->process].variables[c->variable] = result;
 }

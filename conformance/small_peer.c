@@ -471,7 +471,7 @@ static void ask(int index, const struct request *q, struct answer *a) {
     read_whole(answers[0], a, sizeof *a);
 }
 
-/* prints a refusal; whether the call was answered with more than that */
+/* prints an error; whether the call succeeded */
 static int is_answered(const struct answer *a) {
     if (a->is_refused) put_text(a->error);
     return !a->is_refused;

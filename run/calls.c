@@ -97,7 +97,7 @@ static bool meets_other_memory(const struct call *call, const struct attach *a) 
     return is_met;
 }
 
-/* The mapping is there: now the machine is told its address. */
+/* The program has the mapping, so now the machine attaches the segment at its address. */
 static int64_t enter_attach(struct call *call, const struct attach *a, uint64_t address) {
     uint64_t at;
     uint32_t code = nog_attach(&machine, a->space->pid, a->id, address, a->flags & ~(uint32_t)NOG_RND, &at);

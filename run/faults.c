@@ -1,6 +1,6 @@
 /* Faults at pages that are not there. Each address space that has attachments has a userfaultfd, which it makes itself, because a
    userfaultfd is one of the process that makes it; we take it over. A child of a fork gets its own before its first instruction.
-   Each event is answered: the page comes, or the thread is woken and repeats its access, which then finds the page or ends as it
+   Each event is handled: the page comes, or the thread is woken and repeats its access, which then finds the page or ends as it
    would without us. */
 #include "shmrun.h"
 #include <errno.h>
@@ -47,7 +47,7 @@ static void add_to_poller(int file, void *what) {
 void check_faults(void) {
     device = open("/dev/userfaultfd", O_RDWR | O_CLOEXEC);
     if (device == -1)
-        stop(CANNOT_START, "--frames needs /dev/userfaultfd, which can't be opened: %s; root may, or whom root lets",
+        stop(CANNOT_START, "--frames needs /dev/userfaultfd, which can't be opened: %s; only root may, unless root lets others",
              strerror(errno));
     int file = ioctl(device, USERFAULTFD_IOC_NEW, O_CLOEXEC);
     if (file == -1 || !set_up(file)) stop(CANNOT_START, "--frames needs Linux 6.6 or later: userfaultfd: %s", strerror(errno));
@@ -55,7 +55,7 @@ void check_faults(void) {
 }
 
 /* The keeper has the same table of open files. If shmrun is killed, the kernel closes its files before it kills the programs; a
-   userfaultfd that is closed would let them go on, with zeros. So the table has to live a little longer than they do. */
+   userfaultfd that is closed would let them continue, with zeros. So the table has to live a little longer than they do. */
 static int keep_files(void *parent) {
     enum { UNTIL_KILLED = 2 };
     sigset_t all;

@@ -27,8 +27,8 @@ static void let_pass_watched(struct call *call, uint64_t second, uint64_t third)
     resume(call->tid, PTRACE_SYSCALL, 0);
 }
 
-/* A shared futex is found by its page's place in the file. If the page is taken away just then, the kernel answers EFAULT, and
-   the call is made again. */
+/* A shared futex is found by its page's place in the file. If the page is taken away at that moment, the call fails with
+   EFAULT, and is made again. */
 void end_watched_call(struct task *task) {
     enum { SYSCALL_BYTES = 2, MOST_REPEATS = 100 };
     struct user_regs_struct r;

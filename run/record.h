@@ -17,8 +17,8 @@ struct record {
 };
 extern struct record recorded;
 
-/* Makes the events on a machine as the script describes it, and marks what a script does not have. The answer is how many of
-   the first events are right. */
+/* Makes the events on a machine as the script describes it, and marks what a script does not have. Returns how many of the
+   first events are right. */
 size_t replay_record(void);
 uint64_t size_in_script(uint64_t size);
 nog_limits limits_of_script(void);

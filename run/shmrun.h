@@ -28,7 +28,7 @@
 
 enum { MOST_AREAS = 8, MOST_FAILURES = 1024 };
 enum { PAGE = 4096 };
-enum { NOT_LOCKED = 4 };  /* frames: a copy between two addresses that are not aligned needs so many pages at once */
+enum { NOT_LOCKED = 4 };  /* frames: a copy between two addresses that are not aligned needs this many pages at once */
 /* statuses of our own: before the command runs, in the middle of a run, and of a command that does not run */
 enum { CANNOT_START = 125, CANNOT_GO_ON = 125, CANNOT_RUN = 126, NOT_FOUND = 127 };
 #define END_OF_ADDRESSES UINT64_C(0x7ffffffff000)
@@ -64,7 +64,7 @@ void check_command(pid_t pid);
 /* A descriptor of ours for a file that a process has open; -1 and errno. */
 int take_file(pid_t tgid, int number);
 extern nog_machine machine;
-/* 0 or the negative number of an error, as a system call answers. A code that is no errno ends shmrun. */
+/* 0 or the negative number of an error, as a system call returns it. A code that is no errno ends shmrun. */
 int64_t reply_of(uint32_t code);
 
 /* A process of the machine: whose calls they are, or whose attachments. */
@@ -112,7 +112,7 @@ bool has_pieces(const struct guest *guest);
 uint32_t piece_above(const struct guest *guest, uint64_t address);
 bool find_piece(const struct guest *guest, uint64_t begin, uint64_t end, nog_piece *piece);
 
-/* filter.c: in the first process; the answer is the descriptor of the filter's listener */
+/* filter.c: in the first process; returns the descriptor of the filter's listener */
 int install_filter(uint64_t secret);
 
 /* remote.c: a thread at the entry of a system call */
@@ -134,9 +134,9 @@ void begin_call(struct call *call, struct task *task);
 int64_t run_in(struct call *call, long number, uint64_t a, uint64_t b, uint64_t c, uint64_t d, uint64_t e, uint64_t f);
 int64_t run_as_made(struct call *call);
 static inline bool is_error(int64_t result) { return result < 0 && result > -PAGE; }
-/* Puts a file into the program; the answer is its descriptor there, which is closed at an exec if `flags` is O_CLOEXEC. */
+/* Puts a file into the program; returns its descriptor there, which is closed at an exec if `flags` is O_CLOEXEC. */
 int64_t give_file(struct call *call, int file, uint32_t flags);
-/* Lets the program go on: with a result, or with the call that it made. */
+/* Lets the program continue: with a result, or with the call that it made. */
 void answer(struct call *call, int64_t result);
 void let_pass(struct call *call);
 /* As it was before the call, with a signal or none. */
@@ -147,7 +147,7 @@ bool write_memory(const struct call *call, uint64_t to, const void *from, size_t
 bool read_text(const struct call *call, uint64_t from, char *to, size_t size);
 
 /* tracing.c */
-/* Runs until the last process has ended; the answer is the wait status of `first`. */
+/* Runs until the last process has ended; returns the wait status of `first`. */
 int trace_all(pid_t first);
 void resume(pid_t tid, enum __ptrace_request request, int signal);
 /* What waitpid showed of a thread: a stop or its end. */
@@ -205,16 +205,16 @@ void use_swap_file(bool is_to_be_used);
 void check_faults(void);
 pid_t start_keeper(int argc, char **argv);
 void open_poller(void);
-/* Waits until a thread has stopped or ended, and answers faults until then. */
+/* Waits until a thread has stopped or ended, and handles faults until then. */
 void serve_faults(void);
 /* The caller's address space has a userfaultfd from now on: false if it can't. */
 bool open_faults(struct call *call);
 void close_faults(struct guest *space);
 /* From now on a hole in a range of the space is a fault. */
 bool watch(const struct guest *space, uint64_t begin, uint64_t length);
-/* If the thread is the first of a child of a fork: watches its attachments and lets it go on. */
+/* If the thread is the first of a child of a fork: watches its attachments and lets it continue. */
 bool watch_child(struct task *task);
-/* If an area failed the thread: its access ends in SIGBUS, its system call in EFAULT. It goes on. */
+/* If an area failed the thread: its access ends in SIGBUS, its system call in EFAULT. It continues. */
 bool end_failed_access(struct task *task);
 bool end_failed_call(struct task *task);
 
@@ -229,7 +229,7 @@ void end_watched_call(struct task *task);
 /* Before a thread ends: the pages of the robust mutexes that it has are there until then. */
 void keep_robust(struct task *task);
 
-/* failures.c: adds a rule such as shmat:3=ENOMEM; the answer is what is wrong with it, or null */
+/* failures.c: adds a rule such as shmat:3=ENOMEM; returns what is wrong with it, or null */
 const char *add_failure(const char *rule);
 /* The error that a call is to fail with, or 0. */
 int failure_of(const char *call);

@@ -56,7 +56,7 @@ int64_t reply_of(uint32_t code) {
     if (code <= NOG_EIDRM) return -(int64_t)code;
     if (code == NOG_NO_MEMORY) return -ENOMEM;
     nog_text(code, text, sizeof text, &length);
-    stop(CANNOT_GO_ON, "the library answered %u, %s, which ends all programs", code, (char *)text);
+    stop(CANNOT_GO_ON, "the library returned %u, %s, which ends all programs", code, (char *)text);
 }
 
 /* Bytes are in files, so the frames stay empty. They bound only the locked pages of all users, which are at most SHMALL. */
@@ -78,7 +78,7 @@ static void open_machine(void) {
     reply_of(code);
 }
 
-/* At most so many pages are in memory: the areas have the others. */
+/* At most options.frames pages are in memory: the areas have the others. */
 static void open_machine_with_frames(void) {
     nog_limits *l = &options.limits;
     const nog_area in_file = {NOG_RAM, SLOTS_IN_FILE}, in_memory = {NOG_SPARSE, (uint32_t)l->shmall};
@@ -173,7 +173,7 @@ static pid_t start_command(void) {
 
 /* ---- signals ---- */
 
-/* The terminal's signals reach the command too. What a process sends is sent on. */
+/* The terminal's signals reach the command too. A signal that a process sends to us is sent on. */
 static void send_on(int signal, siginfo_t *info, void *ignored) {
     (void)ignored;
     int before = errno;

@@ -1,4 +1,4 @@
-/* Threads and processes: which there are, what made them, and how they end. Signals go through unchanged. */
+/* Threads and processes: how they begin and end. Signals go through unchanged. */
 #include "shmrun.h"
 #include <errno.h>
 #include <linux/kcmp.h>
@@ -41,7 +41,7 @@ static void forget_task(pid_t tid) {
 
 void resume(pid_t tid, enum __ptrace_request request, int signal) {
     /* ESRCH: it was killed; its end is seen next */
-    if (ptrace(request, tid, 0, signal) == -1 && errno != ESRCH) complain("process %d does not go on (errno %d)", tid, errno);
+    if (ptrace(request, tid, 0, signal) == -1 && errno != ESRCH) complain("process %d does not continue (errno %d)", tid, errno);
 }
 
 /* ---- processes ---- */

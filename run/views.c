@@ -56,7 +56,7 @@ static const struct view *view_of(const struct call *call, int folder, uint64_t 
     return NULL;
 }
 
-/* The answer is a descriptor for reading, or the negative number of an error. */
+/* Returns a descriptor for reading, or the negative number of an error. */
 static int make_view(const struct view *view) {
     char path[64];
     int file = memfd_create(view->path, MFD_CLOEXEC);

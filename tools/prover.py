@@ -11,7 +11,7 @@ from crates import TOP, all_below, graph
 
 
 class NoProver(Exception):
-    """What a proof stands on is missing."""
+    """Something that a proof needs is missing."""
 
 
 def kit() -> str:

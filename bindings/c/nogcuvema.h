@@ -114,7 +114,7 @@ typedef struct nog_limits {
     uint64_t rules;           /* rules of Linux, a sum of nog_rule; 0: this project's profile, without any */
 } nog_limits;
 
-/* Rules of Linux: each makes the machine answer as Linux does in one respect in which this project's profile differs.
+/* Rules of Linux: each makes the machine follow Linux in one respect in which this project's profile differs.
    The functions below describe the profile; docs/MACHINE.md has each rule. */
 enum nog_rule {
     NOG_REMOVED_IS_INVALID = 1,    /* NOG_EINVAL instead of NOG_EIDRM */
@@ -194,8 +194,8 @@ typedef struct nog_tally {
     uint64_t locked;    /* pages of locked segments */
     uint64_t frames;
     uint64_t resident;  /* frames with a page */
-    uint64_t dirty;     /* frames whose page must be written to a slot before it leaves */
-    uint64_t slots;     /* slots of the areas that were not taken away */
+    uint64_t dirty;     /* frames whose page must be written to a slot before its eviction */
+    uint64_t slots;     /* slots of the active areas */
     uint64_t used;      /* slots that belong to a page */
     uint64_t ins;       /* pages that came from areas into frames */
     uint64_t outs;      /* pages written from frames to areas, by evictions and flush rounds; not those of nog_swapoff */
@@ -261,7 +261,7 @@ enum nog_key { NOG_PRIVATE = 0 };
    NOG_BAD_SHMMAX to NOG_BAD_RULES: the first limit that is out of its range.
    NOG_OUT_OF_RANGE: a kind does not exist, a failure names an area or a side that does not exist, or its call is 0.
    NOG_BAD_AREAS, NOG_BAD_AREA_SIZE, NOG_BAD_PROCESSES, NOG_BAD_PID: the first of these.
-   NOG_NO_MEMORY: the heap gave no memory. It comes only instead of 0, NOG_BAD_PROCESSES and NOG_BAD_PID. */
+   NOG_NO_MEMORY: the heap gave no memory. It replaces only 0, NOG_BAD_PROCESSES and NOG_BAD_PID. */
 uint32_t nog_open(nog_machine *machine, const nog_limits *limits, const nog_area *areas, size_t area_count,
                   const nog_failure *failures, size_t failure_count, const nog_process *processes, size_t process_count);
 
@@ -367,7 +367,7 @@ uint32_t nog_exec(nog_machine *machine, uint32_t pid);
 /* exit(2): detaches every piece of the caller and ends it. Its pid may be admitted again. */
 uint32_t nog_exit(nog_machine *machine, uint32_t pid);
 
-/* swapoff(2): moves the pages of an area elsewhere and takes the area away.
+/* swapoff(2): moves the pages of an area to the others and removes the area.
    NOG_EPERM: the caller is not user 0.
    NOG_EINVAL: the area does not exist, or no longer.
    NOG_ENOMEM: the other areas have fewer slots than all segments have pages.
@@ -383,7 +383,7 @@ uint32_t nog_swapoff(nog_machine *machine, uint32_t pid, uint32_t area);
    gives its place to the new one. Otherwise the new one takes memory for its pieces.
    NOG_ADMIT_BAD_PID, NOG_ADMIT_TAKEN, NOG_ADMIT_MANY: the first of these. An ended process counts until it is
    dismissed.
-   NOG_NO_MEMORY: the heap gave no memory. It comes only instead of 0. */
+   NOG_NO_MEMORY: the heap gave no memory. It replaces only 0. */
 uint32_t nog_admit(nog_machine *machine, const nog_process *process);
 
 /* An ended process or an unborn child leaves: its pid may be admitted again, and its room is free.
@@ -434,8 +434,8 @@ uint32_t nog_unmap(nog_machine *machine, uint32_t pid, uint64_t addr, uint64_t l
    NOG_EACCES: a piece that was attached with NOG_RDONLY would become writable. */
 uint32_t nog_protect(nog_machine *machine, uint32_t pid, uint64_t addr, uint64_t len, uint32_t is_writable);
 
-/* Puts a snapshot into `copy`: a machine with the same state and memory, whose swap areas have the same pages and the
-   same reads and writes still to fail. The two are independent from then on. A machine that was in `copy` is closed.
+/* Puts a snapshot into `copy`: a machine with the same state and memory, whose swap areas have the same pages and will
+   fail at the same reads and writes. The two are independent from then on. A machine that was in `copy` is closed.
    `copy` may be the handle `machine` itself, which does not change then.
    NOG_LENT: a page is on loan, and neither handle changed.
    NOG_NO_MEMORY: the heap gave no memory, and neither handle changed. */
@@ -463,15 +463,15 @@ uint32_t nog_copy(nog_machine *machine, uint32_t from, uint64_t from_addr, uint3
 
 /* ---- pages on loan ---- */
 
-/* An emulator or a kernel may keep copies of pages where its guests reach them by a pointer. It borrows a page, lets the
-   guests use the copy, and gives it back. A page on loan stays in its frame, so only as many pages are out as there are
-   frames; the machine's clock says which page has to come back first, and its swap areas keep the bytes of the others.
+/* An emulator or a kernel may keep copies of pages where its guests reach them by a pointer. It borrows a page, lets
+   the guests use the copy, and gives it back. A page on loan stays in its frame, so only as many pages are out as there
+   are frames. The machine's clock chooses the page that has to come back first, and its swap areas keep the others.
    None of these functions is a call of a process.
 
    While pages are on loan, a call that reads or writes bytes (nog_load to nog_compare_exchange, nog_read, nog_write and
-   nog_copy) returns NOG_LENT if it would touch one, or could bring in a page only if one left its frame. No byte changes
-   then, and the call is not counted. If it has two pages, the first may have come in; if a pager fails at that, the code
-   is NOG_SIGBUS, and the call is not counted either. When a segment ends, so do the loans of its pages. */
+   nog_copy) returns NOG_LENT if it would touch one or evict one. No byte changes then, and the call is not counted. If
+   it has two pages, the first may have come in; if a pager fails at that, the code is NOG_SIGBUS, and the call is not
+   counted either. When a segment ends, so do the loans of its pages. */
 
 /* Lends a page: it comes in as by a load, and its 4096 bytes are copied to `bytes`. From then on it is on loan.
    NOG_OUT_OF_RANGE: `len` is not 4096.
@@ -507,11 +507,11 @@ uint32_t nog_page_at(nog_machine *machine, uint32_t pid, uint64_t addr, int32_t 
 /* How many pages are on loan. */
 uint32_t nog_loans(nog_machine *machine, uint64_t *pages);
 
-/* ---- questions of the host ---- */
+/* ---- lookups of the host ---- */
 
-/* What an emulator that keeps memory, segments or tables of its own asks between calls. None of these functions is a
-   call of a process, and none changes the machine. nog_page_at, above, and nog_failed_at, below, are two more: if
-   nog_failed_at returns NOG_OUT_OF_RANGE, each byte of the range is attached, and writable if `is_write` is not 0. */
+/* Lookups for an emulator that keeps memory, segments or tables of its own. None of these functions is a call of a
+   process, and none changes the machine. nog_page_at, above, and nog_failed_at, below, are two more: if nog_failed_at
+   returns NOG_OUT_OF_RANGE, each byte of the range is attached, and writable if `is_write` is not 0. */
 
 /* The piece of a live process that an address is in.
    NOG_ESRCH: no live process has the pid.
@@ -531,14 +531,14 @@ uint32_t nog_limits_of(nog_machine *machine, nog_limits *limits);
    NOG_EINVAL: no segment has the identifier. */
 uint32_t nog_pages_of(nog_machine *machine, int32_t id, uint64_t *resident, uint64_t *swapped);
 
-/* Names a destroyed segment, so that a program that keeps something for each segment knows what to free. `told` is the
-   caller's: for each index of the table of segments, how many segments that were destroyed there it was told of. All
-   counts begin with 0. If a count is too low, the identifier is put into `id`, and the count rises by 1. So repeated
-   calls name each destroyed segment once, by rising index, until they return NOG_OUT_OF_RANGE. No identifier is used
-   twice. A count for each index that nog_indexes counts is enough; when the table has grown, add counts of 0. Its time
-   grows with the indexes.
-   NOG_TOO_FEW_COUNTS: there are fewer counts than indexes. Nothing was named, and no count changed.
-   NOG_OUT_OF_RANGE: each destroyed segment was named. */
+/* Reports a destroyed segment, so that a program that keeps something for each segment knows what to free. `told` is
+   the caller's: for each index of the table of segments, how many of the segments that were destroyed there have been
+   reported. All counts begin with 0. If a count is too low, the identifier is put into `id`, and the count rises by 1.
+   So repeated calls report each destroyed segment once, by rising index, until they return NOG_OUT_OF_RANGE. No
+   identifier is used twice. A count for each index that nog_indexes counts is enough; when the table has grown, add
+   counts of 0. Its time grows with the indexes.
+   NOG_TOO_FEW_COUNTS: there are fewer counts than indexes. Nothing was reported, and no count changed.
+   NOG_OUT_OF_RANGE: each destroyed segment has been reported. */
 uint32_t nog_gone(nog_machine *machine, uint32_t *told, size_t told_count, int32_t *id);
 
 /* ---- the machine's memory, and its state ---- */

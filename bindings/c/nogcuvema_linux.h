@@ -63,7 +63,7 @@ typedef struct nog_linux_memory {
 
 enum { NOG_LINUX_EFAULT = 14, NOG_LINUX_ENOSYS = 38, NOG_LINUX_MODE = 511, NOG_LINUX_SEQUENCE = 32768 };
 
-/* What a register gets for a code: `value` if the code is 0. NOG_NO_MEMORY is ENOMEM. A code that names a mistake of the
+/* The register's value for a code: `value` if the code is 0. NOG_NO_MEMORY is ENOMEM. A code that names a mistake of the
    host, as NOG_CLOSED, is ENOSYS, which no call of shared memory returns on Linux. */
 static inline int64_t nog_linux_answer(uint32_t code, int64_t value) {
     if (code == NOG_DONE) return value;

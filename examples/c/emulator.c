@@ -20,7 +20,7 @@ enum { SIZE = 64 << 20, PAGE = 4096, TICKS_A_SECOND = 1000, SAVED_AFTER = 5100, 
 
 /* ---- the guest ---- */
 
-/* A takes the answer of a system call; A, B and C its operands */
+/* A gets the result of a system call; A, B and C are its operands */
 enum { A, B, C, ID, AT, LEFT, ROUND, ONE, REGISTERS };
 
 enum operation {
@@ -97,7 +97,7 @@ static void end_guest(struct emulator *e, struct guest *g) {
     (void)nog_exit(&e->memory, pid_of(e, g));
 }
 
-/* what an access to eight bytes was answered: a refused one ends the guest. A SIGSEGV has the address that failed. */
+/* the result of an access to eight bytes: one that fails ends the guest. A SIGSEGV has the address that failed. */
 static void settle_access(struct emulator *e, struct guest *g, uint32_t code, uint64_t addr, int is_write) {
     uint8_t text[64];
     uint64_t at = addr;
@@ -187,7 +187,7 @@ static void release(struct emulator *e) {
 }
 
 /* a pipe without a buffer: the bytes go straight to the guest that waits for them. A writer without a reader makes its call
-   again. Both are answered how many bytes there were, also if an address is wrong midway. */
+   again. Both return how many bytes there were, also if an address is wrong midway. */
 static uint32_t send_bytes(struct emulator *e, struct guest *g, uint64_t *answer) {
     struct guest *reader = e->guests;
     uint64_t *r = g->registers, done = 0;

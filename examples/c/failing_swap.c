@@ -14,7 +14,7 @@ enum { PID = 1, PAGE = 4096, PAGES = 8, ROUNDS = 10, ACCESSES = ROUNDS * PAGES, 
 struct run {
     uint64_t numbers[ACCESSES];  /* what was there before a number was added */
     uint8_t bytes[SIZE];         /* the segment at the end */
-    unsigned refused;            /* accesses that were answered NOG_SIGBUS and then made again */
+    unsigned refused;            /* accesses that returned NOG_SIGBUS and were made again */
     nog_tally tally;
 };
 

@@ -50,7 +50,7 @@ static void forget_destroyed(void) {
     }
 }
 
-/* The byte behind an address, or nothing: the guest then gets SIGSEGV. A real emulator keeps the answer in its soft TLB, and
+/* The byte at an address, or nothing: the guest then gets SIGSEGV. A real emulator keeps the result in its soft TLB, and
    empties that after a call that changes the process's pieces. */
 static uint8_t *byte_at(uint32_t pid, uint64_t addr, int is_write) {
     nog_piece piece;

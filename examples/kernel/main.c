@@ -46,7 +46,7 @@ static uint64_t read_information(const struct multiboot *boot) {
     return end;
 }
 
-/* Runs a program until it has ended. Processes that it leaves go on. */
+/* Runs a program until it has ended. Processes that it leaves continue. */
 static void run(const struct program *program) {
     const uint32_t pid = start_program(program->file, program->name)->pid;
     int status = 0;

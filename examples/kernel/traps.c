@@ -58,7 +58,7 @@ void open_traps(void) {
 
 void set_kernel_stack(uint64_t top) { task_state.stack = top; }
 
-/* Returns the signal that a program gets for a fault, and its address, or 0 if the program may go on. */
+/* Returns the signal that a program gets for a fault, and its address, or 0 if the program may continue. */
 static int signal_of(const struct frame *frame, uint64_t *address) {
     *address = frame->rip;
     switch (frame->vector) {
@@ -89,7 +89,7 @@ void handle(struct frame *frame) {
     switch (frame->vector) {
     case SYSTEM_CALL: frame->rax = (uint64_t)answer_call(frame); break;
     case TIMER:
-        write_port(0x20, 0x20);  /* its interrupt is answered */
+        write_port(0x20, 0x20);  /* end of its interrupt */
         yield();
         break;
     default: answer_fault(frame);

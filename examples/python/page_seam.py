@@ -45,11 +45,11 @@ FUNCTIONS = {
 
 
 class Refused(Exception):
-    """A call was answered by a code."""
+    """A call returned a code."""
 
 
 class Library:
-    """The functions of the shared object; one that is answered by a code raises its text."""
+    """The functions of the shared object; one that returns a code raises its text."""
 
     def __init__(self, folder):
         self.library = ctypes.CDLL(os.path.join(folder, "libnogcuvema.so"))

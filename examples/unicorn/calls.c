@@ -24,7 +24,7 @@ static int64_t map_memory(struct process *process, uint64_t len, uint64_t flags)
     return (int64_t)process->next_map;
 }
 
-/* The heap lies behind the program, in its region. */
+/* The heap lies after the program, in its region. */
 static int64_t move_heap(struct process *process, uint64_t end) {
     const uint64_t old = process->heap_end;
     if (end > old && region_at(process, old, end - old)) process->heap_end = end;
@@ -227,7 +227,7 @@ static void at_block(uc_engine *engine, uint64_t addr, uint32_t size, void *give
     must_run(uc_emu_stop(engine), "stop");
 }
 
-/* An access to a page that is not mapped, or that is mapped for reading. It goes on if the page could be borrowed. */
+/* An access to a page that is not mapped, or that is mapped for reading. It continues if the page could be borrowed. */
 static bool at_fault(uc_engine *engine, uc_mem_type kind, uint64_t addr, int size, int64_t value, void *given) {
     (void)engine, (void)size, (void)value;
     uint8_t *byte;

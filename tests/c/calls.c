@@ -29,7 +29,7 @@ static void test_untouched(const struct outputs *out) {
     TEST(memcmp(out, &fresh, sizeof fresh) == 0);
 }
 
-/* each call of a process, of one that can't make it: what is answered where the machine is closed or the pid is none's */
+/* each call, by a process that can't make it: its code if the machine is closed or no process has the pid */
 static void test_each_call(nog_machine *m, uint32_t pid, uint32_t code) {
     struct outputs out = untouched();
     ANSWER(nog_get(m, pid, NOG_PRIVATE, PAGE, 0600, 0, &out.id), code);
@@ -183,7 +183,7 @@ static void test_processes(nog_machine *m) {
     ANSWER(nog_open(m, &limits, &ram, 1, &none, 0, many, 2), NOG_DONE);
 }
 
-/* of several faults the first is answered: limits, what is out of range, then areas and processes */
+/* of several faults the first is returned: limits, what is out of range, then areas and processes */
 static void test_first_fault(nog_machine *m) {
     static const nog_limits no_frames = {1, 1, 1, 1, 0, 0, 0, 0, 0};
     static const nog_area strange = {4, 8}, large = {NOG_RAM, 65537};

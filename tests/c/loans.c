@@ -369,7 +369,7 @@ static void test_end(void) {
     int32_t id = open_with(3, (nog_failure){0}), next;
     for (uint32_t page = 0; page < 3; page++) ANSWER(lend(id, page), NOG_DONE);
     ANSWER(nog_remove(&m, USER, id), NOG_DONE);
-    /* it is only marked, so its loans go on */
+    /* it is only marked, so its loans continue */
     TEST(frame_of(id, 1).is_lent == 1);
     ANSWER(nog_give_back(&m, id, 1, bytes, PAGE), NOG_DONE);
     ANSWER(lend(id, 1), NOG_DONE);

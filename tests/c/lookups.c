@@ -92,7 +92,7 @@ static void test_segment_of(void) {
     TEST(segment.index == (uint32_t)kept);
 }
 
-/* a destroyed segment is told apart from one that never was, whatever the rules */
+/* a destroyed segment has another code than one that never was, under any rules */
 static void test_segment_of_by_rules(void) {
     nog_limits linux_limits = limits;
     nog_segment segment;

@@ -1,4 +1,4 @@
-"""The peer besides its replies: how it ends, what exec runs, and where its own memory is."""
+"""The peer apart from its replies: how it ends, what exec runs, and where its own memory is."""
 
 from __future__ import annotations
 

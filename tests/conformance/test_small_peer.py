@@ -175,7 +175,7 @@ child 8
 WIDE = "limits 1 1 1 2 0\nprocess 1 1 1\n# Too large. shmget(2), ERRORS\n1 shmget private 2 600\n#= EINVAL\n"
 RECORD = "boot: hello\r\nscript one\r\nnote: under the limits of this system\r\n1 1 exit = ok\r\n" \
     "init: noise\r\nend one\r\nscript two\r\n1 1 stat 0 = EINVAL\r\n2 1 load 0x0 1 = panic: trap\r\n"
-# why a peer that user 0 runs skips a command: it makes all others, whoever their user is
+# why a peer that user 0 runs skips a command: it makes all others, under any user
 NEVER_MADE = {"no process makes this call", "no such child can be", "no swap area is the script's",
               "the access may end its process",
               "the peer's own memory may be there", "this peer makes no exec",

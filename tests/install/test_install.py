@@ -309,7 +309,7 @@ def test_destdir(sources: Prefix, folder: str) -> None:
 
 
 def test_folder_in_the_place_of_a_file(sources: Prefix, folder: str) -> None:
-    """An installation that is refused leaves nothing behind; the file's turn comes after most others."""
+    """An installation that is refused leaves no file; the file's turn comes after most others."""
     os.makedirs(f"{folder}/prefix/share/doc/nogcuvema/README.md")
     before = tree(folder)
     status, _, said = sources.install("--prefix", f"{folder}/prefix")
@@ -407,7 +407,7 @@ def has_symbols(path: str) -> bool:
 
 
 def test_stripped(prefix: Prefix, folder: str) -> None:
-    """Programs and the shared object have no symbols; if asked for, these are beside them, under the name
+    """Programs and the shared object have no symbols; if asked for, these are next to them, under the name
     that a debugger looks for."""
     if shutil.which("readelf") is None:
         pytest.skip("there is no readelf")

@@ -337,7 +337,7 @@ def test_ends(shmcheck: str) -> None:
     (["--at-most", "4", "--rules", "linux"], "EINVAL")
 ])
 def test_rules(shmcheck: str, words: list[str], reply: str) -> None:
-    """Linux knows no identifier of a segment that was removed; by the profile's rules the identifier was
+    """Linux knows no identifier of a segment that was removed; under the profile the identifier was
     removed."""
     script = "limits 65536 16 64 4 1\nprocess 1 0 0\n1 s = shmget 7 4096 600,creat\n1 rmid s\n1 stat s\n"
     lines = "1 shmget 0x00000007 4096 600,creat = 0\n1 rmid 0 = ok\n1 stat 0 = "
@@ -483,7 +483,7 @@ def test_answer_text(shmcheck: str) -> None:
 
 
 def saying(lines: list[str]) -> str:
-    """Returns the condition that these lines of the processes are answered as they are."""
+    """Returns the condition that these lines of the processes have these replies."""
     parts: list[str] = []
     numbers: dict[str, int] = {}
     for line in lines:

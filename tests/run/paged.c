@@ -416,7 +416,7 @@ static void futexes(void) {
     check(syscall(SYS_futex, at, FUTEX_WAIT, 1, &soon, NULL, 0) == -1 && errno == EAGAIN, "a wait for another number");
 }
 
-/* Robust mutexes in four pages, whose owner is killed or ends while the pages leave: the next one is told. */
+/* Robust mutexes in four pages, whose owner is killed or ends while the pages leave: the next one gets EOWNERDEAD. */
 static void robust(void) {
     enum { MUTEXES = 4 };
     pthread_mutexattr_t kind;
@@ -436,7 +436,7 @@ static void robust(void) {
         for (int i = 0; i < MUTEXES; i++) {
             struct timespec soon = {time(NULL) + 2, 0};
             int answer = pthread_mutex_timedlock(mutexes[i], &soon);
-            check(answer == EOWNERDEAD, "round %d: mutex %d is answered %s", round, i, strerror(answer));
+            check(answer == EOWNERDEAD, "round %d: mutex %d returned %s", round, i, strerror(answer));
             if (answer == EOWNERDEAD) pthread_mutex_consistent(mutexes[i]);
             if (answer != EOWNERDEAD) exit(1);
             pthread_mutex_unlock(mutexes[i]);

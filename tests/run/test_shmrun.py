@@ -328,7 +328,7 @@ def test_ends(programs: Programs) -> None:
 
 
 def test_files(programs: Programs) -> None:
-    """shmrun has no file of a segment that is destroyed, whoever destroyed it."""
+    """shmrun has no file of a segment that any process destroyed."""
     script = ('before=$(ls /proc/$PPID/fd | wc -l); for it in mappings moves processes threads advice get '
               'mutex; do "$0" $it > /dev/null; done;echo $(($(ls /proc/$PPID/fd | wc -l) - before))')
     _, out, said = run([programs.shmrun, "sh", "-c", script, f"{programs.folder}/alike"])
@@ -336,7 +336,7 @@ def test_files(programs: Programs) -> None:
 
 
 def test_terminal(programs: Programs) -> None:
-    """In a shell with a terminal: Ctrl-C ends the command, Ctrl-Z stops it, and fg lets it go on."""
+    """In a shell with a terminal: Ctrl-C ends the command, Ctrl-Z stops it, and fg lets it continue."""
     pid, terminal = pty.fork()
     if pid == 0:
         os.execvp("bash", ["bash", "--norc", "-i"])
@@ -601,7 +601,7 @@ def test_keeper(programs: Programs) -> None:
 
 @pytest.mark.parametrize("number", range(KILLS))
 def test_death(programs: Programs, number: int) -> None:
-    """shmrun is killed while four processes wait for pages: no program goes on with a zero that was not
+    """shmrun is killed while four processes wait for pages: no program continues with a zero that was not
     there."""
     needs_userfaultfd(programs)
     zeros = f"{programs.folder}/zeros{number}"
@@ -695,7 +695,7 @@ def system(programs: Programs) -> str:
 
 @pytest.mark.parametrize("words", [[], ["random", "40", "2026"]], ids=["cases", "random scripts"])
 def test_kit(programs: Programs, system: str, words: list[str]) -> None:
-    """The peer's calls are answered by the machine."""
+    """The peer's calls go to the machine."""
     kit = [f"{TOP}/conform", f"--library={programs.library}", "--rules", "linux"]
     ended = run([*kit, *words, "--peer", system])
     assert ended.status == 0, ended.said

@@ -1,6 +1,6 @@
 """The stored scripts through the built program.
 
-SUBJECT/NAME.shm is a script; those of the subject threads are run with threads. Files beside it say what
+SUBJECT/NAME.shm is a script; those of the subject threads are run with threads. Files next to it say what
 is expected, and each may be missing. NAME.swap has the words for the swap areas, which are ram:64 without it.
 NAME.out and NAME.err have the expected output and messages, and without them nothing may be printed.
 NAME.status has the exit status, which is 0 without it. If the output depends on the order of the threads'

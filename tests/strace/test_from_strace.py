@@ -1,4 +1,4 @@
-"""conformance/from_strace, over the traces beside this file.
+"""conformance/from_strace, over the traces next to this file.
 
 NAME.strace is a trace that strace printed; NAME.shm, NAME.log and NAME.said are its script, its log and the
 messages about it. NAME.words are further words of the command line. unfinished, overlap, attaching, no_order,

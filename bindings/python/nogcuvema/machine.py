@@ -680,7 +680,7 @@ class Machine:
         self._call("nog_loans", byref(count))
         return count.value
 
-    # ---- questions of the host ----
+    # ---- lookups of the host ----
 
     def piece_of(self, pid: int, addr: int) -> Piece:
         """The piece of a live process that an address is in. Raises `SegmentationFault` if nothing is attached

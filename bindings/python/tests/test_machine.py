@@ -960,7 +960,7 @@ class Binding(unittest.TestCase):
             with open(HEADER, encoding="ascii") as file:
                 self.header = re.sub(r"/\*.*?\*/", "", file.read(), flags=re.S)
         except FileNotFoundError:
-            self.skipTest("the header is not beside the package")
+            self.skipTest("the header is not next to the package")
 
     def test_functions_are_those_of_the_header(self) -> None:
         self.assertEqual(sorted(re.findall(r"^uint32_t (nog_\w+)\(", self.header, re.M)),

@@ -220,7 +220,7 @@ class Prompts(unittest.TestCase):
             with open(HEADER, encoding="ascii") as file:
                 found = re.findall(r"/\* ((?:(?!\*/).)*?) ?\*/\nuint32_t (nog_\w+)\(", file.read(), re.S)
         except FileNotFoundError:
-            self.skipTest("the header is not beside the package")
+            self.skipTest("the header is not next to the package")
         told = {name: comment for comment, name in found}
 
         def codes(name: str) -> set[str]:

@@ -40,7 +40,7 @@ class Scripts(unittest.TestCase):
         paths = sorted(glob.glob(os.path.join(TOP, "tests", "scripts", "*", "*.shm"))
                        + glob.glob(os.path.join(TOP, "examples", "*.shm")))
         if not paths:
-            self.skipTest("there are no stored scripts beside the package")
+            self.skipTest("there are no stored scripts next to the package")
         for path in paths:
             with open(path, "rb") as file:
                 yield path[:-4], file.read()

@@ -1,4 +1,4 @@
--- A refusal is answered by its code.
+-- Each refusal has its code.
 use Rattle.nogcuvema.proofs.Names.{ℕ, List, Err, inr, subst, ProcessCall, Reply, Machine, Refusal, Answered, Progress, ReadTo, WrittenTo, stop_code, ReadBy, WrittenBy, refusal_code, AnswersFor}
 use Rattle.std.specs.Prelude.{Result}
 use Rattle.nogcuvema.specs.Answers.{AnswersBy}
@@ -15,7 +15,7 @@ refused before after pid code call reply refusal is answered = inr (refusal, is,
 pub not_accessed : (did : Result Reply Refusal → Machine → Type 0) (after : Machine) (code : ℕ) (reply : Reply) (refusal : Refusal) → code ≡ refusal_code refusal → did (Err refusal) after → AnswersBy did reply code after
 not_accessed did after code reply refusal is answered = inr (refusal, is, answered)
 
--- the same, where the call is written in another way
+-- the same, if the call is written in another way
 pub refused_alike : (before after : Machine) (pid code : ℕ) (asked call : ProcessCall) (reply : Reply) (refusal : Refusal) → asked ≡ call → code ≡ refusal_code refusal → Answered before.system pid asked (Err refusal) after.system
     → AnswersFor before pid call reply code after
 refused_alike before after pid code asked call reply refusal same is answered =

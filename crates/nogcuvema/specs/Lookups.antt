@@ -18,7 +18,7 @@ use Rattle.nogcuvema.specs.declared.structs.NogSegment.{NogSegment}
 use Rattle.nogcuvema.specs.Shown.{shown_by}
 use Rattle.nogcuvema.specs.Answers.{closed, Unchanged}
 
--- a question of this machine is answered, and the machine is unchanged
+-- a lookup in this machine, which stays unchanged
 abbrev pub Asks : Option Machine → (SystemState → Type 0) → ℕ → Option Machine → Type 0
 Asks None answers code after = Unchanged closed None code after
 Asks (Some m) answers code after = (after ≡ Some m) × answers m.system

@@ -16,7 +16,7 @@ pub(crate) const CLOSED: u32 = 2002;
 /// A number that no call can carry.
 pub(crate) const OUT_OF_RANGE: u32 = 2003;
 
-/// The machine answered as many calls as it can count.
+/// The machine's call counter is at its maximum, so it makes no more calls.
 pub(crate) const SPENT: u32 = 2004;
 
 /// A page on loan is in the way.

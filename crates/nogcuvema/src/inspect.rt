@@ -55,7 +55,7 @@ pub extern "C" fn nog_indexes(alloc: Global, handle: &mut Handle, indexes: &mut 
     })
 }
 
-/// How many calls were answered.
+/// The number of calls so far.
 #[unsafe(no_mangle)]
 pub extern "C" fn nog_calls(alloc: Global, handle: &mut Handle, calls: &mut u64) -> u32
     ensures machine { Reads handle.old.kept.value (λ m. calls.new ≡ m.system.calls)

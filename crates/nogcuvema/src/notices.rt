@@ -23,8 +23,8 @@ fn gone(machine: &Machine, told: &mut [u32], id: &mut i32) -> u32
     }
 }
 
-/// The identifier of a destroyed segment of which the host was not told; the host's count of its index rises by
-/// 1. Out of range: the host was told of all.
+/// The identifier of a destroyed segment that was not reported before; the host's count of its index rises by
+/// 1. Out of range: all were reported.
 #[unsafe(no_mangle)]
 pub extern "C" fn nog_gone(
     alloc: Global,

@@ -29,7 +29,7 @@ pub with_pieces_at-twice : (rs : List Runner) (i : ℕ) (f g : List Piece → Li
     → with_pieces_at (with_pieces_at rs i f) i g ≡ with_pieces_at rs i (λ ps. g (f ps))
 with_pieces_at-twice rs i f g lt = let there = slice_get-get_or rs i first_runner lt in grind (arith, common_steps, gets, set-set)
 
--- the pieces that a change gives, in place of the change
+-- the pieces that a change gives, instead of the change
 pub with_pieces_at-const : (rs : List Runner) (i : ℕ) (f : List Piece → List Piece) → i < length rs
     → with_pieces_at rs i f ≡ with_pieces_at rs i (λ (_ : List Piece). f (pieces_at rs i))
 with_pieces_at-const rs i f lt = let there = slice_get-get_or rs i first_runner lt in grind (arith, common_steps, gets)

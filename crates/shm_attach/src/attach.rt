@@ -17,9 +17,9 @@ use shm_fault::PageStore;
 use shm_pager::Pager;
 
 impl Spaces {
-    /// Attaches all pages of a segment at a base, in place of whatever its range has: pieces in the range are
-    /// removed, and those that reach beyond it are cut. The segments that lost pages to it are noted. If the
-    /// piece is the first of its segment, the translations are read from the store. All memory is taken
+    /// Attaches all pages of a segment at a base, and replaces whatever its range has: pieces in the range
+    /// are removed, and those that reach beyond it are cut. The segments that lost pages to it are noted. If
+    /// the piece is the first of its segment, the translations are read from the store. All memory is taken
     /// first, and the segment's table is reserved, since the pieces that are removed may be its last.
     /// HostMemory: the host refused memory, and nothing changed.
     pub fn attach<P: Pager>(

@@ -70,7 +70,7 @@ impl Spaces {
         Ok(Ok(()))
     }
 
-    // A process joins in the place of one that ended.
+    // A process takes the place of one that ended.
     fn admit_again(&mut self, process: &Process, found: &Found) -> Result<(), AdmitRefusal>
         requires { standing process.now.pid self.old.runners
             ≡ Some (found_as process.now.pid found.now self.old.runners) }

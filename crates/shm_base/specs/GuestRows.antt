@@ -35,7 +35,7 @@ abbrev pub state_of : {E : Type 0} → Machine → Result Machine E → Machine
 state_of s (Ok t) = t
 state_of s (Err e) = s
 
--- the deed, with the machine's answer in place of the one it had
+-- the deed with the machine's answer instead of its own
 abbrev pub answered : Machine → Deed → Deed
 answered s (At n e) = At n (record e { reply = (step s n e.pid e.call).reply })
 answered s (Admits p refusal) = Admits p (refusal_of (admits s p))

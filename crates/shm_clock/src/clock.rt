@@ -194,8 +194,8 @@ pub fn next_victim<E: Fn(PageRef) -> bool>(
     }
 }
 
-/// Chooses the frame whose page has to go. `eligible` says whether a page may go; the pinned frame stays. The
-/// hand is then at the frame after the victim, or at 0 if the victim is the last frame.
+/// Chooses the victim: the frame whose page is evicted. `eligible` says whether a page may go; the pinned
+/// frame stays. The hand is then at the frame after the victim, or at 0 if the victim is the last frame.
 ///
 /// Precondition: there is an eligible frame other than the pinned one, and no page in the blocks of `skips`
 /// is eligible. Each referenced bit is looked at once at most: those of the frames that are passed, and the

@@ -176,7 +176,7 @@ module _ (s t : StoreView) (frames : List Frame) (count : length frames ≡ leng
 pub accessed-not : (ps : List Span) (s t : StoreView) (e : PagerFailed) → IsStoreSound t → Brings ps s t e.touched false → Accessed ps s t (Err e)
 accessed-not ps s t e sound b = grind (arith, kept-locked)
 
--- the same, by what its caller was answered
+-- the same, by the result of its caller
 pub accessed-failed : {A E : Type 0} (ps : List Span) (s t : StoreView) (u : Touched) (r : Result A E) → is_ok r ≡ false → IsStoreSound t → Brings ps s t u false → Accessed ps s t (answer_of u r)
 accessed-failed ps s t u (Ok a) failed sound b = absurd (false≢true (sym failed))
 accessed-failed ps s t u (Err e) failed sound b = accessed-not ps s t (record { touched = u }) sound b

@@ -67,7 +67,7 @@ leaver-frame s f e = by (position is_free s.frames) refl
         let some : Some (victim_in None s) ≡ Some f = rw at at e in
         rw at (cc)
 
--- who would leave, where a frame is free, and where none is
+-- the page that would be evicted, if a frame is free and if none is
 pub leaver-none : (pinned : Option ℕ) (s : StoreView) → resident_of s.frames < length s.frames → None ≡ leaver_in pinned (places s)
 unfolding places leaver_in
 leaver-none pinned s less = rw (position-bare s.frames, room-position s.frames less) refl

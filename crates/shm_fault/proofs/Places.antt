@@ -84,7 +84,7 @@ stops-write s t₁ t₂ pinned f victim turn out full dirty = record {
   places = rw (← victim, ← turn) out;
 }
 
--- a free frame is there, or the page that had to go leaves one
+-- a frame is free, or the eviction of a page frees one
 pub room-free : (s : StoreView) (pinned : Option ℕ) (f : ℕ) → position is_free s.frames ≡ Some f → (places s ≡ after_room pinned (places s)) × (f ≡ frame_for pinned (places s))
 unfolding places after_room frame_for
 room-free s pinned f free = rw (position-bare s.frames, free) (refl, refl)

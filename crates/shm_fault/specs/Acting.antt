@@ -35,7 +35,7 @@ FitsRoom (Put bytes) room = ⊤
 FitsRoom (PutIfEqual expected bytes) room = length bytes.now ≡ room
 FitsRoom (Add more) room = room ≡ 8
 
--- what an act puts in place of the old bytes, if anything
+-- the bytes with which an act replaces the old ones, if it does
 abbrev pub put_by : Act → List ℕ → Option (List ℕ)
 put_by Nothing old = None
 put_by (Put bytes) old = Some bytes.now

@@ -186,7 +186,7 @@ unfoldable pub after_flush : (ℕ → Bool) → List ℕ → Places → Places
 after_flush failed [] s = s
 after_flush failed (f ∷ fs) s = after_flush failed fs (after_page_out f (not (failed f)) s)
 
--- the page of a slot that is taken away: if it is in a frame, it is dirty now; else it has a free slot of another area
+-- the move of the page in a slot: if it is in a frame, it is dirty now; else it has a free slot of another area
 abbrev pub moves_page : Slot → PageRef → Option ℕ → Option Slot → Places → Places
 moves_page k r (Some f) to s = record s {
   segs = with_rec s.segs r (record { frame = Some f; slot = None });

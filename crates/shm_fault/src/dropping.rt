@@ -1,4 +1,4 @@
-//! Segments that go, with their frames and slots.
+//! Drops segments, and frees their frames and slots.
 ghost use Rattle.std.specs.Prelude.{◌≡◌, ◌<◌, ◌≤◌, true};
 ghost use Rattle.shm_fault.specs.Held.{is_held};
 ghost use Rattle.shm_slots.specs.View.{IsSwap};
@@ -52,8 +52,8 @@ impl<P: Pager> PageStore<P> {
         self.segs.set_page(page, PageRec::NOWHERE);
     }
 
-    // Takes the first page of a segment, from `first` up to `last`, that is somewhere out of its frame and its
-    // slot. Returns the number of the page after it; `last` if no page is anywhere.
+    // Frees the frame and the slot of the first page of a segment, from `first` up to `last`, that has
+    // either. Returns the number of the page after it; `last` if no page has one.
     fn forget_next(&mut self, first: PageRef, last: u32) -> u32
         requires more { first.page < last }
         requires there { last ≤ count_by_id self.old.segs first.seg }
@@ -72,9 +72,9 @@ impl<P: Pager> PageStore<P> {
         page + 1
     }
 
-    /// Takes a segment out, and its pages out of their frames and slots, which are free then. No pager is
-    /// asked for a page, and nothing is counted. The other segments' bytes stay, and where none of its
-    /// pages was anywhere, so does all else. The segment is held.
+    /// Drops a segment, and frees the frames and slots of its pages. No pager reads or writes a page, and
+    /// nothing is counted. The bytes of other segments stay, and nothing else changes if no page of the
+    /// segment has a frame or a slot. Precondition: the store has the segment.
     pub fn drop_segment(&mut self, seg: u32)
         requires there { is_held (held self.old) seg ≡ true }
         ensures { Drops seg self.old self.new }

@@ -1,4 +1,4 @@
-//! Dirty frames written out before their pages have to go.
+//! Writes dirty frames before their pages are evicted.
 ghost use Rattle.std.specs.Prelude.{◌≡◌, ◌+◌, ◌-◌, ◌<◌, ◌^◌, true, false, length, IsSome};
 ghost use Rattle.shm_slots.specs.View.{sizes};
 ghost use Rattle.shm_slots.specs.Cause.{GoesOn};
@@ -25,7 +25,7 @@ impl<P: Pager> PageStore<P> {
         }
     }
 
-    // Writes a dirty frame out, and counts how that ended.
+    // Writes a dirty frame out, and counts whether that succeeded.
     fn flush_frame(&mut self, frame: FrameNo, report: &mut FlushReport)
         requires there { frame < length self.old.frames }
         requires owned { IsSome (frame_at self.old.frames frame).owner }
@@ -39,9 +39,9 @@ impl<P: Pager> PageStore<P> {
         }
     }
 
-    /// Writes the first `n` dirty frames of segments that are not locked, by rising number, each to the
-    /// slot of its page, as where that page has to go. A frame whose write failed stays dirty; it is one
-    /// of the `n`. The clock's hand stays.
+    /// Writes the first `n` dirty frames of segments that are not locked, in the order of their numbers, each
+    /// to the slot of its page, as an eviction would. A frame whose write failed stays dirty, and is one of
+    /// the `n`. The clock's hand stays.
     pub fn flush(&mut self, n: u64) -> FlushReport
         ensures flushed { IsFlushed self.old self.new n result }
         ensures held { held self.new ≡ held self.old }

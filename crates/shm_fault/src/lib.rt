@@ -1,9 +1,8 @@
 //! The page store: segments as lists of bytes, over frames and swap.
 //!
-//! A page is in a frame, in a slot of a swap area, in both, or in neither; then its bytes are zeros. It
-//! keeps its slot until its segment goes or its area is turned off, and a frame is dirty where its bytes
-//! may differ from the slot's. No byte is lost, whatever had to leave its frame and whichever pager
-//! failed.
+//! A page is in a frame, in a slot of a swap area, in both, or in neither; then its bytes are zeros. It keeps
+//! its slot until its segment is destroyed or its area is turned off. A frame is dirty if its bytes may
+//! differ from the slot's. No byte is lost, whatever is evicted and whichever pager fails.
 #![tactic(auto)]
 
 mod access;

@@ -62,7 +62,8 @@ impl<P: Pager> PageStore<P> {
         Some(foresee(&self.segs, &self.frames, self.hand, pinned))
     }
 
-    // The frame that a visit to a page would touch or empty: the page's own, or else the leaver's.
+    // The frame that a visit to a page would touch or empty: the page's own, or else that of the page that
+    // would be evicted.
     fn frame_or_leaver(&self, page: PageRef, pinned: Option<FrameNo>) -> Option<FrameNo>
         ensures value { let known = (rec_by self.now.segs page).frame in
             result ≡ frame_or_leaver known pinned (places self.now) }

@@ -1,4 +1,4 @@
-//! Swap areas that go, whose pages move to the other areas.
+//! Removes swap areas, after moving their pages to the other areas.
 ghost use Rattle.std.specs.Prelude.{◌≡◌, true, Some, None, OnOk, OnErr};
 ghost use Rattle.shm_slots.specs.View.{HasSlot, IsSwap, area_at, page_in};
 ghost use Rattle.shm_slots.specs.Cause.{had_cause};
@@ -18,7 +18,7 @@ use shm_pager::{Pager, PagerFault};
 use shm_slots::Swap;
 
 // Writes a page to the least free slot of the lowest-numbered other area that has one, and gives its slot
-// back. Where the write fails it gives the new slot back.
+// back. If the write fails, it gives the new slot back.
 fn write_outside<P: Pager>(
     swap: &mut Swap<P>,
     page: PageRef,
@@ -46,7 +46,8 @@ fn write_outside<P: Pager>(
     }
 }
 
-// Moves the page in a slot to another area. The page that it holds is on no other call's stack.
+// Moves the page in a slot to another area. Kept out of line, so that other calls do not pay for a page on
+// their stack.
 #[inline(never)]
 fn relocate<P: Pager>(swap: &mut Swap<P>, page: PageRef, from: Slot) -> Result<Slot, PagerFault>
     requires there { HasSlot swap.old from.area from.slot }
@@ -106,7 +107,7 @@ impl<P: Pager> PageStore<P> {
         Ok(())
     }
 
-    // Makes a slot free, whose page goes elsewhere.
+    // Makes a slot free, by moving its page.
     fn clear_slot(&mut self, slot: Slot) -> Result<(), PagerFault>
         requires there { HasSlot self.old.swap slot.area slot.slot }
         requires room { FitOutside self.old slot.area }
@@ -131,11 +132,11 @@ impl<P: Pager> PageStore<P> {
         }
     }
 
-    /// Takes a swap area away, after its pages, by rising slot number: a resident page gives its slot back
-    /// and is dirty; any other is read and written to the least free slot of the lowest-numbered other
-    /// area that has one. Neither counts as a page that came in or went out. Where a pager fails the area
-    /// stays, and so do the pages that have moved before. The area is there, and the others have a slot
-    /// for each page of each segment.
+    /// Removes a swap area after its pages have moved, in the order of their slots. A resident page gives its
+    /// slot back and is dirty; any other is read and written to the least free slot of the lowest-numbered
+    /// other area that has one. Neither counts as a page that came in or went out. If a pager fails, the area
+    /// stays, and so do the pages that have moved already. Precondition: the area is active, and the others
+    /// have a slot for each page of each segment.
     pub fn move_off(&mut self, area: u32) -> Result<(), PagerFailed>
         requires there { (area_at self.old.swap area).here ≡ true }
         requires room { FitOutside self.old area }

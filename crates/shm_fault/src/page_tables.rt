@@ -14,8 +14,8 @@ use shm_base::{FrameNo, HostMemory, INDEXES, PageRef, Slot};
 use std::alloc::{AllocError, Global};
 use std::marker::Model;
 
-/// Where a page is: in a frame, in a slot, in both, or in neither; then its bytes are zeros. What the
-/// slot of a page in a dirty frame holds is nobody's concern.
+/// Where a page is: in a frame, in a slot, in both, or in neither; then its bytes are zeros. The slot of a
+/// page in a dirty frame may hold any bytes.
 #[derive(Clone, Copy, Debug, PartialEq, Eq)]
 pub struct PageRec {
     pub frame: Option<FrameNo>,
@@ -94,7 +94,7 @@ impl PageTables {
         }
     }
 
-    /// The same page tables once more.
+    /// A copy of the page tables.
     pub(crate) fn try_clone(&self) -> Result<PageTables, AllocError>
         ensures { IfOk result (λ copy. copy ≡ self.now) }
     {

@@ -28,8 +28,8 @@ struct Evicted {
     written: bool,
 }
 
-// The frame whose page has to go, by the clock, among the pages of segments that are not locked. The hand
-// skips blocks of locked pages.
+// The frame whose page is evicted next, by the clock, among the pages of segments that are not locked. The
+// hand skips blocks of locked pages.
 fn choose(
     segs: &PageTables,
     frames: &mut Frames,
@@ -132,7 +132,7 @@ impl<P: Pager> PageStore<P> {
         page
     }
 
-    // The frame whose page has to go if none is free. Referenced bits may become clear, but not that of the
+    // The frame whose page is evicted if none is free. Referenced bits may become clear, but not that of the
     // pinned frame.
     fn turn(&mut self, pinned: Option<FrameNo>) -> FrameNo
         requires full { OwnedBelow self.old.frames (length self.old.frames) }
@@ -232,7 +232,7 @@ impl<P: Pager> PageStore<P> {
         Ok(())
     }
 
-    // A free frame: the first one, or that of the page that has to go.
+    // A free frame: the first one, or that of the page that is evicted.
     fn take_frame(
         &mut self,
         pinned: Option<FrameNo>,

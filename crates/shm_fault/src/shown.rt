@@ -1,4 +1,4 @@
-//! What a store lends to whoever looks at it: its frames, its swap areas, and where the clock's hand is.
+//! Read access to the parts of a store: its frames, its swap areas, and the position of the clock's hand.
 ghost use Rattle.std.specs.Prelude.{◌≡◌};
 
 use crate::store::PageStore;
@@ -23,7 +23,7 @@ impl<P: Pager> PageStore<P> {
         &self.swap
     }
 
-    /// The frame that the clock's hand is at.
+    /// The frame at which the clock's hand is.
     pub fn hand(&self) -> FrameNo
         ensures { result ≡ self.now.hand }
     {

@@ -1,4 +1,4 @@
-//! The store, made and looked at.
+//! The store: how it is made, its locks, and its counts.
 ghost use Rattle.std.specs.Prelude.{◌≡◌, ◌≢◌, ℕ, ◌+◌, ◌-◌, ◌≤◌, ◌^◌, true, false, length, map, min, replicate, None, IfOk, OnOk, OnErr};
 ghost use Rattle.shm_fault.specs.Held.{is_held, pages_in_store, locked_pages_in_store, with_zeros, with_lock, IsIndexFree};
 ghost use Rattle.shm_slots.specs.View.{swap_slots, owner_of, AreCountsOf};

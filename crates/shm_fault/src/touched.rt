@@ -49,9 +49,9 @@ impl Drop for PagerFailed {
     }
 }
 
-/// The pages in frames, those of them that are dirty, the slots of the areas that are there, the slots
-/// that pages have, the pager reads for faults and the pager writes for evictions and flushes that were
-/// done, and the failures that the pagers counted. The last three stay at `u64::MAX`.
+/// The pages in frames, those of them that are dirty, the slots of the active areas, the slots that pages
+/// have, the successful pager reads for faults, the successful pager writes for evictions and flushes, and
+/// the failures that the pagers counted. The last three stay at `u64::MAX`.
 #[derive(Clone, Copy, Debug, PartialEq, Eq)]
 pub struct PageTally {
     pub resident: u64,

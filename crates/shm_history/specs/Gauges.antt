@@ -86,6 +86,6 @@ pub record IsLoad (v : SeatView) (before after : List ℕ) (w : SeatView) : Type
   pub grows : StartsWith w.stored v.stored
   pub last : w.seen ≡ last_of zeros w.stored
 
--- the keeper's store: its seat knows the words that it stored, behind those before
+-- the keeper's store: its seat knows the words that it stored, after those before
 abbrev pub IsStore : SeatView → List ℕ → List ℕ → SeatView → Type 0
 IsStore v before after w = w ≡ keeping (numbers_of after) (v.stored ++ numbers_of after ∷ [])

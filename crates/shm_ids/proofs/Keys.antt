@@ -27,7 +27,7 @@ module _ {T : Type 0} where
       let rest = key_from-none (n + 1) key es live (λ j same. none (suc j) same) in
       grind (arith, common_steps)
 
-  -- the map answers what the search through the table does
+  -- the map returns what the search through the table does
   pub find_key-get : {S : Type 0} (t : List (Entry T)) (keys : IndexMap ℕ ℕ S) (key : ℕ) → Keyed t keys → find_key t key ≡ get nat_eq keys key
   find_key-get {S} t keys key keyed = by (cases_eq key 0) (get nat_eq keys key) refl
     where

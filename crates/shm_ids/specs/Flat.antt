@@ -36,7 +36,7 @@ module _ {T : Type 0} (make : ℕ → Row T → Segment) where
   abbrev pub flat_look : List (Entry T) → ℤ → Result T LookRefused → flat.Look
   flat_look t id r = flat_answer (index_of id) (natural_of id) (key_at t (index_of id)) r
 
-  -- the flat machine's answer about a key, by the index that the table answers and the entry there
+  -- the flat machine's answer about a key, by the index that the table returns and the entry there
   abbrev pub flat_found : (ℕ → Entry T) → Option ℕ → flat.Look
   flat_found at None = flat.Invalid
   flat_found at (Some i) = flat.look_segment i (option_map (make (identifier i (at i).destroyed)) (at i).row)

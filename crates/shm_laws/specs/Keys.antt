@@ -31,7 +31,7 @@ pub record IsCreated (s : Machine) (key id : ℕ) (t : Machine) : Type 0 where
   pub never : look s.table (pos id) ≡ Invalid
   pub has : HasKey t id key
 
--- the segment that a shmget answers has the key of the call: it was found, or it was created
+-- the segment that a shmget returns has the key of the call: it was found, or it was created
 abbrev pub FindsByKey : Machine → Event → Machine → Type 0
 FindsByKey s e t =
     (key size mode : ℕ) (flags : GetFlags) (answer : ℤ) → e.call ≡ Shmget key size mode flags

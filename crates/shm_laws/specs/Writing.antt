@@ -74,7 +74,7 @@ pub record AreLast
       (k b : ℕ) → slice_get bytes k ≡ Some b
       → (id : ℕ) × (at : ℕ) × IsByte s pid (addr + k) id at × IsLast o before id at b
 
--- a load answers the bytes that were written last, and an xadd the number in them
+-- a load returns the bytes that were written last, and an xadd the number in them
 pub record Recalls (o : Opening) (before : List Event) (s : Machine) (e : Event) (t : Machine) : Type 0 where
   pub load :
       (addr len : ℕ) (bytes : List ℕ) → e.call ≡ Load addr len → e.reply ≡ Bytes bytes
@@ -83,7 +83,7 @@ pub record Recalls (o : Opening) (before : List Event) (s : Machine) (e : Event)
       (addr add old : ℕ) → e.call ≡ Xadd addr add → e.reply ≡ Number old
       → (bytes : List ℕ) × (old ≡ from_le_bytes w64 bytes) × AreLast o before s e.pid addr 8 bytes
 
--- THE LAW. At each moment each byte is its last writer's, and so is each byte that an event answers
+-- THE LAW. At each moment each byte is its last writer's, and so is each byte that an event returns
 pub record HasLastWriters (o : Opening) (events : List Event) (end : Machine) : Type 0 where
   pub bytes : Always (Remembers o) o events
   pub replies : EachTurn (Recalls o) o events

@@ -73,7 +73,7 @@ told (Err e) limits put before after rs rest s t ps touched few fit runners acte
       stopped = comes-up-to s.memory t.memory touched ps _ have acted.has acted.access.paged acted.stopped;
     }
 
--- a result with another error in place of its own
+-- a result with another error instead of its own
 pub or-ok : {A E : Type 0} (P Q : A → Type 0) (r : Result A E) (other : Errno) → ((a : A) → P a → Q a) → IfOk r P → IfOk (result_or r (Err other)) Q
 or-ok P Q (Ok a) other to p = to a p
 or-ok P Q (Err e) other to p = tt
@@ -128,7 +128,7 @@ module _ (s : Machine) (ps : List Piece) (addr : ℕ) where
 
 -- WHAT AN ACCESS REPLIES
 
--- a result with another value in place of its own
+-- a result with another value instead of its own
 and-leaves : (table : List Entry) (puts : Bool) (ps : List Span) (s t : MachineView) (x : ℕ) (r : Result (Unit {0}) Errno) → LeavesOrFails table puts ps s r t → LeavesOrFails table puts ps s (result_and r (Ok x)) t
 and-leaves table puts ps s t x (Ok a) l = record { written = l.written; same = tt; keeps = l.keeps; err = tt; came = l.came; stopped = tt }
 and-leaves table puts ps s t x (Err e) l = record { written = tt; same = l.same; keeps = l.keeps; err = l.err; came = tt; stopped = l.stopped }

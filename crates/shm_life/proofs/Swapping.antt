@@ -1,4 +1,4 @@
--- A swap area that is taken away, as the flat machine has it.
+-- The removal of a swap area, as the flat machine defines it.
 use Rattle.shm_life.proofs.Names.{◌≡◌, ℕ, zero, suc, ◌+◌, ◌<◌, ◌≤◌, List, [], ◌∷◌, get_or, Some, None, ap, arith, none-some, sum_by-cons, Machine, swapoff, refuses, gives, reserved, Done, Enomem, SwapView, AreaView, no_area, area_at, size_of, sizes}
 use Rattle.std.proofs.Common.{Option}
 use Rattle.std.specs.Prelude.{slice_get, slice_set, map}

@@ -177,7 +177,7 @@ abbrev pub FirstFails : List PageRef → MachineView → MachineView → Type 0
 FirstFails [] s t = ⊥
 FirstFails (r ∷ rs) s t = FailsToCome r s t
 
--- a page on loan stands in the way of the access; or a pager failed for the first of its pages
+-- a page on loan blocks the access, or a pager failed for the first of its pages
 abbrev pub StandsInTheWay : List PageRef → NotReady → MachineView → MachineView → Type 0
 StandsInTheWay rs ready.Lent s t = (is_clear rs (places t.memory) ≡ false) × Fetched rs s.memory t.memory
 StandsInTheWay rs ready.Sigbus s t = FirstFails rs s t

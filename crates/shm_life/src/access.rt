@@ -1,4 +1,4 @@
-//! Accesses: what is done at the bytes from an address on, and the calls of scripts that do it.
+//! Accesses: acts at the bytes from an address on, and the calls of scripts that do them.
 ghost use Rattle.std.specs.Prelude.{◌≡◌, ◌∷◌, [], ◌≤◌, ℕ, None, Some, false, length, IfErr, IfOk, IfSome, OnErr};
 ghost use Rattle.shm_base.specs.Spans.{span_places};
 ghost use Rattle.shm_base.specs.Step.{caller_of};
@@ -20,7 +20,7 @@ use shm_base::{AccessLen, Chunk, Errno, LONGEST_ACCESS, Reply, Span};
 use shm_fault::{Act, Touched};
 use shm_pager::Pager;
 
-// The span, where there is one and its frame is known: then no page has to come in.
+// The span, if there is only one and its frame is known, so that no page has to come in.
 #[inline(always)]
 fn resident(spans: &[Span]) -> Option<Span>
     ensures is { result ≡ sole_resident spans.now }
@@ -36,8 +36,8 @@ fn resident(spans: &[Span]) -> Option<Span>
 }
 
 impl<P: Pager> Kernel<P> {
-    // The spans of an access, with the frames that are known. Sigsegv where an address has no piece, or where
-    // a write meets a read-only one.
+    // The spans of an access, with the frames that are known. Sigsegv: an address has no piece, or a write
+    // meets a read-only one.
     #[inline(always)]
     pub(crate) fn spans_of(
         &self,
@@ -81,7 +81,8 @@ impl<P: Pager> Kernel<P> {
         done.or(Err(Errno::Sigbus))
     }
 
-    // As [`Kernel::act`], where pages may have to come in. Other accesses are kept free of that.
+    // As [`Kernel::act`], if pages may have to come in. Kept out of line, so that other accesses do not pay
+    // for it.
     #[inline(never)]
     fn act_paged(&mut self, spans: Spans, act: Act<'_>, there: &mut [u8]) -> Result<(), Errno>
         requires spans { let size = size_of act (length there.old) in

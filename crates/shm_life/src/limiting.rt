@@ -1,4 +1,4 @@
-//! A host gives a running machine other limits, as sysctl(8) and setrlimit(2) do. This is no call.
+//! Changes the limits of a running machine, as sysctl(8) and setrlimit(2) do. No process calls this.
 ghost use Rattle.std.specs.Prelude.{◌≡◌, OnErr};
 ghost use Rattle.shm_base.specs.Guest.{left_by};
 ghost use Rattle.shm_life.specs.Guest.{IsChanged};
@@ -23,7 +23,7 @@ pub struct NewLimits {
     pub memlock: u64,
 }
 
-// Limits, with these in place of four of them.
+// The limits with four new values.
 fn sizes_with(limits: &Limits, new: &NewLimits) -> Sizes
     ensures { bounds_of result ≡ limits_with limits.now new.now }
 {

@@ -1,6 +1,6 @@
-//! Notices of destroyed segments, for a host that keeps something for each segment. No identifier is used
-//! twice, and the table counts the segments that were destroyed at each index. So a host that counts those of
-//! which it was told learns of each one once, and the machine keeps no list.
+//! Reports destroyed segments to a host that keeps something for each segment. No identifier is used twice,
+//! and the table counts the segments that were destroyed at each index. So a host that counts the reports for
+//! each index gets one report for each segment, and the machine keeps no list.
 ghost use Rattle.std.specs.Prelude.{◌≡◌, ◌<◌, ◌^◌, ◌&&◌, nat_lt};
 ghost use Rattle.shm_base.specs.Identifier.{destroyed_at, identifier};
 ghost use Rattle.shm_base.specs.declared.bounds.TheConstants.{INDEXES, SEQUENCES};
@@ -11,12 +11,12 @@ use crate::system::System;
 use shm_base::{Errno, INDEXES, SEQUENCES};
 use shm_pager::Pager;
 
-/// What a host is told of destroyed segments.
+/// A report of a destroyed segment, or why there is none.
 #[derive(Clone, Copy, Debug, PartialEq, Eq)]
 pub enum Notice {
     /// The segment with this identifier was destroyed.
     Gone(u32),
-    /// The host was told of every segment that was destroyed.
+    /// Every destroyed segment was reported.
     Nothing,
     /// The host has fewer counts than the table has indexes.
     Short,
@@ -65,9 +65,10 @@ impl<P: Pager> Kernel<P> {
 }
 
 impl<P: Pager> System<P> {
-    /// Names a destroyed segment of which the host was not told: the first one at the lowest index. `told` has
-    /// a count for each index of the table, of the segments that were destroyed there and that were named; the
-    /// count of that index rises by 1. If all counts are 0 at the start, each destroyed segment is named once.
+    /// Reports the first destroyed segment at the lowest index that was not reported before. `told` has a
+    /// count for each index of the table: how many of the segments that were destroyed there were reported.
+    /// The count of that index rises by 1. If all counts are 0 at the start, each destroyed segment is
+    /// reported once.
     pub fn next_gone(&self, told: &mut [u32]) -> Notice
         ensures { Notices self.now.machine.table told.old result told.new }
     {

@@ -185,7 +185,7 @@ impl<P: Pager> System<P> {
     }
 
     /// One call of a process, at the host's time or else at its place among the calls. If a pager fails, the
-    /// reply names the failure in place of the flat machine's reply, and the flat machine does not change.
+    /// reply names the failure instead of the flat machine's reply, and the flat machine does not change.
     /// HostMemory: the host refused memory; nothing changed, and the call is not counted. It occurs only for
     /// a call that takes memory and that the flat machine does not refuse.
     pub fn call(&mut self, pid: u32, call: &Call) -> Result<Reply, HostMemory>

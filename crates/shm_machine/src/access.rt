@@ -17,7 +17,7 @@ use crate::refusal::Refusal;
 use shm_base::Errno;
 use shm_life::NotReady;
 
-// The refusal of an access for which no way could be made.
+// The refusal of an access that is not ready.
 fn refusal_of(why: NotReady) -> Refusal
     ensures { result ≡ refusal_of why }
 {
@@ -27,7 +27,7 @@ fn refusal_of(why: NotReady) -> Refusal
     }
 }
 
-// What an access answered, with its errno as a refusal.
+// The result of an access, with its errno as a refusal.
 #[inline(always)]
 fn answer(done: Result<(), Errno>) -> Result<(), Refusal>
     ensures { result ≡ refused_by done }

@@ -1,4 +1,4 @@
-//! What a machine is opened with.
+//! The swap areas with which a machine is opened, and which of their reads and writes fail.
 ghost use Rattle.std.specs.Prelude.{◌≡◌, ◌==◌, ◌≤◌, IfOk, length, true, false};
 ghost use Rattle.shm_machine.specs.Opened.{is_at, calls_at, IsMade, AreMade};
 
@@ -73,7 +73,8 @@ fn failing(
     })
 }
 
-// An area of zeros, of which exactly the listed calls fail, beside those of a sparse area for lack of memory.
+// An area of zeros. Exactly the listed calls fail, and in a sparse area also writes for which the host
+// refuses memory.
 fn pager_for(
     alloc: Global,
     index: u32,

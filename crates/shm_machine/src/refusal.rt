@@ -3,7 +3,7 @@ use thiserror::Error;
 
 /// Why a call was not done. `Refused`: the flat machine refuses it, or a pager failed. `HostMemory`: the host
 /// refused memory for a call that the flat machine does not refuse; the call is not counted. `Spent`: the
-/// machine answered 2^64 - 1 calls, the most that it can count, and answers no more. `Lent`: the call touches a
+/// call counter is at its maximum, 2^64 - 1, so the machine makes no more calls. `Lent`: the call touches a
 /// page on loan, or needs a frame that only a page on loan could leave; the call is not counted.
 #[derive(Clone, Copy, Debug, PartialEq, Eq, Error)]
 pub enum Refusal {

@@ -40,8 +40,8 @@ calls_of swap = record { reads = reads_of swap; writes = writes_of swap }
 abbrev pub no_calls : FailingCalls
 no_calls = record { reads = []; writes = [] }
 
--- the new area of a word: zeros in each slot, no failure counted, and only the call that a fuse names will fail, beside those of
--- a sparse area for lack of memory; no call of either side of a mirror will
+-- the new area of a word: zeros in each slot, and no failure counted. Only the call that a fuse names will fail, and in a sparse
+-- area writes for which the host refuses memory; no call of either side of a mirror will
 abbrev pub IsAreaOf : SwapWord → AreaPager → Type 0
 IsAreaOf swap p = IsOfKind (kind_of swap) (size_of swap) (calls_of swap) no_calls p × (failed_in p ≡ 0)
 

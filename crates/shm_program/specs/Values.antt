@@ -23,6 +23,6 @@ abbrev pub with_values : List HolderView → ℕ → List (Option ℕ) → List 
 with_values [] pid values = []
 with_values (h ∷ hs) pid values = if h.pid == pid then record { pid = h.pid; values = values } ∷ hs else h ∷ with_values hs pid values
 
--- the variables of all processes after a line was answered
+-- the variables of all processes after the reply to a line
 abbrev pub with_answer : List HolderView → CommandView → Option Reply → List HolderView
 with_answer hs c reply = with_values hs c.pid (values_after (values_of hs c.pid) c.var reply)

@@ -18,7 +18,7 @@ const ASKS: u32 = 2_097_152;
 // The bytes of one read.
 const BUFFER: usize = 4096;
 
-// Whether to read again after this failure: only after an interruption. A reader that does not block answers
+// Whether to read again after this failure: only after an interruption. A reader that does not block returns
 // `WouldBlock` if it has nothing yet. That counts as a failure, because reading again at once would keep a
 // processor busy.
 fn is_asked_again(kind: ErrorKind) -> bool

@@ -20,10 +20,11 @@ use std::{error, fmt};
 ///
 /// - `ThreadRefused`: the host refused a thread. Only a run with threads has it.
 ///
-/// No run of the programs has the others:
+/// The programs never stop for these two:
 ///
-/// - `Gate`: a gate ended a thread; it has the least such pid, or 0 for the flusher. Their gates are open.
-/// - `Mismatch`: no run has it.
+/// - `Gate`: a gate ended a thread; it has the least such pid, or 0 for the flusher. The programs' gates end
+///   none.
+/// - `Mismatch`: no run ends with it.
 #[derive(Clone, Copy, Debug, PartialEq, Eq)]
 pub enum RunFault {
     Script(ScriptFault),

@@ -18,11 +18,12 @@ use shm_text::{Line, Script};
 use std::alloc::Global;
 use std::io::{Read, Write};
 
-/// Reads a script, runs it over swap areas with these pagers, and writes an event line for each command line, the
-/// listing of the segments, and the usage. The whole output is made before its first byte is written, so at every
-/// fault except `WriteFailed` nothing is written, and then a beginning of the output. Faults are found in this order: reading, script, start, run,
-/// writing. With pagers that never fail, such as [`shm_pager::RamPager`], the event lines and the listing are those
-/// of the flat machine, whatever was paged out.
+/// Reads a script, runs it over swap areas with these pagers, and writes an event line for each command line,
+/// the listing of the segments, and the usage. The whole output is made before its first byte is written, so
+/// nothing is written at any fault except `WriteFailed`, which may leave a beginning of the output. Faults
+/// are found in this order: reading, script, start, run, writing. With pagers that never fail, such as
+/// [`shm_pager::RamPager`], the event lines and the listing are those of the flat machine, whatever was paged
+/// out.
 pub fn run_serial<R: Read, W: Write, P: Pager>(
     alloc: Global,
     reader: &mut R,

@@ -22,13 +22,13 @@ use std::io::{Read, Write};
 use std::sync::Wait;
 use std::thread::Threads;
 
-/// Reads a script, runs it over swap areas with these pagers, each process in its own thread, and writes an event
-/// line for each call in the order of the history, the listing of the segments, and the usage. The whole output is
-/// made before its first byte is written. At every fault except `WriteFailed` nothing is written, with one
-/// exception: if the host refused memory to a call of the run, the whole output is written and the answer is
-/// `HostMemory`; that call is not in the history. Faults are found in this order: reading, script, start, run,
-/// writing. Nothing is claimed about the order of calls of different processes, or that a run ends: its threads wait
-/// for each other.
+/// Reads a script, runs it over swap areas with these pagers, each process in its own thread, and writes an
+/// event line for each call in the order of the history, the listing of the segments, and the usage. The
+/// whole output is made before its first byte is written. At every fault except `WriteFailed` nothing is
+/// written, with one exception: if the host refused memory to a call of the run, the whole output is written
+/// and the result is `HostMemory`; that call is not in the history. Faults are found in this order: reading,
+/// script, start, run, writing. Nothing is claimed about the order of calls of different processes, or that a
+/// run ends: its threads wait for each other.
 pub fn run_threaded<T: Threads + Wait + Sync, R: Read, W: Write, P: Pager + Send>(
     rt: &T,
     alloc: Global,

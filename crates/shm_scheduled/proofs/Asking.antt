@@ -34,7 +34,7 @@ last : (b : Bool) (es : List Entry) (Rest : Type 0) → MatchBool b (es ≡ []) 
 last true es Rest h e = h
 last false es Rest h e = absurd (true≢false (sym e))
 
--- no event is told of where one is left
+-- no event is left if the list is at its end
 pub none-more : (olds : List Event) (e : Event) (more : List Event) → [] ≡ olds ++ e ∷ more → ⊥
 none-more [] e more is = absurd (cc is)
 none-more (o ∷ olds) e more is = absurd (cc is)
@@ -67,7 +67,7 @@ module _ (pid : ℕ) (values : List (Option ℕ)) (c : CommandView) (ls : List L
         | inr goes ↦ next os (follows_on goes) others
       ]))
 
--- what is asked after these lines, whatever was told before
+-- the call after these lines, whatever the earlier replies were
 abbrev IsAsked : ℕ → List (Option ℕ) → List Line → Event → List Event → List Entry → List Event → Type 0
 IsAsked pid values ls e more es olds =
     Follows values (commands_of pid ls) es → has_mark es ≡ false → transcript_events pid es ≡ olds ++ e ∷ more → next_call pid values ls (map reply_of olds) ≡ Some e.call

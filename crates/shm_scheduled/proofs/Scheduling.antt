@@ -38,7 +38,7 @@ use Rattle.shm_scheduled.proofs.Reordering.{as-serial}
 
 -- ONE TRANSCRIPT FOR EACH PROCESS
 
--- what a declared process was asked and told: a transcript without marks, with all its lines if it is live at the end
+-- the calls and replies of a declared process: a transcript without marks, with all its lines if it is live at the end
 record Told (script : ScriptView) (history : List Event) (end : Machine) (pid : ℕ) : Type 0 where
   entries : List Entry
   clear : has_mark entries ≡ false

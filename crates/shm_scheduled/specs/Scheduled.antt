@@ -27,9 +27,9 @@ pub record IsSerial (script : ScriptView) (areas : List ℕ) (events : List Even
   pub lines : AreOrdered (schedule_of events) script.lines (in_order (schedule_of events) script.lines)
   pub replies : serial_events (ordered (schedule_of events) script) areas ≡ events
 
--- The history is that of a schedule of the script, over swap areas of these sizes, and ends where no process can go on. So
--- each list of all outcomes has its outcome, and a serial run of the lines in that order makes the same history and prints
--- the same event lines and the same listing
+-- The history is that of a schedule of the script, over swap areas of these sizes, and ends when no process can continue. So each
+-- list of all outcomes has its outcome, and a serial run of the lines in that order makes the same history and prints the same
+-- event lines and the same listing
 pub record IsScheduled (script : ScriptView) (areas : List ℕ) (events : List Event) (machine : Machine) : Type 0 where
   pub schedule : IsSchedule script (start script areas) (schedule_of events) (run_of events machine)
   pub listed : (found : List Finding) → AreOutcomes script (start script areas) found → Contains (outcomes_in found) (outcome_of script events)

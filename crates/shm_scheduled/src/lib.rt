@@ -1,4 +1,4 @@
-//! Runs of scripts as runs of schedules: what a run with threads has to do with the outcomes that a search lists.
+//! Relates runs with threads to schedules, and to the outcomes that a search lists.
 #![tactic(auto)]
 
 mod schedule;

@@ -14,11 +14,12 @@ use shm_schedules::Finding;
 use shm_text::Script;
 use shm_threads::Outcome;
 
-/// The history of a run of the script with threads. If the host refused no memory to a call, and no reply names a pager's
-/// failure, the history is that of a schedule of the script, which ends when no process can go on. So
-/// `shm_outcomes::outcomes` lists its outcome, and `shm_outcomes::masked_outcomes` lists it without identifiers and
-/// addresses. A serial run of the script's lines in the order of the history makes the same history. The same holds of the
-/// world whose text `shm_runner::run_threaded` writes, if no call of the run was refused memory.
+/// The history of a run of the script with threads. If the host refused no memory to a call, and no reply
+/// names a pager's failure, the history is that of a schedule of the script, which ends when no process can
+/// continue. So `shm_outcomes::outcomes` lists its outcome, and `shm_outcomes::masked_outcomes` lists it
+/// without identifiers and addresses. A serial run of the script's lines in the order of the history makes
+/// the same history. The same holds of the world whose text `shm_runner::run_threaded` writes, if no call of
+/// the run was refused memory.
 pub fn scheduled<'a, P: Pager>(outcome: &'a Outcome<P>, script: &Script) -> &'a [Event]
     ensures law { IsClear script.now outcome.now.world outcome.now.transcripts.items
         → IsScheduled script.now outcome.now.world.opening.areas result.now outcome.now.world.machine }

@@ -176,7 +176,7 @@ fn boxes_of_two(
     Ok(boxes)
 }
 
-// Makes the calls. The first area's box is dropped when its swapoff is answered, and the other's never.
+// Makes the calls. The first area's box is dropped when its swapoff succeeds, and the other's never.
 fn drops_when_answered<P: Pager>(
     rt: &impl Abort,
     world: &mut World<P>,

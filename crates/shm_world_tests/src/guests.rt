@@ -153,7 +153,7 @@ fn times_come_from_the_host(rt: HostRuntime) -> Result<(), Fail> {
     assert!(rt; now.atime == 1_700_000_000);
     machine.system.set_time(None);
     assert!(rt; machine.perform(1, &Call::Shmdt { addr: 0x40000000 }) == Ok(()));
-    // Three calls were answered before.
+    // Three calls were made before.
     assert!(rt; shown(&mut machine)?.dtime == 4);
     Ok(())
 }

@@ -1,4 +1,4 @@
-//! What the cover hands on, by the rules; and that its structs are the library's.
+//! The wrapper passes calls on by the rules, and its structs are the library's.
 use nogcuvema::{raw, Area, Errno, Failure, Frame, Limits, Machine, Piece, Process, Segment, SegmentPages, ShownPage, State, Usage};
 use nogcuvema::{rules, CREAT, EXCL, EXEC, HUGETLB, LOCKED, NORESERVE, PAGE_BYTES, PRIVATE, RDONLY};
 use std::mem::size_of;

@@ -7,7 +7,7 @@ use Rattle.shm_life.proofs.kernel.Kernel.swapoff.Given.{Over}
 use Rattle.shm_life.proofs.kernel.Kernel.swapoff.Goals as goal
 use Rattle.shm_life.proofs.kernel.Kernel.swapoff.Goals.{After-from, After-is_err}
 
--- the area is there, and the capacity is that of all areas
+-- the area is active, and the capacity is that of all areas
 there : (g : Over) (c : After-from g) → IsThere (sizes c.self.inside.segments.memory.swap) c.args.area c.in-Some.size × (c.capacity.result ≡ slots (sizes c.self.inside.segments.memory.swap))
 there g c =
     let swap : c.swap-swap.result.now ≡ c.self.inside.segments.memory.swap = c.swap-swap.ensures ∙ ap (λ (m : StoreView). m.swap) c.store.ensures.value in
