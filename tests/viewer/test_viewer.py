@@ -19,7 +19,7 @@ from viewer import browser, served
 from viewer.expected import (CHARTS, REFUSALS, legend_of, moves_of, notice_of, number_of,
                              read_sentences, shown_at, wrong_chart, wrong_colours, wrong_moves, wrong_parts)
 from viewer.hand import check_hand
-from viewer.long_run import check_long_run
+from viewer.long_run import MANY_STEPS, check_long_run, check_sheets
 from viewer.memory import LATE, MANY_ROWS, Record, check_bytes, check_loads, records
 from viewer.moving import check_handout, check_names, check_playing, check_seeking, check_swipes
 from viewer.pages import (EXAMPLES, HERE, LESSONS, PROGRAM, SCRIPTS, SIZES, VIEWER, Page, example, page_by,
@@ -390,6 +390,14 @@ def test_moving(session: browser.Session, folder: str, name: str) -> None:
 
 def test_long_run(session: browser.Session) -> None:
     check_long_run(session, page_of)
+
+
+def test_many_sheets(session: browser.Session, folder: str) -> None:
+    made, path = page_by(["ram:1"], MANY_STEPS, "sheets"), os.path.join(folder, "page.html")
+    with open(path, "w", encoding="utf-8") as file:
+        file.write(made.html)
+    session.open(f"file://{path}", *SIZES[0])
+    check_sheets(session)
 
 
 def test_bytes(session: browser.Session, folder: str) -> None:
