@@ -20,7 +20,8 @@ from viewer.expected import (CHARTS, REFUSALS, legend_of, moves_of, notice_of, n
                              read_sentences, shown_at, wrong_chart, wrong_colours, wrong_moves, wrong_parts)
 from viewer.hand import check_hand
 from viewer.long_run import MANY_STEPS, check_long_run, check_sheets
-from viewer.memory import LATE, MANY_ROWS, Record, check_bytes, check_loads, records
+from viewer.memory import (LATE, MANY_ROWS, Record, check_bytes, check_late, check_loads,
+                           check_many_processes, check_many_rows, records)
 from viewer.moving import check_handout, check_names, check_playing, check_seeking, check_swipes
 from viewer.pages import (EXAMPLES, HERE, LESSONS, PROGRAM, SCRIPTS, SIZES, VIEWER, Page, example, page_by,
                           page_of_example, record_of, run)
@@ -368,8 +369,24 @@ def test_served(check: Any) -> None:
     check()
 
 
-def test_served_in_a_browser(session: browser.Session) -> None:
-    served.check_in_browser(session)
+@pytest.fixture(scope="module")
+def address() -> Iterator[str]:
+    """The address of a page that is served."""
+    with served.served() as found:
+        assert found, "no address was printed"
+        yield found[0]
+
+
+@pytest.mark.parametrize("check", served.EDITOR)
+def test_editor(session: browser.Session, address: str, check: Any) -> None:
+    """A script that is edited next to its picture."""
+    session.open(address, *SIZES[0])
+    assert served.wait_for(session, "byId('where').textContent === 'step 0 of 9'")
+    check(session)
+
+
+def test_editor_with_a_script(session: browser.Session) -> None:
+    served.check_with_a_script(session)
 
 
 @pytest.mark.parametrize("name", ["remap", "other_changes", "swap_taken_away"])
@@ -400,10 +417,21 @@ def test_many_sheets(session: browser.Session, folder: str) -> None:
     check_sheets(session)
 
 
-def test_bytes(session: browser.Session, folder: str) -> None:
+@pytest.mark.parametrize("name", SCRIPTS)
+def test_bytes(session: browser.Session, folder: str, name: str) -> None:
+    check_bytes(session, page_of_example(name), folder)
+
+
+def test_bytes_of_many_rows(session: browser.Session, folder: str) -> None:
+    check_many_rows(session, page_by(["ram:64"], MANY_ROWS, "rows"), folder)
+
+
+def test_bytes_of_chosen_steps(session: browser.Session, folder: str) -> None:
     chosen = page_by(["--steps", "9-12", "ram:64"], example("bytes")[0], "bytes, steps 9 to 12",
                      begins=["--steps", "0-12", "ram:64"], skipped=9)
     late = page_by(["--steps", "2004-2006", "ram:64"], LATE, "late")
-    others = [chosen, late, page_by(["ram:64"], example("permissions")[0], "permissions"),
-              page_by(["ram:64"], MANY_ROWS, "rows")]
-    check_bytes(session, [page_of_example(name) for name in SCRIPTS], others, folder)
+    check_late(session, chosen, late, folder)
+
+
+def test_bytes_on_paper(session: browser.Session, folder: str) -> None:
+    check_many_processes(session, page_of_example("permissions"), folder)
