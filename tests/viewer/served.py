@@ -158,6 +158,21 @@ SHOWN = ("[...byId('outcomes').rows[1].cells].slice(1)"
 OWN = "[1, 2].map((pid) => byId('text').value.split('\\n').filter((it) => it.startsWith(pid + ' ')))"
 
 
+# whether a section lies between the bar and the lower end of the screen
+IN_SIGHT = ("byId('bar').getBoundingClientRect().bottom <= byId('orders').getBoundingClientRect().top && "
+            "byId('orders').getBoundingClientRect().bottom <= innerHeight")
+
+
+def check_in_sight(session: Session) -> None:
+    """On a phone the outcomes come below the lesson, and the page shows them at once."""
+    session.ask("Emulation.setDeviceMetricsOverride", width=390, height=844, deviceScaleFactor=1, mobile=True)
+    session.value("byId('orders').hidden = true; showOutcomes([]); scrollTo(0, 0); byId('every').click()")
+    assert wait_for(session, "byId('outcomes').rows.length === 4")
+    assert wait_for(session, IN_SIGHT, 2)
+    session.ask("Emulation.setDeviceMetricsOverride", width=1280, height=900, deviceScaleFactor=1,
+                mobile=False)
+
+
 def check_orders(session: Session) -> None:
     """Every order of a script: its outcomes, a column for each process. A click replays an order that gives
     this outcome, with the lines of each process in their order."""
@@ -180,6 +195,7 @@ def check_orders(session: Session) -> None:
                          "await search; return byId('outcomes').rows.length; })()")
     assert late == 0
     edit(session, "# late", "")
+    check_in_sight(session)
     edit(session, "1 fork 2", "0 flush 1\n# both have it now\n1 fork 2\n# process 2 is born")
     assert session.value("byId('orders').hidden")
     session.value("byId('every').click()")
@@ -263,6 +279,10 @@ def check_threads(session: Session) -> None:
         assert session.value("steps.slice(1).map((it) => it.call.replace('call ', ''))") == told
         assert session.value(OWN) == lines
         assert session.value("[byId('lanes').hidden, byId('laned').rows.length]") == [False, 11]
+    late = session.value("(async () => { const race = runThreads(); byId('text').value += '# late'; "
+                         "await race; return byId('text').value.endsWith('# late'); })()")
+    assert late is True
+    edit(session, "# late", "")
     edit(session, "1 fork 2", "1 frok 2")
     session.value("byId('race').click()")
     assert wait_for(session, "byId('words').textContent.includes('nearest form: fork')")

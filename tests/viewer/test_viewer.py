@@ -118,6 +118,7 @@ def wrong_layout(seen: dict[str, Any], first: dict[str, Any], wide: int, high: i
     wrong += ["the script comes after the boxes"] * (wide < 640 and seen["script"] > seen["highest"])
     wrong += ["a table does not scroll"] * (not seen["scrolls"])
     wrong += ["sentences are cut off"] * (not seen["isTold"])
+    wrong += ["an outline crosses a text"] * (not seen["isClear"])
     return wrong + [f"the legend is {seen['marks']}"] * (seen["marks"] != first["marks"])
 
 
@@ -126,9 +127,9 @@ FOLD = "document.getElementById('fold').click(), document.querySelector('.key').
 
 @pytest.mark.parametrize("name", LESSONS)
 def test_first_screen(session: browser.Session, folder: str, name: str) -> None:
-    """The segments' table is whole on the first screen, also on a projector, where boxes and text are
-    larger. The legend is one line with the marks of the run, and a click hides it. On a phone the script
-    comes first."""
+    """The segments' table is whole on the first screen, and the frames are one row, also on a projector,
+    where boxes and text are larger. The legend is one line with the marks of the run, and a click hides it.
+    On a phone the script comes first."""
     with open(os.path.join(HERE, "measure.js"), encoding="utf-8") as file:
         measure = file.read()
     made, path = page_of_example(name), os.path.join(folder, "page.html")
@@ -139,7 +140,7 @@ def test_first_screen(session: browser.Session, folder: str, name: str) -> None:
         session.open(f"file://{path}", wide, high)
         now = session.value(measure)
         seen.append(now)
-        assert now["table"] < high and now["isWhole"]
+        assert now["table"] < high and now["isWhole"] and now["frameRows"] == 1
         assert [(words, looks) for words, looks, *_ in now["marks"]] == legend_of(made.blocks)
         middles = [middle for _, _, middle, _ in now["marks"]]
         assert max(middles) - min(middles) <= 1 and max(it[3] for it in now["marks"]) < wide
