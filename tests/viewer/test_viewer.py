@@ -390,7 +390,7 @@ def test_editor_with_a_script(session: browser.Session) -> None:
     served.check_with_a_script(session)
 
 
-@pytest.mark.parametrize("name", ["remap", "other_changes", "swap_taken_away"])
+@pytest.mark.parametrize("name", ["remap", "other_changes", "bytes", "swap_taken_away"])
 def test_moving(session: browser.Session, folder: str, name: str) -> None:
     """Search finds each step of a kind; play, the handout and swipes move as they should."""
     made, path = page_of_example(name), os.path.join(folder, "page.html")
