@@ -68,6 +68,8 @@ class Session:
         while True:
             answer = self.receive()
             if answer.get("id") == self.count:
+                if "error" in answer:
+                    raise OSError(f"the browser refused {method}: {answer['error']}")
                 return answer["result"]
 
     def open(self, address: Any, wide: Any, high: Any) -> None:

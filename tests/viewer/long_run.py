@@ -50,7 +50,6 @@ def check_long_run(session: Session, page_of: Any) -> None:
             took.append(session.value("performance.timing.loadEventEnd - performance.timing.navigationStart"))
         assert min(took) < MOST_MILLISECONDS
         check_steps(session)
-        check_sheets(session)
 
 
 def check_steps(session: Session) -> None:
@@ -80,9 +79,13 @@ def check_steps(session: Session) -> None:
     assert sheet == 0
 
 
+# more steps than are printed at once, of a small machine, because a sheet has each of its boxes
+MANY_STEPS = "limits 65536 1 1 2 0\nprocess 1 1 1\n" + "1 stat 0\n" * 201
+
+
 def check_sheets(session: Session) -> None:
     """At most 200 steps are printed at once, and the last sheet says so if there are more."""
-    for words, sheets in ("1-201", 200), ("1-200", 200), ("3", 1):
+    for words, sheets in (("1-201", 200), ("1-200", 200), ("3", 1)):
         session.value(f"document.getElementById('printed').value = '{words}'; 0")
         seen = session.value("(() => { makeSheets(); const it = byId('sheets'); return "
                              "[it.querySelectorAll('.sheet').length, "

@@ -28,6 +28,13 @@
     const { top, bottom, right } = it.getBoundingClientRect();
     return [it.innerText.trim().replace(/\s+/g, " "), picture ? LOOKS.filter(([, test]) => test(picture)).map(([name]) => name).join() : "", Math.round((top + bottom) / 2), right];
   });
+  // the outline of a box that was accessed lies 4px inside it, and crosses no text
+  const isClear = (it) => {
+    const [edge, text] = [it.getBoundingClientRect(), document.createRange()];
+    text.selectNodeContents(it.querySelector(".number"));
+    const { top, left, right } = text.getBoundingClientRect();
+    return top >= edge.top + 4 && left >= edge.left + 4 && right <= edge.right - 4;
+  };
   return {
     boxes: all("#bar, #live section, .key, #live .cell, #segments tr, #live svg, .legend li").map(box),
     wide: document.documentElement.scrollWidth,
@@ -37,6 +44,8 @@
     scrolls: table.scrollWidth <= table.clientWidth || style.overflowX === "auto" && style.backgroundImage.includes("gradient"),
     isTold: lines.every(isWithin) || !more.hidden,
     marks,
+    isClear: all(".cell.reached").every(isClear),
+    frameRows: new Set(all("#frames .cell").map((it) => it.getBoundingClientRect().top)).size,
     table: bottom("#segments"),
     isWhole: table.scrollWidth <= table.clientWidth,
     cell: document.querySelector(".cell").offsetWidth,

@@ -381,21 +381,26 @@ def check_loads(made: list[Record]) -> None:
     assert answers >= FEWEST_LOADS
 
 
-def check_bytes(session: Session, pages: Any, others: Any, folder: str) -> None:
-    """The pages are those of all scripts, the scripts turns and bytes last; the others are of chosen steps,
-    of late ones, and of many processes."""
-    for made in pages:
-        path = open_in(folder, session, made)
-        check_tables(session, made)
-        if made.name == "turns":
-            check_opening(session, made)
-    check_whole(session, made)
-    check_room(session, made, path)
-    chosen, late, many, rows = others
-    open_in(folder, session, rows)
-    check_followed(session, rows, Memory(rows.all_blocks))
+def check_bytes(session: Session, made: Page, folder: str) -> None:
+    """The bytes of each page of a script. One script's are also opened by clicks, and another's whole and on
+    paper."""
+    path = open_in(folder, session, made)
+    check_tables(session, made)
+    if made.name == "turns":
+        check_opening(session, made)
+    if made.name == "bytes":
+        check_whole(session, made)
+        check_room(session, made, path)
+
+
+def check_many_rows(session: Session, made: Page, folder: str) -> None:
+    open_in(folder, session, made)
+    check_followed(session, made, Memory(made.all_blocks))
     assert session.value("document.getElementById('dump').offsetHeight") <= 34 * 16
-    check_late(session, chosen, late, folder)
-    open_in(folder, session, many)
+
+
+def check_many_processes(session: Session, made: Page, folder: str) -> None:
+    """With a page open each step still has one sheet."""
+    open_in(folder, session, made)
     opened(session, "0·0")
-    check_sheets(session, many)
+    check_sheets(session, made)

@@ -2,7 +2,6 @@
 
 from __future__ import annotations
 
-import os
 import re
 from typing import Any
 
@@ -19,19 +18,22 @@ NAMES = [("button", "One step back"), ("button", "One step on"), ("slider", "Ste
 WHERE = "Number(/step (\\d+)/.exec(document.getElementById('where').textContent)[1])"
 NOTICE = "document.querySelector('#changes .notice')?.textContent ?? ''"
 WORDS = {"fault": "a page comes into a frame", "refusal": "a call is refused"}
+# presses a key until it leads nowhere: the steps that are shown, and the message
+WALK = f"""((key, most) => {{
+  const seen = [];
+  while (seen.length <= most) {{
+    const was = {WHERE};
+    dispatchEvent(new KeyboardEvent("keydown", {{ key, cancelable: true }}));
+    if ({WHERE} === was) break;
+    seen.push({WHERE});
+  }}
+  return [seen, {NOTICE}];
+}})"""
 
 
 def walk(session: Session, press: Any, last: Any) -> Any:
-    """The steps to which a key leads, until it leads nowhere; and the message then."""
-    seen: list[int] = []
-    while len(seen) <= last + 1:
-        was = session.value(WHERE)
-        session.press(press)
-        now = session.value(WHERE)
-        if now == was:
-            break
-        seen.append(now)
-    return seen, session.value(NOTICE)
+    """The steps to which a key leads, and the message after the last."""
+    return session.value(f"{WALK}('{press}', {last} + 1)")
 
 
 def check_seeking(session: Session, made: Page) -> None:
@@ -173,17 +175,3 @@ def check_handout(session: Session, made: Page) -> None:
                 for at in numbers]
         assert (seen, told, sheets) == (want, said, max(1, len(numbers)))
     session.value("document.getElementById('printed').value = ''; 0")
-
-
-def check_moving(session: Session, pages: Any, folder: str, wait_for: Any) -> None:
-    for made in pages:
-        path = os.path.join(folder, made.name + ".html")
-        with open(path, "w", encoding="utf-8") as file:
-            file.write(made.html)
-        session.open(f"file://{path}", 1280, 900)
-        check_seeking(session, made)
-    check_playing(session, pages[-1], wait_for)
-    check_names(session)
-    check_handout(session, pages[-1])
-    session.open(f"file://{path}", 390, 844)
-    check_swipes(session)

@@ -22,8 +22,6 @@ import time
 from collections.abc import Iterator
 from typing import Any
 
-import pytest
-
 import answer
 import serve
 from commands import TOP, text_of, write_file
@@ -104,6 +102,14 @@ def choose(session: Session, name: str, kind: str = "example") -> None:
 TOPS = "['#script', '#lesson', '.spaces'].map((it) => document.querySelector(it).getBoundingClientRect().top)"
 
 
+def check_choices(session: Session) -> None:
+    """The list has each lesson and each example."""
+    names = session.value("[...byId('choose').querySelectorAll('optgroup')].map((it) => "
+                          "[...it.children].map((name) => name.textContent))")
+    examples = sorted(os.path.basename(path)[:-4] for path in glob.glob(f"{TOP}/examples/*.shm"))
+    assert names == [LESSONS, examples]
+
+
 def check_order(session: Session) -> None:
     """The lesson comes before script and boxes, and on a phone between them."""
     script, lesson, spaces = session.value(TOPS)
@@ -152,6 +158,21 @@ SHOWN = ("[...byId('outcomes').rows[1].cells].slice(1)"
 OWN = "[1, 2].map((pid) => byId('text').value.split('\\n').filter((it) => it.startsWith(pid + ' ')))"
 
 
+# whether a section lies between the bar and the lower end of the screen
+IN_SIGHT = ("byId('bar').getBoundingClientRect().bottom <= byId('orders').getBoundingClientRect().top && "
+            "byId('orders').getBoundingClientRect().bottom <= innerHeight")
+
+
+def check_in_sight(session: Session) -> None:
+    """On a phone the outcomes come below the lesson, and the page shows them at once."""
+    session.ask("Emulation.setDeviceMetricsOverride", width=390, height=844, deviceScaleFactor=1, mobile=True)
+    session.value("byId('orders').hidden = true; showOutcomes([]); scrollTo(0, 0); byId('every').click()")
+    assert wait_for(session, "byId('outcomes').rows.length === 4")
+    assert wait_for(session, IN_SIGHT, 2)
+    session.ask("Emulation.setDeviceMetricsOverride", width=1280, height=900, deviceScaleFactor=1,
+                mobile=False)
+
+
 def check_orders(session: Session) -> None:
     """Every order of a script: its outcomes, a column for each process. A click replays an order that gives
     this outcome, with the lines of each process in their order."""
@@ -174,6 +195,7 @@ def check_orders(session: Session) -> None:
                          "await search; return byId('outcomes').rows.length; })()")
     assert late == 0
     edit(session, "# late", "")
+    check_in_sight(session)
     edit(session, "1 fork 2", "0 flush 1\n# both have it now\n1 fork 2\n# process 2 is born")
     assert session.value("byId('orders').hidden")
     session.value("byId('every').click()")
@@ -199,8 +221,8 @@ ASKED: list[tuple[str, list[list[str]], str]] = [
 
 
 def check_condition(session: Session) -> None:
-    """An order whose replies meet a condition: it is the only one below, and a click replays it. For a condition
-    that none meets, and for a wrong one, the page says so."""
+    """An order whose replies meet a condition: it is the only one below, and a click replays it. For a
+    condition that none meets, and for a wrong one, the page says so."""
     choose(session, LESSONS[8], "lesson")
     session.value("byId('every').click()")
     assert wait_for(session, "byId('outcomes').rows.length === 4")
@@ -257,6 +279,10 @@ def check_threads(session: Session) -> None:
         assert session.value("steps.slice(1).map((it) => it.call.replace('call ', ''))") == told
         assert session.value(OWN) == lines
         assert session.value("[byId('lanes').hidden, byId('laned').rows.length]") == [False, 11]
+    late = session.value("(async () => { const race = runThreads(); byId('text').value += '# late'; "
+                         "await race; return byId('text').value.endsWith('# late'); })()")
+    assert late is True
+    edit(session, "# late", "")
     edit(session, "1 fork 2", "1 frok 2")
     session.value("byId('race').click()")
     assert wait_for(session, "byId('words').textContent.includes('nearest form: fork')")
@@ -335,7 +361,8 @@ def check_fault(session: Session) -> None:
     assert session.value("byId('where').textContent") == "step 6 of 9"
 
 
-def check_swap_and_link(session: Session, address: Any) -> None:
+def check_swap_and_link(session: Session) -> None:
+    address = session.value("location.href.split('#')[0]")
     choose(session, "failing_swap")
     session.value("go(6)")
     seen = session.value(SEEN)
@@ -384,6 +411,8 @@ def check_late(session: Session) -> None:
 
 
 def check_saving(session: Session) -> None:
+    choose(session, "failing_swap")
+    session.value("go(6)")
     session.value("URL.createObjectURL = (page) => "
                   "{ page.text().then((text) => { window.saved = text; }); return 'blob:none'; }; "
                   "byId('save').click()")
@@ -400,28 +429,8 @@ def check_saving(session: Session) -> None:
     assert "127.0.0.1" not in saved
 
 
-def check_in_browser(session: Session) -> None:
-    """A script that is edited next to its picture."""
-    with served() as found:
-        if not found:
-            pytest.fail("served: no address was printed")
-            return
-        session.open(found[0], 1280, 900)
-        wait_for(session, "byId('where').textContent === 'step 0 of 9'")
-        names = session.value("[...byId('choose').querySelectorAll('optgroup')].map((it) => "
-                              "[...it.children].map((name) => name.textContent))")
-        examples = sorted(os.path.basename(path)[:-4] for path in glob.glob(f"{TOP}/examples/*.shm"))
-        assert names == [LESSONS, examples]
-        check_lesson(session)
-        check_orders(session)
-        check_condition(session)
-        check_tasks(session)
-        check_threads(session)
-        check_editing(session)
-        check_fault(session)
-        check_late(session)
-        check_swap_and_link(session, found[0])
-        check_saving(session)
+def check_with_a_script(session: Session) -> None:
+    """The page opens a script that was named, with the swap areas that were named or are next to it."""
     example = f"{TOP}/examples/failing_swap.shm"
     with served(example) as found, served("ram:3", example) as other:
         for address, swap in ((found, "fuse:64:r1"), (other, "ram:3")):
@@ -593,3 +602,8 @@ def check_limits() -> None:
             took = time.monotonic() - began
             assert "record" not in said
             assert took < 8
+
+
+# the parts of the page that is served, each with the page as it opens
+EDITOR = (check_choices, check_lesson, check_orders, check_condition, check_tasks, check_threads,
+          check_editing, check_fault, check_late, check_swap_and_link, check_saving)

@@ -19,8 +19,9 @@ from viewer import browser, served
 from viewer.expected import (CHARTS, REFUSALS, legend_of, moves_of, notice_of, number_of,
                              read_sentences, shown_at, wrong_chart, wrong_colours, wrong_moves, wrong_parts)
 from viewer.hand import check_hand
-from viewer.long_run import check_long_run
-from viewer.memory import LATE, MANY_ROWS, Record, check_bytes, check_loads, records
+from viewer.long_run import MANY_STEPS, check_long_run, check_sheets
+from viewer.memory import (LATE, MANY_ROWS, Record, check_bytes, check_late, check_loads,
+                           check_many_processes, check_many_rows, records)
 from viewer.moving import check_handout, check_names, check_playing, check_seeking, check_swipes
 from viewer.pages import (EXAMPLES, HERE, LESSONS, PROGRAM, SCRIPTS, SIZES, VIEWER, Page, example, page_by,
                           page_of_example, record_of, run)
@@ -117,6 +118,7 @@ def wrong_layout(seen: dict[str, Any], first: dict[str, Any], wide: int, high: i
     wrong += ["the script comes after the boxes"] * (wide < 640 and seen["script"] > seen["highest"])
     wrong += ["a table does not scroll"] * (not seen["scrolls"])
     wrong += ["sentences are cut off"] * (not seen["isTold"])
+    wrong += ["an outline crosses a text"] * (not seen["isClear"])
     return wrong + [f"the legend is {seen['marks']}"] * (seen["marks"] != first["marks"])
 
 
@@ -125,9 +127,9 @@ FOLD = "document.getElementById('fold').click(), document.querySelector('.key').
 
 @pytest.mark.parametrize("name", LESSONS)
 def test_first_screen(session: browser.Session, folder: str, name: str) -> None:
-    """The segments' table is whole on the first screen, also on a projector, where boxes and text are
-    larger. The legend is one line with the marks of the run, and a click hides it. On a phone the script
-    comes first."""
+    """The segments' table is whole on the first screen, and the frames are one row, also on a projector,
+    where boxes and text are larger. The legend is one line with the marks of the run, and a click hides it.
+    On a phone the script comes first."""
     with open(os.path.join(HERE, "measure.js"), encoding="utf-8") as file:
         measure = file.read()
     made, path = page_of_example(name), os.path.join(folder, "page.html")
@@ -138,7 +140,7 @@ def test_first_screen(session: browser.Session, folder: str, name: str) -> None:
         session.open(f"file://{path}", wide, high)
         now = session.value(measure)
         seen.append(now)
-        assert now["table"] < high and now["isWhole"]
+        assert now["table"] < high and now["isWhole"] and now["frameRows"] == 1
         assert [(words, looks) for words, looks, *_ in now["marks"]] == legend_of(made.blocks)
         middles = [middle for _, _, middle, _ in now["marks"]]
         assert max(middles) - min(middles) <= 1 and max(it[3] for it in now["marks"]) < wide
@@ -368,11 +370,27 @@ def test_served(check: Any) -> None:
     check()
 
 
-def test_served_in_a_browser(session: browser.Session) -> None:
-    served.check_in_browser(session)
+@pytest.fixture(scope="module")
+def address() -> Iterator[str]:
+    """The address of a page that is served."""
+    with served.served() as found:
+        assert found, "no address was printed"
+        yield found[0]
 
 
-@pytest.mark.parametrize("name", ["remap", "other_changes", "swap_taken_away"])
+@pytest.mark.parametrize("check", served.EDITOR)
+def test_editor(session: browser.Session, address: str, check: Any) -> None:
+    """A script that is edited next to its picture."""
+    session.open(address, *SIZES[0])
+    assert served.wait_for(session, "byId('where').textContent === 'step 0 of 9'")
+    check(session)
+
+
+def test_editor_with_a_script(session: browser.Session) -> None:
+    served.check_with_a_script(session)
+
+
+@pytest.mark.parametrize("name", ["remap", "other_changes", "bytes", "swap_taken_away"])
 def test_moving(session: browser.Session, folder: str, name: str) -> None:
     """Search finds each step of a kind; play, the handout and swipes move as they should."""
     made, path = page_of_example(name), os.path.join(folder, "page.html")
@@ -392,10 +410,29 @@ def test_long_run(session: browser.Session) -> None:
     check_long_run(session, page_of)
 
 
-def test_bytes(session: browser.Session, folder: str) -> None:
+def test_many_sheets(session: browser.Session, folder: str) -> None:
+    made, path = page_by(["ram:1"], MANY_STEPS, "sheets"), os.path.join(folder, "page.html")
+    with open(path, "w", encoding="utf-8") as file:
+        file.write(made.html)
+    session.open(f"file://{path}", *SIZES[0])
+    check_sheets(session)
+
+
+@pytest.mark.parametrize("name", SCRIPTS)
+def test_bytes(session: browser.Session, folder: str, name: str) -> None:
+    check_bytes(session, page_of_example(name), folder)
+
+
+def test_bytes_of_many_rows(session: browser.Session, folder: str) -> None:
+    check_many_rows(session, page_by(["ram:64"], MANY_ROWS, "rows"), folder)
+
+
+def test_bytes_of_chosen_steps(session: browser.Session, folder: str) -> None:
     chosen = page_by(["--steps", "9-12", "ram:64"], example("bytes")[0], "bytes, steps 9 to 12",
                      begins=["--steps", "0-12", "ram:64"], skipped=9)
     late = page_by(["--steps", "2004-2006", "ram:64"], LATE, "late")
-    others = [chosen, late, page_by(["ram:64"], example("permissions")[0], "permissions"),
-              page_by(["ram:64"], MANY_ROWS, "rows")]
-    check_bytes(session, [page_of_example(name) for name in SCRIPTS], others, folder)
+    check_late(session, chosen, late, folder)
+
+
+def test_bytes_on_paper(session: browser.Session, folder: str) -> None:
+    check_many_processes(session, page_of_example("permissions"), folder)

@@ -9,8 +9,8 @@ limited and ended.
     tools/viewer/answer.py threads SHMSIM SWAP... < SCRIPT the order of a run with threads
 
 Prints JSON. A script that can be run has `record` and `told`, as tools/viewer/show.py puts them into a page,
-the `outcomes` of its orders or of the one that was found, or the `schedule` of one. Any other has `line`, `column` and `length` of its
-fault. `words` is what `shmsim --explain` says of it, warnings included.
+the `outcomes` of its orders or of the one that was found, or the `schedule` of one. Any other has `line`,
+`column` and `length` of its fault. `words` is what `shmsim --explain` says of it, warnings included.
 """
 
 from __future__ import annotations
@@ -82,8 +82,8 @@ def outcomes_of(text: str) -> list[dict[str, Any]]:
 
 
 def searched(checker: str, question: list[str], ends: tuple[int, ...], text: str) -> Any:
-    """What `shmcheck outcomes` prints for a question, if its status is one of `ends`; otherwise an answer that
-    says why not, or how far the search came in its time."""
+    """What `shmcheck outcomes` prints for a question, if its status is one of `ends`; otherwise an answer
+    that says why not, or how far the search came in its time."""
     fault, words = read_fault(text)
     if fault:
         return {**fault, "words": words}

@@ -112,8 +112,8 @@ class Runner:
         self.turn = threading.Lock()
 
     def run(self, kind: str, script: bytes, more: list[str]) -> bytes | None:
-        """Returns an answer as JSON; None if other runs did not end in time. `more` has the swap words, or the
-        condition of `exists`."""
+        """Returns an answer as JSON; None if other runs did not end in time. `more` has the swap words, or
+        the condition of `exists`."""
         if not self.programs[kind]:
             told = f"./{NEEDED[kind]} is not built. Run it once, and start this page again."
             return json.dumps({"words": [told]}).encode()
