@@ -84,13 +84,6 @@ impl<P: Pager> Area<P> {
         }
     }
 
-    /// The pager's count of failures when it was passed in.
-    pub(crate) fn first_count(&self) -> u64
-        ensures { result ≡ self.now.start }
-    {
-        self.start
-    }
-
     /// Whether the count is at its last value.
     pub(crate) fn is_spent(&self) -> bool
         ensures { result ≡ is_spent self.now }

@@ -119,16 +119,6 @@ impl<P: Pager> Swap<P> {
         }
     }
 
-    /// The count of failures of an area's pager when it was passed in; 0 if there is no such area.
-    pub fn first_count(&self, area: u32) -> u64
-        ensures { result ≡ (area_at self.now area).start }
-    {
-        match self.areas.get(area as usize) {
-            Some(area) => area.first_count(),
-            None => 0,
-        }
-    }
-
     #[tactic(auto, unfolding(crate::specs::Cause::total))]
     /// How many failures the pagers have counted since they were passed in, those that are gone included. The
     /// sum stops at `u64::MAX`. All counts are counts of pagers, so pagers of a type that never fails give 0.
