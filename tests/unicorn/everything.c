@@ -12,6 +12,8 @@
 #include <unistd.h>
 
 enum { PAGE = 4096, PAGES = 64, PROCESSES = 4, ROUNDS = 20000, KEY = 0x5ca1e };
+/* Linux may let each locked instruction across two cache lines wait for milliseconds. */
+enum { SEAM_EVERY = 200 };
 
 static void say(const char *what, long number) {
     printf("%s: %ld\n", what, number);
@@ -59,7 +61,10 @@ static void store_first(int id, char *base) { (void)id, *(volatile char *)base =
 static void load_second_page(int id, char *base) { (void)id, (void)*(volatile char *)(base + PAGE); }
 static void add(int id, char *base) {
     (void)id;
-    for (int i = 0; i < ROUNDS; i++) __atomic_fetch_add((long *)(base + PAGE - 4), 3, __ATOMIC_SEQ_CST);
+    for (int i = 0; i < ROUNDS; i++) {
+        __atomic_fetch_add((long *)base, 5, __ATOMIC_SEQ_CST);
+        if (i % SEAM_EVERY == 0) __atomic_fetch_add((long *)(base + PAGE - 4), 3, __ATOMIC_SEQ_CST);
+    }
 }
 
 static void as_other_user(int id, char *base) {
@@ -140,7 +145,7 @@ static void memory(void) {
     shmdt(read_only);
 }
 
-/* Four processes add to a number across two pages, and tell by a pipe when they are done. */
+/* Four processes add to a number, and now and then to one across two pages, and tell by a pipe when they are done. */
 static void race(void) {
     const int id = made(2 * PAGE, 0600);
     char *base = attached(id, NULL, 0), byte;
@@ -156,7 +161,8 @@ static void race(void) {
     while (read(ends[0], &byte, 1) == 1) count++;
     while (wait(NULL) > 0) count += 10;
     say("processes", count);
-    say("number", *(long *)(base + PAGE - 4));
+    say("number", *(long *)base);
+    say("number across two pages", *(long *)(base + PAGE - 4));
     shmdt(base);
     say("attached", (long)shown(id).shm_nattch);
     shmctl(id, IPC_RMID, NULL);
