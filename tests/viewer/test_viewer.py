@@ -339,12 +339,15 @@ def test_stored_pages() -> None:
 
 
 @pytest.mark.parametrize("name", LESSONS)
-def test_solution(session: browser.Session, name: str) -> None:
-    """The stored page of a lesson's solution shows that the task is solved, and that of the lesson shows the
+def test_solution(session: browser.Session, folder: str, name: str) -> None:
+    """The page of a lesson's solution shows that the task is solved, and that of the lesson shows the
     task."""
-    said = []
-    for page in name, f"{name}-solution":
-        session.open(f"file://{TOP}/docs/pages/{page}.html", *SIZES[0])
+    said, path = [], os.path.join(folder, "page.html")
+    for script in f"examples/{name}", f"examples/solutions/{name}":
+        swap = text_of(f"{script}.swap", "ram:64").split()
+        with open(path, "w", encoding="utf-8") as file:
+            file.write(run([*VIEWER, *swap], text_of(f"{script}.shm")).out)
+        session.open(f"file://{path}", *SIZES[0])
         said.append(session.value("[byId('wanted').innerText, byId('verdict').innerText]"))
     [task] = re.findall("^# task: (.*)$", text_of(f"examples/{name}.shm"), re.M)
     assert said == [[f"Task: {task}", "Not solved by this run."], [f"Task: {task}", "Solved by this run."]]
