@@ -1,5 +1,5 @@
 -- How many pages of a segment are in frames, and how many only in slots.
-use Rattle.shm_life.proofs.Names.{◌≡◌, ◌≤◌, ◌+◌, ◌∙◌, ℕ, if◌then◌else◌, zero, suc, None, refl, sym, ap, arith, length, List, [], ◌∷◌, ◌++◌, replicate, Entry, pages_held, pages_of, pages_at, IsFound, live-found, sum_by-append, StoreView, frame_of, PageRef}
+use Rattle.shm_life.proofs.Names.{◌≡◌, ◌≤◌, ◌+◌, ◌∙◌, ℕ, if◌then◌else◌, zero, suc, None, refl, sym, ap, arith, length, List, ◌++◌, replicate, Entry, pages_held, pages_of, pages_at, IsFound, live-found, sum_by-append, StoreView, frame_of, PageRef}
 use Rattle.std.proofs.Common.{◌-◌, Option, count_by}
 use Rattle.shm_base.specs.Stored.{padded}
 use Rattle.shm_segments.specs.declared.head.Found.{Found}

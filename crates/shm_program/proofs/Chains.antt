@@ -1,7 +1,6 @@
 -- What the lines of a script leave as it was, and lines that ran in parts.
 use Rattle.std.specs.Prelude.{◌≡◌, ◌++◌, List, [], ◌∷◌}
 use Rattle.std.proofs.Common.{ap, subst, sym, ◌∙◌}
-use Rattle.shm_base.specs.State.{Opening}
 use Rattle.shm_history.specs.WorldState.{WorldState}
 use Rattle.shm_slots.specs.Cause.{GoesOn}
 use Rattle.shm_slots.proofs.Causes.{GoesOn-refl, GoesOn-trans}

@@ -1,5 +1,5 @@
 -- What was written, as that of the input.
-use Rattle.std.proofs.Common.{◌≡◌, ℕ, List, Option, Some, None, Ok}
+use Rattle.std.proofs.Common.{ℕ, List, Option, Ok}
 use Rattle.std.specs.Prelude.{OnOk, Result, Err}
 use Rattle.std.specs.Io.KnownBytes.{Appends}
 use Rattle.shm_text.specs.Script.{ScriptView}

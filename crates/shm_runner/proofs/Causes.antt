@@ -1,5 +1,5 @@
 -- What the errors of a run with threads say of the input.
-use Rattle.std.proofs.Common.{◌≡◌, ℕ, true, false, List, Ok, Option}
+use Rattle.std.proofs.Common.{◌≡◌, ℕ, true, List, Ok, Option}
 use Rattle.std.proofs.KnownBytes.{Keeps-refl}
 use Rattle.std.proofs.lemmas.Bool.{false≢true}
 use Rattle.std.specs.Prelude.{Err, IfErr, Result}

@@ -1,5 +1,5 @@
 -- The text of a world, as that of a script's run.
-use Rattle.std.proofs.Common.{◌≡◌, refl, ap, sym, subst, inl, inr, ℕ, Bool, true, false, List, Option, map, Ok}
+use Rattle.std.proofs.Common.{◌≡◌, refl, sym, subst, inl, inr, ℕ, Bool, true, false, List, Option, Ok}
 use Rattle.std.specs.Prelude.{OnOk, IfErr, Result, Err}
 use Rattle.std.specs.Io.KnownBytes.{Appends, IsAtEnd}
 use Rattle.shm_slots.specs.View.{SwapView, AreCountsOf}
@@ -8,7 +8,7 @@ use Rattle.shm_history.specs.WorldState.{WorldState}
 use Rattle.shm_text.specs.Script.{ScriptView}
 use Rattle.shm_threads.specs.declared.transcript.Transcript.{Transcript}
 use Rattle.shm_program.specs.Running.{IsRunOf, IsStart, RunStep}
-use Rattle.shm_program.specs.Runs.{IsReadAs, IsWorldOf, IsTextFor, IsWritten, Prints}
+use Rattle.shm_program.specs.Runs.{IsReadAs, IsWorldOf, IsTextFor, IsWritten}
 use Rattle.shm_laws.specs.Worlds.{IsWorldSound}
 use Rattle.shm_runner.specs.Output.{IsOutput, world_text}
 use Rattle.shm_runner.proofs.Flatness.{began, flat_printed, flat_unfailing, flat_bounded, few_failures, none_unfailing}

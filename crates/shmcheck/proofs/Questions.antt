@@ -10,7 +10,7 @@ use Rattle.shm_schedules.specs.Finding.{Finding}
 use Rattle.shm_schedules.specs.Outcomes.{outcome_of}
 use Rattle.shm_schedules.specs.Schedules.{Run, fresh, start}
 use Rattle.shm_outcomes.specs.Search.{AreOutcomes, IsFinding, outcomes_in}
-use Rattle.shmcheck.specs.Questioned.{AreMet, IsNeverMet, IsUnmet, IsWitness}
+use Rattle.shmcheck.specs.Questioned.{AreMet, IsUnmet, IsWitness}
 
 -- none of these outcomes meets the condition
 unmet-outcome : (condition : Condition) (found : List Finding) (o : List (List Reply)) → All (IsUnmet condition) found → Contains (outcomes_in found) o → holds o condition ≡ false

@@ -1,5 +1,5 @@
 -- What the words of the command line ask for.
-use Rattle.std.specs.Prelude.{ℕ, Bool, true, false, if◌then◌else◌, List, [], ◌∷◌, codes, Option, Some, None, option_and_then, option_map}
+use Rattle.std.specs.Prelude.{ℕ, true, false, if◌then◌else◌, List, [], ◌∷◌, codes, Option, Some, None, option_and_then, option_map}
 use Rattle.std.specs.Str.{bytes_eq}
 use Rattle.shm_text.specs.Number.{decimal_of}
 use Rattle.shmcheck.specs.declared.ruling.RuleSet.{RuleSet}

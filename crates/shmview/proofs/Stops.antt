@@ -1,5 +1,5 @@
 -- What the stops say of the input, and what they leave of the output.
-use Rattle.std.proofs.Common.{◌≡◌, ◌⊎◌, refl, sym, subst, inl, inr, ℕ, true, List, Option, Some, None, Ok}
+use Rattle.std.proofs.Common.{◌≡◌, ◌⊎◌, refl, sym, subst, inl, inr, ℕ, List, Option, Ok}
 use Rattle.std.specs.Prelude.{IfErr, Result, Err}
 use Rattle.shm_life.specs.Start.{start_error}
 use Rattle.shm_text.specs.Script.{ScriptView}

@@ -1,4 +1,4 @@
-use Rattle.std.proofs.Common.{arith, rules, length, length-append, ◌<◌, [], refl, subst, append-nil, Option, ◌≡◌, ℕ, List, ◌++◌, ◌∙◌, take, drop, sym, ap, append_assoc}
+use Rattle.std.proofs.Common.{arith, rules, length, length-append, ◌<◌, [], subst, append-nil, Option, ◌≡◌, ℕ, List, ◌++◌, ◌∙◌, take, drop, sym, ap, append_assoc}
 use Rattle.std.proofs.KnownBytes.{Appends-trans, Appends-kept}
 use Rattle.std.specs.Io.KnownBytes.{Appends}
 use Rattle.shm_program.specs.Runs.{IsPart}

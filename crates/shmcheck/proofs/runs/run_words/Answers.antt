@@ -1,10 +1,10 @@
-use Rattle.std.proofs.Common.{◌≡◌, ◌∙◌, ap, inr, length, map, string_bytes, subst, sym, ℕ, List, [], ◌∷◌}
+use Rattle.std.proofs.Common.{inr, length, map, string_bytes, subst, ℕ, List, [], ◌∷◌}
 use Rattle.shm_pager.specs.Areas.{area_pages, failed_in, most_in}
 use Rattle.shm_program.proofs.Sizes.{as-named}
 use Rattle.shm_program.specs.declared.options.SwapWord.TheVariants.{Sparse}
-use Rattle.shmcheck.specs.Runs.{IsAnswerOver, IsAsked, given_for}
+use Rattle.shmcheck.specs.Runs.{IsAnswerOver, IsAsked}
 use Rattle.shmcheck.specs.declared.command.Asked.{Asked}
-use Rattle.std.specs.Prelude.{Option, Some}
+use Rattle.std.specs.Prelude.{Option}
 use Rattle.shmcheck.proofs.runs.run_words.Goals as goal
 
 pub returns : goal.returns

@@ -1,4 +1,4 @@
-use Rattle.std.proofs.Common.{rules, refl, subst, List, ◌≡◌, ◌∙◌, ap, ◌++◌, string_bytes}
+use Rattle.std.proofs.Common.{rules, refl, subst, ◌≡◌, ◌∙◌, ap, ◌++◌, string_bytes}
 use Rattle.shm_program.specs.declared.action.Action.TheVariants.{Start}
 use Rattle.shmview.specs.Record.{shown_text, steps_text}
 use Rattle.shmview.specs.declared.steps.Steps.{Steps}
