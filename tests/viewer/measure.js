@@ -45,6 +45,7 @@
     isTold: lines.every(isWithin) || !more.hidden,
     marks,
     isClear: all(".cell.reached").every(isClear),
+    areBeside: new Set(all(".process").slice(0, 2).map((it) => it.getBoundingClientRect().top)).size === 1,
     frameRows: new Set(all("#frames .cell").map((it) => it.getBoundingClientRect().top)).size,
     table: bottom("#segments"),
     isWhole: table.scrollWidth <= table.clientWidth,

@@ -264,6 +264,16 @@ KEEP = """(() => {
 })()"""
 
 
+# an order of the lines of shared_counter in which the processes take turns, as a run with threads may have it
+TURNS = ["1", "1", "1", "2", "1", "2", "2", "1", "1"]
+# answers a run with threads by this order
+ANSWER = f"""(() => {{
+  const real = window.fetch;
+  const answer = {{ schedule: {json.dumps(TURNS)}, lines: [], words: [] }};
+  window.fetch = async (path, how) => path === "threads" ? Response.json(answer) : real(path, how);
+}})()"""
+
+
 def check_threads(session: Session) -> None:
     """A run with threads is shown in its order, with the replies that it had."""
     choose(session, "shared_counter")
@@ -286,6 +296,13 @@ def check_threads(session: Session) -> None:
     edit(session, "1 fork 2", "1 frok 2")
     session.value("byId('race').click()")
     assert wait_for(session, "byId('words').textContent.includes('nearest form: fork')")
+    choose(session, "shared_counter")
+    session.value(f"{ANSWER}; byId('race').click()")
+    assert wait_for(session, "byId('words').textContent.startsWith('This is the order of a run')")
+    assert session.value("steps.slice(1).map((it) => it.call.split(' ')[2])") == TURNS
+    added = session.value("steps.filter((it) => it.call.includes('xadd'))"
+                          ".map((it) => it.call.split(' = ')[1])")
+    assert added == ["0", "1", "2", "3"]
 
 
 def script_of(name: str) -> str:
