@@ -34,7 +34,7 @@ def by_cffi(cffi: Any, text: str, library: str) -> None:
             sys.exit(f"nog_{name} has {sizes[0]} bytes in the library, and {ffi.sizeof(f'nog_{name}')} by "
                      f"cffi")
     if shared.nog_version() < 10000 or shared.nog_close(ffi.new("nog_machine *")) != shared.NOG_CLOSED:
-        sys.exit("a function is answered wrongly")
+        sys.exit("a function has the wrong result")
 
 
 def by_pycparser(pycparser: Any, text: str) -> None:

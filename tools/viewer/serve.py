@@ -5,7 +5,7 @@ starts it.
     tools/viewer/serve.py SHMVIEW SHMCHECK SHMSIM PACKAGES EXAMPLES TOUR PORT SCRIPT SWAP...
 
 The second and the third program may be empty, and so may SCRIPT; PORT 0 is any free one. Only 127.0.0.1 is
-listened to, and only addresses that begin with a token, new at each start, are answered. Two things are
+listened to, and only requests for addresses that begin with a token, new at each start, succeed. Two things are
 served: the page, which is made before the first request, and the answers to a script (answer.py). No request
 names a file.
 """
@@ -31,7 +31,7 @@ from show import filled, task_of, told_of, without_task
 HERE = os.path.dirname(os.path.abspath(__file__))
 MOST_BYTES = 1 << 20            # of a request's body
 MOST_ANSWER = 64 << 20          # of an answer
-MOST_AT_ONCE = 32               # requests; those beyond are answered 503
+MOST_AT_ONCE = 32               # requests; further ones fail with 503
 MOST_CONDITION = 2000           # characters
 RUN_SECONDS, RUN_BYTES = 10, 1 << 30
 WAIT_SECONDS = 30               # for other runs to end
