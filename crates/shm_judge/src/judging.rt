@@ -24,7 +24,10 @@ use std::alloc::Global;
 fn are_alike(alloc: Global, finding: &Finding, other: &Finding) -> Result<bool, EngineError>
     ensures { IfOk result (λ r. IsTrue r ↔ AreAlike finding.now other.now) }
 {
-    if finding.events.len() != other.events.len() || !finding.outcome.is_same(&other.outcome) {
+    if finding.events.len() != other.events.len() {
+        return Ok(false);
+    }
+    if finding.outcome != other.outcome {
         return Ok(false);
     }
     let own = changes(alloc, &finding.events)?;

@@ -1,10 +1,11 @@
 -- Adding members one after another.
-use Rattle.std.specs.Prelude.{◌≡◌, ◌<◌, ℕ, suc, zero, ◌+◌, List, [], ◌∷◌, ◌++◌, take, drop, length, slice_index_or, Contains, Option, Some, None}
+use Rattle.std.specs.Prelude.{◌≡◌, ◌<◌, ℕ, suc, zero, ◌+◌, List, [], ◌∷◌, ◌++◌, take, drop, length, map, slice_index_or, Contains, Option, Some, None}
 use Rattle.std.proofs.Common.{refl, sym, ap, inl, subst, ◌∙◌, arith}
-use Rattle.std.proofs.lemmas.List.{append_assoc}
+use Rattle.std.proofs.lemmas.List.{append_assoc, map-append}
+use Rattle.std.specs.Map.{keys_of, values_of}
 use Rattle.shm_base.specs.declared.call.Process.{Process}
 use Rattle.shm_text.specs.Script.{ScriptView}
-use Rattle.shm_outcomes.specs.Members.{AreAdded, AreFull, AreTakenUp, AreTooMany, IsAdded, IsFull, IsStoppedBy, IsTakenUp, Member, Members, Way, member_in, members_in, no_members, one_way, way, way_after, ways_on, ways_with}
+use Rattle.shm_outcomes.specs.Members.{AreAdded, AreFull, AreTakenUp, AreTooMany, IsAdded, IsFull, IsStoppedBy, IsTakenUp, Member, Members, Way, member_in, members_in, no_members, one_way, way, way_after, way_in, ways_on}
 use Rattle.shm_schedules.specs.Schedules.{Run}
 use Rattle.shm_schedules.specs.Finding.{Finding}
 use Rattle.shm_outcomes.specs.declared.moves.Move.{Move}
@@ -17,33 +18,22 @@ use Rattle.shm_outcomes.proofs.Grouping.{take-next}
 
 -- MEMBERS WITH THEIR SCHEDULES
 
-pub members-ways : (ms : List Member) (ss : List (List ℕ)) → length ms ≡ length ss → members_in (ways_with ms ss) ≡ ms
-members-ways [] ss same = refl
-members-ways (m ∷ ms) [] same = absurd (omega (arith, same))
-members-ways (m ∷ ms) (s ∷ ss) same = ap (λ (l : List Member). m ∷ l) (members-ways ms ss (omega (arith, same)))
+pub members-ways : (es : List (Member × List ℕ)) → members_in (map way_in es) ≡ keys_of es
+members-ways [] = refl
+members-ways (e ∷ es) = ap (λ (l : List Member). e.0 ∷ l) (members-ways es)
 
-pub ways-long : (ms : List Member) (ss : List (List ℕ)) → length ms ≡ length ss → length (ways_with ms ss) ≡ length ss
-ways-long [] ss same = same
-ways-long (m ∷ ms) [] same = absurd (omega (arith, same))
-ways-long (m ∷ ms) (s ∷ ss) same = (let rest = ways-long ms ss (omega (arith, same)) in omega (arith, rest))
+pub ways-push : (es : List (Member × List ℕ)) (m : Member) (s : List ℕ) → map way_in (es ++ (m, s) ∷ []) ≡ map way_in es ++ way m s ∷ []
+ways-push es m s = map-append way_in es ((m, s) ∷ [])
 
-pub ways-push : (ms : List Member) (ss : List (List ℕ)) (m : Member) (s : List ℕ) → length ms ≡ length ss → ways_with (ms ++ m ∷ []) (ss ++ s ∷ []) ≡ ways_with ms ss ++ way m s ∷ []
-ways-push [] [] m s same = refl
-ways-push [] (t ∷ ss) m s same = absurd (omega (arith, same))
-ways-push (n ∷ ms) [] m s same = absurd (omega (arith, same))
-ways-push (n ∷ ms) (t ∷ ss) m s same = ap (λ (l : List Way). way n t ∷ l) (ways-push ms ss m s (omega (arith, same)))
+pub member-at : (es : List (Member × List ℕ)) (i : ℕ) (w : Way) (x : Member) → i < length es → slice_index_or (map way_in es) i w ≡ w → x ≡ slice_index_or (keys_of es) i x → x ≡ w.member
+member-at [] i w x lt at is = absurd (omega (arith, lt))
+member-at (e ∷ es) zero w x lt at is = is ∙ ap member_in at
+member-at (e ∷ es) (suc i) w x lt at is = member-at es i w x (omega (arith, lt)) at is
 
-pub member-at : (ms : List Member) (ss : List (List ℕ)) (i : ℕ) (w : Way) (x : Member) → length ms ≡ length ss → i < length ss → slice_index_or (ways_with ms ss) i w ≡ w → x ≡ slice_index_or ms i x → x ≡ w.member
-member-at [] ss i w x same lt at is = absurd (omega (arith, same, lt))
-member-at (m ∷ ms) [] i w x same lt at is = absurd (omega (arith, lt))
-member-at (m ∷ ms) (s ∷ ss) zero w x same lt at is = is ∙ ap member_in at
-member-at (m ∷ ms) (s ∷ ss) (suc i) w x same lt at is = member-at ms ss i w x (omega (arith, same)) (omega (arith, lt)) at is
-
-pub schedule-at : (ms : List Member) (ss : List (List ℕ)) (i : ℕ) (w : Way) (x : List ℕ) → length ms ≡ length ss → i < length ss → slice_index_or (ways_with ms ss) i w ≡ w → x ≡ slice_index_or ss i x → x ≡ w.schedule
-schedule-at [] ss i w x same lt at is = absurd (omega (arith, same, lt))
-schedule-at (m ∷ ms) [] i w x same lt at is = absurd (omega (arith, lt))
-schedule-at (m ∷ ms) (s ∷ ss) zero w x same lt at is = is ∙ ap (λ (v : Way). v.schedule) at
-schedule-at (m ∷ ms) (s ∷ ss) (suc i) w x same lt at is = schedule-at ms ss i w x (omega (arith, same)) (omega (arith, lt)) at is
+pub schedule-at : (es : List (Member × List ℕ)) (i : ℕ) (w : Way) (x : List ℕ) → i < length es → slice_index_or (map way_in es) i w ≡ w → x ≡ slice_index_or (values_of es) i x → x ≡ w.schedule
+schedule-at [] i w x lt at is = absurd (omega (arith, lt))
+schedule-at (e ∷ es) zero w x lt at is = is ∙ ap (λ (v : Way). v.schedule) at
+schedule-at (e ∷ es) (suc i) w x lt at is = schedule-at es i w x (omega (arith, lt)) at is
 
 pub way-at : (ways : List Way) (i : ℕ) → i < length ways → (w : Way) × (slice_index_or ways i w ≡ w)
 way-at [] i lt = absurd (omega (arith, lt))

@@ -9,9 +9,8 @@ use Rattle.shm_base.specs.State.{Machine}
 use Rattle.shm_base.specs.declared.call.Event.{Event}
 use Rattle.shm_text.specs.Script.{ScriptView}
 use Rattle.shm_outcomes.specs.Branches.{sprout}
-use Rattle.shm_outcomes.specs.Groups.{Groups, mark_by, mark_of}
+use Rattle.shm_outcomes.specs.Groups.{IsAt, Groups, mark_by, mark_of}
 use Rattle.shm_outcomes.specs.Keys.{AreMoreKeys, AreOther, IsKeyOf, Key, key_of}
-use Rattle.shm_schedules.specs.Known.{IsAt}
 use Rattle.shm_outcomes.specs.Levels.{IsFirstCause, IsLevelCause, IsLevelFull, IsNextLevel, Level, first_level}
 use Rattle.shm_outcomes.specs.Merging.{IsCause}
 use Rattle.shm_schedules.specs.declared.search_error.SearchError.{SearchError}

@@ -15,9 +15,8 @@ use Rattle.shm_base.specs.declared.call.Process.{Process}
 use Rattle.shm_base.specs.declared.call.Reply.{Reply}
 use Rattle.shm_text.specs.Script.{ScriptView}
 use Rattle.shm_outcomes.specs.Branches.{Branch, event_after, grown}
-use Rattle.shm_outcomes.specs.Groups.{AreAllMoves, AreMoves, AreMovesBy, ArePut, Groups, IsFrom, IsMove, IsMoveBy, IsPut, StayThere, are_over, mark_at, mark_by, mark_of, no_groups}
+use Rattle.shm_outcomes.specs.Groups.{IsAt, AreAllMoves, AreMoves, AreMovesBy, ArePut, Groups, IsFrom, IsMove, IsMoveBy, IsPut, StayThere, are_over, mark_at, mark_by, mark_of, no_groups}
 use Rattle.shm_outcomes.specs.Keys.{AreOther, Key}
-use Rattle.shm_schedules.specs.Known.{IsAt}
 use Rattle.shm_outcomes.specs.Members.{Member, member}
 use Rattle.shm_schedules.specs.Outcomes.{masked, outcome_of, told_after}
 use Rattle.shm_schedules.specs.Schedules.{Run, after, fresh, goes, next, IsOver, IsReached}

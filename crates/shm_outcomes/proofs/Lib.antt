@@ -8,3 +8,4 @@ pub mod Keeping
 pub mod Grouping
 pub mod Adding
 pub mod Placing
+pub mod Same

@@ -1,8 +1,50 @@
--- The place of a thing.
-use Rattle.std.specs.Prelude.{◌≡◌, ℕ, List, Option, Some, None, Bool, IfNone, IfSome, Contains, IsTrue, is_some}
-use Rattle.shm_schedules.specs.Known.{IsAt}
+-- Things in a map whose keys are equal only if they are the same.
+use Rattle.std.specs.Prelude.{◌≡◌, ◌<◌, ℕ, List, [], ◌∷◌, ◌++◌, Option, Some, None, Bool, true, false, map, Contains, IsTrue, is_some}
+use Rattle.std.specs.Bool.{Decides}
+use Rattle.std.specs.Map.{keys_of}
+use Rattle.std.proofs.Common.{refl, ap, sym, ◌∙◌, true≢false}
+use Rattle.std.proofs.lemmas.List.Quantifiers.{position-Some}
+use Rattle.std.proofs.lemmas.Map.Made.{is_member-Decides, is_some-lookup}
+use Rattle.indexmap.specs.IndexMap.{IndexMap, get, index_of, insert_entry, keys}
+use Rattle.indexmap.proofs.CallerLemmas.{insert_entry-new}
+use Rattle.shm_base.specs.declared.call.Event.{Event}
+use Rattle.shm_base.specs.declared.call.Reply.{Reply}
+use Rattle.shm_schedules.specs.Finding.{Finding}
+use Rattle.shm_outcomes.specs.Groups.{IsAt}
+use Rattle.shm_outcomes.specs.Search.{outcomes_in}
 
--- it is found exactly when the thing is there
-pub place-is : {X : Type 0} → (xs : List X) (x : X) (o : Option ℕ) (b : Bool) → b ≡ is_some o → IfSome o (λ place. IsAt xs place x) → IfNone o (Contains xs x → ⊥) → (IsTrue b → Contains xs x) × (Contains xs x → IsTrue b)
-place-is xs x (Some place) b is some none = (λ t. (place, some.0, some.1 x), λ there. is)
-place-is xs x None b is some none = (λ t. absurd (cc), λ there. absurd (none there))
+module _ {K V S : Type 0} (eq : K → K → Bool) (same : (a b : K) → Decides (eq a b) (a ≡ b)) (m : IndexMap K V S) (k : K) where
+  -- a key is found exactly when it is there
+  pub is-there : (b : Bool) → b ≡ is_some (get eq m k) → (IsTrue b → Contains (keys m) k) × (Contains (keys m) k → IsTrue b)
+  is-there b is = (let d = is_member-Decides same (keys m) k in let any = is ∙ is_some-lookup (eq k) m.entries in (λ t. d.0 (sym any ∙ t), λ there. any ∙ d.1 there))
+
+  -- where the map finds it, there it is
+  pub is-at : (i : ℕ) → index_of eq m k ≡ Some i → IsAt (keys m) i k
+  is-at i found = (
+    (position-Some (eq k) (keys m) i k found).0,
+    λ d. sym ((same k _).0 (position-Some (eq k) (keys m) i d found).1),
+  )
+
+  -- a key that is not there goes last
+  pub goes-last : (v : V) → is_some (get eq m k) ≡ false → insert_entry eq m.entries k v ≡ m.entries ++ (k, v) ∷ []
+  goes-last v none = insert_entry-new eq m k v (by (get eq m k) none)
+    where
+      by : (o : Option V) → is_some o ≡ false → o ≡ None
+      by None e = λ i. None
+      by (Some x) e = absurd (true≢false e)
+
+  pub not-found : (Contains (keys m) k → ⊥) → is_some (get eq m k) ≡ false
+  not-found absent = by (is_some (get eq m k)) (is-there (is_some (get eq m k)) refl)
+    where
+      by : (b : Bool) → (IsTrue b → Contains (keys m) k) × (Contains (keys m) k → IsTrue b) → b ≡ false
+      by false h = refl
+      by true h = absurd (absent (h.0 refl))
+
+-- outcomes with the calls of their runs
+module _ {V : Type 0} (f : V → List Event) where
+  abbrev pub found_as : List (List Reply) × V → Finding
+  found_as entry = record { events = f entry.1; outcome = entry.0 }
+
+  pub outcomes-found : (es : List (List (List Reply) × V)) → outcomes_in (map found_as es) ≡ keys_of es
+  outcomes-found [] = refl
+  outcomes-found (e ∷ es) = ap (λ (l : List (List (List Reply))). e.0 ∷ l) (outcomes-found es)

@@ -11,7 +11,6 @@ use Rattle.shm_text.specs.declared.script.Line.{Line}
 use Rattle.shm_text.specs.declared.script.Line.TheVariants.{Command, Flush}
 use Rattle.shm_outcomes.specs.Branches.{Branch, event_after, grown, key_at}
 use Rattle.shm_outcomes.specs.Keys.{AreOther, Key, key_of}
-use Rattle.shm_schedules.specs.Known.{IsAt}
 use Rattle.shm_schedules.specs.Schedules.{Run, next}
 use Rattle.shm_outcomes.specs.declared.moves.Move.{Move}
 
@@ -54,6 +53,10 @@ pub record Groups : Type 0 where
 
 abbrev pub no_groups : Groups
 no_groups = record { marks = []; all = [] }
+
+-- the thing is at this place
+abbrev pub IsAt : {X : Type 0} → List X → ℕ → X → Type 0
+IsAt xs place x = (place < length xs) × ((d : _) → slice_index_or xs place d ≡ x)
 
 -- a run's group is at this place; it is a new one, unless it was there
 abbrev pub IsPut : ScriptView → Groups → Branch → ℕ → Groups → Type 0

@@ -3,7 +3,7 @@ pub mod Masking
 pub mod Text
 pub mod Changes
 pub mod Keys
-pub mod Digests
+pub mod Same
 pub mod Merging
 pub mod Branches
 pub mod Groups

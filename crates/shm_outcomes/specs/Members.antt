@@ -32,10 +32,9 @@ way member schedule = record { member = member; schedule = schedule }
 abbrev pub member : ℕ → List (List Reply) → Member
 member group told = record { group = group; told = told }
 
-abbrev pub ways_with : List Member → List (List ℕ) → List Way
-ways_with [] schedules = []
-ways_with (m ∷ members) [] = []
-ways_with (m ∷ members) (s ∷ schedules) = way m s ∷ ways_with members schedules
+-- a member with its schedule
+abbrev pub way_in : Member × List ℕ → Way
+way_in entry = way entry.0 entry.1
 
 -- the members, and how many there are with those of fewer calls
 pub record Members : Type 0 where

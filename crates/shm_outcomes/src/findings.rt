@@ -1,58 +1,51 @@
 //! The outcomes that a search found, each once, with a run that has it.
-ghost use Rattle.std.specs.Prelude.{◌≡◌, ◌≢◌, ◌<◌, ◌↔◌, ℕ, [], Contains, IfOk, IsFalse, IsTrue, OnOk, length, slice_index_or};
+ghost use Rattle.std.specs.Prelude.{◌≡◌, ◌↔◌, [], Contains, IfOk, IsTrue, OnOk};
 ghost use Rattle.shm_outcomes.specs.Search.{IsNoted, outcomes_in};
 
+use indexmap::IndexMap;
 use shm_base::Event;
-use shm_schedules::{Buckets, Finding, Outcome, digest};
+use shm_schedules::{Finding, Outcome};
 use std::alloc::{AllocError, Global};
 use std::marker::Model;
 
-// Most scripts have fewer outcomes.
-const OUTCOMES: usize = 65536;
-
 #[derive(Drop)]
 pub(crate) struct Findings {
-    all: Vec<Finding>,
-    buckets: Buckets,
+    all: IndexMap<Outcome, Vec<Event>>,
 }
 
 impl Model for Findings {
     ghost use Rattle.std.specs.Prelude.{List, map};
-    ghost use Rattle.shm_schedules.specs.Buckets.{AreIndexed};
-    ghost use Rattle.shm_schedules.specs.Digests.{digest};
     ghost use Rattle.shm_schedules.specs.Finding.{Finding};
-    ghost use Rattle.shm_outcomes.specs.Search.{outcomes_in};
 
     ghost Value = { List Finding };
 
-    ghost view = { λ f. f.all.items };
-
-    ghost invariant = { λ f. AreIndexed (map digest (outcomes_in f.all.items)) f.buckets };
+    ghost view = { λ f. map (λ e. record { events = e.1.items; outcome = e.0 }) f.all.entries };
 }
 
 impl Findings {
-    pub(crate) fn new(alloc: Global) -> Result<Findings, AllocError>
-        ensures { IfOk result (λ f. f ≡ []) }
+    pub(crate) fn new(alloc: Global) -> Findings
+        ensures { result ≡ [] }
     {
-        let buckets = Buckets::new(alloc, OUTCOMES)?;
-        Ok(Findings {
-            all: Vec::new(alloc),
-            buckets,
-        })
+        Findings {
+            all: IndexMap::new(alloc),
+        }
     }
 
-    pub(crate) fn into_all(self) -> Vec<Finding>
-        ensures { result.items ≡ self }
+    pub(crate) fn into_all(self, alloc: Global) -> Result<Vec<Finding>, AllocError>
+        ensures { IfOk result (λ all. all.items ≡ self) }
     {
-        let Findings { all, buckets: _ } = self;
-        all
+        let mut found = Vec::with_capacity(alloc, self.all.len())?;
+        for (outcome, events) in self.all {
+            found.push(Finding { events, outcome })?;
+        }
+        Ok(found)
     }
 
     // Whether the outcome is among them.
     pub(crate) fn has(&self, outcome: &Outcome) -> bool
         ensures { IsTrue result ↔ Contains (outcomes_in self.now) outcome.now }
     {
-        is_known(&self.all, self.buckets.at(digest(outcome)), outcome)
+        self.all.contains_key(outcome)
     }
 
     // Notes an outcome with a run that has it, unless it is there.
@@ -65,30 +58,11 @@ impl Findings {
         ensures { OnOk result (
             IsNoted self.old (record { events = events.now; outcome = outcome }) self.new) }
     {
-        let number = digest(&outcome);
-        if is_known(&self.all, self.buckets.at(number), &outcome) {
+        if self.has(&outcome) {
             return Ok(());
         }
         let events = Vec::from_slice(alloc, events)?;
-        self.buckets.push(number, self.all.len())?;
-        self.all.push(Finding { events, outcome })?;
+        self.all.insert(outcome, events)?;
         Ok(())
     }
-}
-
-// Whether a finding at one of the places has the outcome.
-fn is_known(found: &[Finding], places: &[usize], outcome: &Outcome) -> bool
-    ensures there { IsTrue result → Contains (outcomes_in found.now) outcome.now }
-    ensures not_there { IsFalse result → (k : ℕ) → k < length places.now
-        → slice_index_or places.now k 0 < length found.now
-        → slice_index_or (outcomes_in found.now) (slice_index_or places.now k 0) outcome.now ≢ outcome.now }
-{
-    for place in places {
-        if let Some(finding) = found.get(*place) {
-            if finding.outcome.is_same(outcome) {
-                return true;
-            }
-        }
-    }
-    false
 }

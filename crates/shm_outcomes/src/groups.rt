@@ -4,47 +4,45 @@ ghost use Rattle.shm_outcomes.specs.Groups.{IsPut, no_groups};
 
 use crate::branches::Branch;
 use crate::keys::Key;
-use shm_schedules::{Engine, Known};
+use indexmap::IndexMap;
+use shm_schedules::Engine;
 use shm_text::Script;
 use std::alloc::{AllocError, Global};
 use std::marker::Model;
 
 pub(crate) struct Groups<M: Engine> {
-    marks: Known<Key>,
-    all: Vec<Branch<M>>,
+    all: IndexMap<Key, Branch<M>>,
 }
 
 impl<M: Engine> Drop for Groups<M> {
     fn drop(self) {
-        let Groups { marks: _, all: _ } = self;
+        let Groups { all: _ } = self;
     }
 }
 
 impl<M: Engine> Model for Groups<M> {
+    ghost use Rattle.indexmap.specs.IndexMap.{keys, values};
     ghost use Rattle.shm_outcomes.specs.Groups.{Groups};
 
     ghost Value = { Groups };
 
-    ghost view = { λ g. record { marks = g.marks; all = g.all.items } };
+    ghost view = { λ g. record { marks = keys g.all; all = values g.all } };
 }
 
 impl<M: Engine> Groups<M> {
-    // No groups yet. They are found fast up to about this number.
+    // No groups yet. There is room for this number.
     pub(crate) fn new(alloc: Global, groups: usize) -> Result<Groups<M>, AllocError>
         ensures { IfOk result (λ g. g ≡ no_groups) }
     {
-        let marks = Known::new(alloc, groups)?;
-        Ok(Groups {
-            marks,
-            all: Vec::new(alloc),
-        })
+        let all = IndexMap::with_capacity(alloc, groups)?;
+        Ok(Groups { all })
     }
 
     // A run of each group.
     pub(crate) fn all(&self) -> &[Branch<M>]
         ensures { result.now ≡ self.now.all }
     {
-        self.all.as_slice()
+        self.all.values().as_slice()
     }
 
     // The place of a run's group. It is a new one, if there is none yet.
@@ -57,12 +55,11 @@ impl<M: Engine> Groups<M> {
         ensures { IfOk result (λ place. IsPut script.now self.old branch place self.new) }
     {
         let mark = Key::of_group(alloc, script, &branch)?;
-        if let Some(place) = self.marks.place(&mark) {
+        if let Some(place) = self.all.get_index_of(&mark) {
             return Ok(place);
         }
-        let place = self.marks.all().len();
-        self.marks.push(mark)?;
-        self.all.push(branch)?;
+        let place = self.all.len();
+        self.all.insert(mark, branch)?;
         Ok(place)
     }
 }

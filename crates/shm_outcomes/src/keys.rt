@@ -1,19 +1,18 @@
 //! What a group of runs is known by.
 ghost use Rattle.std.specs.Prelude.{◌≡◌, IfOk};
-ghost use Rattle.shm_outcomes.specs.Digests.{with_writes};
 ghost use Rattle.shm_outcomes.specs.Groups.{mark_at};
 
 use crate::branches::Branch;
 use crate::kept::kept_outcome;
-use crate::trail::{Trail, Write};
-use shm_schedules::{Digested, Engine, Outcome, digest, mixed};
+use crate::trail::Trail;
+use shm_schedules::{Engine, Outcome};
 use shm_text::Script;
 use std::alloc::{AllocError, Global};
 use std::marker::Model;
 
 // What a group of runs is known by: how many calls they made, what each process keeps of its replies, and what changed
 // the machine.
-#[derive(Drop)]
+#[derive(Drop, PartialEq, Eq, Hash)]
 pub(crate) struct Key {
     count: u64,
     told: Outcome,
@@ -26,6 +25,8 @@ impl Model for Key {
     ghost Value = { Key };
 
     ghost view = { λ k. record { count = k.count; told = k.told; trail = k.trail } };
+
+    ghost inverse = { λ k. record { count = k.count; told = k.told; trail = k.trail } };
 }
 
 impl Key {
@@ -42,30 +43,4 @@ impl Key {
         let count = branch.run().events().len() as u64;
         Ok(Key { count, told, trail })
     }
-}
-
-impl Digested for Key {
-    ghost use Rattle.shm_outcomes.specs.Digests.{key_digest};
-
-    ghost number = { key_digest };
-
-    fn digest(&self) -> u64 {
-        with_writes(digest(&self.told), self.trail.writes())
-    }
-
-    fn is_same(&self, other: &Key) -> bool {
-        self.count == other.count
-            && self.told.is_same(&other.told)
-            && self.trail.is_same(&other.trail)
-    }
-}
-
-fn with_writes(digest: u64, writes: &[Write]) -> u64
-    ensures { result ≡ with_writes digest writes.now }
-{
-    let mut all = digest;
-    for write in writes {
-        all = mixed(mixed(all, write.at), write.byte as u64);
-    }
-    all
 }

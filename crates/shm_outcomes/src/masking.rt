@@ -15,12 +15,13 @@ pub fn masked_outcomes(alloc: Global, found: &[Finding]) -> Result<Vec<Finding>,
     ensures { IfOk result (λ masked. (script : ScriptView) (first : Run) →
         AreOutcomes script first found.now → AreMaskedOutcomes script first masked.items) }
 {
-    let mut masked = Findings::new(alloc)?;
+    let mut masked = Findings::new(alloc);
     for finding in found {
         let outcome = hidden_outcome(alloc, &finding.outcome)?;
         masked.note(alloc, &finding.events, outcome)?;
     }
-    Ok(masked.into_all())
+    let all = masked.into_all(alloc)?;
+    Ok(all)
 }
 
 fn hidden(reply: &Reply) -> Reply

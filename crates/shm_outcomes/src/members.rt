@@ -1,14 +1,14 @@
 //! The members of groups.
 ghost use Rattle.std.specs.Prelude.{◌≡◌, ◌<◌, ◌↔◌, ◌++◌, ◌∷◌, [], ℕ, Contains, IfErr, IfOk, IsTrue, OnOk, length, slice_index_or};
-ghost use Rattle.shm_outcomes.specs.Digests.{member_digest};
 ghost use Rattle.shm_outcomes.specs.Members.{IsAdded, IsFull, Way, member, members_in, no_members, way};
 
-use shm_schedules::{Digested, Known, Outcome, SearchError, digest, mixed};
+use indexmap::IndexMap;
+use shm_schedules::{Outcome, SearchError};
 use std::alloc::{AllocError, Global};
 use std::marker::Model;
 
 // What each process was told in a run of a group.
-#[derive(Drop)]
+#[derive(Drop, PartialEq, Eq, Hash)]
 pub(crate) struct Member {
     group: usize,
     told: Outcome,
@@ -20,6 +20,8 @@ impl Model for Member {
     ghost Value = { Member };
 
     ghost view = { λ m. record { group = m.group; told = m.told } };
+
+    ghost inverse = { λ m. record { group = m.group; told = m.told } };
 }
 
 impl Member {
@@ -39,20 +41,6 @@ impl Member {
         ensures { result.now ≡ self.now.told }
     {
         &self.told
-    }
-}
-
-impl Digested for Member {
-    ghost use Rattle.shm_outcomes.specs.Digests.{member_digest};
-
-    ghost number = { member_digest };
-
-    fn digest(&self) -> u64 {
-        mixed(digest(&self.told), self.group as u64)
-    }
-
-    fn is_same(&self, other: &Member) -> bool {
-        self.group == other.group && self.told.is_same(&other.told)
     }
 }
 
@@ -99,39 +87,32 @@ impl Schedule {
 // Members, each with a schedule of a run, and how many there are with those of fewer calls.
 #[derive(Drop)]
 pub(crate) struct Members {
-    known: Known<Member>,
-    schedules: Vec<Schedule>,
+    ways: IndexMap<Member, Schedule>,
     count: u64,
 }
 
 impl Model for Members {
-    ghost use Rattle.std.specs.Prelude.{◌≡◌, length};
-    ghost use Rattle.shm_outcomes.specs.Members.{Members, ways_with};
+    ghost use Rattle.std.specs.Prelude.{map};
+    ghost use Rattle.shm_outcomes.specs.Members.{Members, way_in};
 
     ghost Value = { Members };
 
-    ghost view = { λ m. record { ways = ways_with m.known m.schedules.items; count = m.count } };
-
-    ghost invariant = { λ m. length m.known ≡ length m.schedules.items };
+    ghost view = { λ m. record { ways = map way_in m.ways.entries; count = m.count } };
 }
 
 impl Members {
-    // No members yet. They are found fast up to about this number. `count` counts those with fewer calls.
+    // No members yet. There is room for this number. `count` counts those with fewer calls.
     pub(crate) fn new(alloc: Global, members: usize, count: u64) -> Result<Members, AllocError>
         ensures { IfOk result (λ m. m ≡ no_members count) }
     {
-        let known = Known::new(alloc, members)?;
-        Ok(Members {
-            known,
-            schedules: Vec::new(alloc),
-            count,
-        })
+        let ways = IndexMap::with_capacity(alloc, members)?;
+        Ok(Members { ways, count })
     }
 
     pub(crate) fn len(&self) -> usize
         ensures { result ≡ length self.now.ways }
     {
-        self.schedules.len()
+        self.ways.len()
     }
 
     pub(crate) fn count(&self) -> u64
@@ -144,20 +125,20 @@ impl Members {
         requires { index < length self.now.ways }
         ensures { (w : Way) → slice_index_or self.now.ways index w ≡ w → result.now ≡ w.member }
     {
-        &self.known.all()[index]
+        &self.ways.keys().as_slice()[index]
     }
 
     pub(crate) fn schedule(&self, index: usize) -> &Schedule
         requires { index < length self.now.ways }
         ensures { (w : Way) → slice_index_or self.now.ways index w ≡ w → result.now ≡ w.schedule }
     {
-        &self.schedules[index]
+        &self.ways.values().as_slice()[index]
     }
 
     pub(crate) fn has(&self, member: &Member) -> bool
         ensures { IsTrue result ↔ Contains (members_in self.now.ways) member.now }
     {
-        self.known.place(member).is_some()
+        self.ways.contains_key(member)
     }
 
     // Puts a member behind the others, unless it is there. `most` bounds all members, with those of fewer calls.
@@ -176,9 +157,7 @@ impl Members {
         if self.count >= most {
             return Err(SearchError::Bound);
         }
-        self.schedules.reserve(1)?;
-        self.known.push(member)?;
-        self.schedules.push_reserved(schedule);
+        self.ways.insert(member, schedule)?;
         self.count += 1;
         Ok(())
     }

@@ -6,12 +6,9 @@ ghost use Rattle.shm_schedules.specs.Schedules.{fresh};
 
 use crate::findings::Findings;
 use crate::levels::Level;
-use shm_schedules::{Engine, Finding, Known, Run, SearchError};
+use shm_schedules::{Engine, Finding, Lists, Run, SearchError};
 use shm_text::Script;
 use std::alloc::Global;
-
-// Most scripts have fewer different lists of replies.
-const LISTS: usize = 4096;
 
 /// Every outcome of a script, each once, with a run that has it. The machine has answered no call yet. The search
 /// goes on from at most `most` runs, of which no two are alike. Errors: the host refused memory, a pager failed,
@@ -27,11 +24,12 @@ pub fn outcomes<M: Engine>(
     ensures err { IfErr result (IsCause script.now (fresh (M.flat machine)) most) }
 {
     let start = Run::first(alloc, machine)?;
-    let mut lists = Known::new(alloc, LISTS)?;
-    let mut found = Findings::new(alloc)?;
+    let mut lists = Lists::new(alloc);
+    let mut found = Findings::new(alloc);
     let mut level = Level::first(alloc, script, &start, most)?;
     'levels: while !level.is_empty() {
         level = level.next(alloc, script, &start, most, &mut lists, &mut found)?;
     }
-    Ok(found.into_all())
+    let all = found.into_all(alloc)?;
+    Ok(all)
 }

@@ -1,6 +1,6 @@
 //! What changed a machine: the calls in order, but of stores only the last byte at each place, and with forks
 //! before the stores.
-ghost use Rattle.std.specs.Prelude.{◌≡◌, ◌↔◌, ◌+◌, ◌%◌, ◌^◌, ◌<◌, ◌++◌, ◌∷◌, [], IfOk, IfSome, IsTrue, OnOk, Some, filter, length, map};
+ghost use Rattle.std.specs.Prelude.{◌≡◌, ◌+◌, ◌%◌, ◌^◌, ◌<◌, ◌++◌, ◌∷◌, [], IfOk, IfSome, OnOk, Some, filter, length, map};
 ghost use Rattle.std.specs.Int.{to_le_bytes, w64};
 ghost use Rattle.shm_outcomes.specs.declared.trail.Change.TheVariants.{Made};
 ghost use Rattle.shm_outcomes.specs.Changes.{call_of, fits, is_above, is_below, is_fork, made, no_trail, noted, patch_by, put, put_at, puts, trail_after, write_at, wrote};
@@ -9,11 +9,12 @@ use shm_areas::Place;
 use shm_base::{Call, Chunk, Event, INDEXES, Reply};
 use shm_schedules::{Engine, is_change};
 use std::alloc::{AllocError, Global};
+use std::hash::{Hash, Hasher};
 use std::marker::Model;
 use std::rc::Rc;
 
 /// A byte that was written: the index of its segment, its place there, and its value.
-#[derive(Clone, Copy, PartialEq, Eq)]
+#[derive(Clone, Copy, PartialEq, Eq, Hash)]
 pub struct Write {
     pub index: u32,
     pub at: u64,
@@ -28,7 +29,7 @@ pub struct CallBy {
 }
 
 /// A byte that was written, or a call that changed something else.
-#[derive(Clone, Copy)]
+#[derive(Clone, Copy, PartialEq, Eq)]
 pub enum Change {
     Wrote(Write),
     Made(CallBy),
@@ -165,12 +166,6 @@ fn puts<M: Engine>(
     Ok(all)
 }
 
-fn is_same_call_by(call: &CallBy, other: &CallBy) -> bool
-    ensures { IsTrue result ↔ call.now ≡ other.now }
-{
-    call == other
-}
-
 // The call of an event.
 fn call_of(event: &Event) -> CallBy
     ensures { result ≡ call_of event.now }
@@ -179,50 +174,6 @@ fn call_of(event: &Event) -> CallBy
         pid: event.pid,
         call: event.call,
     }
-}
-
-fn is_same_change(change: &Change, other: &Change) -> bool
-    ensures { IsTrue result ↔ change.now ≡ other.now }
-{
-    match (change, other) {
-        (Change::Wrote(write), Change::Wrote(met)) => write == met,
-        (Change::Made(call), Change::Made(met)) => is_same_call_by(call, met),
-        _ => false,
-    }
-}
-
-fn are_same_changes(changes: &[Change], others: &[Change]) -> bool
-    ensures { IsTrue result ↔ changes.now ≡ others.now }
-{
-    if changes.len() != others.len() {
-        return false;
-    }
-    for (index, change) in changes.iter().enumerate() {
-        if !is_same_change(change, &others[index]) {
-            return false;
-        }
-    }
-    true
-}
-
-fn is_same_write(write: &Write, other: &Write) -> bool
-    ensures { IsTrue result ↔ write.now ≡ other.now }
-{
-    write == other
-}
-
-fn are_same_writes(writes: &[Write], others: &[Write]) -> bool
-    ensures { IsTrue result ↔ writes.now ≡ others.now }
-{
-    if writes.len() != others.len() {
-        return false;
-    }
-    for (index, write) in writes.iter().enumerate() {
-        if !is_same_write(write, &others[index]) {
-            return false;
-        }
-    }
-    true
 }
 
 // The changes up to the last one that wrote no bytes, and the bytes that were written since. Trails share both,
@@ -241,6 +192,40 @@ impl Model for Trail {
     ghost view = { λ t. record { past = t.past.value.items; writes = t.writes.value.items } };
 }
 
+impl PartialEq for Trail {
+    ghost use Rattle.std.specs.Cmp.{decided, partial_equiv_from_equiv};
+    ghost use Rattle.shm_outcomes.specs.Same.{same-trail, trail_eq};
+
+    ghost eq = { trail_eq };
+
+    ghost laws = { partial_equiv_from_equiv (decided trail_eq same-trail) };
+
+    fn eq(&self, other: &Trail) -> bool {
+        self.writes == other.writes && self.past == other.past
+    }
+}
+
+impl Eq for Trail {
+    ghost use Rattle.std.specs.Cmp.{decided};
+    ghost use Rattle.shm_outcomes.specs.Same.{same-trail, trail_eq};
+
+    ghost laws = { decided trail_eq same-trail };
+}
+
+// The written bytes tell most trails apart.
+impl Hash for Trail {
+    ghost use Rattle.std.specs.Hash.{same_Alike};
+    ghost use Rattle.shm_outcomes.specs.Same.{same-trail, trail_hash};
+
+    ghost hash_input = { trail_hash };
+
+    ghost respects_eq = { (same_Alike trail_hash same-trail).fed };
+
+    fn hash<H: Hasher>(&self, state: &mut H) {
+        self.writes.hash(state);
+    }
+}
+
 impl Trail {
     pub(crate) fn new(alloc: Global) -> Result<Trail, AllocError>
         ensures { IfOk result (λ t. t ≡ no_trail) }
@@ -251,17 +236,10 @@ impl Trail {
     }
 
     // The bytes that were written since the last other change.
-    pub(crate) fn writes(&self) -> &[Write]
+    fn writes(&self) -> &[Write]
         ensures { result.now ≡ self.now.writes }
     {
         self.writes.as_ref().as_slice()
-    }
-
-    pub(crate) fn is_same(&self, other: &Trail) -> bool
-        ensures { IsTrue result ↔ self.now ≡ other.now }
-    {
-        are_same_writes(self.writes(), other.writes())
-            && are_same_changes(self.past.as_ref(), other.past.as_ref())
     }
 
     // The same once more.

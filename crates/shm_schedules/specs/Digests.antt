@@ -1,5 +1,6 @@
--- Numbers by which outcomes are looked up. Equal ones have equal numbers.
+-- The number by which a list of replies is hashed.
 use Rattle.std.specs.Prelude.{ℕ, ◌+◌, ◌*◌, ◌%◌, ◌^◌, List, [], ◌∷◌}
+use Rattle.std.specs.Hash as fed
 use Rattle.shm_base.specs.declared.call.Reply.{Reply}
 use Rattle.shm_base.specs.declared.call.Reply.TheVariants.{Bytes, Number}
 
@@ -23,9 +24,10 @@ with_replies h (r ∷ replies) = with_replies (with_reply h r) replies
 abbrev pub list_digest : List Reply → ℕ
 list_digest replies = with_replies 1 replies
 
-abbrev pub with_told : ℕ → List (List Reply) → ℕ
-with_told h [] = h
-with_told h (t ∷ told) = with_told (mixed h (list_digest t)) told
+-- what a hasher is fed for one process's replies
+abbrev pub list_hash : List Reply → fed.HashWrites
+list_hash replies = fed.u64 (list_digest replies)
 
-abbrev pub digest : List (List Reply) → ℕ
-digest outcome = with_told 1 outcome
+-- and for an outcome
+abbrev pub outcome_hash : List (List Reply) → fed.HashWrites
+outcome_hash outcome = fed.slice list_hash outcome

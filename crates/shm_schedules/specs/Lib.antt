@@ -6,5 +6,4 @@ pub mod Finding
 pub mod Text
 pub mod Alike
 pub mod Digests
-pub mod Buckets
-pub mod Known
+pub mod Same

@@ -1,13 +1,11 @@
-//! Numbers by which outcomes, and what is made of them, are looked up.
+//! The number by which a list of replies is hashed.
 ghost use Rattle.std.specs.Prelude.{◌≡◌};
-ghost use Rattle.shm_schedules.specs.Digests.{digest, mixed, with_bytes, with_replies, with_reply, with_told};
+ghost use Rattle.shm_schedules.specs.Digests.{mixed, with_bytes, with_replies, with_reply};
 
-use crate::known::Digested;
-use crate::outcome::{Outcome, Told};
 use shm_base::Reply;
 
-/// A digest with one more number.
-pub fn mixed(digest: u64, number: u64) -> u64
+// A digest with one more number.
+fn mixed(digest: u64, number: u64) -> u64
     ensures { result ≡ mixed digest number }
 {
     digest
@@ -43,21 +41,4 @@ pub(crate) fn with_replies(digest: u64, replies: &[Reply]) -> u64
         all = with_reply(all, reply);
     }
     mixed(all, 257)
-}
-
-fn with_told(digest: u64, told: &[Told]) -> u64
-    ensures { result ≡ with_told digest told.now }
-{
-    let mut all = digest;
-    for one in told {
-        all = mixed(all, one.digest());
-    }
-    all
-}
-
-/// The digest of an outcome.
-pub fn digest(outcome: &Outcome) -> u64
-    ensures { result ≡ digest outcome.now }
-{
-    with_told(1, outcome.told())
 }

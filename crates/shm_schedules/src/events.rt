@@ -3,7 +3,6 @@ ghost use Rattle.std.specs.Prelude.{◌≡◌, ◌↔◌, IfOk, IsTrue};
 ghost use Rattle.shm_base.specs.History.{is_refusal};
 ghost use Rattle.shm_schedules.specs.Alike.{changes, is_change, looks};
 
-use crate::outcome::is_same_reply;
 use shm_base::{Call, Event, Reply};
 use std::alloc::{AllocError, Global};
 
@@ -46,31 +45,9 @@ pub fn changes(alloc: Global, events: &[Event]) -> Result<Vec<Event>, AllocError
     Ok(found)
 }
 
-fn is_same_call(call: &Call, other: &Call) -> bool
-    ensures { IsTrue result ↔ call.now ≡ other.now }
-{
-    call == other
-}
-
-fn is_same_event(event: &Event, other: &Event) -> bool
-    ensures { IsTrue result ↔ event.now ≡ other.now }
-{
-    event.pid == other.pid
-        && is_same_call(&event.call, &other.call)
-        && is_same_reply(&event.reply, &other.reply)
-}
-
 /// Whether the two lists have the same calls with the same replies.
 pub fn are_same_events(events: &[Event], others: &[Event]) -> bool
     ensures { IsTrue result ↔ events.now ≡ others.now }
 {
-    if events.len() != others.len() {
-        return false;
-    }
-    for (index, event) in events.iter().enumerate() {
-        if !is_same_event(event, &others[index]) {
-            return false;
-        }
-    }
-    true
+    events == others
 }

@@ -1,13 +1,11 @@
 //! Runs of a script along schedules, and their outcomes.
 #![tactic(auto)]
 
-mod buckets;
 mod digests;
 mod engine;
 mod events;
 mod finding;
 mod followers;
-mod known;
 mod laws;
 mod lines;
 mod outcome;
@@ -16,13 +14,10 @@ mod search_error;
 mod simulated;
 mod text;
 
-pub use buckets::Buckets;
-pub use digests::{digest, mixed};
 pub use engine::{Engine, EngineError};
 pub use events::{are_same_events, changes, is_change, is_refusal};
 pub use finding::Finding;
 pub use followers::push_followers;
-pub use known::{Digested, Known};
 pub use laws::times_reach_times;
 pub use lines::reply_count;
 pub use outcome::{Lists, Outcome, Told};

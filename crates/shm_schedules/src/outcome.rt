@@ -1,13 +1,14 @@
 //! The replies that each process gets in a run, with the times of `stat` masked.
-ghost use Rattle.std.specs.Prelude.{◌≡◌, ◌↔◌, ◌++◌, ◌∷◌, [], IfOk, IsTrue, List, slice_index_or};
+ghost use Rattle.std.specs.Prelude.{◌≡◌, ◌++◌, ◌∷◌, [], IfOk, slice_index_or};
 ghost use Rattle.shm_schedules.specs.Outcomes.{masked, masked_ds, masked_time, told, told_after, outcome_of};
 
 use crate::digests::with_replies;
-use crate::known::{Digested, Known};
 use crate::lines::reply_count;
+use indexmap::IndexSet;
 use shm_base::{Event, Process, Reply, ShmidDs};
 use shm_text::Script;
 use std::alloc::{AllocError, Global};
+use std::hash::{Hash, Hasher};
 use std::marker::Model;
 use std::rc::Rc;
 
@@ -109,32 +110,52 @@ impl Told {
     }
 }
 
-impl Digested for Told {
-    ghost use Rattle.shm_schedules.specs.Digests.{list_digest};
+impl PartialEq for Told {
+    ghost use Rattle.std.specs.Cmp.{decided, partial_equiv_from_equiv};
+    ghost use Rattle.shm_schedules.specs.Same.{replies_eq, same-replies};
 
-    ghost number = { list_digest };
+    ghost eq = { replies_eq };
 
-    fn digest(&self) -> u64 {
-        self.digest
+    ghost laws = { partial_equiv_from_equiv (decided replies_eq same-replies) };
+
+    fn eq(&self, other: &Told) -> bool {
+        self.replies() == other.replies()
     }
+}
 
-    fn is_same(&self, other: &Told) -> bool {
-        self.digest == other.digest && are_same_replies(self.replies(), other.replies())
+impl Eq for Told {
+    ghost use Rattle.std.specs.Cmp.{decided};
+    ghost use Rattle.shm_schedules.specs.Same.{replies_eq, same-replies};
+
+    ghost laws = { decided replies_eq same-replies };
+}
+
+impl Hash for Told {
+    ghost use Rattle.std.specs.Hash.{same_Alike};
+    ghost use Rattle.shm_schedules.specs.Digests.{list_hash};
+    ghost use Rattle.shm_schedules.specs.Same.{same-replies};
+
+    ghost hash_input = { list_hash };
+
+    ghost respects_eq = { (same_Alike list_hash same-replies).fed };
+
+    fn hash<H: Hasher>(&self, state: &mut H) {
+        state.write_u64(self.digest);
     }
 }
 
 /// Lists of replies that runs share.
-pub type Lists = Known<Told>;
+pub type Lists = IndexSet<Told>;
 
 // The list that is known already, if there is one, so that the same replies are kept once.
 fn shared(lists: &mut Lists, told: Told) -> Result<Told, AllocError>
     ensures { IfOk result (λ t. t ≡ told) }
 {
-    if let Some(place) = lists.place(&told) {
-        return lists.all()[place].copied();
+    if let Some(known) = lists.get(&told) {
+        return known.copied();
     }
     let copy = told.copied()?;
-    lists.push(told)?;
+    lists.insert(told)?;
     Ok(copy)
 }
 
@@ -145,26 +166,6 @@ fn with_one_more(alloc: Global, replies: &[Reply], reply: Reply) -> Result<Vec<R
     all.extend_from_slice(replies)?;
     all.push(reply)?;
     Ok(all)
-}
-
-pub(crate) fn is_same_reply(reply: &Reply, other: &Reply) -> bool
-    ensures { IsTrue result ↔ reply.now ≡ other.now }
-{
-    reply == other
-}
-
-fn are_same_replies(replies: &[Reply], others: &[Reply]) -> bool
-    ensures { IsTrue result ↔ replies.now ≡ others.now }
-{
-    if replies.len() != others.len() {
-        return false;
-    }
-    for (index, reply) in replies.iter().enumerate() {
-        if !is_same_reply(reply, &others[index]) {
-            return false;
-        }
-    }
-    true
 }
 
 // The replies to one process in these events.
@@ -195,18 +196,38 @@ impl Model for Outcome {
     ghost view = { λ o. o.told.items };
 }
 
-fn are_same_told(told: &[Told], others: &[Told]) -> bool
-    ensures { IsTrue result ↔ told.now ≡ others.now }
-{
-    if told.len() != others.len() {
-        return false;
+impl PartialEq for Outcome {
+    ghost use Rattle.std.specs.Cmp.{decided, partial_equiv_from_equiv};
+    ghost use Rattle.shm_schedules.specs.Same.{outcome_eq, same-outcomes};
+
+    ghost eq = { outcome_eq };
+
+    ghost laws = { partial_equiv_from_equiv (decided outcome_eq same-outcomes) };
+
+    fn eq(&self, other: &Outcome) -> bool {
+        self.told == other.told
     }
-    for (index, one) in told.iter().enumerate() {
-        if !one.is_same(&others[index]) {
-            return false;
-        }
+}
+
+impl Eq for Outcome {
+    ghost use Rattle.std.specs.Cmp.{decided};
+    ghost use Rattle.shm_schedules.specs.Same.{outcome_eq, same-outcomes};
+
+    ghost laws = { decided outcome_eq same-outcomes };
+}
+
+impl Hash for Outcome {
+    ghost use Rattle.std.specs.Hash.{same_Alike};
+    ghost use Rattle.shm_schedules.specs.Digests.{outcome_hash};
+    ghost use Rattle.shm_schedules.specs.Same.{same-outcomes};
+
+    ghost hash_input = { outcome_hash };
+
+    ghost respects_eq = { (same_Alike outcome_hash same-outcomes).fed };
+
+    fn hash<H: Hasher>(&self, state: &mut H) {
+        self.told.hash(state);
     }
-    true
 }
 
 fn copied_told(alloc: Global, told: &[Told]) -> Result<Vec<Told>, AllocError>
@@ -302,12 +323,5 @@ impl Outcome {
     {
         let told = told_after(alloc, &script.processes, event, &self.told, lists)?;
         Ok(Outcome { told })
-    }
-
-    /// Whether the two are equal.
-    pub fn is_same(&self, other: &Outcome) -> bool
-        ensures { IsTrue result ↔ self.now ≡ other.now }
-    {
-        are_same_told(&self.told, &other.told)
     }
 }

@@ -15,6 +15,6 @@ loop-finding-preserved c =
 pub returns : goal.returns
 returns c =
     let end : c.loop-finding.finding-index ≡ length c.args.found.now = omega (arith, c.loop-finding-test.false, c.loop-finding.auto.finding-index-end) in
-    let all : c.into_all.result.items ≡ c.loop-finding.masked = search rules in
+    let all : c.in_ok-all.all.items ≡ c.loop-finding.masked = search rules in
     subst (λ (l : List Finding). (script : ScriptView) (first : Run) → AreOutcomes script first c.args.found.now → AreMaskedOutcomes script first l) (sym all)
     (all-hidden c.args.found.now c.loop-finding.masked (subst (λ i. AreHidden c.args.found.now i c.loop-finding.masked) end c.loop-finding.invariant))

@@ -16,8 +16,8 @@ levels-init g c =
     let machine : Machine = g.M.Engine.flat c.args.machine in
     let start : c.in_ok-start.start ≡ fresh machine = search rules in
     let level : c.in_ok-level.level ≡ first_level c.args.script.now (fresh machine) = c.in_ok-level.ensures.ok ∙ ap (first_level c.args.script.now) start in
-    let found : c.in_ok-found.found ≡ [] = search rules in
-    subst (λ (l : Level). AreSearched c.args.script.now machine c.args.most l c.in_ok-found.found) (sym level)
+    let found : c.new-found.result ≡ [] = search rules in
+    subst (λ (l : Level). AreSearched c.args.script.now machine c.args.most l c.new-found.result) (sym level)
     (subst (AreSearched c.args.script.now machine c.args.most (first_level c.args.script.now (fresh machine))) (sym found) (first-searched c.args.script.now machine c.args.most c.in_ok-level.ensures.few))
 
 pub next-requires : goal.next-requires
@@ -52,5 +52,5 @@ pub returns-clause-ok : goal.returns-clause-ok
 returns-clause-ok g c =
     let machine : Machine = g.M.Engine.flat c.args.machine in
     let none : c.levels.level.members.ways ≡ [] = search rules in
-    let all : c.into_all.result.items ≡ c.levels.found = search rules in
+    let all : c.in_ok-all.all.items ≡ c.levels.found = search rules in
     subst (AreOutcomes c.args.script.now (fresh machine)) (sym all) (searched-all c.args.script.now machine c.args.most c.levels.level c.levels.found c.levels.invariant none)
