@@ -9,7 +9,7 @@ pub record Token : Type 0 where
   pub mark : Mark
   pub word : List ℕ
 
--- the tokens so far, a word that may go on, the number of its first byte, and whether the next byte is the end of a mark
+-- the tokens so far, a word that may continue, the number of its first byte, and whether the next byte is the end of a mark
 pub record Cut : Type 0 where
   pub tokens : List Token
   pub word : List ℕ

@@ -59,7 +59,8 @@ impl Level {
         alloc: Global,
         operand: Formula,
     ) -> Result<Formula, AllocError>
-        ensures { IfOk result (λ f. bare f ≡ both_with (option_map bare all) (signed negated (bare operand))) }
+        ensures { let last = signed negated (bare operand) in
+            IfOk result (λ f. bare f ≡ both_with (option_map bare all) last) }
     {
         let operand = if negated {
             operand.not(alloc)?

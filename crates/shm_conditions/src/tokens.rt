@@ -55,7 +55,7 @@ fn is_double(mark: Mark) -> bool
     }
 }
 
-// The tokens so far, a word that may go on, the number of its first byte, and whether the next byte is the end of a
+// The tokens so far, a word that may continue, the number of its first byte, and whether the next byte is the end of a
 // mark.
 #[derive(Drop)]
 struct Cut {

@@ -97,7 +97,7 @@ one-more script first run next stream mid rest turn led drawn is =
     subst (λ (r : Run). LeadsDrawn script (schedule_of r.events) first r stream rest) (sym is)
     (subst (λ (s : List ℕ). LeadsDrawn script s first then_run stream rest) (sym schedule) (drawn-more script (schedule_of run.events) first run stream mid rest turn led drawn))
 
--- no process can go on
+-- no process can continue
 pub whole :
     (script : ScriptView) (first run : Run) (events : List Event) (stream mid rest : Stream)
     → LeadsDrawn script (schedule_of run.events) first run stream mid → turns script run ≡ [] → rest ≡ mid → events ≡ run.events → IsSample script first stream events rest
@@ -127,7 +127,7 @@ own_lines pid [] = 0
 own_lines pid (Flush pages ∷ lines) = own_lines pid lines
 own_lines pid (Command c ∷ lines) = if c.pid == pid then own_lines pid lines + 1 else own_lines pid lines
 
--- a process that can go on has fewer replies than lines
+-- a process that can continue has fewer replies than lines
 next-fewer : (pid : ℕ) (values : List (Option ℕ)) (lines : List Line) (replies : List Reply) (call : ProcessCall) → next_call pid values lines replies ≡ Some call → length replies < own_lines pid lines
 next-fewer pid values [] replies call h = absurd (none-some call h)
 next-fewer pid values (Flush pages ∷ lines) replies call h = next-fewer pid values lines replies call h

@@ -1,4 +1,4 @@
--- The answers that a system gave to each process, and whether a run has these replies.
+-- The replies of a system to each process, and whether a run has them.
 use Rattle.std.specs.Prelude.{◌≡◌, ◌<◌, ◌==◌, ℕ, Bool, true, false, List, [], ◌∷◌, length, slice_index_or}
 use Rattle.shm_base.specs.History.{is_refusal}
 use Rattle.shm_base.specs.declared.call.Event.{Event}

@@ -89,10 +89,10 @@ entries_of script text = entries_from script.processes 1 (lines_in text)
 abbrev pub answer_in : Entry → Answer
 answer_in e = e.answer
 
--- the answers to one process, in order
+-- the replies to one process, in order
 abbrev pub own_answers : List Entry → ℕ → List Answer
 own_answers entries pid = map answer_in (filter (λ (e : Entry). e.pid == pid) entries)
 
--- the answers to each declared process, in the script's order
+-- the replies to each declared process, in the script's order
 abbrev pub log_of : ScriptView → List Entry → List (List Answer)
 log_of script entries = map (λ (p : Process). own_answers entries p.pid) script.processes

@@ -20,7 +20,7 @@ use shm_schedules::{
 use shm_text::Script;
 use std::alloc::Global;
 
-// Whether two runs are alike.
+// Whether two runs are equivalent.
 fn are_alike(alloc: Global, finding: &Finding, other: &Finding) -> Result<bool, EngineError>
     ensures { IfOk result (λ r. IsTrue r ↔ AreAlike finding.now other.now) }
 {
@@ -86,8 +86,8 @@ fn newest<'a, M: Engine>(run: &Run<M>, next: &'a Run<M>) -> &'a [Event]
 }
 
 /// Whether some schedule of a script has the replies of a log, whose lines are these entries. The machine has
-/// answered no call yet. The order of the lines is tried first, then orders near it. Else at most `most`
-/// beginnings of schedules are looked at, of which no two are alike.
+/// made no call. It tries the order of the lines first, then orders near it, and else at most `most` prefixes of
+/// schedules, of which no two are equivalent.
 pub fn judge_log<M: Engine>(
     alloc: Global,
     script: &Script,

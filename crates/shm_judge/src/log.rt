@@ -1,4 +1,4 @@
-//! What a system answered to each process.
+//! The replies of a system to each process.
 ghost use Rattle.std.specs.Prelude.{◌≡◌, ◌↔◌, IsTrue, IfNone, IfOk, IfSome, length, slice_index_or, [], List};
 ghost use Rattle.shm_schedules.specs.Schedules.{replies_to};
 ghost use Rattle.shm_judge.specs.Logs.{AllBegin, AllFill, Begins, Fits, is_any};
@@ -68,7 +68,7 @@ impl Answer {
     }
 }
 
-/// The answers to one process, in order.
+/// The replies to one process, in order.
 #[derive(Drop)]
 pub struct Answers {
     pub answers: Vec<Answer>,
@@ -83,7 +83,7 @@ impl Model for Answers {
     ghost view = { λ a. a.answers.items };
 }
 
-// How many of these answers the process has in the events, if the events begin with these replies.
+// How many of these replies the process has in the events, if the events begin with them.
 fn matched(
     alloc: Global,
     answers: &[Answer],
@@ -107,7 +107,7 @@ fn matched(
     Ok(Some(place))
 }
 
-/// The answers to each declared process, in the script's order; none if a list is missing.
+/// The replies to each declared process, in the script's order; none if a list is missing.
 #[derive(Drop)]
 pub struct Log {
     pub processes: Vec<Answers>,
@@ -123,7 +123,7 @@ impl Model for Log {
 }
 
 impl Log {
-    /// The answers to the process at an index.
+    /// The replies to the process at an index.
     pub fn at(&self, place: usize) -> &[Answer]
         ensures { result.now ≡ slice_index_or self.now place [] }
     {

@@ -107,7 +107,7 @@ fn walk_on<M: Engine>(
 }
 
 // A run of a schedule near the order of the lines. It continues while the plan has a move. The machine has
-// answered no call yet.
+// made no call.
 pub(crate) fn near_order<M: Engine>(
     alloc: Global,
     script: &Script,

@@ -17,7 +17,7 @@ use std::alloc::Global;
 const APART: usize = 3;
 
 /// The calls and replies of a schedule that has the replies of a log, if it is found in the order of the log's
-/// lines or in an order near it. The machine has answered no call yet.
+/// lines or in an order near it. The machine has made no call.
 pub(crate) fn explained<M: Engine>(
     alloc: Global,
     script: &Script,
@@ -37,7 +37,7 @@ pub(crate) fn explained<M: Engine>(
 }
 
 // The calls and replies of the schedule that a log's lines name in their order, if its replies are those of the
-// log. The machine has answered no call yet.
+// log. The machine has made no call.
 fn in_order<M: Engine>(
     alloc: Global,
     script: &Script,
@@ -98,7 +98,7 @@ fn is_whole_in<M: Engine>(
 }
 
 // The calls and replies of a schedule near the order of the lines, if one is found in this way whose replies are
-// those of the log. The machine has answered no call yet.
+// those of the log. The machine has made no call.
 fn found_by<M: Engine>(
     alloc: Global,
     script: &Script,

@@ -11,9 +11,9 @@ use std::alloc::{AllocError, Global};
 // How a plan continues if no line fits.
 #[derive(Clone, Copy)]
 pub(crate) enum Way {
-    // Puts the first remaining line before lines that were answered, at the last place where it fits.
+    // Puts the first remaining line before lines that were placed, at the last place where it fits.
     Early,
-    // Tries other lines in place of the last one, so that no lines change places that are farther apart than
+    // Tries other lines instead of the last one, so that no lines change places that are farther apart than
     // this.
     Near(usize),
 }
@@ -108,7 +108,7 @@ pub(crate) fn last_line(entries: &[Entry], events: &[Event]) -> usize {
 pub(crate) struct Plan {
     way: Way,
     heads: Vec<Head>,
-    // the lines that were answered, in order
+    // the lines that were placed, in order
     taken: Vec<usize>,
     // lines before this one were tried
     from: usize,
@@ -163,7 +163,7 @@ impl Plan {
         Move::Try(line)
     }
 
-    // Notes that the line was answered.
+    // Notes that the line was placed.
     pub(crate) fn took(&mut self, entries: &[Entry], line: usize) -> Result<(), AllocError> {
         self.taken.push(line)?;
         self.from = 0;
@@ -184,7 +184,7 @@ impl Plan {
         self.from = line.saturating_add(1);
     }
 
-    // Notes that the last line that was answered is open again.
+    // Notes that the last line that was placed is open again.
     pub(crate) fn back(&mut self, entries: &[Entry]) {
         let first = first_head(&self.heads, 0, entries.len());
         let Some(line) = self.taken.pop() else {
@@ -197,7 +197,7 @@ impl Plan {
         self.goes_back(first, line);
     }
 
-    // Chooses what to try in place of this line, if no line fitted before `first`.
+    // Chooses what to try instead of this line, if no line fitted before `first`.
     fn goes_back(&mut self, first: usize, line: usize) {
         match self.way {
             Way::Early => {

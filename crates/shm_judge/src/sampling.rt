@@ -101,7 +101,7 @@ fn put_sample<M: Engine, R: Rng>(
     Ok(())
 }
 
-/// The text of this many runs of a script, from a machine that has answered no call yet. In each run the
+/// The text of this many runs of a script, from a machine that has made no call. In each run the
 /// generator draws the process that continues among those that can, until none can. The same generator gives
 /// the same runs. Errors: the host refused memory, or a pager failed.
 pub fn samples<M: Engine, R: Rng>(

@@ -12,7 +12,7 @@ use Rattle.shm_schedules.specs.Schedules.{fresh, IsReached}
 use Rattle.shm_schedules.proofs.Telling.{told-after}
 use Rattle.shm_outcomes.proofs.Trails.{reached-next}
 
--- it carries what each process was told in its run, and what changed the machine
+-- it carries the replies to each process in its run, and the changes of the machine
 pub record AreCarried (script : ScriptView) (machine : Machine) (b : Branch) : Type 0 where
   pub told : b.told ≡ outcome_of script b.run.events
   pub trail : b.trail ≡ trail_of machine b.run.events

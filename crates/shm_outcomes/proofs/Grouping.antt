@@ -1,4 +1,4 @@
--- Groups of runs, and where they go on.
+-- Groups of runs, and their continuations.
 use Rattle.std.specs.Prelude.{◌≡◌, ◌<◌, ◌⊎◌, ℕ, suc, zero, ◌+◌, true, false, take, List, [], ◌∷◌, ◌++◌, map, length, option_map, Option, Some, None, All, Contains, slice_index_or}
 use Rattle.std.specs.List.{AllPairs}
 use Rattle.std.proofs.Common.{refl, ap, sym, subst, ◌∙◌, arith, inl, inr, length-append}
@@ -121,7 +121,7 @@ map-at script (b ∷ bs) (suc i) mark (lt, at) =
 
 -- GROUPS OF ONE LEVEL
 
--- a run of a group with so many calls
+-- a run of a group with this many calls
 pub record IsGroup (script : ScriptView) (machine : Machine) (n : ℕ) (b : Branch) : Type 0 where
   pub reached : IsReached script (fresh machine) b.run
   pub long : length b.run.events ≡ n
@@ -232,13 +232,13 @@ one-from script b pid call x then is = (b, pid, call, (0, omega arith, refl), th
 
 -- A RUN OF A GROUP
 
--- the run is of the member's group, and each process was told what the member says
+-- the run is of the member's group, and each process has the member's replies
 pub record IsOne (script : ScriptView) (machine : Machine) (g : Groups) (x : Member) (run : Run) : Type 0 where
   pub reached : IsReached script (fresh machine) run
   pub told : x.told ≡ outcome_of script run.events
   pub at : IsAt g.marks x.group (mark_of script (fresh machine) run)
 
--- the run of its group, with which it goes on alike
+-- the run of its group, which has the same continuations
 pub record HasGroup (script : ScriptView) (machine : Machine) (n : ℕ) (g : Groups) (x : Member) (run : Run) : Type 0 where
   pub b : Branch
   pub within : x.group < length g.all
@@ -320,7 +320,7 @@ module _ (script : ScriptView) (machine : Machine) (n : ℕ) (olds nexts : Group
         at = subst (IsAt nexts.marks m.group) marks at;
       }
 
-  -- where it goes by a process
+  -- its continuation by a process
   by-move : (pid : ℕ) (o : Option Move) → IsMove script nexts own.b pid o → (m : Move) → o ≡ Some m → (r : Run) × (goes script m.event.pid run ≡ Some r) × IsOne script machine nexts (moved script x m) r
   by-move pid o is m some = by (next script own.b.run pid) refl is
     where

@@ -1,4 +1,4 @@
--- Runs whose processes keep the same of their replies go on alike.
+-- Runs whose processes keep the same replies have the same continuations.
 use Rattle.std.specs.Prelude.{◌≡◌, ℕ, suc, zero, take, ◌+◌, ◌==◌, ◌&&◌, ◌<◌, drop, slice_index_or, Bool, true, false, not, cond, List, [], ◌∷◌, ◌++◌, map, length, Option, Some, None}
 use Rattle.std.proofs.Common.{refl, ap, sym, subst, ◌∙◌, arith, inl, inr, length-append}
 use Rattle.std.proofs.lemmas.Bool.{cases_Bool, cases_eq}

@@ -197,7 +197,7 @@ module _ (script : ScriptView) (machine : Machine) (n : ℕ) (olds nexts : Group
   abbrev mine : Way → List (Option Move)
   mine w = slice_index_or moves w.member.group []
 
-  -- the members to which one goes on
+  -- the members that extend one
   pub ways-after : (w : Way) → IsWay script machine olds w → All (IsWay script machine nexts) (ways_on script.processes w (mine w))
   ways-after w is =
       all-ways script w (IsWay script machine nexts) (mine w)
@@ -233,7 +233,7 @@ module _ (script : ScriptView) (machine : Machine) (n : ℕ) (olds nexts : Group
           let own : IsOne script machine olds w.member r = subst (λ (v : Way). IsOne script machine olds v.member r) (sym (one-there w x there)) one in
           absurd (none-some m (sym (over-all script machine n olds nexts w.member r all own moves are over pid) ∙ follows))
 
-  -- one that goes on
+  -- one that has a continuation
   takes-on : (w : Way) (next mid : Members) (before : List Finding) → IsWay script machine olds w → AreKnown script machine before → are_over (mine w) ≡ false
       → Adds script machine most nexts (ways_on script.processes w (mine w)) next mid → Takes script machine olds nexts (w ∷ []) mid before before
   takes-on w next mid before is known some adds =

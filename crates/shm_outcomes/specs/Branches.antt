@@ -1,4 +1,4 @@
--- Runs with what each process was told in them, and what changed the machine.
+-- Runs with the replies to each process and the changes of the machine.
 use Rattle.std.specs.Prelude.{ℕ, ◌+◌, List, length}
 use Rattle.shm_base.specs.Step.{step}
 use Rattle.shm_base.specs.Calls.{ProcessCall}

@@ -1,4 +1,4 @@
--- Runs in groups: those of one group go on alike. A group is known by how many calls its runs made, by what each process keeps
+-- Runs in groups: those of one group have the same continuations. A group is known by how many calls its runs made, by what each process keeps
 -- of its replies, and by what changed the machine.
 use Rattle.std.specs.Prelude.{◌≡◌, ◌<◌, ◌⊎◌, ℕ, ◌==◌, Bool, true, false, if◌then◌else◌, List, [], ◌∷◌, ◌++◌, map, length, Option, Some, None, All, Contains, slice_index_or}
 use Rattle.std.specs.List.{AllPairs}
@@ -105,7 +105,7 @@ pub record ArePut (script : ScriptView) (froms : List Branch) (olds news : Group
   pub apart : AllPairs AreOther olds.marks → AllPairs AreOther news.marks
   pub from : All (λ (b : Branch). Contains olds.all b ⊎ IsFrom script froms b) news.all
 
--- no process goes on
+-- no process can continue
 abbrev pub are_over : List (Option Move) → Bool
 are_over [] = true
 are_over (None ∷ moves) = are_over moves

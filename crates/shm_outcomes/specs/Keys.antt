@@ -1,4 +1,4 @@
--- What a search knows a run by. Runs with one key are told apart by no schedule that goes on from them.
+-- The keys of a search. No continuation distinguishes runs with one key.
 use Rattle.std.specs.Prelude.{◌≡◌, ◌<◌, ℕ, List, All, length}
 use Rattle.std.specs.List.{AllPairs}
 use Rattle.shm_base.specs.declared.call.Reply.{Reply}
@@ -7,7 +7,7 @@ use Rattle.shm_outcomes.specs.Changes.{Trail, trail_of}
 use Rattle.shm_schedules.specs.Outcomes.{outcome_of}
 use Rattle.shm_schedules.specs.Schedules.{Run, IsReached}
 
--- how many calls were made, what each process was told but for times, and what changed the machine
+-- the number of calls, the replies to each process without times, and the changes of the machine
 pub record Key : Type 0 where
   pub count : ℕ
   pub told : List (List Reply)

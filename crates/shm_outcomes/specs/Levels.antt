@@ -31,7 +31,7 @@ abbrev pub IsFirstCause : ℕ → SearchError → Type 0
 IsFirstCause most (Engine e) = Unit {0}
 IsFirstCause most Bound = most ≡ 0
 
--- the members of a level are taken up, and those to which they go on are the next one
+-- the members of a level are extended, and those that extend them are the next level
 pub record IsNextLevel (script : ScriptView) (first : Run) (most : ℕ) (level next : Level) (before found : List Finding) : Type 0 where
   pub moves : List (List (Option Move))
   pub all : AreAllMoves script next.groups level.groups.all moves

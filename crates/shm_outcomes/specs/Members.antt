@@ -1,4 +1,4 @@
--- The members of groups: what each process was told in a run of the group, with a schedule of such a run.
+-- The members of groups: the replies to each process in a run of the group, with a schedule of such a run.
 use Rattle.std.specs.Prelude.{◌≡◌, ◌≤◌, ◌<◌, ◌⊎◌, ℕ, ◌+◌, true, false, List, [], ◌∷◌, ◌++◌, map, Option, Some, None, Contains, slice_index_or}
 use Rattle.shm_base.specs.declared.call.Process.{Process}
 use Rattle.shm_base.specs.declared.call.Reply.{Reply}
@@ -46,7 +46,7 @@ no_members count = record { ways = []; count = count }
 
 -- ADDING
 
--- the member is put behind the others, unless it is there; the bound is on all members
+-- the member is appended, unless it is there; the bound is on all members
 abbrev pub IsAdded : ℕ → Way → Members → Members → Type 0
 IsAdded most w olds news =
     (Contains (members_in olds.ways) w.member × (news ≡ olds))
@@ -99,7 +99,7 @@ abbrev pub IsEndNoted : Option Run → List (List Reply) → List Finding → Li
 IsEndNoted None told olds news = news ≡ olds
 IsEndNoted (Some run) told olds news = IsNoted olds (record { events = run.events; outcome = told }) news
 
--- a member is taken up: those to which it goes on are added; if there are none, its outcome is noted
+-- a member is extended: those that extend it by a call are added; if there are none, its outcome is noted
 abbrev pub IsTakenUp : ScriptView → Run → ℕ → List (Option Move) → Way → Members → Members → List Finding → List Finding → Type 0
 IsTakenUp script first most moves w olds news before found =
     ((are_over moves ≡ true) × (news ≡ olds) × IsEndNoted (walked script w.schedule first) w.member.told before found)
@@ -113,7 +113,7 @@ AreTakenUp script first most moves (w ∷ ways) olds news before found =
     × IsTakenUp script first most (slice_index_or moves w.member.group []) w olds mid before noted
     × AreTakenUp script first most moves ways mid news noted found
 
--- one of these members goes on to one too many, once those before it were taken up
+-- one of these members has a continuation too many, once those before it were extended
 pub record IsStopped (script : ScriptView) (first : Run) (moves : List (List (Option Move))) (ways : List Way) (olds : Members) (before : List Finding) (most : ℕ) : Type 0 where
   pub done : List Way
   pub way : Way

@@ -21,7 +21,7 @@ IsFinding script first f =
     × (end.events ≡ f.events)
     × (f.outcome ≡ outcome_of script f.events)
 
--- the finding is put behind the others, unless its outcome is there
+-- the finding is appended, unless its outcome is there
 abbrev pub IsNoted : List Finding → Finding → List Finding → Type 0
 IsNoted olds f news =
     (Contains (outcomes_in olds) f.outcome × (news ≡ olds)) ⊎ ((Contains (outcomes_in olds) f.outcome → ⊥) × (news ≡ olds ++ f ∷ []))

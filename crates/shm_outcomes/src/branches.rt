@@ -1,4 +1,4 @@
-//! Runs with what each process was told in them, and what changed the machine.
+//! Runs with the replies to each process and the changes of the machine.
 ghost use Rattle.std.specs.Prelude.{◌≡◌, IfOk};
 ghost use Rattle.shm_outcomes.specs.Branches.{grown, sprout};
 

@@ -61,7 +61,7 @@ fn kept_at(
     Told::new(alloc, all)
 }
 
-// What each process keeps of what it was told.
+// The replies that each process keeps.
 fn kept_all(
     alloc: Global,
     lines: &[Line],

@@ -86,7 +86,7 @@ impl<M: Engine> Level<M> {
         Ok(Level { groups, members })
     }
 
-    // The members to which those of this level go on.
+    // The members that extend those of this level by one call.
     fn go_on(
         &self,
         alloc: Global,
@@ -117,7 +117,7 @@ impl<M: Engine> Level<M> {
     }
 }
 
-// Adds the members to which one goes on; if there are none, notes its outcome.
+// Adds the members that extend one by a call; if there are none, notes its outcome.
 fn take_up<M: Engine>(
     alloc: Global,
     script: &Script,
@@ -143,7 +143,7 @@ fn take_up<M: Engine>(
     Ok(())
 }
 
-// Adds the members to which one goes on.
+// Adds the members that extend one by a call.
 fn add_ways(
     alloc: Global,
     script: &Script,
@@ -165,7 +165,7 @@ fn add_ways(
     Ok(())
 }
 
-// Adds the member to which one goes on by a process, if it can continue.
+// Adds the member that extends one by the next call of a process, if it has one.
 fn add_way(
     alloc: Global,
     script: &Script,

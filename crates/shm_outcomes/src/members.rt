@@ -7,7 +7,7 @@ use shm_schedules::{Outcome, SearchError};
 use std::alloc::{AllocError, Global};
 use std::marker::Model;
 
-// What each process was told in a run of a group.
+// The replies to each process in a run of a group.
 #[derive(Drop, PartialEq, Eq, Hash)]
 pub(crate) struct Member {
     group: usize,
@@ -141,7 +141,7 @@ impl Members {
         self.ways.contains_key(member)
     }
 
-    // Puts a member behind the others, unless it is there. `most` bounds all members, with those of fewer calls.
+    // Appends a member, unless it is there. `most` bounds all members, including those of fewer calls.
     pub(crate) fn add(
         &mut self,
         most: u64,

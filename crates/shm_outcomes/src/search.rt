@@ -1,4 +1,4 @@
-//! The search: it goes through the runs with 0, 1, 2 and more calls, in groups of which each makes its calls once.
+//! The search is breadth-first: it extends the runs with 0, 1, 2 and more calls, in groups that make each call once.
 ghost use Rattle.std.specs.Prelude.{◌≡◌, IfErr, IfOk};
 ghost use Rattle.shm_outcomes.specs.Merging.{IsCause};
 ghost use Rattle.shm_outcomes.specs.Search.{AreOutcomes};
@@ -10,8 +10,8 @@ use shm_schedules::{Engine, Finding, Lists, Run, SearchError};
 use shm_text::Script;
 use std::alloc::Global;
 
-/// Every outcome of a script, each once, with a run that has it. The machine has answered no call yet. The search
-/// goes on from at most `most` runs, of which no two are alike. Errors: the host refused memory, a pager failed,
+/// Every outcome of a script, each once, with a run that has it. The machine has made no call. The search keeps
+/// at most `most` runs, of which no two are equivalent. Errors: the host refused memory, a pager failed,
 /// or there are more such runs.
 pub fn outcomes<M: Engine>(
     alloc: Global,

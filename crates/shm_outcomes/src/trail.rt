@@ -321,7 +321,7 @@ fn is_fork(call: &Call) -> bool
     }
 }
 
-// Puts the bytes behind the changes, and then the call.
+// Appends the bytes to the changes, and then the call.
 fn push_changes(writes: &[Write], event: &Event, past: &mut Vec<Change>) -> Result<(), AllocError>
     ensures { OnOk result (
         past.new.items ≡ (past.old.items ++ map wrote writes.now) ++ Made (call_of event.now) ∷ []) }

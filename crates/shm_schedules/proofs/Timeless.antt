@@ -34,7 +34,7 @@ module _ (s : Machine) (n : ℕ) (c : Caller) (one : masked_time n ≡ 1) where
   abbrev B : Machine
   B = timeless s
 
-  -- both refuse, or both go on
+  -- both fail, or both continue
   both : (b d : Bool) (o p x y : Outcome) → b ≡ d → o ≡ timeless_outcome x → p ≡ timeless_outcome y → (if b then o else p) ≡ timeless_outcome (if d then x else y)
   both b d o p x y same h k = grind (arith, common_steps)
 

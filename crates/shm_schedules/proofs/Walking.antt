@@ -93,7 +93,7 @@ pub test-first : (a b : Bool) (o : Option ProcessCall) (call : ProcessCall) → 
 test-first true b o call h = refl
 test-first false b o call h = absurd (none-some call h)
 
--- each process that can go on is declared, so its run is among the followers
+-- each process that can continue is declared, so its run is among the followers
 pub followers-contain : (script : ScriptView) (pid : ℕ) (run m : Run) → goes script pid run ≡ Some m → Contains (followers script script.processes run) m
 followers-contain script pid run m h =
     let made = made-by (next script run pid) run pid m h in

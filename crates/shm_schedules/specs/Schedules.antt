@@ -93,7 +93,7 @@ abbrev pub walked : ScriptView → List ℕ → Run → Option Run
 walked script [] run = Some run
 walked script (pid ∷ schedule) run = option_and_then (walked script schedule) (goes script pid run)
 
--- the runs to which a run goes on
+-- the runs that extend a run by one call
 abbrev pub one_run : Option Run → List Run
 one_run None = []
 one_run (Some run) = run ∷ []

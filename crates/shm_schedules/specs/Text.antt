@@ -35,7 +35,7 @@ line_by e _ = placeless e
 abbrev pub line_text : Event → List ℕ
 line_text e = line_by e e.reply
 
--- the same with a question mark in place of an identifier or an address
+-- the same with a question mark instead of an identifier or an address
 abbrev pub masked_by : Event → Reply → List ℕ
 masked_by e (replies.Id id) = without_last (length (reply_text (replies.Id id)) + 1) (placeless e) ++ codes "?\n"
 masked_by e (replies.Addr addr) = without_last (length (reply_text (replies.Addr addr)) + 1) (placeless e) ++ codes "?\n"

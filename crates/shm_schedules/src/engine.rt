@@ -41,7 +41,7 @@ pub trait Engine: Drop {
     /// The flat machine.
     ghost flat: { Self → Machine };
 
-    /// The number of calls that were answered.
+    /// The number of calls so far.
     ghost calls: { Self → ℕ };
 
     /// Whether a process is born and has not ended.

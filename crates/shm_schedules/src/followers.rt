@@ -8,7 +8,7 @@ use shm_base::Process;
 use shm_text::Script;
 use std::alloc::Global;
 
-/// Puts each run to which this one goes on behind the others, in the script's order of processes. Errors: the
+/// Appends each run that extends this one by a call, in the script's order of processes. Errors: the
 /// host refused memory, or a pager failed; `runs` may have some of them then.
 pub fn push_followers<M: Engine>(
     alloc: Global,
@@ -25,7 +25,7 @@ pub fn push_followers<M: Engine>(
     Ok(())
 }
 
-// Puts the run to which this one goes on by one process behind the others, if it can.
+// Appends the run that extends this one by the next call of a process, if it has one.
 fn push_follower<M: Engine>(
     alloc: Global,
     script: &Script,

@@ -36,7 +36,7 @@ impl<M: Engine> Model for Run<M> {
 }
 
 impl<M: Engine> Run<M> {
-    /// The run before its first line. The machine has answered no call yet. AllocError: the host refused memory.
+    /// The run before its first line, on a machine that has made no call. AllocError: the host refused memory.
     pub fn first(alloc: Global, machine: M) -> Result<Run<M>, AllocError>
         requires { M.calls machine ≡ 0 }
         ensures { IfOk result (λ run. run ≡ fresh (M.flat machine)) }

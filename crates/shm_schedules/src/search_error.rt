@@ -11,7 +11,7 @@ use std::alloc::{AllocError, AllocFailed};
 pub enum SearchError {
     /// The machine gave no reply, or memory ran out.
     Engine(EngineError),
-    /// There are more runs than the bound, beginnings of schedules among them, of which no two are alike.
+    /// There are more prefixes of schedules than the bound, of which no two are equivalent.
     Bound,
 }
 

@@ -1,4 +1,4 @@
--- A process that is live is never answered ESRCH.
+-- A call of a live process never fails with ESRCH.
 use Rattle.std.specs.Prelude.{◌≡◌, ◌≢◌, ◌+◌, ◌-◌, ◌%◌, ◌==◌, ◌&&◌, ℕ, ℤ, Bool, true, false, not, nat_lt, length, Option, Some, None, is_some, if◌then◌else◌}
 use Rattle.std.proofs.Common.{sym, ap, ◌∙◌, refl, arith, inl, inr, true≢false}
 use Rattle.std.proofs.lemmas.Grind.{common_steps}

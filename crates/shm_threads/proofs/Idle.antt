@@ -1,4 +1,4 @@
--- No strand can go on if none is the first that can.
+-- No strand can continue if none is the first that can.
 use Rattle.std.proofs.Common.{◌≡◌, ◌≤◌, Bool, false, List, length, None, All, arith}
 use Rattle.std.proofs.lemmas.Bool.Decides.{nat_tests}
 use Rattle.std.proofs.lemmas.Grind.{common_steps}

@@ -1,4 +1,4 @@
--- The next call of a strand that can go on.
+-- The next call of a strand that can continue.
 use Rattle.std.specs.Prelude.{◌≡◌, ◌<◌, ◌+◌, ℕ, true, List, length}
 use Rattle.std.proofs.Common.{ap, arith, inr, subst, sym, ◌∙◌}
 use Rattle.std.proofs.Math.ListN.{get_or}

@@ -5,7 +5,7 @@ use Rattle.shm_text.specs.declared.script.Line.{Line}
 use Rattle.shm_text.specs.declared.script.Line.TheVariants.{Command, Flush}
 
 -- What a worker asks or reports, with the answer: how many lines its process has, once it is born; whether it may make its n-th
--- call; the call of its next line, and whether it can go on; that the n-th call was answered; that the process has left
+-- call; the call of its next line, and whether it can continue; that the n-th call got its reply; that the process has left
 pub data Asked : Type 0 where
   Born : (lines : Option ℕ) → Asked
   Before : (n : ℕ) → (may : Bool) → Asked
@@ -22,14 +22,14 @@ abbrev pub Adds : {A : Type 0} → (List A → Type 0) → List A → (List A �
 Adds {A} before more after = (log : List A) → before log → after (log ++ more)
 
 -- The requests of a worker for this many lines, from the n-th call on; its steps had these answers. Each line has three: whether
--- it may, the step, and that it was made. After a step after which the process can't go on there are none. If a step is missing,
+-- it may, the step, and that it was made. After a step after which the process can't continue there are none. If a step is missing,
 -- the answer to the first request was no
 abbrev pub asks_of : ℕ → ℕ → List Bool → List Asked
 asks_of n zero steps = []
 asks_of n (suc lines) [] = Before n false ∷ []
 asks_of n (suc lines) (goes_on ∷ steps) = Before n true ∷ Stepped goes_on ∷ After n ∷ (if goes_on then asks_of (n + 1) lines steps else [])
 
--- the steps go to the last line, or to the first after which the process can't go on; if they are not whole, to a line before
+-- the steps go to the last line, or to the first after which the process can't continue; if they are not whole, to a line before
 -- which the gate ended the worker
 abbrev pub GoTo : ℕ → List Bool → Bool → Type 0
 GoTo zero steps whole = (steps ≡ []) × (whole ≡ true)
@@ -70,7 +70,7 @@ rounds_of [] = []
 rounds_of (Command c ∷ ls) = rounds_of ls
 rounds_of (Flush pages ∷ ls) = pages ∷ rounds_of ls
 
--- The requests of the flusher for this many rounds, from the n-th on, if so many of them are made. Each round has three: whether
+-- The requests of the flusher for this many rounds, from the n-th on, if this many of them are made. Each round has three: whether
 -- it may, the round, and that it was made. If one is not made, the answer to its first request was no
 abbrev pub asks_of_rounds : ℕ → ℕ → ℕ → List RoundAsked
 asks_of_rounds n zero made = []

@@ -28,7 +28,7 @@ abbrev pub Leads : WorldState → List Moment → WorldState → Type 0
 Leads before [] after = after ≡ before
 Leads before (m ∷ ms) after = Makes before m.move m.world × Leads m.world ms after
 
--- the calls of a process, with their answers
+-- the calls of a process, with their replies
 abbrev pub entries_by : ℕ → Move → List Entry → List Entry
 entries_by pid (Called by entry) rest = if by == pid then entry ∷ rest else rest
 entries_by pid (Flushed pages) rest = rest

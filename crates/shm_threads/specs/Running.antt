@@ -67,7 +67,7 @@ abbrev pub goes_on_by : Made → Bool
 goes_on_by End = false
 goes_on_by _ = true
 
--- A strand that can go on made the call of its next line: its entry, a birth if there was one, and whether it may have more
+-- A strand that can continue made the call of its next line: its entry, a birth if there was one, and whether it may have more
 pub record IsTurn (before : RunView) (index : ℕ) (goes_on news : Bool) (after : RunView) : Type 0 where
   pub strand : Strand
   pub next : Strand
@@ -82,7 +82,7 @@ pub record IsTurn (before : RunView) (index : ℕ) (goes_on news : Bool) (after 
 abbrev pub is_next : Strand → ℕ → Bool
 is_next s n = (length s.entries.items + 1) == n
 
--- no strand is at the index, or it can't go on, or its next call is not the n-th; then nothing happens
+-- no strand is at the index, or it can't continue, or its next call is not the n-th; then nothing happens
 pub record IsIdle (before : RunView) (index n : ℕ) (goes_on news : Bool) (after : RunView) : Type 0 where
   pub stays : (d : Strand) → index < length before.strands → is_next (slice_index_or before.strands index d) n ≡ true → can_go before.world.machine (slice_index_or before.strands index d) ≡ false
   pub same : after ≡ before

@@ -54,7 +54,7 @@ made_by (Fork child) (Replied Done) = Birth child
 made_by Exit (Replied Done) = End
 made_by _ _ = Nothing
 
--- A call of a strand is answered: it is recorded with its reply; or the host refused memory for it, and only the room changed
+-- A call of a strand is made: it is recorded with its reply; or the host refused memory for it, and only the room changed
 abbrev pub IsAnswered : WorldState → ℕ → ProcessCall → Answer → WorldState → Type 0
 IsAnswered before pid call (Replied r) after = IsCalled before pid call r after
 IsAnswered before pid call HostMemory after = (after ≡ record before { room = after.room }) × (before.room ≤ after.room) × (takes_memory call ≡ true)

@@ -12,7 +12,7 @@ pub trait Gate: Sync {
     fn before(&self, pid: u32, n: u64) -> bool
         ensures { answers self.now pid n result ≡ true };
 
-    /// The call was answered.
+    /// The call got its reply.
     fn after(&self, pid: u32, n: u64);
 }
 

@@ -52,7 +52,7 @@ use std::thread::{Scope, Threads};
 ///
 /// A run has no outcome only if the host refused memory before a worker was started, or a thread, or if the gate ended a
 /// thread before a call that the script has. Of the threads that the gate ended, the error names the least pid: processes
-/// with lesser pids followed all their lines. It never answers `HistoryMismatch`.
+/// with lesser pids followed all their lines. It never returns `HistoryMismatch`.
 pub fn run_threads<R: Threads + Wait + Sync, G: Gate, P: Pager + Send>(
     rt: &R,
     alloc: Global,

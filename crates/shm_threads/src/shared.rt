@@ -68,7 +68,7 @@ impl<'a, P: Pager, O: Origin> Model for RunState<'a, P, O> {
         × ArePassed O.answers s.strands.items s.made))) };
 }
 
-// Whether a strand can go on: its process is live, and has a line left.
+// Whether a strand can continue: its process is live, and has a line left.
 fn goes<P: Pager>(world: &World<P>, strand: &Strand<'_>) -> bool
     ensures { result ≡ can_go world.now.machine strand.now }
 {
@@ -76,7 +76,7 @@ fn goes<P: Pager>(world: &World<P>, strand: &Strand<'_>) -> bool
         && world.system().spaces().caller(strand.pid).is_some()
 }
 
-// Whether a strand can go on, and comes before the thread that the gate ended, if it ended one.
+// Whether a strand can continue, and comes before the thread that the gate ended, if it ended one.
 fn comes<P: Pager>(world: &World<P>, strand: &Strand<'_>, expired: Option<u32>) -> bool
     ensures { result ≡ can_come expired world.now.machine strand.now }
 {
@@ -90,7 +90,7 @@ fn is_next(strand: &Strand<'_>, n: u64) -> bool
     strand.entries.len() as u64 + 1 == n
 }
 
-// A strand that can go on: its index, its pid, and the number of its next call.
+// A strand that can continue: its index, its pid, and the number of its next call.
 struct Next {
     index: usize,
     pid: u32,
@@ -104,7 +104,7 @@ struct Turn {
 }
 
 impl<P: Pager, O: Origin> RunState<'_, P, O> {
-    // Makes the call of the next line of a process, if it can go on and this is its n-th call.
+    // Makes the call of the next line of a process, if it can continue and this is its n-th call.
     fn step(&mut self, index: usize, pid: u32, n: u64) -> Turn
         requires process { IsProcessAt O.script.processes index pid }
         requires passed { O.answers pid n true ≡ true }
@@ -127,7 +127,7 @@ impl<P: Pager, O: Origin> RunState<'_, P, O> {
         }
     }
 
-    // The index of the first strand that can go on and comes before the thread that the gate ended. The clauses after the
+    // The index of the first strand that can continue and comes before the thread that the gate ended. The clauses after the
     // first one are what the state promises.
     fn first(&self) -> Option<usize>
         ensures first { result
@@ -142,7 +142,7 @@ impl<P: Pager, O: Origin> RunState<'_, P, O> {
             .position(|strand| comes(&self.world, strand, self.expired))
     }
 
-    // The first strand that can go on and comes before the thread that the gate ended, and its next call.
+    // The first strand that can continue and comes before the thread that the gate ended, and its next call.
     fn next(&self) -> Option<Next>
         ensures first { option_map (λ k. k.index) result
             ≡ position (can_come self.now.expired self.now.world.machine) self.now.strands }
@@ -336,7 +336,7 @@ impl<'a, P: Pager, O: Origin> Shared<'a, P, O> {
         self.state.lock(rt)
     }
 
-    /// Makes the call of the next line of a process, its n-th, which the gate passed. False if it can't go on.
+    /// Makes the call of the next line of a process, its n-th, which the gate passed. False if it can't continue.
     pub(crate) fn step<R: Wait>(&self, rt: &R, index: usize, pid: u32, n: u64) -> bool
         requires process { IsProcessAt O.script.processes index pid }
         requires passed { O.answers pid n true ≡ true }

@@ -29,13 +29,13 @@ pub(crate) trait Caller {
         ensures may { result ≡ true → may self.new n }
         ensures same { lines self.new ≡ lines self.old };
 
-    /// Makes the call of the process's next line, its n-th. False if the process can't go on.
+    /// Makes the call of the process's next line, its n-th. False if the process can't continue.
     fn step(&mut self, n: u64) -> bool
         requires { may self.old n }
         ensures asked { Adds (asked self.old) (Stepped result ∷ []) (asked self.new) }
         ensures same { lines self.new ≡ lines self.old };
 
-    /// Called when the process's n-th call was answered.
+    /// Called after the process's n-th call.
     fn after(&mut self, n: u64)
         ensures asked { Adds (asked self.old) (After n ∷ []) (asked self.new) }
         ensures same { lines self.new ≡ lines self.old };

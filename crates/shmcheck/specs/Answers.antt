@@ -78,7 +78,7 @@ IsBadLog (Question wish o) given fault script = ⊥
 IsBadLog (Judge o) given fault script = entries_of script given ≡ Err fault
 IsBadLog (Sample d) given fault script = ⊥
 
--- the log has more beginnings than the bound of a judge, no two of them alike
+-- the log has more prefixes than the bound of a judge, no two of them equivalent
 abbrev pub IsDoubtful : Asked → List ℕ → ℕ → List ℕ → ScriptView → Type 0
 IsDoubtful (Outcomes o) given n areas script = ⊥
 IsDoubtful (Question wish o) given n areas script = ⊥

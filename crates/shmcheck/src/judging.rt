@@ -1,4 +1,4 @@
-//! Judging: the verdict on a log of what a system answered to a script.
+//! Judging: the verdict on a log of a system's replies to a script.
 ghost use Rattle.std.specs.Prelude.{◌≡◌, length, map, IfErr, IfOk};
 ghost use Rattle.shmcheck.specs.Answers.{IsAnswer, IsStopIn, verdict_status};
 ghost use Rattle.shmcheck.specs.Judged.{doubt_of, is_legal, log_stop};

@@ -1,5 +1,5 @@
 //! The checker: reads a script of processes and calls from standard input. It writes every outcome that the
-//! script can have, or whether one meets a condition, or a verdict on a log of what a system answered, or sampled
+//! script can have, or whether one meets a condition, or a verdict on a log of a system's replies, or sampled
 //! runs.
 #![tactic(auto)]
 

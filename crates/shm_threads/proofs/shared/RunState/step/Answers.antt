@@ -11,7 +11,7 @@ use Rattle.shm_threads.proofs.Passing.{passed-step}
 use Rattle.shm_threads.proofs.Turns.{has-place, pid-of, running-step}
 use Rattle.shm_threads.proofs.shared.RunState.step.Goals as goal
 
--- the strand at the index, which can go on
+-- the strand at the index, which can continue
 goes : (machine : Machine) (strands : List Strand) (k : ℕ) (s u : Strand) (may : Bool) → may ≡ true → may ≡ can_go machine u → u ≡ get_or strands k u → ((d : Strand) → get_or strands k d ≡ s) → can_go machine s ≡ true
 goes machine strands k s u may on is at here =
     let same : u ≡ s = at ∙ here u in
