@@ -34,12 +34,10 @@ static void meet(int *number) {
 }
 
 static struct request access_request(const struct command *c, const uint64_t *v) {
-    struct request q = {.task = c->call == ACCESS_LOAD ? LOAD : c->call == ACCESS_STORE ? STORE : ADD, .number = v[1]};
+    struct request q = access_of(c, v);
     /* no attachment is there, so that one byte meets the same signal */
     int is_nowhere = v[0] < PAGE || v[0] >= END_OF_ADDRESSES;
-    q.length = c->call == ACCESS_LOAD ? (unsigned)v[1] : c->call == ACCESS_STORE ? c->length : 8;
     if (is_nowhere) q.length = 1;
-    memcpy(q.bytes, c->bytes, sizeof q.bytes);
     for (unsigned i = 0; i < q.length && i < sizeof q.bytes; i++) q.at[i] = v[0] + i;
     return q;
 }
@@ -61,7 +59,7 @@ static struct request request_at_once(const struct command *c, const uint64_t *v
 
 /* an access is one of the processor */
 static const char *why_not_made(const struct request *q) {
-    int is_access = q->task == LOAD || q->task == STORE || q->task == ADD, n = (int)q->length;
+    int is_access = q->task >= LOAD && q->task <= COMPARE, n = (int)q->length;
     int has_form = n == 1 || n == 2 || n == 4 || n == 8;
     return is_access && (!has_form || q->at[0] % q->length) ? "an access at once is of 1, 2, 4 or 8 aligned bytes" : NULL;
 }
@@ -172,6 +170,7 @@ static void reply_at_once(const struct command *c, struct told *told, char *repl
     else if (c->call == SHMSTAT) print_segment(reply, &a->segment, 0);
     else if (c->call == XADD) sprintf(reply, "%" PRIu64, (uint64_t)a->value);
     else if (c->call == ACCESS_LOAD) print_bytes(reply, a->bytes, (unsigned)c->operands[1].number);
+    else if (c->call == SWAP || c->call == CAS) print_bytes(reply, a->bytes, c->length);
 }
 
 /* a line of the log, with the operands as the script has them */

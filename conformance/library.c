@@ -1,9 +1,11 @@
-/* library [--rules profile|linux] serial|pieces SWAP... < SCRIPT
+/* library [--rules profile|linux|N] serial|pieces SWAP... < SCRIPT
    makes the calls of a script through the C library, and prints what ./shmsim prints: the event lines, the listing of
    segments and the usage. It knows the words of the kit too, which ./shmsim has not. With `--rules linux` the machine has
-   Linux's rules instead of the profile's. With `pieces` loads and stores within a page are made by nog_read and nog_write,
-   which make one call of each. It ends with status 3, and says why, where a refused call wrote an output, where the library counts other calls than the script makes,
-   and at an unexpected code. */
+   Linux's rules instead of the profile's, with a number those of which it is the sum; a script with a line `rules` needs
+   this word, because the line is not read.
+   With `pieces` loads and stores within a page are made by nog_read and nog_write, which make one call of each. It ends
+   with status 3, and says why, where a refused call wrote an output, where the library counts other calls than the
+   script makes, and at an unexpected code. */
 #define _POSIX_C_SOURCE 200809L
 #include <nogcuvema.h>
 #include <stdarg.h>
@@ -23,6 +25,7 @@ struct outputs {
 
 static struct script script;
 static int is_in_pieces, is_linux, has_mapped;
+static uint64_t rules;  /* a sum of rules of Linux */
 
 static void fail(int status, const char *format, ...) {
     va_list rest;
@@ -68,10 +71,10 @@ static void read_swap(struct swap *swap, const char *word) {
 /* a library of before the rules came has the profile's alone */
 static void choose_rules(nog_limits *limits) {
 #ifdef NOG_HAS_RULES
-    limits->rules = is_linux ? NOG_LINUX : 0;
+    limits->rules = is_linux ? NOG_LINUX : rules;
 #else
     (void)limits;
-    if (is_linux) fail(2, "this library has no rules: its header has no NOG_LINUX");
+    if (is_linux || rules) fail(2, "this library has no rules: its header has no NOG_LINUX");
 #endif
 }
 
@@ -127,6 +130,8 @@ static uint32_t make_call(nog_machine *m, const struct command *c, const uint64_
     case ACCESS_LOAD: return load(m, pid, v[0], out->bytes, (size_t)v[1]);
     case ACCESS_STORE: return store(m, pid, v[0], c->bytes, c->length);
     case XADD: return nog_add(m, pid, v[0], v[1], &out->number);
+    case SWAP: return nog_exchange(m, pid, v[0], c->bytes, c->length, out->bytes, c->length);
+    case CAS: return nog_compare_exchange(m, pid, v[0], c->expected, c->length, c->bytes, c->length, out->bytes, c->length);
     case SHMSTAT: return nog_stat(m, pid, identifier_of(v[0]), &out->segment);
     case SHMSET: return nog_set(m, pid, identifier_of(v[0]), (uint32_t)v[1], (uint32_t)v[2], (uint32_t)v[3]);
     case RMID: return nog_remove(m, pid, identifier_of(v[0]));
@@ -178,9 +183,9 @@ static uint64_t print_outputs(const struct command *c, const uint64_t v[OPERANDS
     case SHMAT: printf("0x%" PRIx64, out->number); return out->number;
     case XADD: printf("%" PRIu64, out->number); return out->number;
     case SHMSTAT: print_segment(&out->segment); return 0;
-    case ACCESS_LOAD:
-        for (uint64_t i = 0; i < v[1]; i++) printf("%02x", out->bytes[i]);
-        return 0;
+    case ACCESS_LOAD: print_hex(out->bytes, (unsigned)v[1]); return 0;
+    case SWAP:
+    case CAS: print_hex(out->bytes, c->length); return number_in(out->bytes, c->length);
     default: printf("ok"); return 0;
     }
 }
@@ -248,14 +253,17 @@ static int run_flushes(nog_machine *machine, int next, int commands_above) {
 /* takes the words of the rules; where the others begin, the end where these are none */
 static int read_rules(int argc, char **argv) {
     if (argc < 2 || strcmp(argv[1], "--rules") != 0) return 1;
-    is_linux = argc > 2 && strcmp(argv[2], "linux") == 0;
-    return is_linux || (argc > 2 && strcmp(argv[2], "profile") == 0) ? 3 : argc;
+    char *end = "", *word = argc > 2 ? argv[2] : "";
+    is_linux = strcmp(word, "linux") == 0;
+    bool is_number = *word >= '0' && *word <= '9';
+    if (is_number) rules = strtoull(word, &end, 10);
+    return is_linux || strcmp(word, "profile") == 0 || (is_number && !*end) ? 3 : argc;
 }
 
 int main(int argc, char **argv) {
     nog_machine machine = NOG_MACHINE_INITIALIZER;
     struct swap swap = {.area_count = 0};
-    const char *usage = "usage: library [--rules profile|linux] serial|pieces SWAP...";
+    const char *usage = "usage: library [--rules profile|linux|N] serial|pieces SWAP...";
     int flush = 0, at = read_rules(argc, argv), is_serial = argc > at && strcmp(argv[at], "serial") == 0;
     is_in_pieces = argc > at && strcmp(argv[at], "pieces") == 0;
     int area_count = argc - at - 1;
@@ -263,6 +271,7 @@ int main(int argc, char **argv) {
     for (int i = at + 1; i < argc; i++) read_swap(&swap, argv[i]);
     read_script(&script, stdin);
     script.line = 0;
+    if (script.has_rules && at == 1) fail(2, "choose the script's rules by --rules");
     open_machine(&machine, &swap);
     for (int done = 0; done < script.command_count; run_command(&machine, ++done))
         flush = run_flushes(&machine, flush, done);

@@ -42,7 +42,7 @@ enum { RECORD_FD = 98, ALIVE_FD = 99, FIRST_FD = 100 };
 _Static_assert(IPC_CREAT == CREAT && IPC_EXCL == EXCL && SHM_HUGETLB == HUGETLB && SHM_NORESERVE == NORESERVE &&
     SHM_RDONLY == RDONLY && SHM_RND == RND && SHM_REMAP == REMAP && SHM_EXEC == EXECUTE, "a script's flags are the system's");
 
-enum task { GET, ATTACH, DETACH, CONTROL, LOAD, STORE, ADD, FORK, EXEC, EXIT, MAPPED, UNMAPS, PROTECTS };
+enum task { GET, ATTACH, DETACH, CONTROL, LOAD, STORE, ADD, EXCHANGE, COMPARE, FORK, EXEC, EXIT, MAPPED, UNMAPS, PROTECTS };
 
 /* a request to a worker: flags are also shmctl's command and mprotect's rights; at[] has the address of each byte of an access;
    reach is how far a call of a range may come */
@@ -50,7 +50,7 @@ struct request {
     int task, id, flags, child;
     unsigned key, uid, gid, mode, length, is_placed;
     uint64_t size, address, number, reach, at[64];
-    unsigned char bytes[64];
+    unsigned char bytes[64], expected[16];
 };
 
 /* what it answers: a value, an error of the system, a signal, or that its own memory is where the call is to be */
@@ -130,23 +130,33 @@ static void control(const struct request *q, struct answer *a) {
 typedef volatile unsigned char byte;
 static byte *byte_at(const struct request *q, unsigned i) { return (byte *)(uintptr_t)q->at[i]; }
 
+/* what the bytes are to be; a processor writes them even if they stay, so that a compare of read-only bytes is a fault */
+static const unsigned char *new_bytes(const struct request *q, const struct answer *a, unsigned char sum[8]) {
+    uint64_t number = number_in(a->bytes, 8) + q->number;
+    for (unsigned i = 0; i < 8; i++) sum[i] = (unsigned char)(number >> 8 * i);
+    if (q->task == ADD) return sum;
+    return q->task == COMPARE && memcmp(a->bytes, q->expected, q->length) != 0 ? a->bytes : q->bytes;
+}
+
 static void access_bytes(const struct request *q, struct answer *a) {
-    uint64_t number = 0;
+    unsigned char sum[8];
     for (unsigned i = 0; i < q->length && q->task != STORE; i++) a->bytes[i] = *byte_at(q, i);
-    for (unsigned i = 8; i-- > 0 && q->task == ADD;) number = number << 8 | a->bytes[i];
-    a->value = (int64_t)number;
-    number += q->number;
-    for (unsigned i = 0; i < q->length && q->task != LOAD; i++)
-        *byte_at(q, i) = q->task == STORE ? q->bytes[i] : (unsigned char)(number >> 8 * i);
+    a->value = (int64_t)number_in(a->bytes, q->task == LOAD ? 0 : q->length);
+    const unsigned char *bytes = new_bytes(q, a, sum);
+    for (unsigned i = 0; i < q->length && q->task != LOAD; i++) *byte_at(q, i) = bytes[i];
 }
 
 /* one access of the processor, in one order with those of all processes: plain stores of x86 are in none */
 #define ACCESS_AS(type) { \
-    type number, *at = (type *)(uintptr_t)q->at[0]; \
+    type number, found, *at = (type *)(uintptr_t)q->at[0]; \
     memcpy(&number, q->bytes, sizeof number); \
+    memcpy(&found, q->expected, sizeof found); \
     if (q->task == STORE) __atomic_store_n(at, number, __ATOMIC_SEQ_CST); \
-    else number = __atomic_load_n(at, __ATOMIC_SEQ_CST); \
-    memcpy(a->bytes, &number, sizeof number); }
+    else if (q->task == EXCHANGE) found = __atomic_exchange_n(at, number, __ATOMIC_SEQ_CST); \
+    else if (q->task == COMPARE) __atomic_compare_exchange_n(at, &found, number, 0, __ATOMIC_SEQ_CST, __ATOMIC_SEQ_CST); \
+    else found = __atomic_load_n(at, __ATOMIC_SEQ_CST); \
+    memcpy(a->bytes, &found, sizeof found); \
+    a->value = q->task == LOAD ? 0 : (int64_t)found; }
 static void access_whole(const struct request *q, struct answer *a) {
     if (q->length == 1) ACCESS_AS(uint8_t)
     else if (q->length == 2) ACCESS_AS(uint16_t)
@@ -545,13 +555,21 @@ static void print_bytes(char *to, const unsigned char *bytes, unsigned length) {
     for (unsigned i = 0; i < length; i++) sprintf(to + 2 * i, "%02x", bytes[i]);
 }
 
+/* the request of an access, without its addresses */
+static struct request access_of(const struct command *c, const uint64_t *v) {
+    static const int tasks[] = {LOAD, STORE, ADD, EXCHANGE, COMPARE};
+    struct request q = {.task = tasks[c->call - ACCESS_LOAD], .number = v[1], .length = c->length};
+    if (c->call == ACCESS_LOAD) q.length = (unsigned)v[1];
+    if (c->call == XADD) q.length = 8;
+    memcpy(q.bytes, c->bytes, sizeof q.bytes);
+    memcpy(q.expected, c->expected, sizeof q.expected);
+    return q;
+}
+
 /* each byte is looked up for itself: attaches that the script has side by side may lie apart in the system */
 static void run_access(struct process *p, const struct command *c, const uint64_t *v, char *reply, uint64_t *result) {
-    struct request q = {.task = c->call == ACCESS_LOAD ? LOAD : c->call == ACCESS_STORE ? STORE : ADD};
-    q.length = c->call == ACCESS_LOAD ? (unsigned)v[1] : c->call == ACCESS_STORE ? c->length : 8;
-    q.number = v[1];
+    struct request q = access_of(c, v);
     if (q.length > sizeof q.bytes) fail(1, "bad length: %u", q.length);
-    memcpy(q.bytes, c->bytes, sizeof q.bytes);
     for (unsigned i = 0; i < q.length; i++)
         q.at[i] = v[0] + i < v[0] ? UINT64_MAX : real_address(p, v[0] + i);
     struct answer a = ask(p, &q);
@@ -594,7 +612,7 @@ static void run(struct process *p, const struct command *c, const uint64_t *v, c
     else if (c->call == SHMAT) run_attach(p, v, reply, result);
     else if (c->call == SHMDT) run_detach(p, v, reply);
     else if (is_range) run_range(p, c->call, v, reply);
-    else if (c->call <= XADD) run_access(p, c, v, reply, result);
+    else if (c->call <= CAS) run_access(p, c, v, reply, result);
     else if (c->call == SHMSTAT) run_stat(p, v, reply, (int)(c - script.commands) + 1);
     else if (c->call <= UNLOCK) run_control(p, c->call, v, reply);
     else if (c->call == FORKS) run_fork(p, v, reply);

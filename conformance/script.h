@@ -11,21 +11,22 @@
 #include <stdlib.h>
 #include <string.h>
 
-enum { PROCESSES = 64, COMMANDS = 100000, WORDS = 8, OPERANDS = 4, BYTES = 64 };
+enum { PROCESSES = 64, COMMANDS = 100000, WORDS = 8, OPERANDS = 4, BYTES = 64, MOST_COMPARED = 16 };
 
 __attribute__((noreturn, format(printf, 2, 3))) static void fail(int status, const char *format, ...);
 
-enum call { SHMGET, SHMAT, SHMDT, ACCESS_LOAD, ACCESS_STORE, XADD, SHMSTAT, SHMSET, RMID, LOCK, UNLOCK,
+enum call { SHMGET, SHMAT, SHMDT, ACCESS_LOAD, ACCESS_STORE, XADD, SWAP, CAS, SHMSTAT, SHMSET, RMID, LOCK, UNLOCK,
     FORKS, EXECS, EXITS, SWAPOFF,
 #ifdef HAS_MAPPINGS
     UNMAP, PROTECT,
 #endif
     CALLS };
 
-/* each letter is an operand: key, number, get flags, identifier, address, attach flags, bytes, mode, child, rights */
+/* each letter is an operand: key, number, get flags, identifier, address, attach flags, bytes, expected bytes, mode, child,
+   rights */
 static const struct { const char *name, *operands; } calls[CALLS] = {
     {"shmget", "kng"}, {"shmat", "iaf"}, {"shmdt", "a"}, {"load", "an"}, {"store", "ab"}, {"xadd", "an"},
-    {"stat", "i"}, {"set", "innm"}, {"rmid", "i"}, {"lock", "i"}, {"unlock", "i"}, {"fork", "c"}, {"exec", ""},
+    {"swap", "ab"}, {"cas", "aeb"}, {"stat", "i"}, {"set", "innm"}, {"rmid", "i"}, {"lock", "i"}, {"unlock", "i"}, {"fork", "c"}, {"exec", ""},
     {"exit", ""}, {"swapoff", "n"},
 #ifdef HAS_MAPPINGS
     {"unmap", "an"}, {"protect", "anr"},
@@ -52,7 +53,7 @@ struct command {
     int line, process, variable, call;
     unsigned length;
     struct operand operands[OPERANDS];
-    unsigned char bytes[BYTES];
+    unsigned char bytes[BYTES], expected[MOST_COMPARED];  /* each of this length */
 };
 struct flush { int commands_above; uint64_t pages; };
 struct declared { unsigned pid, uid, gid; int is_child; uint64_t variables[26]; };
@@ -63,6 +64,7 @@ struct script {
     struct command *commands;
     struct flush *flushes;
     int process_count, command_count, flush_count;
+    int has_rules;  /* a line chooses rules of Linux: a system has its own */
     int line;  /* the one that is read or run; 0: none */
 };
 
@@ -107,11 +109,19 @@ static uint64_t rights_of(const char *word) {
     return (uint64_t)is_writable;
 }
 
-static void read_bytes(struct command *c, const char *word) {
-    unsigned byte;
-    for (c->length = 0; c->length < BYTES && sscanf(word, "%2x", &byte) == 1 && word[1]; word += 2)
-        c->bytes[c->length++] = (unsigned char)byte;
+static unsigned read_bytes(unsigned char *to, unsigned most, const char *word) {
+    unsigned byte, length = 0;
+    for (; length < most && sscanf(word, "%2x", &byte) == 1 && word[1]; word += 2) to[length++] = (unsigned char)byte;
     if (*word) fail(1, "bad bytes: %s", word);
+    return length;
+}
+
+/* the expected bytes of a cas come first, and the others are as many */
+static void read_new_bytes(struct command *c, const char *word) {
+    unsigned length = read_bytes(c->bytes, c->call == CAS ? MOST_COMPARED : BYTES, word);
+    if (c->call == CAS && length != c->length) fail(1, "not as many bytes: %s", word);
+    c->length = length;
+    if (c->variable >= 0 && length > sizeof(uint64_t)) fail(1, "a variable takes 1 to 8 bytes: %s", word);
 }
 
 static int process_by_pid(const struct script *s, uint64_t pid) {
@@ -125,7 +135,8 @@ static void read_operand(const struct script *s, struct command *c, int i, char 
     if (letter == 'g') c->operands[i].number = flags_of(word, 1);
     else if (letter == 'f') c->operands[i].number = flags_of(word, 0);
     else if (letter == 'm') c->operands[i].number = strtoul(word, NULL, 8);
-    else if (letter == 'b') read_bytes(c, word);
+    else if (letter == 'e') c->length = read_bytes(c->expected, MOST_COMPARED, word);
+    else if (letter == 'b') read_new_bytes(c, word);
     else if (letter == 'r') c->operands[i].number = rights_of(word);
     else c->operands[i] = operand_of(word);
     if (letter == 'c') process_by_pid(s, c->operands[i].number);
@@ -166,11 +177,12 @@ static void read_line(struct script *s, char *line) {
     for (char *w = strtok(line, " \t\n"); w && count <= WORDS; w = strtok(NULL, " \t\n")) words[count++] = w;
     if (count == 0 || words[0][0] == '#') return;
     int is_process = strcmp(words[0], "process") == 0 || strcmp(words[0], "child") == 0;
-    int is_limits = strcmp(words[0], "limits") == 0 && count == 6;
+    int is_limits = strcmp(words[0], "limits") == 0 && count == 6, is_rules = strcmp(words[0], "rules") == 0 && count == 2;
+    s->has_rules |= is_rules;
     for (int i = 0; i < 5 && is_limits; i++) s->limits[i] = number_of(words[i + 1]);
     if (is_process) read_process(s, words, count);
     else if (strcmp(words[0], "0") == 0) read_flush(s, words, count);
-    else if (!is_limits) read_command(s, words, count);
+    else if (!is_limits && !is_rules) read_command(s, words, count);
 }
 
 static void read_script(struct script *s, FILE *from) {
@@ -193,6 +205,10 @@ static void print_flags(uint64_t flags, int has_mode) {
             before = printf("%s%s", before, flag_names[i].name) ? "," : before;
 }
 
+static void print_hex(const unsigned char *bytes, unsigned length) {
+    for (unsigned i = 0; i < length; i++) printf("%02x", bytes[i]);
+}
+
 static void print_operand(const struct command *c, char letter, uint64_t value) {
     putchar(' ');
     if (letter == 'k') printf("0x%08" PRIx64, value);
@@ -200,7 +216,8 @@ static void print_operand(const struct command *c, char letter, uint64_t value) 
     else if (letter == 'm') printf("%03" PRIo64, value);
     else if (letter == 'g' || letter == 'f') print_flags(value, letter == 'g');
     else if (letter == 'r') printf("%s", value ? "rw" : "r");
-    else if (letter == 'b') for (unsigned i = 0; i < c->length; i++) printf("%02x", c->bytes[i]);
+    else if (letter == 'b') print_hex(c->bytes, c->length);
+    else if (letter == 'e') print_hex(c->expected, c->length);
     else if (letter == 'i' && value > INT32_MAX) printf("-1");
     else printf("%" PRIu64, value);
 }
@@ -218,6 +235,13 @@ static void print_call(const struct script *s, int place, uint64_t values[OPERAN
         values[i] = operand_value(p, c->operands[i]);
         print_operand(c, calls[c->call].operands[i], values[i]);
     }
+}
+
+/* the little-endian number that a variable takes of up to 8 bytes */
+static uint64_t number_in(const unsigned char *bytes, unsigned length) {
+    uint64_t number = 0;
+    for (unsigned i = length < sizeof number ? length : sizeof number; i-- > 0;) number = number << 8 | bytes[i];
+    return number;
 }
 
 /* the variable of a command gets the reply, or UINT64_MAX if the command failed */

@@ -58,19 +58,21 @@
 #ifndef SHM_LOCKED
 #define SHM_LOCKED 0
 #endif
-enum { PAGE = 4096, BYTES = 64, OPERANDS = 4 };
+enum { PAGE = 4096, BYTES = 64, MOST_COMPARED = 16, OPERANDS = 4 };
 #define LOWEST_CHOSEN 0x40000000UL
 #define LOW_BITS 0xffffffffUL
 
 /* ---- a script as data: the numbers of 64 bits have 32 in each part ---- */
 
-enum call { GET, ATTACH, DETACH, LOAD, STORE, ADD, STAT, SET, REMOVE, LOCK, UNLOCK, FORK, EXEC, EXIT, SWAPOFF };
+enum call { GET, ATTACH, DETACH, LOAD, STORE, ADD, EXCHANGE, COMPARE, STAT, SET, REMOVE, LOCK, UNLOCK, FORK, EXEC, EXIT,
+    SWAPOFF };
 enum { CREAT = 01000, EXCL = 02000, HUGETLB = 04000, NORESERVE = 010000 };
 enum { RDONLY = 010000, RND = 020000, REMAP = 040000, EXECUTE = 0100000 };
 struct number { unsigned long high, low; };
 struct operand { int variable; struct number number; };
-/* variable: the one that takes the answer, or -1; process: its place among the declared ones; bytes: what is stored */
-struct command { int process, variable, call; struct operand operands[OPERANDS]; int length; const char *bytes; };
+/* variable: the one that takes the answer, or -1; process: its place among the declared ones; bytes: what is stored; expected:
+   what a compare and exchange expects, of the same length */
+struct command { int process, variable, call; struct operand operands[OPERANDS]; int length; const char *bytes, *expected; };
 struct declared { unsigned long pid, uid, gid; int is_child; };
 struct script {
     const char *name;
@@ -81,10 +83,11 @@ struct script {
 };
 #include "small_script.h"
 
-/* each letter is an operand: key, number, get flags, identifier, address, attach flags, bytes, mode */
-static const char *const names[] = { "shmget", "shmat", "shmdt", "load", "store", "xadd", "stat", "set", "rmid", "lock",
-    "unlock", "fork", "exec", "exit", "swapoff" };
-static const char *const kinds[] = { "kng", "iaf", "a", "an", "ab", "an", "i", "innm", "i", "i", "i", "n", "", "", "n" };
+/* each letter is an operand: key, number, get flags, identifier, address, attach flags, bytes, expected bytes, mode */
+static const char *const names[] = { "shmget", "shmat", "shmdt", "load", "store", "xadd", "swap", "cas", "stat", "set", "rmid",
+    "lock", "unlock", "fork", "exec", "exit", "swapoff" };
+static const char *const kinds[] = { "kng", "iaf", "a", "an", "ab", "an", "ab", "aeb", "i", "innm", "i", "i", "i", "n", "", "",
+    "n" };
 
 /* ---- printing ---- */
 
@@ -179,6 +182,7 @@ static void put_operand(const struct command *c, int kind, struct number n) {
     case 'g': put_get_flags(n.low); break;
     case 'f': put_attach_flags(n.low); break;
     case 'b': for (i = 0; i < c->length; i++) put_byte(c->bytes[i]); break;
+    case 'e': for (i = 0; i < c->length; i++) put_byte(c->expected[i]); break;
     case 'i': if (is_no_identifier(n)) put_text("-1"); else put_number(n); break;
     default: put_number(n);
     }
@@ -191,7 +195,7 @@ enum task { DO_GET, DO_ATTACH, DO_DETACH, DO_CONTROL, DO_ACCESS, DO_FORK, DO_WAI
 struct request {
     int task, id, flags, child, length;
     unsigned long key, size, address, uid, gid, mode, at[BYTES];
-    unsigned char bytes[BYTES];
+    unsigned char bytes[BYTES], expected[MOST_COMPARED];
 };
 struct answer {
     int is_refused;
@@ -270,16 +274,25 @@ static void control(const struct request *q, struct answer *a) {
     settle(a, shmctl(q->id, q->flags, &a->segment));
 }
 
+static int are_expected(const struct request *q, const struct answer *a) {
+    int i = 0;
+    while (i < q->length && a->bytes[i] == q->expected[i]) i++;
+    return i == q->length;
+}
+
+/* a compare and exchange of other bytes than the expected ones stores them again, as a processor does */
 static void access_bytes(const struct request *q, struct answer *a) {
     unsigned carry = 0;
+    const unsigned char *bytes = q->bytes;
     int i;
     for (i = 0; i < q->length; i++) {
         volatile unsigned char *at = (volatile unsigned char *)q->at[i];
         if (q->flags != STORE) a->bytes[i] = *at;
     }
+    if (q->flags == COMPARE && !are_expected(q, a)) bytes = a->bytes;
     for (i = 0; i < q->length && q->flags != LOAD; i++) {
         volatile unsigned char *at = (volatile unsigned char *)q->at[i];
-        carry += q->flags == ADD ? (unsigned)a->bytes[i] + q->bytes[i] : q->bytes[i];
+        carry += q->flags == ADD ? (unsigned)a->bytes[i] + bytes[i] : bytes[i];
         *at = (unsigned char)(carry & 255);
         carry = q->flags == ADD ? carry >> 8 : 0;
     }
@@ -636,28 +649,41 @@ static int find_bytes(struct process *p, struct request *q, unsigned long addres
     return 1;
 }
 
+static void set_access(struct request *q, const struct command *c, const struct number *v) {
+    int i;
+    clear(q, sizeof *q);
+    q->task = DO_ACCESS;
+    q->flags = c->call;
+    q->length = c->call == LOAD ? (int)v[1].low : c->call == ADD ? 8 : c->length;
+    for (i = 0; i < c->length; i++) q->bytes[i] = (unsigned char)c->bytes[i];
+    for (i = 0; i < c->length && c->call == COMPARE; i++) q->expected[i] = (unsigned char)c->expected[i];
+    for (i = 0; i < 8 && c->call == ADD; i++)
+        q->bytes[i] = (unsigned char)((i < 4 ? v[1].low >> 8 * i : v[1].high >> 8 * (i - 4)) & 255);
+}
+
+/* the bytes behind the length are 0 */
+static struct number number_in(const unsigned char *bytes) {
+    struct number n;
+    int i;
+    n.high = n.low = 0;
+    for (i = 3; i >= 0; i--) {
+        n.low = n.low << 8 | bytes[i];
+        n.high = n.high << 8 | bytes[i + 4];
+    }
+    return n;
+}
+
 static void run_access(int index, const struct command *c, const struct number *v, struct number *result) {
     struct request q;
     struct answer a;
     int i;
-    clear(&q, sizeof q);
-    q.task = DO_ACCESS;
-    q.flags = c->call;
-    q.length = c->call == LOAD ? (int)v[1].low : c->call == STORE ? c->length : 8;
-    for (i = 0; i < c->length; i++) q.bytes[i] = (unsigned char)c->bytes[i];
-    for (i = 0; i < 8 && c->call == ADD; i++)
-        q.bytes[i] = (unsigned char)((i < 4 ? v[1].low >> 8 * i : v[1].high >> 8 * (i - 4)) & 255);
+    set_access(&q, c, v);
     if (!find_bytes(&processes[index], &q, value_of(v[0]))) { skip("the access may end its process"); return; }
     ask(index, &q, &a);
-    for (i = 0; i < q.length && c->call == LOAD; i++) put_byte(a.bytes[i]);
+    if (c->call >= ADD) *result = number_in(a.bytes);
     if (c->call == STORE) put_text("ok");
-    if (c->call != ADD) return;
-    result->high = result->low = 0;
-    for (i = 3; i >= 0; i--) {
-        result->low = result->low << 8 | a.bytes[i];
-        result->high = result->high << 8 | a.bytes[i + 4];
-    }
-    put_number(*result);
+    else if (c->call == ADD) put_number(*result);
+    else for (i = 0; i < q.length; i++) put_byte(a.bytes[i]);
 }
 
 static int process_of(unsigned long pid) {
@@ -713,14 +739,14 @@ static void run_exit(int index) {
 static void run(const struct command *c, const struct number *v, struct number *result) {
     int index = c->process, life = why_none ? ENDED : processes[index].life;
     if (((c->call == GET || c->call == ATTACH) && is_too_large(v[1])) ||
-        ((c->call == DETACH || (c->call >= LOAD && c->call <= ADD)) && is_too_large(v[0]))) skip("this system has no such number");
+        ((c->call == DETACH || (c->call >= LOAD && c->call <= COMPARE)) && is_too_large(v[0]))) skip("this system has no such number");
     else if (why_none) skip(why_none);
     else if (life == OTHER_USER) skip("no right to be this user");
     else if (life != LIVE) skip("no process makes this call");
     else if (c->call == GET) run_get(index, v, result);
     else if (c->call == ATTACH) run_attach(index, v, result);
     else if (c->call == DETACH) run_detach(index, v);
-    else if (c->call <= ADD) run_access(index, c, v, result);
+    else if (c->call <= COMPARE) run_access(index, c, v, result);
     else if (c->call <= UNLOCK) run_control(index, c->call, v);
     else if (c->call == FORK) run_fork(index, v);
     else if (c->call == EXIT) run_exit(index);

@@ -37,6 +37,16 @@ static void read_rules(const char *text) {
     }
 }
 
+const char *words_of_rules(void) {
+    static char text[256];
+    size_t length = 0;
+    if (options.limits.rules == NOG_LINUX) return rule_names[LINUX];
+    for (int i = 0; i < LINUX; i++)
+        if (options.limits.rules >> i & 1)
+            length += (size_t)snprintf(text + length, sizeof text - length, "%s%s", length ? "," : "", rule_names[i]);
+    return text;
+}
+
 static uint64_t read_number(const char *what, const char **text, uint64_t least, uint64_t most) {
     char *end;
     uint64_t number = strtoull(*text, &end, 0);

@@ -42,7 +42,7 @@ nog_limits limits_of_script(void) {
     uint64_t shmmax = size_in_script(l->shmmax), shmall = recorded.has_ranks ? SCRIPT_SHMALL : l->shmall;
     return (nog_limits){.shmmax = shmmax ? least(shmmax, SCRIPT_SHMMAX) : 1, .shmmni = least(l->shmmni, SCRIPT_SHMMNI),
                         .shmall = least(shmall, SCRIPT_SHMALL), .frames = SLOTS + 2, .memlock = least(l->memlock, SLOTS),
-                        .rules = l->rules ? NOG_LINUX : 0};
+                        .rules = l->rules};
 }
 
 /* ---- events ---- */

@@ -82,13 +82,14 @@ __attribute__((format(printf, 3, 4))) static void comment(FILE *to, bool is_said
 static void print_head(FILE *to, const char *name) {
     nog_limits l = limits_of_script();
     comment(to, false, "What %s called, recorded by shmrun. Its log is %s.log:", options.command[0], name);
-    comment(to, false, "shmcheck judge %s.log --rules %s < %s.shm", name, l.rules ? "linux" : "profile", name);
+    comment(to, false, "shmcheck judge %s.log < %s.shm", name, name);
     if (recorded.end) comment(to, true, "the record ends before the run: %s", recorded.end);
     for (int i = 0; i < NOTES && recorded.notes[i].what; i++)
         comment(to, true, "left out: %s: %lu", recorded.notes[i].what, recorded.notes[i].count);
     if (recorded.has_ranks)
         comment(to, true, "sizes are written as their ranks, from 1 for the smallest: a script has at most %d pages", SLOTS);
     fprintf(to, "limits %lu %lu %lu %lu %lu\n", l.shmmax, l.shmmni, l.shmall, l.frames, l.memlock);
+    if (l.rules) fprintf(to, "rules %s\n", words_of_rules());
     for (size_t i = 0; i < recorded.process_count; i++) {
         comment(to, false, "%u is %s", recorded.processes[i].pid, recorded.processes[i].name);
         if (recorded.processes[i].is_child) fprintf(to, "child %u\n", recorded.processes[i].pid);

@@ -55,6 +55,8 @@ extern struct options {
     char **command;
 } options;
 void read_options(int argc, char **argv);
+/* The machine's rules as a script names them; it has one, or more. */
+const char *words_of_rules(void);
 
 /* start.c: stop ends shmrun, and with it each program that it traces */
 __attribute__((noreturn, format(printf, 2, 3))) void stop(int status, const char *format, ...);

@@ -203,13 +203,13 @@ class Run:
         for n in [n for n in space if space[n][2] == origin and space[n][0][0] == segment]:
             del space[n]
 
-    def access(self, space: Any, call: Any, address: Any, operand: Any) -> Any:
+    def access(self, space: Any, call: Any, address: Any, operand: Any, puts: Any) -> Any:
         """The reply of an access that fails or is outside of the pieces; None for any other."""
-        size = int(operand) if call == "load" else len(operand) // 2 if call == "store" else 8
+        size = int(operand) if call == "load" else 8 if call == "xadd" else len(operand) // 2
         found = [space.get(n) for n in range(address // PAGE, (address + size - 1) // PAGE + 1)]
         if not all(found) or (call != "load" and not all(is_writable for _, is_writable, _ in found)):
             return "SIGSEGV"
-        return "" if self.paging.access([page for page, _, _ in found], call != "load") else "SIGBUS"
+        return "" if self.paging.access([page for page, _, _ in found], puts) else "SIGBUS"
 
     def event(self, line: str) -> Any:
         """Takes an event of the history. Returns what is wrong with its reply, nothing if it is allowed."""
@@ -217,8 +217,10 @@ class Run:
         space, words = self.spaces.setdefault(int(pid), {}), operands.split()
         if reply == "ESRCH":
             return ""
-        if call in ("load", "store", "xadd"):
-            wanted = self.access(space, call, number(words[0]), words[1])
+        if call in ("load", "store", "xadd", "swap", "cas"):
+            # a cas that finds other bytes than it expects puts none
+            puts = reply == words[1] if call == "cas" else call != "load"
+            wanted = self.access(space, call, number(words[0]), words[1], puts)
             said = reply if reply.startswith("SIG") else ""
             return "" if said == wanted else f"{line}, where the rules have {wanted or 'no failure'}"
         if call == "swapoff" and reply in ("ok", "EIO"):

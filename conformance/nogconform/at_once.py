@@ -147,6 +147,15 @@ class Generator:
     def make_xadd(self, own: list[int | str]) -> str:
         return f"xadd {self.address(own, self.pick(0, 0, 8))} {self.pick(1, 1, 255, 2 ** 64 - 1)}"
 
+    def make_swap(self, own: list[int | str]) -> str:
+        return f"swap {self.address(own, self.pick(0, 8))} {self.random.choice(WORDS)}"
+
+    def make_cas(self, own: list[int | str]) -> str:
+        """Mostly of a lock, which is zeros while nobody holds it."""
+        new = self.random.choice(WORDS)
+        expected = self.pick("00" * (len(new) // 2), new)
+        return f"cas {self.address(own, self.pick(0, 0, 8))} {expected} {self.pick(new, '00' * (len(new) // 2))}"
+
     def make_stat(self, _own: list[int | str]) -> str:
         return "stat s"
 
@@ -165,7 +174,8 @@ class Generator:
             makes = ((self.make_shmget, 1), (self.make_stat, 3), (self.make_set, 1), (self.make_rmid, 2),
                      (self.make_shmat, 2 if own else 8), (self.make_shmdt, 2 if own else 0),
                      (self.make_load, 4 if own else 0),
-                     (self.make_store, 4 if own else 0), (self.make_xadd, 4 if own else 0))
+                     (self.make_store, 4 if own else 0), (self.make_xadd, 4 if own else 0),
+                     (self.make_swap, 2 if own else 0), (self.make_cas, 4 if own else 0))
             make = self.random.choices([m for m, _ in makes],
                                        [w for _, w in makes])[0] if number else self.make_shmget
             lines.append(f"{pid} {make(own)}")
@@ -314,7 +324,10 @@ def attachers(lines: list[str], but: str) -> set[str]:
 
 
 def has_removal(lines: list[str], but: str) -> bool:
-    return any(call_of(line) == "rmid" and pid_of(line) != but for line in lines)
+    """Whether another process may destroy a segment: by its rmid, or by a detach of a segment that any rmid
+    marked."""
+    others = {call_of(line) for line in lines if pid_of(line) != but}
+    return "rmid" in others or ("shmdt" in others and any(call_of(line) == "rmid" for line in lines))
 
 
 def with_fewer_attached(line: str, lines: list[str]) -> list[str]:

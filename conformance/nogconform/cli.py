@@ -8,10 +8,11 @@ import sys
 from collections.abc import Sequence
 
 from .at_once import Judge, RacingPeer, find_judge, run_at_once
+from .explain import Machine, find_machine
 from .options import Options, parser_of_words, read_options
 from .places import INSTALLED, TOP
 from .results import Results, open_junit, print_list
-from .running import (Peer, Stopped, build_library, build_peer, open_folder, require_command,
+from .running import (Peer, Stopped, build_library, build_peer, is_own, open_folder, require_command,
                       start_own_program, why_no_peer)
 from .script import BadInput
 from .session import Session, case_paths, open_case, run_cases, run_random
@@ -62,14 +63,18 @@ def find_peer(options: Options, folder: str) -> tuple[Peer | None, str]:
     return Peer([build_peer(folder)], options.peer_options(), options.limit), ""
 
 
-def use_library(options: Options, folder: str, is_random: bool) -> None:
-    """Uses the library instead of the program. Random scripts then have its calls, too."""
-    if options.library:
-        program, has_mappings, has_rules = build_library(folder, options.library)
-        if options.is_linux and not has_rules:
-            raise Stopped(f"the library in {options.library} has no rules: its header has no NOG_LINUX")
-        options.program = [program] + ["--rules", "linux"] * options.is_linux
-        options.has_mappings = has_mappings or not is_random
+def choose_program(options: Options, folder: str, is_random: bool) -> Machine | None:
+    """Builds the library's program, if the library is wanted; random scripts then have its calls, too.
+    Returns the machine that explains differences: that program, or shmsim."""
+    if not options.library:
+        words = options.program if is_own(options.program) else find_machine()
+        return Machine(words, False, options.limit) if words else None
+    program, has_mappings, has_rules = build_library(folder, options.library)
+    if options.is_linux and not has_rules:
+        raise Stopped(f"the library in {options.library} has no rules: its header has no NOG_LINUX")
+    options.program = [program] + ["--rules", "linux"] * options.is_linux
+    options.has_mappings = has_mappings or not is_random
+    return Machine([program], True, options.limit) if has_rules else None
 
 
 def run(options: Options, folder: str, results: Results) -> int:
@@ -79,10 +84,10 @@ def run(options: Options, folder: str, results: Results) -> int:
     paths = [] if is_random else case_paths(options.names, options.has_mappings)
     if options.peer:
         require_command(options.peer, "the peer")
-    use_library(options, folder, is_random)
+    machine = choose_program(options, folder, is_random)
     require_command(options.program, "the program")
     peer, lack = find_peer(options, folder)
-    session = Session(options, peer, results, lack)
+    session = Session(options, peer, results, lack, machine)
     if is_random and peer is None:
         raise Stopped(f"random scripts need a peer: {lack}")
     start_own_program(options.program)

@@ -7,9 +7,11 @@ from dataclasses import dataclass, field, replace
 
 from nogconform.script import Case, Command, Event
 
-from .rules import STOPS, Machine, classify
-from .script import has_form, is_expected, stat_words, without_clock
+from .explain import Explainer, Machine, System
+from .script import has_form, is_expected, stat_words
 
+# refusals of a protect, which has then changed the pages below the refused one
+STOPS = ("ENOMEM", "EACCES")
 # calls that change nothing although they are not refused
 READS = ("load", "stat", "swapoff")
 SKIPPED = "skipped: "
@@ -69,23 +71,18 @@ def against_rules(case: Case, events: list[Event], is_linux: bool = False) -> li
             event in zip(case.commands, told, events) if not is_expected(reply, event.reply)]
 
 
-def against_peer(case: Case, events: list[Event], others: list[Event], has_clock: bool = False,
-                 has_system_limits: bool = False, is_linux: bool = False) -> Result:
-    """Compares each command of the program with the peer's, until the two are in different states. Under
-    Linux's rules only the rules that they leave can explain a difference."""
+def against_peer(case: Case, events: list[Event], others: list[Event], machine: Machine | None = None, *,
+                 is_linux: bool = False, has_clock: bool = False, has_system_limits: bool = False) -> Result:
+    """Compares each command of the program with the peer's, until the two are in different states. The
+    machine explains differences; without one, none is explained."""
     result = Result(whole=len(events))
-    slots = [int(word.split(":")[1]) for word in case.swap]
-    may_fail = any(word.startswith("fuse:") for word in case.swap)
-    machine = Machine(case.limits, dict(case.users), has_clock, has_system_limits=has_system_limits,
-                      areas=slots,
-                      may_fail=may_fail, is_linux=is_linux)
-    for index, (command, event, other) in enumerate(zip(case.commands, events, others)):
-        is_alike = compare_one(result, machine, command, event, other)
-        if not is_alike:
+    known = Explainer(machine, System(case), events, others, is_linux, has_clock, has_system_limits)
+    for index in range(len(events)):
+        if not compare_one(result, known, index):
+            other = others[index]
             cause = other.reply[len(SKIPPED):] if other.is_skipped else ""
             result.skip("after a difference that changes the state", len(events) - index - 1, cause)
             break
-        machine.follow(event, other)
     return result
 
 
@@ -95,21 +92,22 @@ def changes_nothing(event: Event) -> bool:
     return event.is_refused and not (event.word == "protect" and event.reply in STOPS)
 
 
-def compare_one(result: Result, machine: Machine, command: Command, event: Event, other: Event) -> bool:
+def compare_one(result: Result, known: Explainer, index: int) -> bool:
     """Counts one command. Returns whether program and peer are in the same state after it."""
+    event, other = known.events[index], known.others[index]
     if other.is_skipped:
         result.skip(other.reply[len(SKIPPED):])
-        return changes_nothing(event) or event.word in READS
-    ours = event.reply if machine.has_clock else without_clock(event.reply)
-    if event.call == other.call and ours == other.reply:
+        current = known.current(index)
+        return changes_nothing(current) or current.word in READS
+    if known.is_like(event, other):
         result.agree += 1
         return True
-    known = classify(machine, event, other, command) if event.call == other.call and has_form(other) else None
-    if known is None:
-        result.different.append(Difference(command, event.call, event.reply, other.reply))
-        return changes_nothing(event) and changes_nothing(other)
-    result.name(known[0])
-    return known[1]
+    found = known.explain(index) if has_form(other) else None
+    if found is None:
+        result.different.append(Difference(known.system.case.commands[index], event.call, event.reply, other.reply))
+        return changes_nothing(known.current(index)) and changes_nothing(other)
+    result.name(found[0])
+    return found[1]
 
 
 def told_events(case: Case, others: list[Event], is_linux: bool, has_clock: bool = False) -> list[Event]:

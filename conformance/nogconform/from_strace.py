@@ -8,9 +8,10 @@
     conformance/from_strace [TRACE] --verdict VERDICT
 
 It prints the last two commands with the names of its files. A trace shows what Linux did, so it is judged
-under Linux's rules: under this project's own rules the judge finds some of it illegal. Without TRACE it reads
-standard input. Add munmap,mremap,mprotect,madvise,mlock to the calls of strace to learn of calls that change
-attached memory. It prints on standard error what it left out or changed, how often, and the first line.
+under Linux's rules, which the script names too: under this project's own rules the judge finds some of it
+illegal. Without TRACE it reads standard input. Add munmap,mremap,mprotect,madvise,mlock to the calls of strace
+to learn of calls that change attached memory. It prints on standard error what it left out or changed, how
+often, and the first line.
 
 --verdict       checks whether the schedule of a verdict `legal` keeps the order of the calls that did not
                 overlap; the judge does not know the times
@@ -169,7 +170,7 @@ def script_of(commands: list[Command], limits: str, uid: int, gid: int) -> str:
                           f"most {MOST_PROCESSES}")
     if len(commands) > MOST_COMMANDS:
         raise BadTrace(0, f"there are {len(commands)} calls, but a script has at most {MOST_COMMANDS}")
-    lines = [f"limits {limits}"]
+    lines = [f"limits {limits}", "rules linux"]
     for process, is_born in processes:
         name = "".join(it if " " <= it <= "~" else "?" for it in process.program)
         lines.append(f"# {process.pid} is {name or 'not named in the trace'}")

@@ -126,12 +126,25 @@ class Generator:
             return f"load {self.random.choice(LETTERS)}+{self.pick(0, 100, 4090)} {self.pick(1, 8, 64)}"
         return f"load {self.place()} {self.pick(1, 2, 8, 16)}"
 
+    def bytes(self, *lengths: int) -> str:
+        return "".join("%02x" % self.random.randrange(256) for _ in range(self.pick(*lengths)))
+
     def make_store(self, _pid: int) -> str:
-        data = "".join("%02x" % self.random.randrange(256) for _ in range(self.pick(1, 2, 8)))
+        data = self.bytes(1, 2, 8)
         return f"store {self.random.choice(LETTERS) if self.one_in(6) else self.place()} {data}"
 
     def make_xadd(self, _pid: int) -> str:
         return f"x = xadd {self.place()} {self.pick(1, 255, 2 ** 64 - 1)}"
+
+    def make_swap(self, _pid: int) -> str:
+        return f"x = swap {self.place()} {self.bytes(1, 2, 4, 8)}"
+
+    def make_cas(self, _pid: int) -> str:
+        """Of a lock's byte, which is mostly 0 or 1, or of some bytes that are mostly zeros."""
+        if self.one_in(2):
+            return f"x = cas {self.random.choice(LETTERS)} {self.pick('00', '01')} {self.pick('00', '01')}"
+        new = self.bytes(1, 2, 4, 8)
+        return f"x = cas {self.place()} {'00' * (len(new) // 2)} {new}"
 
     def range(self) -> str:
         """Mostly whole pages near the bases; seldom an end inside a page, or beyond all addresses."""
@@ -172,7 +185,8 @@ class Generator:
         makes: tuple[tuple[Callable[[int], str], int], ...]
         makes = ((self.make_shmget, 12), (self.make_shmat, 20), (self.make_shmdt, 12), (self.make_stat, 16),
                  (self.make_set, 5), (self.make_rmid, 5), (self.make_lock, 5), (self.make_load, 10),
-                 (self.make_store, 10), (self.make_xadd, 3), (self.make_process_event, 2))
+                 (self.make_store, 10), (self.make_xadd, 3), (self.make_swap, 2), (self.make_cas, 3),
+                 (self.make_process_event, 2))
         makes += ((self.make_unmap, 5),) if self.has_mappings else ()
         makes += ((self.make_protect, 40),) if self.has_mappings and not self.has_exec else ()
         make = self.random.choices([m for m, _ in makes], [w for _, w in makes])[0]

@@ -33,10 +33,15 @@ def require_command(words: list[str], whose: str) -> None:
         raise Stopped(f"{whose} was not started: no such command: {words[0] if words else 'nothing'}")
 
 
+def is_own(words: list[str]) -> bool:
+    """Whether the command is this project's own program."""
+    return bool(words) and os.path.realpath(words[0]) == os.path.realpath(os.path.join(TOP, "shmsim"))
+
+
 def start_own_program(words: list[str]) -> None:
     """Builds this project's own program first if needed: without a time limit, and with its progress
     shown."""
-    if not words or os.path.realpath(words[0]) != os.path.realpath(os.path.join(TOP, "shmsim")):
+    if not is_own(words):
         return
     done = subprocess.run(words + ["serial", "ram:1"], input=b"limits 1 1 1 2 0\n", stdout=subprocess.DEVNULL,
                           check=False)

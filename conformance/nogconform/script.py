@@ -38,7 +38,8 @@ STAT = re.compile(r"key=0x[0-9a-f]{8} uid=\d+ gid=\d+ cuid=\d+ cgid=\d+ mode=[0-
                   r"status=(-|dest|locked|dest,locked) "
                   r"size=\d+ cpid=\d+ lpid=\d+ nattch=\d+ atime=\w+ dtime=\w+ ctime=\w+")
 REPLY = {"shmget": re.compile(r"\d{1,10}"), "shmat": re.compile(r"null|0x[0-9a-f]{1,16}"),
-         "load": re.compile("([0-9a-f]{2}){1,64}"),
+         "load": re.compile("([0-9a-f]{2}){1,64}"), "swap": re.compile("([0-9a-f]{2}){1,64}"),
+         "cas": re.compile("([0-9a-f]{2}){1,16}"),
          "xadd": re.compile(r"\d{1,20}"), "stat": STAT}
 
 
@@ -173,6 +174,8 @@ def read_case(path: str, text: str, is_strict: bool = True, has_mappings: bool =
         elif line.startswith("#"):
             comment.append(line.lstrip("# "))
             case.title = case.title or comment[0]
+        elif words[:1] == ["rules"]:
+            raise BadCase(path, number, "rules", "the kit chooses the rules: --rules linux, or none of them")
         elif words and not read_declaration(case, words) and words[0] != "0":
             case.commands.append(Command(number, " ".join(words), " ".join(comment)))
             comment = []

@@ -7,6 +7,7 @@ import time
 from collections import Counter
 
 from .compare import Result, against_peer, against_rules
+from .explain import Machine
 from .generator import make_script
 from .options import Options
 from .places import CASES, LIBRARY_CASES, names_in
@@ -45,9 +46,11 @@ class NoRecord(Exception):
 class Session:
     """The two sides of the comparison, and their counts."""
 
-    def __init__(self, options: Options, peer: Peer | None, results: Results, lack: str = "") -> None:
+    def __init__(self, options: Options, peer: Peer | None, results: Results, lack: str = "",
+                 machine: Machine | None = None) -> None:
         self.options = options
         self.peer = peer
+        self.machine = machine  # explains differences
         self.lack = lack        # why there is no peer although one was wanted
         self.results = results
         self.told_notes: set[str] = set()
@@ -85,7 +88,8 @@ class Session:
 
     def compare(self, case: Case, events: list[Event], others: list[Event]) -> Result:
         has_limits = any("limits" in note or "stays as it is" in note for note in self.notes)
-        result = against_peer(case, events, others, self.options.has_clock, has_limits, self.options.is_linux)
+        result = against_peer(case, events, others, self.machine, is_linux=self.options.is_linux,
+                              has_clock=self.options.has_clock, has_system_limits=has_limits)
         self.commands += result.whole
         self.counts["agree"] += result.agree
         self.counts["profile"] += sum(result.by_rule.values())
@@ -178,13 +182,14 @@ def first_difference(session: Session, text: str, quiet: bool = True) -> Result:
     case = read_case("random", text, is_strict=False, has_mappings=session.options.has_mappings)
     events = run_program(session.options.program, case, session.options.limit)
     others = session.peer.run(text, len(case.commands))
-    counted = Session(session.options, session.peer, session.results) if quiet else session
+    counted = Session(session.options, session.peer, session.results, machine=session.machine) if quiet else session
     return counted.compare(case, events, others)
 
 
-def shorten(session: Session, text: str, seconds: int = 60) -> str:
-    """Removes commands that the difference does not need from a script, within a time limit."""
-    lines = text.splitlines()
+def shorten(session: Session, text: str, last: int, seconds: int = 60) -> str:
+    """Removes from a script all below line `last`, where the first difference is, and then commands that the
+    difference does not need, within a time limit."""
+    lines = text.splitlines()[:last]
     end = time.monotonic() + seconds
     for index in reversed(range(len(lines))):
         if lines[index].split()[0] in ("limits", "process", "child") or time.monotonic() > end:
@@ -208,7 +213,7 @@ def run_random(session: Session, count: int, seed: str) -> int:
             print(f"script {number} of seed {seed}: DIFFER")
             print("\n".join(difference.lines()))
         if result.different:
-            print("  shown by:\n" + shorten(session, text), end="")
+            print("  shown by:\n" + shorten(session, text, result.different[0].command.line), end="")
     print("scripts: " + ", ".join(f"{word} {words[word]}" for word in sorted(words)))
     session.summary()
     for name, number in sorted(session.firsts.items()):

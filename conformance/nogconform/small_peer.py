@@ -54,18 +54,22 @@ def flags_of(flags: int, named: dict[str, int]) -> int:
     return sum(value for name, value in named.items() if flags & Flag[name.upper()])
 
 
+def quoted(data: bytes) -> str:
+    return '"' + "".join(f"\\{byte:03o}" for byte in data) + '"'
+
+
 def command_row(command: Command, places: dict[int, int]) -> str:
     values = [value for value in command.operands if not isinstance(value, bytes)]
-    stored = next((value for value in command.operands if isinstance(value, bytes)), b"")
+    # the bytes that a call stores come after those that it expects
+    *_, expected, stored = b"", b"", *[value for value in command.operands if isinstance(value, bytes)]
     if command.call == "fork":
         values = [getattr(value, "pid", value) for value in values]
     operands = [operand(value, command.call == "shmat" and place == 2) for place, value in enumerate(values)]
     operands += [f"{{ -1, {number(0)} }}"] * (4 - len(operands))
-    text = "".join(f"\\{byte:03o}" for byte in stored)
     taker = ord(command.taker) - ord("a") if command.taker else -1
     return (f"    {{ {places[command.pid]}, {taker}, {NAMES.index(command.call)}, "
             f"{{ {', '.join(operands)} }}, "
-            f"{len(stored)}, \"{text}\" }}")
+            f"{len(stored)}, {quoted(stored)}, {quoted(expected)} }}")
 
 
 def data_of(index: int, name: str, script: Script) -> tuple[str, str]:

@@ -16,6 +16,7 @@ from at_the_limits import NAMES as AT_THE_LIMITS, main as write_scripts_at_the_l
 from commands import SECONDS, TOP, Conform, environment, run, text_of, write_file
 from conftest import libraries_of
 from nogconform.generator import make_script
+from nogcuvema.script import read_script
 
 INCLUDE = os.path.join(TOP, "bindings", "c")
 HEADER = os.path.join(INCLUDE, "nogcuvema.h")
@@ -160,7 +161,7 @@ def test_valgrind(library: str, folder: str, name: str, flags: list[str]) -> Non
 def driver(each_library: str, tmp_path_factory: pytest.TempPathFactory) -> str:
     """The kit's program over the library, with the sanitizers."""
     to = str(tmp_path_factory.mktemp("driver") / "driver")
-    compile_c("conformance/library.c", to, each_library, [*SANITIZERS, "-O1"])
+    compile_c("conformance/library.c", to, each_library, [*SANITIZERS, "-O1", "-DNOG_HAS_RULES"])
     return to
 
 
@@ -182,8 +183,13 @@ def stored_scripts() -> list[str]:
 
 
 def check_script(driver: str, word: str, name: str) -> None:
+    """The driver takes the rules as a word, which a script with a line `rules` needs."""
     swap = text_of(name + ".swap", "ram:64").split()
-    assert run([driver, word, *swap], text_of(name + ".shm")) == (0, text_of(name + ".out"), "")
+    script = text_of(name + ".shm")
+    limits = read_script(script).limits
+    rules = int(limits.rules) if limits else 0
+    words = [driver, *["--rules", str(rules)] * (rules != 0), word, *swap]
+    assert run(words, script) == (0, text_of(name + ".out"), "")
 
 
 @pytest.mark.parametrize("word", ["serial", "pieces"])

@@ -31,6 +31,11 @@ ALONE = HEAD + """1 s = shmget private 4096 600
 1 x = xadd a 5
 1 xadd a 2
 1 load a 2
+1 swap a 0900
+1 cas a 0900 0b00
+1 cas a 0900 0c00
+1 cas a 0b00 0d00
+1 cas 0x50000000 00 01
 1 load a+4 4
 1 store 0x50000000 01
 1 store a+1 0203
@@ -47,8 +52,8 @@ ALONE = HEAD + """1 s = shmget private 4096 600
 2 a = shmat s null -
 2 store a+8 01020304
 """
-REPLIES = (f"? ? 0x50000000 ok 0102030405060708 0 5 0700 00000000 SIGSEGV skipped {SHOWN}cpid=1 lpid=1 "
-           f"nattch=2 atime=set dtime=0 "
+REPLIES = (f"? ? 0x50000000 ok 0102030405060708 0 5 0700 0700 0900 0b00 0b00 SIGSEGV 00000000 SIGSEGV skipped "
+           f"{SHOWN}cpid=1 lpid=1 nattch=2 atime=set dtime=0 "
            "ctime=set; ? 0x50000000 EINVAL ok SIGSEGV ok EINVAL ENOENT EINVAL EINVAL SIGSEGV")
 # two creations of one key
 TWO = HEAD + "1 s = shmget 7 4096 600,creat,excl\n2 s = shmget 7 4096 600,creat,excl\n"
@@ -68,6 +73,7 @@ OWN = GIVEN.replace("2", "1", 1)
 STAT = ("1 stat s = key=0x00000010 uid=0 gid=0 cuid=0 cgid=0 mode=600 status={} size=1 cpid=1 lpid=0 "
         "nattch={} atime=0 dtime=0 ctime=set")
 MARKED = STAT.format("-", 1).replace("lpid=0", "lpid={}").replace("atime=0", "atime=set")
+DETACH = "2 shmdt 0x50004000 = ok"
 ATTACH, REMOVE, GONE = "2 shmat s 0x50000000 - = 0x50000000", "2 rmid s = ok", "1 set s 0 0 600 = {}"
 NOBODY, REFUSED = "nothing", GIVEN.replace("?", "EEXIST")
 
@@ -117,6 +123,9 @@ def log_of(lines: Sequence[str]) -> Log:
     ([GONE.format("EIDRM"), REMOVE], [GONE.format("EINVAL"), REMOVE], "removed between two steps of a call"),
     ([GONE.format("EIDRM"), ATTACH], [GONE.format("EINVAL"), ATTACH], NOBODY),
     ([GONE.format("EIDRM"), "1 rmid s = ok"], [GONE.format("EINVAL"), "1 rmid s = ok"], NOBODY),
+    ([GONE.format("EIDRM"), "1 rmid s = ok", DETACH], [GONE.format("EINVAL"), "1 rmid s = ok", DETACH],
+     "removed between two steps of a call"),
+    ([GONE.format("EIDRM"), DETACH], [GONE.format("EINVAL"), DETACH], NOBODY),
     ([GONE.format("EACCES"), REMOVE], [GONE.format("EINVAL"), REMOVE], NOBODY),
     ([STAT.format("dest", 1), ATTACH], ["1 stat s = ?", ATTACH], "marked while an attach is under way"),
     ([STAT.format("-", 1), ATTACH], ["1 stat s = ?", ATTACH], NOBODY),
@@ -260,8 +269,8 @@ def test_words(folder: str, conform: Conform) -> None:
 
 def test_scripts() -> None:
     """Random scripts are valid, and have the calls to compare."""
-    seen = {word: 0 for word in ("creat,excl", "rdonly", "shmdt", "load", "store", "xadd", "stat", "set",
-                                 "rmid", "null")}
+    seen = {word: 0 for word in ("creat,excl", "rdonly", "shmdt", "load", "store", "xadd", "swap", "cas",
+                                 "stat", "set", "rmid", "null")}
     sizes = set()
     for number in range(200):
         text = make_script("kit", number)

@@ -9,10 +9,9 @@ import re
 import pytest
 
 from commands import Conform, run, text_of, write_file
-from conformance import near_misses
 from conformance.test_peer import words_without_root
+from nogconform.explain import LEFT, RULES
 from nogconform.places import CASES, names_in
-from nogconform.rules import RULES
 from nogconform.script import read_case
 
 # the peer's reasons to skip a command that a process of this system could not make
@@ -119,24 +118,9 @@ def test_random_scripts(conform: Conform, peer: str) -> None:
     assert "scripts: " in said
 
 
-@pytest.mark.parametrize("rule", RULES)
+@pytest.mark.parametrize("rule", dict.fromkeys((*RULES, *LEFT)))
 def test_documents(rule: str) -> None:
     assert f"| {rule} |" in text_of("docs/CONFORMANCE.md")
-
-
-JUDGED = [*near_misses.judged()]
-
-
-@pytest.mark.parametrize("table, line, said", JUDGED, ids=[f"line {line.number}" for _, line, _ in JUDGED])
-def test_near_miss(table: near_misses.Table, line: near_misses.Line, said: str) -> None:
-    """What each rule explains, and near misses that it must not explain."""
-    assert said == near_misses.wanted_of(line), f"{line.command.text} = {line.ours} / {line.theirs}"
-
-
-@pytest.mark.parametrize("rule", RULES)
-def test_rule_has_near_misses(rule: str) -> None:
-    seen = {near_misses.wanted_of(line).split(",")[0] for table, line, _ in JUDGED if table.rule == rule}
-    assert {rule, "DIFFER"} <= seen
 
 
 def test_seconds(conform: Conform, peer: str, folder: str) -> None:

@@ -11,9 +11,9 @@ from typing import Any, NamedTuple
 import pytest
 
 from commands import Conform, run, text_of
+from nogconform.explain import LEFT
 from nogconform.generator import make_script
 from nogconform.places import CASES, LIBRARY_CASES, names_in
-from nogconform.rules import LEFT
 from nogconform.running import build_library
 from nogconform.script import read_case
 
@@ -22,7 +22,7 @@ RANDOM = 300
 SHORT = ["fuse:24:r9", "mirror:16", "fuse:8:w5", "sparse:24"]
 SKIPPED = "this library has no munmap and no mprotect"
 HEAD = "limits 4096 1 1 2 0\nprocess 1 1 1\n"
-FAULTS = ((["serial"], HEAD, 2, "usage: library [--rules profile|linux] serial|pieces SWAP..."),
+FAULTS = ((["serial"], HEAD, 2, "usage: library [--rules profile|linux|N] serial|pieces SWAP..."),
           (["nosuch", "ram:1"], HEAD, 2, "usage: "), (["--rules"], HEAD, 2, "usage: "),
           (["--rules", "nosuch", "serial", "ram:1"], HEAD, 2, "usage: "),
           (["--rules", "linux", "serial"], HEAD, 2, "usage: "),

@@ -144,20 +144,22 @@ static const struct declared processes_0[] = {
 };
 static const struct command commands_0[] = {
     { 0, 18, 0, { { -1, { 0x0UL, 0x11UL } }, { -1, { 0x1UL, 0x2UL } }, { -1, { 0x0UL, 0x7a0UL } }, \
-{ -1, { 0x0UL, 0x0UL } } }, 0, "" },
+{ -1, { 0x0UL, 0x0UL } } }, 0, "", "" },
     { 0, -1, 1, { { 18, { 0x0UL, 0x0UL } }, { -1, { 0x0UL, 0x0UL } }, { -1, { 0x0UL, 0x7000UL } }, \
-{ -1, { 0x0UL, 0x0UL } } }, 0, "" },
+{ -1, { 0x0UL, 0x0UL } } }, 0, "", "" },
     { 0, -1, 4, { { 0, { 0x0UL, 0x1000UL } }, { -1, { 0x0UL, 0x0UL } }, { -1, { 0x0UL, 0x0UL } }, \
-{ -1, { 0x0UL, 0x0UL } } }, 2, "\\001\\377" },
-    { 0, -1, 7, { { -1, { 0x0UL, 0x0UL } }, { -1, { 0x0UL, 0x1UL } }, { -1, { 0x0UL, 0x2UL } }, \
-{ -1, { 0x0UL, 0x1c0UL } } }, 0, "" },
-    { 0, -1, 11, { { -1, { 0x0UL, 0x8UL } }, { -1, { 0x0UL, 0x0UL } }, { -1, { 0x0UL, 0x0UL } }, \
-{ -1, { 0x0UL, 0x0UL } } }, 0, "" },
-    { 1, -1, 13, { { -1, { 0x0UL, 0x0UL } }, { -1, { 0x0UL, 0x0UL } }, { -1, { 0x0UL, 0x0UL } }, \
-{ -1, { 0x0UL, 0x0UL } } }, 0, "" }
+{ -1, { 0x0UL, 0x0UL } } }, 2, "\\001\\377", "" },
+    { 0, 23, 7, { { 0, { 0x0UL, 0x0UL } }, { -1, { 0x0UL, 0x0UL } }, { -1, { 0x0UL, 0x0UL } }, \
+{ -1, { 0x0UL, 0x0UL } } }, 1, "\\005", "\\000" },
+    { 0, -1, 9, { { -1, { 0x0UL, 0x0UL } }, { -1, { 0x0UL, 0x1UL } }, { -1, { 0x0UL, 0x2UL } }, \
+{ -1, { 0x0UL, 0x1c0UL } } }, 0, "", "" },
+    { 0, -1, 13, { { -1, { 0x0UL, 0x8UL } }, { -1, { 0x0UL, 0x0UL } }, { -1, { 0x0UL, 0x0UL } }, \
+{ -1, { 0x0UL, 0x0UL } } }, 0, "", "" },
+    { 1, -1, 15, { { -1, { 0x0UL, 0x0UL } }, { -1, { 0x0UL, 0x0UL } }, { -1, { 0x0UL, 0x0UL } }, \
+{ -1, { 0x0UL, 0x0UL } } }, 0, "", "" }
 };
 static const struct script scripts[] = {
-    { "data", processes_0, 2, commands_0, 6 }
+    { "data", processes_0, 2, commands_0, 7 }
 };
 """
 DATA_SCRIPT = """limits 4096 1 1 2 0
@@ -167,6 +169,7 @@ child 8
 7 shmat s null rnd,remap,rdonly
 0 flush 1
 7 store a+4096 01ff
+7 x = cas a 00 05
 7 set 0 1 2 700
 7 fork 8
 8 exit
@@ -318,7 +321,7 @@ def compare_by_kit(replies: str, conform: Conform, is_root: bool) -> None:
     assert re.search("^cases: agree \\d+, profile \\d+" + ("" if is_root else ", skipped \\d+") + "$", said,
                      re.M)
     assert "\nnote: under the limits of this system\n" in said
-    mostly = r"MOSTLY SKIPPED: \d+ of 1677 commands were not compared: no right to be this user \(\d+\), "
+    mostly = r"MOSTLY SKIPPED: \d+ of 1701 commands were not compared: no right to be this user \(\d+\), "
     assert bool(re.match(mostly, said.splitlines()[-1])) != is_root
     path = write_file(replies, "wide.shm", WIDE)
     for note, word in (("note: under the limits of this system\n", "profile (limits of the system 1)"),

@@ -332,14 +332,17 @@ def test_ends(shmcheck: str) -> None:
         assert ended == (2, "", f"shmcheck: usage: {USAGE}\n")
 
 
-@pytest.mark.parametrize("words, reply", [
-    ([], "EIDRM"), (["--rules", "profile"], "EIDRM"), (["--rules", "linux"], "EINVAL"),
-    (["--at-most", "4", "--rules", "linux"], "EINVAL")
+@pytest.mark.parametrize("line, words, reply", [
+    ("", [], "EIDRM"), ("", ["--rules", "profile"], "EIDRM"), ("", ["--rules", "linux"], "EINVAL"),
+    ("", ["--at-most", "4", "--rules", "linux"], "EINVAL"), ("rules linux\n", [], "EINVAL"),
+    ("rules removed_is_invalid\n", [], "EINVAL"), ("rules fork_marks\n", [], "EIDRM"),
+    ("rules linux\n", ["--rules", "profile"], "EIDRM"), ("rules fork_marks\n", ["--rules", "linux"], "EINVAL")
 ])
-def test_rules(shmcheck: str, words: list[str], reply: str) -> None:
+def test_rules(shmcheck: str, line: str, words: list[str], reply: str) -> None:
     """Linux knows no identifier of a segment that was removed; under the profile the identifier was
-    removed."""
-    script = "limits 65536 16 64 4 1\nprocess 1 0 0\n1 s = shmget 7 4096 600,creat\n1 rmid s\n1 stat s\n"
+    removed. The option replaces the rules that the script names."""
+    script = (f"limits 65536 16 64 4 1\n{line}process 1 0 0\n1 s = shmget 7 4096 600,creat\n1 rmid s\n"
+              "1 stat s\n")
     lines = "1 shmget 0x00000007 4096 600,creat = 0\n1 rmid 0 = ok\n1 stat 0 = "
     ended = ask(shmcheck, ["outcomes", *words], script)
     assert ended == (0, f"outcome 1\n{lines}{reply}\nschedule 1 1 1\noutcomes 1\n", "")
@@ -401,6 +404,11 @@ HEADS = "limits 65536 16 64 4 1\nprocess 1 0 0\n"
 PAIR = HEADS + "child 2\n1 s = shmget private 4096 600\n1 a = shmat s null -\n1 fork 2\n"
 # each process loads a byte and then stores to it
 UPDATES = PAIR + "1 load a 1\n1 store a 01\n2 load 0x40000000 1\n2 store 0x40000000 01\n"
+# each process takes a lock, by one of two ways, reads a number and writes another, and gives the lock back
+LOCKED = PAIR + "".join(f"{pid} cas 0x40000000 00 01\n{pid} load 0x40000001 1\n{pid} store 0x40000001 01\n"
+                        f"{pid} store 0x40000000 00\n" for pid in (1, 2))
+LOOKED = PAIR + "".join(f"{pid} load 0x40000000 1\n{pid} store 0x40000000 01\n{pid} load 0x40000001 1\n"
+                        f"{pid} store 0x40000001 01\n{pid} store 0x40000000 00\n" for pid in (1, 2))
 # the parent creates the segment before it forks
 BORN = HEADS + "child 2\n1 s = shmget 7 4096 600,creat\n1 fork 2\n2 t = shmget 7 4096 600\n"
 REMOVED = HEADS + "1 s = shmget 7 4096 600,creat\n1 rmid s\n1 stat s\n"
@@ -421,6 +429,13 @@ ANSWERS: tuple[tuple[str, str, bool], ...] = (
     (UPDATES, r"1:4=01 /\ 2:1=01", False),
     ("additions", r"1:4=0 /\ 2:1=0", False),
     ("additions", r"1:4=1 /\ 2:1=0", True),
+    # two processes that both take a lock by cas have it one after the other, and one reads what the other wrote;
+    # two that look at a lock and then store to it can have it at the same time
+    (LOCKED, r"1:4=00 /\ 2:1=00", True),
+    (LOCKED, r"1:4=01 /\ 2:1=01", False),
+    (LOCKED, r"1:4=00 /\ 2:1=00 /\ 1:5=00 /\ 2:2=00", False),
+    (LOCKED, r"1:4=00 /\ 2:1=00 /\ (1:5=01 \/ 2:2=01)", True),
+    (LOOKED, r"1:4=00 /\ 2:1=00 /\ 1:6=00 /\ 2:3=00", True),
     # of two creations with excl just one succeeds
     ("racing_creations", r"1:1=? /\ 2:1=?", False),
     ("racing_creations", r"1:1=EEXIST /\ 2:1=EEXIST", False),
@@ -450,6 +465,36 @@ ANSWERS: tuple[tuple[str, str, bool], ...] = (
     ("times", r"1:2=nattch=1", False),
     ("times", r"1:2=nattch", False),
 )
+
+
+# swaps and cas of one or more bytes, and how many outcomes they have
+EXCHANGES: tuple[tuple[str, int], ...] = (
+    # one of two takes the lock; one of three
+    ("1 cas a 00 01\n2 cas 0x40000000 00 01\n", 2),
+    ("child 3\n1 fork 3\n1 cas a 00 01\n2 cas 0x40000000 00 01\n3 cas 0x40000000 00 01\n", 3),
+    # the later swap returns the bytes of the earlier one, and its own stay
+    ("1 swap a 01\n2 swap 0x40000000 02\n", 2),
+    # the second expects what the first leaves
+    ("1 cas a 00 01\n2 cas 0x40000000 01 02\n", 2),
+    # one that finds other bytes than it expects writes none, and shows whether the store came before it
+    ("1 cas a ff 01\n2 store 0x40000000 02\n", 2),
+    ("1 cas a ff 01\n2 cas 0x40000000 fe 01\n", 1),
+    # a swap of the bytes that are there changes none, and returns them in any order
+    ("1 swap a 00\n2 swap 0x40000000 00\n", 1),
+    # of different bytes
+    ("1 swap a 01\n2 cas 0x40000001 00 02\n", 1),
+    # of bytes that overlap: 0001 and then nothing, or 0200 and then 01 over its second byte
+    ("1 swap a+1 01\n2 cas 0x40000000 0000 0200\n", 2),
+)
+
+
+@pytest.mark.parametrize("lines, count", EXCHANGES)
+def test_exchanges(lines: str, count: int, shmcheck: str) -> None:
+    """Each list of outcomes has as many as were counted by hand."""
+    declared = "".join(line + "\n" for line in lines.splitlines() if line.startswith("child"))
+    script = PAIR.replace("child 2\n", "child 2\n" + declared) + lines.removeprefix(declared)
+    status, printed, said = ask(shmcheck, ["outcomes"], script)
+    assert (status, said, printed.splitlines()[-1]) == (0, "", f"outcomes {count}")
 
 
 def script_of(name: str) -> str:

@@ -111,7 +111,7 @@ def check_record(programs: Programs, name: str, is_whole: bool = True) -> None:
     path = f"{programs.folder}/{name}"
     with open(f"{path}.shm", encoding="ascii") as script:
         text = script.read()
-    status, out, said = run([judge, "judge", f"{path}.log", "--rules", "linux"], text)
+    status, out, said = run([judge, "judge", f"{path}.log"], text)
     assert status == 0
     assert out.startswith("legal\n")
     assert ("the record ends before the run" not in text) == is_whole
@@ -149,12 +149,15 @@ def test_killed_child_with_frames(programs: Programs) -> None:
     assert (status, out) == (0, "")
 
 
+@pytest.mark.parametrize("rules, line", [
+    ("linux", "rules linux\n"), ("profile", ""), ("end_is_enomem,FORK_MARKS", "rules fork_marks,end_is_enomem\n")])
 @pytest.mark.parametrize("subject", ["addresses", "get", "processes", "mutex"])
-def test_replays(programs: Programs, shmsim: str, shmview: str, subject: str) -> None:
-    """Under the profile's rules shmsim gives each reply of the record, and shmview shows it."""
-    path = f"{programs.folder}/profile_{subject}"
-    run([programs.shmrun, "--rules", "profile", "--record", path, f"{programs.folder}/alike", subject])
+def test_replays(programs: Programs, shmsim: str, shmview: str, subject: str, rules: str, line: str) -> None:
+    """The record names the run's rules. Under them shmsim gives each reply of it, and shmview shows it."""
+    path = f"{programs.folder}/replayed_{subject}"
+    run([programs.shmrun, "--rules", rules, "--record", path, f"{programs.folder}/alike", subject])
     given, wanted = text_of(f"{path}.shm"), text_of(f"{path}.log")
+    assert "".join(it for it in given.splitlines(True) if it.startswith("rules")) == line
     out = run([shmsim, "serial", "sparse:64"], given).out
     assert re.sub(r"time=[1-9]\d*", "time=set", out.partition("key  ")[0]) == wanted
     assert wanted.count("\n") > 5

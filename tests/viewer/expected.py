@@ -91,13 +91,20 @@ def boxes_of(pieces: Any) -> Any:
     return found
 
 
+def length_of(words: list[str]) -> int:
+    """Returns how many bytes an access names."""
+    if words[3] == "load":
+        return int(words[5])
+    return 8 if words[3] == "xadd" else len(words[5]) // 2
+
+
 def access_of(block: Block) -> Any:
     """Returns the process of an access and the addresses of its pages; empty ones if the step is not an
     access."""
     words = block[1]
-    if words[0] != "call" or words[3] not in ("load", "store", "xadd"):
+    if words[0] != "call" or words[3] not in ("load", "store", "xadd", "swap", "cas"):
         return "", []
-    count = int(words[5]) if words[3] == "load" else len(words[5]) // 2 if words[3] == "store" else 8
+    count = length_of(words)
     first = 0 if words[4] == "null" else int(words[4], 16)
     return words[2], sorted({at - at % 4096 for at in range(first, first + count)})
 

@@ -1,8 +1,9 @@
 """The bytes of a page, as the viewer's page shows them when they are opened, against those of the record's
 own lines.
 
-A segment begins with zeros, and only a successful store or xadd changes a byte. Each successful load and xadd
-has bytes too: they are compared with those that follow from the earlier lines.
+A segment begins with zeros, and only a successful store, xadd, swap or cas changes a byte. Each successful
+access but a store has bytes in its reply too: they are compared with those that follow from the earlier
+lines.
 """
 
 from __future__ import annotations
@@ -14,8 +15,8 @@ from typing import Any, Tuple
 
 from commands import TOP, run, text_of
 from viewer.browser import Session
-from viewer.expected import (REFUSALS, Block, access_of, boxes_of, lines_of, pieces_of, read_blocks,
-                             segments_of, where_is)
+from viewer.expected import (REFUSALS, Block, access_of, boxes_of, length_of, lines_of, pieces_of,
+                             read_blocks, segments_of, where_is)
 from viewer.pages import Page
 
 HERE = os.path.dirname(os.path.abspath(__file__))
@@ -38,7 +39,7 @@ def places_of(block: Block) -> Any:
     caller, named = access_of(block)
     if not named:
         return []
-    count = int(words[5]) if words[3] == "load" else len(words[5]) // 2 if words[3] == "store" else 8
+    count = length_of(words)
     first = 0 if words[4] == "null" else int(words[4], 16)
     has = {line[1]: boxes_of(pieces) for line, pieces in pieces_of(block)}.get(caller, {})
     found = ((has.get(at - at % PAGE), at % PAGE) for at in range(first, first + count))
@@ -72,16 +73,25 @@ class Memory:
         self.calls.append(block[1])
 
     def answer(self, words: Any, places: Any) -> None:
-        kind, said, reply = words[3], words[5], words[-1]
+        kind, reply = words[3], words[-1]
         kept = [self.pages.setdefault(page, bytearray(PAGE)) for page, _ in places]
         had = bytes(page[at] for page, (_, at) in zip(kept, places))
-        told = {"load": had.hex(), "store": "ok", "xadd": str(int.from_bytes(had, "little"))}[kind]
+        told = {"store": "ok", "xadd": str(int.from_bytes(had, "little"))}.get(kind, had.hex())
         self.wrong += [f"{' '.join(words)}, where {told} is there"] * (told != reply)
         self.answers += kind != "store"
-        new = had if kind == "load" else bytes.fromhex(said) if kind == "store" else (
-            (int.from_bytes(had, "little") + int(said)) & (1 << 64) - 1).to_bytes(8, "little")
+        new = self.new_bytes(words, had)
         for page, (_, at), byte in zip(kept, places, new):
             page[at] = byte
+
+    @staticmethod
+    def new_bytes(words: list[str], had: bytes) -> bytes:
+        """Returns the bytes after an access that was not refused."""
+        kind = words[3]
+        if kind == "load" or (kind == "cas" and had.hex() != words[5]):
+            return had
+        if kind == "xadd":
+            return ((int.from_bytes(had, "little") + int(words[5])) % 2 ** 64).to_bytes(8, "little")
+        return bytes.fromhex(words[6 if kind == "cas" else 5])
 
     def changed(self) -> Any:
         """Returns for each step the pages with a byte that it changed."""

@@ -31,8 +31,8 @@ from viewer.pages import TASK, VIEWER
 EXPLAINED = """line 9, column 3: bad line
     1 laod a 1
       ^^^^
-    allowed here: a call: shmget, shmat, shmdt, load, store, xadd, stat, set, rmid, lock, unlock, fork, \
-exec, exit, swapoff
+    allowed here: a call: shmget, shmat, shmdt, load, store, xadd, swap, cas, stat, set, rmid, lock, \
+unlock, fork, exec, exit, swapoff
     nearest form: load"""
 LESSONS = ["1. Three pages in two frames", "2. A read of swap that fails", "3. A swap area is taken away",
            "4. An attach in the middle of another", "5. A removed segment lives on",

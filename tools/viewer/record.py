@@ -225,14 +225,15 @@ def say_areas(before: Step, after: Step) -> Iterator[str]:
         yield "a swap area failed, and no byte changed"
 
 
+ACCESSES = ("load", "store", "xadd", "swap", "cas")
+
+
 def access_of(step: Step) -> tuple[str, int, int] | None:
-    """Returns the process of a load, a store or an xadd, its address and how many bytes it names; None for
-    any other step."""
+    """Returns the process of an access, its address and how many bytes it names; None for any other step."""
     words = step.words
-    if words[:1] != ["call"] or words[3] not in ("load", "store", "xadd") or step.reply == "ESRCH":
+    if words[:1] != ["call"] or words[3] not in ACCESSES or step.reply == "ESRCH":
         return None
-    count = {"load": int(words[5]) if words[3] == "load" else 0, "store": len(words[5]) // 2,
-             "xadd": 8}[words[3]]
+    count = {"load": int(words[5]) if words[3] == "load" else 0, "xadd": 8}.get(words[3], len(words[5]) // 2)
     return words[2], 0 if words[4] == "null" else int(words[4], 16), count
 
 
@@ -274,13 +275,14 @@ def say_access(_before: Step, after: Step) -> Iterator[str]:
 
 
 def left_by(step: Step, count: int) -> bytes:
-    """Returns the bytes at the addresses of a load, a store or an xadd after it; no bytes if it was
-    refused."""
+    """Returns the bytes at the addresses of an access after it; no bytes if it was refused."""
     words, reply = step.words, step.reply
     if not re.fullmatch("ok|[0-9a-f]+", reply):
         return b""
     if words[3] == "xadd":
         return ((int(reply) + int(words[5])) % 2 ** 64).to_bytes(8, "little")
+    if words[3] == "cas":
+        return bytes.fromhex(words[6] if reply == words[5] else reply)
     return bytes.fromhex(reply if words[3] == "load" else words[5])[:count]
 
 

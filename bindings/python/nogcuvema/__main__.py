@@ -16,7 +16,8 @@ from .calls import RULES
 from .errors import MachineError, NoMemory
 from .explain import explain_fault, warnings
 from .moments import MOST_MOMENTS, MOST_PAGES, Moment, most_moments
-from .script import CALLS, Command, FlushLine, Run, Script, ScriptFault, areas_of, form_of, listing, usage
+from .script import (CALLS, TAKEN, Command, FlushLine, Run, Script, ScriptFault, areas_of, form_of, listing,
+                     usage)
 
 USAGE = ("usage: python3 -m nogcuvema [SWAP...]: SWAP is ram:N, sparse:N, mirror:N, fuse:N:rK or fuse:N:wK; "
          "ram:64 without one")
@@ -46,7 +47,7 @@ WITHOUT = ("to see processes, frames and slots, build the program shmview in the
 def help_of(call: str) -> str:
     """The form, the rule and the errors of a call."""
     rule, errors = RULES[call]
-    told = [f"PID {'[v =] ' * (call in ('shmget', 'shmat', 'xadd'))}{form_of(call)}",
+    told = [f"PID {'[v =] ' * (call in TAKEN)}{form_of(call)}",
             *textwrap.wrap(rule, 100)]
     told += [f"    {name.lower():<10} {kind.allowed}" for name, kind in CALLS[call]]
     told += [f"    {'ESRCH':<10} the process is not live"]

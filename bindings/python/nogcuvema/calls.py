@@ -35,6 +35,11 @@ RULES: Dict[str, Tuple[str, Tuple[Tuple[str, str], ...]]] = {
     "store": ("Writes 1 to 64 bytes in one step.", _WRITE),
     "xadd": ("Adds to the eight-byte little-endian number at the address in one step; returns the number "
              "before.", _WRITE),
+    "swap": ("Replaces 1 to 64 bytes in one step; returns the bytes that were there. A variable takes up to 8 "
+             "of them as a little-endian number.", _WRITE),
+    "cas": ("Compares 1 to 16 bytes with as many expected ones, and replaces them if they are equal, in one "
+            "step; returns the bytes that were there. A variable takes up to 8 of them as a little-endian "
+            "number.", _WRITE),
     "stat": ("Shows the state of a segment; it needs read permission.",
              (*_NO_SEGMENT, ("EACCES", "it may not be read"))),
     "set": ("Sets the owner and the permission bits of a segment.", _OWNER),

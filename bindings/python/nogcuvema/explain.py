@@ -7,9 +7,9 @@ import sys
 from typing import Dict, Iterator, List, Set
 
 from ._ending import run_command
-from .script import CALLS, Command, Script, ScriptFault, Variable, read_script
+from .script import CALLS, RULES, Command, Script, ScriptFault, Variable, read_script
 
-FIRST_WORDS = ("limits", "process", "child")
+FIRST_WORDS = ("limits", "rules", "process", "child")
 
 
 def nearest(fault: ScriptFault, line: str) -> str:
@@ -33,8 +33,9 @@ def nearest(fault: ScriptFault, line: str) -> str:
     if word == "0" and "null" not in fault.allowed and "flush" in fault.allowed:
         return "0 flush N, or a pid from 1 on"
     choices = ([*CALLS] if "a call:" in fault.allowed else [*FIRST_WORDS]
-               if "limits, process" in fault.allowed else [])
+               if "limits, rules" in fault.allowed else [])
     choices += ["flush"] if "flush" in fault.allowed else []
+    choices += ["linux", *RULES] if "linux, or" in fault.allowed else []
     found = difflib.get_close_matches(word.lower(), choices, 1)
     return found[0] if found else ""
 

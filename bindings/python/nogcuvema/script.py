@@ -4,14 +4,15 @@ A fault has the kind that the programs print. It also has the word, its column, 
 """
 import collections.abc
 import re
-from dataclasses import dataclass
+from dataclasses import dataclass, replace
 from typing import Any, Callable, Dict, Iterator, List, NamedTuple, Optional, Sequence, Tuple, Union
 
 from .errors import Fault, Refused
-from .machine import Area, Failure, Flag, Limits, Machine, Process, Segment, child
+from .machine import Area, Failure, Flag, Limits, Machine, Process, Rules, Segment, child
 
 LONGEST, MOST_LINES, MOST_PROCESSES, MOST_AREAS, MOST_SLOTS = 1048576, 100000, 64, 8, 65536
 U64, U32, I32 = 2 ** 64 - 1, 2 ** 32 - 1, 2 ** 31 - 1
+RULES = {name.lower(): rule for name, rule in Rules.__members__.items() if rule is not Rules.LINUX}
 LIMITS = (("SHMMAX", 1, 2 ** 24), ("SHMMNI", 1, 4096), ("SHMALL", 1, 65536), ("FRAMES", 2, 4096),
           ("MEMLOCK", 0, 4094))
 
@@ -123,6 +124,22 @@ def bytes_of(text: str) -> bytes:
     return bytes.fromhex(text)
 
 
+def word_of(text: str) -> bytes:
+    found = bytes_of(text)
+    if len(found) > 16:
+        raise NoForm
+    return found
+
+
+def rules_of(text: str) -> int:
+    if text == "linux":
+        return int(Rules.LINUX)
+    names = text.split(",")
+    if any(name not in RULES for name in names) or len(set(names)) != len(names):
+        raise NoForm
+    return int(sum(RULES[name] for name in names))
+
+
 def show_get_flags(value: Tuple[int, int]) -> str:
     return f"{value[0]:03o}" + ",creat" * bool(value[1] & Flag.CREAT) + ",excl" * bool(value[1] & Flag.EXCL)
 
@@ -151,7 +168,10 @@ GET_FLAGS = OperandKind("a mode of three octal digits, then ,creat and ,excl eac
 ATTACH_FLAGS = OperandKind("-, or rnd, remap and rdonly with commas between them, each at most once",
                            attach_flags_of, 0, U64,
                            show_attach_flags)
+RULE_NAMES = OperandKind("linux, or rules with commas between them, each at most once: "
+                         + ", ".join(RULES), rules_of, 0, U64, str)
 BYTES = OperandKind("1 to 64 bytes: 2 to 128 hexadecimal digits, an even number", bytes_of, 0, U64, bytes.hex)
+WORD = OperandKind("1 to 16 bytes: 2 to 32 hexadecimal digits, an even number", word_of, 0, U64, bytes.hex)
 
 # the operands of each call, and the names under which docs/SCRIPT.md has them
 CALLS: Dict[str, Sequence[Tuple[str, OperandKind]]] = {
@@ -161,6 +181,8 @@ CALLS: Dict[str, Sequence[Tuple[str, OperandKind]]] = {
     "load": (("address", ADDRESS), ("length", LENGTH)),
     "store": (("address", ADDRESS), ("bytes", BYTES)),
     "xadd": (("address", ADDRESS), ("number", SIZE)),
+    "swap": (("address", ADDRESS), ("bytes", BYTES)),
+    "cas": (("address", ADDRESS), ("expected", WORD), ("new", WORD)),
     "stat": (("identifier", IDENTIFIER),),
     "set": (("identifier", IDENTIFIER), ("uid", USER), ("gid", USER), ("mode", MODE)),
     "rmid": (("identifier", IDENTIFIER),),
@@ -171,7 +193,7 @@ CALLS: Dict[str, Sequence[Tuple[str, OperandKind]]] = {
     "exit": (),
     "swapoff": (("area", AREA),),
 }
-TAKEN = ("shmget", "shmat", "xadd")
+TAKEN = ("shmget", "shmat", "xadd", "swap", "cas")
 
 
 def form_of(call: str) -> str:
@@ -230,6 +252,9 @@ class Script:
                            "limits SHMMAX SHMMNI SHMALL FRAMES MEMLOCK, the first line with words")
             self.limits = read_limits(words)
             return None
+        if words[0].text == "rules":
+            self.limits = self._ruled(self.limits, words)
+            return None
         if words[0].text in ("process", "child"):
             self._declare(words)
             return None
@@ -241,6 +266,11 @@ class Script:
             raise _Bad("too many lines", words[0], "100,000 commands and flush lines at most")
         self.lines.append(line)
         return line
+
+    def _ruled(self, limits: Limits, words: List[Word]) -> Limits:
+        if self.lines or self.processes or limits.rules:
+            raise _Bad("bad line", words[0], "one rules line, below the limits and above everything else")
+        return replace(limits, rules=read_operands(words, 1, [RULE_NAMES], "rules NAME,NAME")[0])
 
     def _declare(self, words: List[Word]) -> None:
         if self.lines:
@@ -262,7 +292,7 @@ class Script:
 
     def _read_command(self, number: int, words: List[Word]) -> Command:
         pid = read_form(words[0],
-                        PID._replace(allowed="the pid of a process, or limits, process, child or 0 flush N"))
+                        PID._replace(allowed="the pid of a process, or limits, rules, process, child or 0 flush N"))
         is_letter = len(words) > 1 and re.fullmatch("[a-z]", words[1].text) is not None
         is_taken = is_letter and len(words) > 2 and words[2].text == "="
         at = 3 if is_taken else 1
@@ -271,8 +301,11 @@ class Script:
         call = words[at].text
         if is_taken and call not in TAKEN:
             raise _Bad("bad line", words[at],
-                       "shmget, shmat or xadd: other calls have no reply for a variable")
-        values = read_operands(words, at + 1, [kind for _, kind in CALLS[call]], form_of(call))
+                       ", ".join(TAKEN[:-1]) + f" or {TAKEN[-1]}: other calls have no reply for a variable")
+        kinds = [kind for _, kind in CALLS[call]]
+        values = read_forms(words, at + 1, kinds, form_of(call))
+        require_widths(words[at + 1:], call, values, is_taken)
+        read_ranges(words[at + 1:], kinds, values)
         read_range(words[0], PID, pid)
         for value, word in ((pid, words[0]), *([(values[0], words[at + 1])] if call == "fork" else [])):
             if not self.is_declared(value):
@@ -300,16 +333,34 @@ def read_range(word: Word, kind: OperandKind, value: Any) -> None:
                    kind.allowed if kind.most != U64 else "a number up to 18446744073709551615")
 
 
-def read_operands(words: List[Word], at: int, kinds: Sequence[OperandKind], form: str) -> List[Any]:
-    """The operands from a place on. It checks all forms before any range."""
+def read_forms(words: List[Word], at: int, kinds: Sequence[OperandKind], form: str) -> List[Any]:
+    """The operands from a place on, whose ranges are not checked."""
     if len(words) != at + len(kinds):
         extra = words[at + len(kinds)] if len(words) > at + len(kinds) else words[-1]
         raise _Bad("bad line", extra,
                    f"{form}: {len(kinds)} operands, and {max(0, len(words) - at)} are there")
-    values = [read_form(word, kind) for word, kind in zip(words[at:], kinds)]
-    for word, kind, value in zip(words[at:], kinds, values):
+    return [read_form(word, kind) for word, kind in zip(words[at:], kinds)]
+
+
+def read_ranges(words: Sequence[Word], kinds: Sequence[OperandKind], values: Sequence[Any]) -> None:
+    for word, kind, value in zip(words, kinds, values):
         read_range(word, kind, value)
+
+
+def read_operands(words: List[Word], at: int, kinds: Sequence[OperandKind], form: str) -> List[Any]:
+    """The operands from a place on. It checks all forms before any range."""
+    values = read_forms(words, at, kinds, form)
+    read_ranges(words[at:], kinds, values)
     return values
+
+
+def require_widths(words: List[Word], call: str, values: List[Any], is_taken: bool) -> None:
+    """Checks that a cas has as many bytes as it expects, and that a variable takes at most 8 bytes."""
+    if call == "cas" and len(values[1]) != len(values[2]):
+        raise _Bad("lengths differ", words[2], f"as many bytes as are expected: {len(values[1])}")
+    if is_taken and call in ("swap", "cas") and len(values[-1]) > 8:
+        raise _Bad("too wide for a variable", words[-1],
+                   "at most 8 bytes, because the variable takes as many that were there")
 
 
 def read_limits(words: List[Word]) -> Limits:
@@ -446,6 +497,10 @@ class Run:
             return found, str(found)
         if line.call == "load":
             return 0, machine.load(pid, *values).hex()
+        if line.call in ("swap", "cas"):
+            is_swap = line.call == "swap"
+            before = machine.exchange(pid, *values) if is_swap else machine.compare_exchange(pid, *values)
+            return int.from_bytes(before[:8], "little"), before.hex()
         if line.call == "stat":
             return 0, show_segment(machine.stat(pid, *values))
         others: Dict[str, Callable[..., None]] = {

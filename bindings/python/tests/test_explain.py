@@ -37,6 +37,11 @@ class Explained(unittest.TestCase):
                 self.assertIn("nearest form: ", told[-1])
                 self.assertIn(near, told[-1])
 
+    def test_nearest_rule(self) -> None:
+        for word, near in (("linus", "linux"), ("fork_mark", "fork_marks"), ("LOCKS_BY_USER", "locks_by_user")):
+            told = explain(f"limits 65536 16 64 4 1\nrules {word}\n")
+            self.assertEqual((told[0], told[-1]), ("line 2, column 7: bad line", f"    nearest form: {near}"))
+
     def test_the_word_is_marked(self) -> None:
         told = explain(HEAD + "1\ts = shmgt private 4096 600\n")
         self.assertEqual(told[:3], ["line 4, column 7: bad line", "    1\ts = shmgt private 4096 600",

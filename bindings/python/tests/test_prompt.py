@@ -22,7 +22,8 @@ HEADER = os.path.join(os.path.dirname(os.path.dirname(os.path.dirname(os.path.ab
                       "nogcuvema.h")
 FUNCTIONS = {"shmget": "nog_get", "shmat": "nog_attach", "shmdt": "nog_detach", "load": "nog_load",
              "store": "nog_store",
-             "xadd": "nog_add", "stat": "nog_stat", "set": "nog_set", "rmid": "nog_remove",
+             "xadd": "nog_add", "swap": "nog_exchange", "cas": "nog_compare_exchange",
+             "stat": "nog_stat", "set": "nog_set", "rmid": "nog_remove",
              "lock": "nog_lock", "unlock": "nog_unlock",
              "fork": "nog_fork", "exec": "nog_exec", "exit": "nog_exit", "swapoff": "nog_swapoff"}
 LINES: tuple[tuple[str, list[str]], ...] = (

@@ -27,11 +27,18 @@ FAULTS = (
     ("1 store a+z 00", "bad line", "a+z", 9, "variable"),
     ("1 store a 0", "bad line", "0", 11, "hexadecimal digits"),
     ("1 shmat 0 null rnd,rnd", "bad line", "rnd,rnd", 16, "at most once"),
-    ("1 s = exit", "bad line", "exit", 7, "shmget, shmat or xadd"),
+    ("1 s = exit", "bad line", "exit", 7, "shmget, shmat, xadd, swap or cas"),
+    ("1 cas a 00 0102", "lengths differ", "0102", 12, "1"),
+    ("1 cas a 0000 01", "lengths differ", "01", 14, "2"),
+    ("1 cas a " + "00" * 17 + " 00", "bad line", "00" * 17, 9, "1 to 16 bytes"),
+    ("1 cas a 00", "bad line", "00", 9, "cas ADDRESS EXPECTED NEW"),
+    ("1 s = swap a " + "00" * 9, "too wide for a variable", "00" * 9, 14, "at most 8 bytes"),
+    ("1 s = cas a " + "00" * 9 + " " + "01" * 9, "too wide for a variable", "01" * 9, 32, "at most 8 bytes"),
     ("2 exit", "unknown process", "2", 1, "1"),
     ("1 fork 7", "unknown process", "7", 8, "1"),
     ("0 flush 0", "bad number", "0", 9, "1 to 4096"),
     ("process 1 0 0", "process declared twice", "1", 9, "not declared"),
+    ("rules linux", "bad line", "rules", 1, "one rules line"),
 )
 
 

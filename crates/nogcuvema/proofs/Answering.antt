@@ -5,7 +5,6 @@ use Rattle.nogcuvema.specs.Answers.{AnswersBy}
 use Rattle.std.proofs.Common.{◌≡◌, Ok, inl, refl}
 use Rattle.shm_machine.specs.Stretched.{CopiedTo}
 use Rattle.nogcuvema.specs.Through.{CopiedBy}
-use Rattle.nogcuvema.specs.Exchanges.{Exchanging, ExchangesAs, ExchangesFor}
 
 pub refused : (before after : Machine) (pid code : ℕ) (call : ProcessCall) (reply : Reply) (refusal : Refusal) → code ≡ refusal_code refusal → Answered before.system pid call (Err refusal) after.system
     → AnswersFor before pid call reply code after
@@ -24,11 +23,6 @@ refused_alike before after pid code asked call reply refusal same is answered =
 -- a reply to a call that is written in another way
 pub done_alike : (before after : Machine) (pid : ℕ) (asked call : ProcessCall) (reply : Reply) → asked ≡ call → Answered before.system pid asked (Ok reply) after.system → AnswersFor before pid call reply 0 after
 done_alike before after pid asked call reply same answered = inl (refl, subst (λ (c : ProcessCall). Answered before.system pid c (Ok reply) after.system) same answered)
-
--- an exchange that is refused
-pub not_exchanged : (exchange : Exchanging) (before after : Machine) (there : List ℕ) (code : ℕ) (refusal : Refusal) → code ≡ refusal_code refusal → ExchangesAs exchange before there (Err refusal) after
-    → ExchangesFor exchange before there code after
-not_exchanged exchange before after there code refusal is answered = inr (refusal, is, answered)
 
 -- AS FAR AS IT CAME
 

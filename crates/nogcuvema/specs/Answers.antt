@@ -2,7 +2,7 @@
 use Rattle.std.specs.Prelude.{ℕ, ◌≡◌, ◌⊎◌, Bool, true, false, List, length, Option, Some, None, Result, Ok, Err}
 use Rattle.shm_base.specs.Codes.{code_of}
 use Rattle.shm_base.specs.Calls.{ProcessCall}
-use Rattle.shm_base.specs.declared.call.Call.TheVariants.{Load, Store, Xadd}
+use Rattle.shm_base.specs.declared.call.Call.TheVariants.{Load, Store, Xadd, Exchange, CompareExchange}
 use Rattle.shm_base.specs.declared.call.Reply.{Reply}
 use Rattle.shm_life.specs.Lending.{pages_asked}
 use Rattle.shm_machine.specs.declared.machine.Machine.{Machine}
@@ -91,3 +91,10 @@ stores pid addr bytes = accesses (record { pid = pid; addr = addr; len = length 
 
 abbrev pub adds : ℕ → ℕ → ℕ → Machine → Result Reply Refusal → Machine → Type 0
 adds pid addr add = accesses (record { pid = pid; addr = addr; len = 8; puts = true }) (Xadd addr add)
+
+abbrev pub exchanges : ℕ → ℕ → List ℕ → Machine → Result Reply Refusal → Machine → Type 0
+exchanges pid addr bytes = accesses (record { pid = pid; addr = addr; len = length bytes; puts = true }) (Exchange bytes addr)
+
+abbrev pub compares : ℕ → ℕ → List ℕ → List ℕ → Machine → Result Reply Refusal → Machine → Type 0
+compares pid addr expected bytes =
+    accesses (record { pid = pid; addr = addr; len = length bytes; puts = true }) (CompareExchange expected bytes addr)

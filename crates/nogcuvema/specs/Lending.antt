@@ -8,8 +8,8 @@ use Rattle.shm_base.specs.declared.errno.Errno.TheVariants.{Einval, Sigbus}
 use Rattle.shm_base.specs.declared.paging.PageRef.{PageRef}
 use Rattle.shm_base.specs.declared.paging.TheConstants.{PAGE_SIZE}
 use Rattle.shm_fault.specs.declared.loans.FrameInfo.{FrameInfo}
-use Rattle.shm_life.specs.Exchanged.{seen}
 use Rattle.shm_life.specs.Lending.{Lends, Returns, page_seen}
+use Rattle.shm_life.specs.SystemState.{seen}
 use Rattle.shm_life.specs.declared.loans.LendRefusal.{LendRefusal}
 use Rattle.shm_life.specs.declared.loans.LendRefusal.TheVariants as lending
 use Rattle.shm_life.specs.declared.loans.ReturnRefusal.{ReturnRefusal}

@@ -12,10 +12,11 @@ use Rattle.shm_base.specs.declared.errno.Errno.TheVariants.{Esrch}
 use Rattle.shm_life.specs.Listed.{IsHighest, Sums, stat_at}
 use Rattle.shm_life.specs.SystemState.{SystemState}
 use Rattle.shm_machine.specs.declared.machine.Machine.{Machine}
+use Rattle.nogcuvema.specs.declared.structs.NogPiece.{NogPiece}
 use Rattle.nogcuvema.specs.declared.structs.NogSegment.{NogSegment}
 use Rattle.nogcuvema.specs.declared.structs.NogUsage.{NogUsage}
 use Rattle.nogcuvema.specs.declared.structs.NogProcess.{NogProcess}
-use Rattle.nogcuvema.specs.Shown.{shown_by, sums_by, process_shown}
+use Rattle.nogcuvema.specs.Shown.{shown_by, sums_by, piece_shown, process_shown}
 use Rattle.nogcuvema.specs.Answers.{closed, out_of_range, Unchanged}
 
 -- the sums of all segments, and the highest index
@@ -33,19 +34,19 @@ AnswersStat None pid index segment code after = Unchanged closed None code after
 AnswersStat (Some m) pid index segment code after = StatOf index segment code (stat_at m.system.machine pid index) × (after ≡ Some m)
 
 -- the piece at an index; out of range if there is none
-abbrev pub PieceFound : Piece → ℕ → Option Piece → Type 0
+abbrev pub PieceFound : NogPiece → ℕ → Option Piece → Type 0
 PieceFound piece code None = code ≡ out_of_range
-PieceFound piece code (Some found) = (code ≡ 0) × (piece ≡ found)
+PieceFound piece code (Some found) = (code ≡ 0) × (piece ≡ piece_shown found)
 
 -- a piece of a process, by its index among the pieces
-abbrev pub PieceBy : ℕ → Piece → ℕ → Option Caller → Type 0
+abbrev pub PieceBy : ℕ → NogPiece → ℕ → Option Caller → Type 0
 PieceBy index piece code None = code ≡ code_of Esrch
 PieceBy index piece code (Some c) = PieceFound piece code (slice_get c.pieces index)
 
-abbrev pub PieceOf : ℕ → Piece → ℕ → ℕ → Flat → Type 0
+abbrev pub PieceOf : ℕ → NogPiece → ℕ → ℕ → Flat → Type 0
 PieceOf index piece code pid s = PieceBy index piece code (caller_of s pid)
 
-abbrev pub AnswersPiece : Option Machine → ℕ → ℕ → Piece → ℕ → Option Machine → Type 0
+abbrev pub AnswersPiece : Option Machine → ℕ → ℕ → NogPiece → ℕ → Option Machine → Type 0
 AnswersPiece None pid index piece code after = Unchanged closed None code after
 AnswersPiece (Some m) pid index piece code after = PieceOf index piece code pid m.system.machine × (after ≡ Some m)
 

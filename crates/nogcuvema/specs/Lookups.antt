@@ -14,8 +14,9 @@ use Rattle.shm_life.specs.Residency.{ShowsPages}
 use Rattle.shm_life.specs.SystemState.{SystemState}
 use Rattle.shm_machine.specs.declared.machine.Machine.{Machine}
 use Rattle.nogcuvema.specs.declared.structs.NogLimits.{NogLimits}
+use Rattle.nogcuvema.specs.declared.structs.NogPiece.{NogPiece}
 use Rattle.nogcuvema.specs.declared.structs.NogSegment.{NogSegment}
-use Rattle.nogcuvema.specs.Shown.{shown_by}
+use Rattle.nogcuvema.specs.Shown.{piece_shown, shown_by}
 use Rattle.nogcuvema.specs.Answers.{closed, Unchanged}
 
 -- a lookup in this machine, which stays unchanged
@@ -24,16 +25,16 @@ Asks None answers code after = Unchanged closed None code after
 Asks (Some m) answers code after = (after ≡ Some m) × answers m.system
 
 -- the piece that an address is in
-abbrev pub PieceFound : Piece → ℕ → Option Piece → Type 0
+abbrev pub PieceFound : NogPiece → ℕ → Option Piece → Type 0
 PieceFound piece code None = code ≡ code_of Sigsegv
-PieceFound piece code (Some found) = (code ≡ 0) × (piece ≡ found)
+PieceFound piece code (Some found) = (code ≡ 0) × (piece ≡ piece_shown found)
 
-abbrev pub PieceOfCaller : ℕ → Piece → ℕ → Option Caller → Type 0
+abbrev pub PieceOfCaller : ℕ → NogPiece → ℕ → Option Caller → Type 0
 PieceOfCaller addr piece code None = code ≡ code_of Esrch
 PieceOfCaller addr piece code (Some c) = PieceFound piece code (covering addr c.pieces)
 
 -- the piece of a process that an address is in; or the errno
-abbrev pub PieceOf : ℕ → ℕ → Piece → ℕ → SystemState → Type 0
+abbrev pub PieceOf : ℕ → ℕ → NogPiece → ℕ → SystemState → Type 0
 PieceOf pid addr piece code s = PieceOfCaller addr piece code (caller_of s.machine pid)
 
 abbrev pub SegmentFound : ℤ → NogSegment → ℕ → Result ShmidDs Errno → Type 0

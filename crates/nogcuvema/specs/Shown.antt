@@ -1,5 +1,6 @@
 -- The structs that C reads, as values.
-use Rattle.std.specs.Prelude.{ℕ, ◌==◌, not}
+use Rattle.std.specs.Prelude.{ℕ}
+use Rattle.std.specs.Int.{from_bool}
 use Rattle.shm_base.specs.State.{Piece, Life, Unborn, Live, Ended}
 use Rattle.shm_base.specs.declared.call.ShmidDs.{ShmidDs}
 use Rattle.shm_base.specs.declared.paging.Tally.{Tally}
@@ -50,15 +51,16 @@ report_by f = record { written = f.written; failed = f.failed }
 abbrev pub sums_by : NogUsage → ShmInfo
 sums_by u = record { used_ids = u.used_ids; pages = u.pages; resident = u.resident; swapped = u.swapped }
 
-abbrev pub piece_by : NogPiece → Piece
-piece_by p =
+abbrev pub piece_shown : Piece → NogPiece
+piece_shown p =
     record {
       base = p.base;
-      seg = p.segment;
+      segment = p.seg;
       first_page = p.first_page;
       pages = p.pages;
-      writable = not (p.is_writable == 0);
-      may_write = not (p.may_write == 0);
+      is_writable = from_bool p.writable;
+      may_write = from_bool p.may_write;
+      unused = 0;
     }
 
 -- a process as a listing shows it: 0 for a child that is not born yet, 1 for live, 2 for ended

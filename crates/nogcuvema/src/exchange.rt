@@ -1,7 +1,8 @@
 //! Exchanges, and compares with exchange.
 ghost use Rattle.std.specs.Prelude.{◌≡◌, ◌≢◌, ◌≤◌, ◌&&◌, ◌==◌, length};
 ghost use Rattle.shm_base.specs.Bounds.{within};
-ghost use Rattle.nogcuvema.specs.Exchanges.{ExchangesFor, ExchangesWhere, compares, exchanges};
+ghost use Rattle.shm_base.specs.declared.call.Reply.TheVariants as reply;
+ghost use Rattle.nogcuvema.specs.Answers.{AnswersBy, AnswersInWhere, compares, exchanges};
 
 use crate::access::is_size;
 use crate::code::{DONE, OUT_OF_RANGE, refusal_code};
@@ -9,12 +10,12 @@ use crate::handle::{Handle, with_machine};
 use shm_machine::Machine;
 use std::alloc::Global;
 
-#[tactic(auto, using(crate::proofs::Answering::not_exchanged))]
+#[tactic(auto, using(crate::proofs::Answering::not_accessed))]
 fn exchange(machine: &mut Machine, pid: u32, addr: u64, bytes: &[u8], before: &mut [u8]) -> u32
     requires size { (1 ≤ length bytes.now) × (length bytes.now ≤ 64) }
     requires before { length before.old ≡ length bytes.now }
-    ensures answers { ExchangesFor (exchanges pid addr bytes.now)
-        machine.old before.new result machine.new }
+    ensures answers { AnswersBy (exchanges pid addr bytes.now machine.old)
+        (reply.Bytes before.new) result machine.new }
     ensures before { result ≢ 0 → before.new ≡ before.old }
 {
     match machine.exchange(pid, addr, bytes, before) {
@@ -23,7 +24,7 @@ fn exchange(machine: &mut Machine, pid: u32, addr: u64, bytes: &[u8], before: &m
     }
 }
 
-#[tactic(auto, using(crate::proofs::Answering::not_exchanged))]
+#[tactic(auto, using(crate::proofs::Answering::not_accessed))]
 fn compare(
     machine: &mut Machine,
     pid: u32,
@@ -34,8 +35,8 @@ fn compare(
 ) -> u32
     requires size { (1 ≤ length bytes.now) × (length bytes.now ≤ 64) }
     requires before { length before.old ≡ length bytes.now }
-    ensures answers { ExchangesFor (compares pid addr expected.now bytes.now)
-        machine.old before.new result machine.new }
+    ensures answers { AnswersBy (compares pid addr expected.now bytes.now machine.old)
+        (reply.Bytes before.new) result machine.new }
     ensures before { result ≢ 0 → before.new ≡ before.old }
 {
     match machine.compare_exchange(pid, addr, expected, bytes, before) {
@@ -55,8 +56,8 @@ pub extern "C" fn nog_exchange(
     before: &mut [u8],
 ) -> u32
     ensures answers { let fit = within 1 64 (length bytes.now) && (length before.old == length bytes.now) in
-        ExchangesWhere fit (exchanges pid addr bytes.now)
-        handle.old.kept.value before.new result handle.new.kept.value }
+        AnswersInWhere fit (exchanges pid addr bytes.now) handle.old.kept.value
+        (reply.Bytes before.new) result handle.new.kept.value }
     ensures before { result ≢ 0 → before.new ≡ before.old }
 {
     if !is_size(bytes.len()) || before.len() != bytes.len() {
@@ -82,8 +83,8 @@ pub extern "C" fn nog_compare_exchange(
 ) -> u32
     ensures answers { let size = length bytes.now in
         let fit = within 1 64 size && (length before.old == size) && (length expected.now == size) in
-        ExchangesWhere fit (compares pid addr expected.now bytes.now)
-        handle.old.kept.value before.new result handle.new.kept.value }
+        AnswersInWhere fit (compares pid addr expected.now bytes.now) handle.old.kept.value
+        (reply.Bytes before.new) result handle.new.kept.value }
     ensures before { result ≢ 0 → before.new ≡ before.old }
 {
     if !is_size(bytes.len()) || before.len() != bytes.len() || expected.len() != bytes.len() {

@@ -1,7 +1,6 @@
 //! What ipcs(1) and /proc show of a machine. These are not calls, and change nothing.
 ghost use Rattle.std.specs.Prelude.{◌≡◌, ◌≢◌, ◌==◌, not, slice_get};
 ghost use Rattle.shm_life.specs.Listed.{stat_at};
-ghost use Rattle.nogcuvema.specs.Shown.{piece_by};
 ghost use Rattle.nogcuvema.specs.Listed.{Uses, AnswersStat, StatOf, AnswersPiece, PieceOf, AnswersProcess, ProcessOf, AnswersAbsent, AnswersFailed};
 ghost use Rattle.nogcuvema.specs.Reads.{Reads};
 
@@ -58,7 +57,7 @@ pub extern "C" fn nog_stat_at(
 }
 
 fn piece_at(machine: &Machine, pid: u32, index: u32, piece: &mut NogPiece) -> u32
-    ensures answers { PieceOf index (piece_by piece.new) result pid machine.now.system.machine }
+    ensures answers { PieceOf index piece.new result pid machine.now.system.machine }
     ensures piece { result ≢ 0 → piece.new ≡ piece.old }
 {
     let spaces = machine.system.spaces();
@@ -83,7 +82,7 @@ pub extern "C" fn nog_piece_at(
     index: u32,
     piece: &mut NogPiece,
 ) -> u32
-    ensures machine { AnswersPiece handle.old.kept.value pid index (piece_by piece.new)
+    ensures machine { AnswersPiece handle.old.kept.value pid index piece.new
         result handle.new.kept.value }
     ensures piece { result ≢ 0 → piece.new ≡ piece.old }
 {

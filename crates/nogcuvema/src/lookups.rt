@@ -4,7 +4,6 @@ ghost use Rattle.std.specs.Prelude.{◌≡◌, ◌≢◌};
 ghost use Rattle.shm_frames.specs.Frame.{lent_of};
 ghost use Rattle.nogcuvema.specs.Lookups.{Asks, PagesOf, PieceOf, SegmentOf, numbers_by};
 ghost use Rattle.nogcuvema.specs.Reads.{Reads};
-ghost use Rattle.nogcuvema.specs.Shown.{piece_by};
 
 use crate::code::DONE;
 use crate::handle::{Handle, with_machine};
@@ -14,7 +13,7 @@ use shm_machine::Machine;
 use std::alloc::Global;
 
 fn piece_of(machine: &Machine, pid: u32, addr: u64, piece: &mut NogPiece) -> u32
-    ensures shows { PieceOf pid addr (piece_by piece.new) result machine.now.system }
+    ensures shows { PieceOf pid addr piece.new result machine.now.system }
     ensures piece { result ≢ 0 → piece.new ≡ piece.old }
 {
     let spaces = machine.system.spaces();
@@ -39,7 +38,7 @@ pub extern "C" fn nog_piece_of(
     addr: u64,
     piece: &mut NogPiece,
 ) -> u32
-    ensures machine { Asks handle.old.kept.value (PieceOf pid addr (piece_by piece.new) result)
+    ensures machine { Asks handle.old.kept.value (PieceOf pid addr piece.new result)
         result handle.new.kept.value }
     ensures piece { result ≢ 0 → piece.new ≡ piece.old }
 {

@@ -1,7 +1,7 @@
 //! The structs that C and the library exchange.
 ghost use Rattle.std.specs.Prelude.{◌≡◌};
 ghost use Rattle.shm_areas.specs.Arranged.{bare};
-ghost use Rattle.nogcuvema.specs.Shown.{shown_by, tally_by, report_by, sums_by, piece_by, process_shown};
+ghost use Rattle.nogcuvema.specs.Shown.{shown_by, tally_by, report_by, sums_by, piece_shown, process_shown};
 ghost use Rattle.nogcuvema.specs.Lending.{frame_by};
 ghost use Rattle.nogcuvema.specs.Lookups.{numbers_by};
 ghost use Rattle.shm_attach.specs.Views.{life_view};
@@ -249,8 +249,7 @@ pub struct NogPiece {
 
 impl NogPiece {
     pub(crate) fn of(piece: &Piece) -> NogPiece
-        ensures piece { piece_by result ≡ bare piece.now }
-        ensures unused { result.unused ≡ 0 }
+        ensures { result ≡ piece_shown (bare piece.now) }
     {
         NogPiece {
             base: piece.base,

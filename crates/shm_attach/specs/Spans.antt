@@ -8,6 +8,13 @@ use Rattle.shm_base.specs.Spans.{run, span_places, InPage, page_of}
 use Rattle.shm_base.specs.declared.paging.Span.{Span}
 use Rattle.slab.specs.Slab.{Slab}
 use Rattle.shm_attach.specs.Table.{AllTrue, TableView}
+use Rattle.shm_attach.specs.declared.spans.Parts.{Parts}
+use Rattle.shm_attach.specs.declared.spans.Parts.TheVariants.{One, Two}
+
+-- the spans of an access, in address order
+abbrev pub span_list : Parts → List Span
+span_list (One spans) = spans
+span_list (Two spans) = spans
 
 -- a place, without whether it is writable
 abbrev pub unmarked : Place → Place

@@ -18,30 +18,29 @@ use thiserror::Error;
 #[error("address not mapped, or not writable")]
 pub struct Segv;
 
-// Fills the second place if there is one span.
-const NO_SPAN: Span = Span {
-    seg: 0,
-    at: 0,
-    len: 0,
-    frame: None,
-};
+// One span or two.
+#[derive(Debug, Drop)]
+pub(crate) enum Parts {
+    One([Span; 1]),
+    Two([Span; 2]),
+}
 
 /// The spans of an access, one or two, in address order. Each is within one page of its segment.
 #[derive(Debug, Drop)]
 pub struct Spans {
-    spans: [Span; 2],
-    count: usize,
+    parts: Parts,
 }
 
 impl Model for Spans {
-    ghost use Rattle.std.specs.Prelude.{◌≡◌, ◌≤◌, List, length, take};
+    ghost use Rattle.std.specs.Prelude.{◌≤◌, List, length};
     ghost use Rattle.shm_base.specs.declared.paging.Span.{Span};
+    ghost use Rattle.shm_attach.specs.Spans.{span_list};
 
     ghost Value = { List Span };
 
-    ghost view = { λ s. take s.count s.spans };
+    ghost view = { λ s. span_list s.parts };
 
-    ghost invariant = { λ s. (1 ≤ s.count) × (s.count ≤ 2) };
+    ghost invariant = { λ s. (1 ≤ length (span_list s.parts)) × (length (span_list s.parts) ≤ 2) };
 }
 
 impl Spans {
@@ -50,8 +49,7 @@ impl Spans {
         ensures { result ≡ first ∷ [] }
     {
         Spans {
-            spans: [first, NO_SPAN],
-            count: 1,
+            parts: Parts::One([first]),
         }
     }
 
@@ -60,8 +58,7 @@ impl Spans {
         ensures { result ≡ first ∷ second ∷ [] }
     {
         Spans {
-            spans: [first, second],
-            count: 2,
+            parts: Parts::Two([first, second]),
         }
     }
 
@@ -70,7 +67,10 @@ impl Spans {
         ensures value { result.now ≡ self.now }
         ensures few { (1 ≤ length result.now) × (length result.now ≤ 2) }
     {
-        &self.spans[..self.count]
+        match &self.parts {
+            Parts::One(spans) => spans,
+            Parts::Two(spans) => spans,
+        }
     }
 }
 

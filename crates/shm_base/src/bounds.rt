@@ -45,8 +45,11 @@ pub const PROFILE_SLOTS: u32 = 65536;
 /// How many modes there are: only the low nine bits of a mode count.
 pub const MODES: u16 = 512;
 
-/// The most bytes of a load or a store.
+/// The most bytes of a load, a store or an exchange.
 pub const LONGEST_ACCESS: usize = 64;
+
+/// The most bytes of a compare and exchange, as on x86-64.
+pub const LONGEST_WORD: usize = 16;
 
 /// The largest SHMMAX: the most bytes of a segment.
 pub const MOST_SHMMAX: u64 = 1_099_511_627_776;

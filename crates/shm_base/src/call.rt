@@ -2,7 +2,7 @@ ghost use Rattle.std.specs.Prelude.{◌≡◌};
 ghost use Rattle.shm_base.specs.Index.{index_of};
 ghost use Rattle.shm_base.specs.Processes.{has_pid};
 
-use crate::access::{AccessLen, Chunk};
+use crate::access::{AccessLen, Chunk, Word};
 use crate::bounds::INDEXES;
 use crate::errno::Errno;
 use crate::flags::{AtFlags, GetFlags, Status};
@@ -36,8 +36,10 @@ pub fn has_pid(processes: &[Process], pid: u32) -> bool
 }
 
 /// A call of a process: the shared memory calls (shmget(2), shmop(2), shmctl(2)), accesses to attached
-/// memory, fork, exec and exit, and swapoff. Only the low nine bits of a mode count. A line of a script has
-/// other identifiers and addresses, which may be variables.
+/// memory, fork, exec and exit, and swapoff. An exchange, and a compare and exchange, are locked
+/// instructions, as an xadd is: they read and write in one step. A compare and exchange stores the desired
+/// bytes only if the bytes there are the expected ones. Only the low nine bits of a mode count. A line of a
+/// script has other identifiers and addresses, which may be variables.
 #[derive(Clone, Copy, Debug, PartialEq, Eq)]
 pub enum Call<I = ShmId, A = u64> {
     Shmget {
@@ -85,6 +87,15 @@ pub enum Call<I = ShmId, A = u64> {
         addr: A,
         add: u64,
     },
+    Exchange {
+        chunk: Chunk,
+        addr: A,
+    },
+    CompareExchange {
+        expected: Word,
+        desired: Word,
+        addr: A,
+    },
     Fork {
         child: u32,
     },
@@ -111,8 +122,9 @@ pub struct ShmidDs {
     pub ctime: u64,
 }
 
-/// The reply to a call: `Id` of shmget, `Addr` of shmat, `Bytes` of a load, the old number as `Number` of an
-/// xadd, `Stat` of stat, `Done` of every other call, or a refusal.
+/// The reply to a call: `Id` of shmget, `Addr` of shmat, `Bytes` of a load, the old bytes as `Bytes` of an
+/// exchange and of a compare and exchange, the old number as `Number` of an xadd, `Stat` of stat, `Done` of
+/// every other call, or a refusal.
 #[derive(Clone, Copy, Debug, PartialEq, Eq)]
 pub enum Reply {
     Id(ShmId),

@@ -1,6 +1,6 @@
 -- What an access of spans leaves, once their pages came in, or one of them did not.
-use Rattle.shm_fault.proofs.Names.{◌≡◌, ℕ, ◌≤◌, true, false, false≢true, List, length, Option, Some, None, Result, Ok, Err, is_ok, OnOk, OnErr, refl, sym, ap, ◌∙◌, Span, Held, StoreView, InFrames, Touched, IsStoreSound, AreIn, Brings}
-use Rattle.shm_fault.specs.Access.{answer_of}
+use Rattle.shm_fault.proofs.Names.{◌≡◌, ℕ, ◌≤◌, true, false, false≢true, List, length, Option, Some, None, Result, Ok, Err, is_ok, OnOk, OnErr, refl, sym, ap, ◌∙◌, Span, Held, StoreView, InFrames, Touched, IsStoreSound, AreIn, Brings, counted}
+use Rattle.shm_fault.specs.Access.{answer_of, touched_of}
 use Rattle.shm_fault.specs.Acting.{Acts, HasOld, Puts}
 use Rattle.shm_fault.specs.Held.{written}
 use Rattle.shm_fault.specs.Placing.{places, after_access, Stops}
@@ -47,8 +47,12 @@ on-err : {A E : Type 0} (r : Result A E) (P : Type 0) → P → OnErr r P
 on-err (Ok a) P p = tt
 on-err (Err e) P p = p
 
+touched-same : {A E : Type 0} (u : Touched) (r : Result A E) → touched_of (answer_of u r) ≡ u
+touched-same u (Ok a) = refl
+touched-same u (Err e) = refl
+
 -- one page did not come in
-pub acts-failed : {A E : Type 0} (ps : List Span) (s t : StoreView) (u : Touched) (r : Result A E) (put : Option (List ℕ)) (before : List ℕ) → is_ok r ≡ false → IsStoreSound t → Brings ps s t u false → Stops ps (places s) (places t)
+pub acts-failed : {A E : Type 0} (ps : List Span) (s t : StoreView) (u : Touched) (r : Result A E) (put : Option (List ℕ)) (before : List ℕ) → is_ok r ≡ false → IsStoreSound t → Brings ps s t u false → Stops ps (places s) (places t) (counted u)
     → Acts put ps before before s t r (answer_of u r)
 acts-failed ps s t u r put before failed sound brings stops = record {
   there = never r _ failed;
@@ -57,7 +61,7 @@ acts-failed ps s t u r put before failed sound brings stops = record {
   same = on-err r _ brings.goes.bytes;
   access = accessed-failed ps s t u r failed sound brings;
   dirtied = never r _ failed;
-  clean = on-err r _ (none-stopped ps s t stops);
-  stopped = on-err r _ stops;
+  clean = on-err r _ (none-stopped ps s t (counted u) stops);
+  stopped = on-err r _ (rw (touched-same u r) stops);
   places = never r _ failed;
 }

@@ -1,5 +1,5 @@
 -- Pages that leave a swap area, and the area that is turned off.
-use Rattle.shm_fault.proofs.Names.{◌≡◌, ◌≢◌, ℕ, zero, suc, ◌<◌, ◌≤◌, ◌+◌, true, cond, List, [], ◌∷◌, length, get_or, set, sum_by, Option, Some, None, is_some, refl, sym, ap, ◌∙◌, inl, inr, arith, length-set, get_or-set_same, get_or-set_other, cases_eq, get_or_past, length-map, sum_by-set, sum_by-cons, PageRef, Slot, pages_in_store, used_count, SwapView, no_area, area_at, with_area, off, HasSlot, IsArea, IsSwap, IsFirstFree, OneArea, AfterWriteFault, owner_of, page_in, size_of, sizes, swap_slots, slots_in, used_in, used_slots, with_slot_owner, with_slot_page, without_slot, GoesOn, IsSteady, had_cause, Frame, no_frame, frame_at, PageRec, rec_by, HasPage, with_rec, StoreView, held, IsTied, Tied, IsStoreSound, Goes, Still, IsUncounted, SameOwned, IsRelocated, IsCleared, common_steps, nat_tests}
+use Rattle.shm_fault.proofs.Names.{with_owner, total, ◌≡◌, ◌≢◌, ℕ, zero, suc, ◌<◌, ◌≤◌, ◌+◌, true, cond, List, [], ◌∷◌, length, get_or, set, sum_by, Option, Some, None, is_some, refl, sym, ap, ◌∙◌, inl, inr, arith, length-set, get_or-set_same, get_or-set_other, cases_eq, get_or_past, length-map, sum_by-set, sum_by-cons, PageRef, Slot, pages_in_store, used_count, SwapView, no_area, area_at, with_area, off, HasSlot, IsArea, IsSwap, IsFirstFree, OneArea, AfterWriteFault, owner_of, page_in, size_of, sizes, swap_slots, slots_in, used_in, used_slots, with_slot_owner, with_slot_page, without_slot, GoesOn, IsSteady, had_cause, Frame, no_frame, frame_at, PageRec, rec_by, HasPage, with_rec, StoreView, held, IsTied, Tied, IsStoreSound, Goes, Still, IsUncounted, SameOwned, IsRelocated, IsCleared, common_steps, nat_tests}
 use Rattle.shm_fault.proofs.Pages.{rec-with, other, other_ne, has-frame, has-slot}
 use Rattle.shm_fault.proofs.Slots.{OnlySlot, OnlySlot-trans, OnlySlot-owner, OnlySlot-page, OnlySlot-given, page-written, owner-written, owner-set, owner-given, cases_slot, set-cases}
 use Rattle.shm_fault.proofs.Ties.{SlotsApart, Touches, IsOwn-some, segs-same, segs-with, frames-same, frames-set, tied_touched, bytes_touched}
@@ -188,12 +188,19 @@ module _ (s : StoreView) (sound : IsStoreSound s) (area : ℕ) (here : (area_at 
       (omega (arith, sum, size, after, all, room))
       sound.locked
 
+-- a slot that was taken is there
+pub has-taken : (s : SwapView) (k : Slot) (owner : Option PageRef) → HasSlot s k.area k.slot → HasSlot (with_slot_owner s k owner) k.area k.slot
+has-taken s k owner has =
+    let area = with_owner (area_at s k.area) k.slot owner in
+    (rw (length-set s.areas k.area area) has.0, rw (get_or-set_same s.areas k.area area no_area has.0) has.1)
+
 -- the first slots of an area are free, and all else is as it was
 pub record IsCleaned (area n : ℕ) (s t : StoreView) : Type 0 where
   pub sound : IsStoreSound t
   pub goes : Goes s t
   pub still : Still s t
   pub rest : IsUncounted s t
+  pub failures : total t.swap ≡ total s.swap
   pub free : (slot : ℕ) → slot < n → owner_of t.swap area slot ≡ None
   pub placed : places t ≡ after_moves area n (places s)
 
@@ -204,17 +211,19 @@ cleaned-none area s sound = record {
   goes = record { bytes = refl; shape = refl; size = refl; goes_on = GoesOn-refl s.swap; same_sizes = refl; spent = λ e. spent-cause s.swap s.swap sound.swap (GoesOn-refl s.swap) e };
   still = λ seg page. refl;
   rest = record { ins = refl; outs = refl };
+  failures = refl;
   free = λ slot lt. absurd (omega (arith, lt));
   placed = moves-none area (places s);
 }
 
-pub cleaned-more : (area n : ℕ) (s t u : StoreView) → IsCleaned area n s t → IsStoreSound u → Goes t u → Still t u → IsUncounted t u → IsCleared (record { area = area; slot = n }) t.swap u.swap
+pub cleaned-more : (area n : ℕ) (s t u : StoreView) → IsCleaned area n s t → IsStoreSound u → Goes t u → Still t u → IsUncounted t u → total u.swap ≡ total t.swap → IsCleared (record { area = area; slot = n }) t.swap u.swap
     → places u ≡ after_move (record { area = area; slot = n }) (places t) → IsCleaned area (n + 1) s u
-cleaned-more area n s t u d sound goes still rest cleared placed = record {
+cleaned-more area n s t u d sound goes still rest failures cleared placed = record {
   sound = sound;
   goes = Goes-trans s t u d.goes goes;
   still = λ seg page. still seg page ∙ d.still seg page;
   rest = uncounted-trans s t u d.rest rest;
+  failures = failures ∙ d.failures;
   free = λ slot lt. grind (arith, nat_tests, common_steps, cleared.free, cleared.rest, d.free);
   placed = moves-then area n (places s) (places t) (places u) d.placed placed;
 }

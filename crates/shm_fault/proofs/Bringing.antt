@@ -1,26 +1,39 @@
 -- What an access leaves, put together from the visits to its pages.
-use Rattle.shm_fault.proofs.Names.{◌≡◌, ◌≢◌, ℕ, map, ◌≤◌, ◌+◌, Bool, true, false, ◌&&◌, cond, List, [], ◌∷◌, length, get_or, Option, Some, None, is_some, Result, Ok, Err, is_ok, OnErr, refl, sym, ap, ◌∙◌, arith, All, IsSome, false≢true, PageRef, Span, holds_locked, SwapView, Frame, frame_at, PageRec, Touched, SegRec, rec_by, locked_by, StoreView, held_by, page_of, ref_of, is_swapped, IsResident, pages_among, swapped_among, same_page, LockedPagesStay, KeepsLocked, Visits, frame_by, referenced_at, InFrames, PagerFailed, IsStoreSound, raised, one_if, Visited, AreIn, Brings, Accessed, IsUntouched, nat_tests, common_steps}
+use Rattle.shm_fault.proofs.Names.{◌≡◌, ◌≢◌, ℕ, map, ◌≤◌, ◌+◌, Bool, true, false, ◌&&◌, cond, List, [], ◌∷◌, length, get_or, Option, Some, None, is_some, Result, Ok, Err, is_ok, OnErr, refl, sym, ap, ◌∙◌, arith, All, IsSome, false≢true, PageRef, Span, holds_locked, SwapView, Frame, frame_at, PageRec, Touched, SegRec, rec_by, locked_by, StoreView, held_by, page_of, ref_of, IsResident, LockedPagesStay, KeepsLocked, Visits, frame_by, referenced_at, InFrames, PagerFailed, IsStoreSound, raised, counted, Visited, AreIn, Brings, Accessed, IsUntouched, nat_tests, common_steps}
 use Rattle.shm_fault.specs.Access.{answer_of}
 use Rattle.shm_fault.proofs.Written.{no_span}
 use Rattle.shm_fault.specs.Store.{held, frame_of}
 use Rattle.shm_fault.proofs.Sound.{Goes-trans, KeepsLocked-trans, cause-after}
 use Rattle.shm_fault.proofs.Visits.{moves-trans}
-use Rattle.shm_fault.proofs.Pages.{same-true}
+use Rattle.shm_fault.proofs.Failures.{failures-after}
+use Rattle.shm_fault.proofs.Places.{counted-none, counted-one, counted-two, untouched-counted}
+use Rattle.shm_fault.specs.Placing.{after_visit, places}
 
 pub err_of : {A E : Type 0} (r : Result A E) (P : Type 0) → OnErr r P → is_ok r ≡ false → P
 err_of (Ok a) P h e = absurd (false≢true (sym e))
 err_of (Err x) P h e = h
 
-swap_bit : Bool → ℕ
-swap_bit b = cond b 1 0
-
-bit-le : (b : Bool) → cond b 1 0 ≤ 1
-bit-le true = omega arith
-bit-le false = omega arith
-
 resident-at : (s : StoreView) (p : Span) → is_some (frame_of s p.seg (page_of p)) ≡ true → IsSome (frame_by s (ref_of p))
 unfolding frame_of
 resident-at s p e = e
+
+-- there was no page
+pub brings-none : (s : StoreView) (u : Touched) → IsUntouched u → Brings [] s s u true
+unfolding frame_of
+brings-none s u none = record {
+  goes = grind (arith, common_steps);
+  kept = λ r locked e. e;
+  paged = record {
+    moves = rw none.0 (λ seg page. refl);
+    few = let z : length u.moved.items ≡ 0 = rw none.0 refl in omega (arith, z);
+    read_in = rw none.1 refl;
+    written_out = rw none.2 refl;
+    transfers = λ e. counted-none s u none;
+    quiet = λ all. (refl, refl, none.1, none.2);
+    cause = λ e. absurd (false≢true (sym e));
+    failures = refl;
+  };
+}
 
 -- the first page was brought in, or was not
 module _ (p : Span) (s t : StoreView) (u v : Touched) (ok : Bool) (none : IsUntouched u) (w : Visited (ref_of p) None (frame_by s (ref_of p)) s t u v ok) where
@@ -33,9 +46,6 @@ module _ (p : Span) (s t : StoreView) (u v : Touched) (ok : Bool) (none : IsUnto
   few-one : length v.moved.items ≤ 4
   few-one = let f = w.few in let z : length u.moved.items ≡ 0 = rw none.0 refl in omega (arith, f, z)
 
-  ins-one : v.ins ≤ 1
-  ins-one = let b = bit-le (ok && is_swapped (rec_by s.segs (ref_of p))) in let i = w.ins in omega (arith, i, b, none.1)
-
   quiet-one : IsSome (frame_by s (ref_of p)) → (ok ≡ true) × (t.swap ≡ s.swap) × (v.ins ≡ 0) × (v.outs ≡ 0)
   quiet-one known = grind (arith, nat_tests, common_steps, w.quiet, none.1, none.2)
 
@@ -46,64 +56,19 @@ module _ (p : Span) (s t : StoreView) (u v : Touched) (ok : Bool) (none : IsUnto
     paged = record {
       moves = w.moves s (λ seg page. rw none.0 refl);
       few = few-one;
-      ins_few = omega (arith, ins-one);
-      outs_few = omega (arith, w.outs, none.2);
       read_in = read-in-one;
       written_out = written-out-one;
-      swapped = λ e. grind (arith, nat_tests, e, w.ins);
+      transfers = λ e. counted-one p s t (counted v) (rw (untouched-counted u none) at (w.transfers e));
       quiet = λ all. quiet-one (resident-at s p (all 0 p (omega arith)));
       cause = w.cause;
+      failures = w.failures;
     };
   }
-
-same_page-ref : (p q : Span) → same_page p q ≡ true → ref_of q ≡ ref_of p
-same_page-ref p q e = sym (same-true (ref_of p) (ref_of q) e)
-
-same_page-not : (p q : Span) → same_page p q ≡ false → ref_of q ≢ ref_of p
-same_page-not p q e same = grind (arith, nat_tests)
-
-among-two : (p q : Span) → 1 ≤ pages_among (p ∷ q ∷ [])
-among-two p q = grind (arith, nat_tests)
-
-swapped-away : (r : PageRec) → is_swapped r ≡ true → r.frame ≡ None
-swapped-away r e = grind (arith, nat_tests)
-
-resident_not : (r : PageRec) (f : ℕ) → r.frame ≡ Some f → is_swapped r ≡ false
-resident_not r f e = rw e refl
-
--- a page that was swapped is still so, if the other page came in
-still_swapped : (p q : Span) (s t : StoreView) (pinned : Option ℕ) → Visits (ref_of p) pinned s t → same_page p q ≡ false → is_swapped (rec_by s.segs (ref_of q)) ≡ true → is_swapped (rec_by t.segs (ref_of q)) ≡ true
-still_swapped p q s t pinned v apart e = grind (arith, nat_tests, v.away (ref_of q) (same_page-not p q apart), swapped-away (rec_by s.segs (ref_of q)) e)
 
 -- the second of two pages was brought in, or was not
 module _ (p q : Span) (s t z : StoreView) (f : ℕ) (u v w : Touched) (ok : Bool) (none : IsUntouched u)
     (one : Visited (ref_of p) None (frame_by s (ref_of p)) s t u v true) (at : frame_by t (ref_of p) ≡ Some f)
-    (two : Visited (ref_of q) (Some f) (frame_by t (ref_of q)) t z v w ok) where
-  abbrev swp : Bool
-  swp = is_swapped (rec_by s.segs (ref_of p))
-
-  abbrev swq : Bool
-  swq = is_swapped (rec_by t.segs (ref_of q))
-
-  resident-q : same_page p q ≡ true → (swq ≡ false) × (w.outs ≡ v.outs)
-  resident-q e = grind (arith, nat_tests, common_steps, same_page-ref, resident_not, t.segs, two.quiet)
-
-  ins-is : ok ≡ true → w.ins ≡ swap_bit swp + swap_bit swq
-  unfolding swap_bit
-  ins-is e = let a = one.ins in let b : w.ins ≡ v.ins + one_if (true && swq) = rw e at two.ins in omega (arith, a, b, none.1)
-
-  ins-le : w.ins ≤ pages_among (p ∷ q ∷ [])
-  ins-le = grind (arith, nat_tests, one.ins, two.ins, none.1, resident-q)
-
-  outs-le : w.outs ≤ pages_among (p ∷ q ∷ [])
-  outs-le = grind (arith, nat_tests, one.outs, two.outs, none.2, resident-q)
-
-  swapped-le : ok ≡ true → swapped_among s (p ∷ q ∷ []) ≤ w.ins
-  unfolding swap_bit
-  swapped-le e =
-      let same : same_page p q ≡ true → is_swapped (rec_by s.segs (ref_of q)) ≡ is_swapped (rec_by s.segs (ref_of p)) = λ h. ap (λ (k : PageRef). is_swapped (rec_by s.segs k)) (same_page-ref p q h) in
-      grind (arith, nat_tests, ins-is e, same, still_swapped p q s t None one.visits)
-
+    (first : places t ≡ after_visit (ref_of p) None (places s)) (two : Visited (ref_of q) (Some f) (frame_by t (ref_of q)) t z v w ok) where
   both-quiet : All (IsResident s) (p ∷ q ∷ []) → (ok ≡ true) × (z.swap ≡ s.swap) × (w.ins ≡ 0) × (w.outs ≡ 0)
   both-quiet all =
       let a = one.quiet (resident-at s p (all 0 p (omega arith))) in
@@ -121,13 +86,12 @@ module _ (p q : Span) (s t z : StoreView) (f : ℕ) (u v w : Touched) (ok : Bool
     paged = record {
       moves = moves-trans u.moved.items v.moved.items w.moved.items s t z one.moves two.moves s (λ seg page. rw none.0 refl);
       few = let a = one.few in let b = two.few in let y : length u.moved.items ≡ 0 = rw none.0 refl in omega (arith, a, b, y);
-      ins_few = ins-le;
-      outs_few = outs-le;
       read_in = two.counts.ins s.ins (read-in-one p s t u v true none one);
       written_out = two.counts.outs s.outs (written-out-one p s t u v true none one);
-      swapped = swapped-le;
+      transfers = λ e. counted-two p q s t z f first at (counted v) (counted w) (rw (untouched-counted u none) at (one.transfers refl)) (two.transfers e);
       quiet = both-quiet;
       cause = λ e. cause-after s t z one.visits.goes two.visits.goes (two.cause e);
+      failures = failures-after ok s t z one.failures two.failures;
     };
   }
 
@@ -137,20 +101,18 @@ pub brings-not : (p q : Span) (s t : StoreView) (u v : Touched) → IsUntouched 
 brings-not p q s t u v none w =
     let one = brings-one p s t u v false none w in
     let never = λ (all : All (IsResident s) (p ∷ q ∷ [])). (w.quiet (resident-at s p (all 0 p (omega arith)))).0 in
-    let least = among-two p q in
     record {
       goes = one.goes;
       kept = one.kept;
       paged = record {
         moves = one.paged.moves;
         few = one.paged.few;
-        ins_few = omega (arith, ins-one p s t u v false none w, least);
-        outs_few = omega (arith, w.outs, none.2, least);
         read_in = one.paged.read_in;
         written_out = one.paged.written_out;
-        swapped = λ e. absurd (false≢true e);
+        transfers = λ e. absurd (false≢true e);
         quiet = λ all. absurd (false≢true (never all));
         cause = w.cause;
+        failures = w.failures;
       };
     }
 

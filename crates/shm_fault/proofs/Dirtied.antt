@@ -1,11 +1,11 @@
 -- The frames that become dirty: none if pages come in, and those of pages that are written.
-use Rattle.shm_fault.proofs.Names.{◌≡◌, ℕ, Bool, true, false, not, cond, false≢true, List, [], ◌∷◌, map, set, Option, Some, None, is_some, refl, sym, ap, ◌∙◌, inl, inr, ◌<◌, ◌≢◌, length, length-map, get_or-set_same, get_or-set_other, cases_eq, frame_by, PageRef, Slot, Span, Frame, no_frame, frame_at, unlocked, rec_by, StoreView, ref_of}
+use Rattle.shm_fault.proofs.Names.{◌≡◌, ℕ, Bool, true, false, not, cond, false≢true, List, [], ◌∷◌, map, set, Option, Some, None, is_some, refl, sym, ap, ◌∙◌, inl, inr, ◌<◌, ◌≢◌, length, length-map, get_or-set_same, get_or-set_other, cases_eq, frame_by, PageRef, Slot, Span, Frame, no_frame, frame_at, unlocked, rec_by, StoreView, ref_of, Transfers, no_transfers}
 use Rattle.std.specs.Prelude.{position}
 use Rattle.shm_frames.specs.Frame.{is_free}
 use Rattle.shm_clock.specs.Clock.{candidates, passed_by}
 use Rattle.shm_clock.proofs.Bits.{unset_all-at}
 use Rattle.shm_fault.proofs.Slots.{set-cases}
-use Rattle.shm_fault.specs.Placing.{Places, bare, places, takes, keeps_or_takes, slotted_for, slotted, with_bit, after_page_out, victim_in, after_turn, vacated_for, vacated, after_clean, after_eviction, after_room, frame_for, settled, referenced, visited_in, after_visit, after_access, StopsAtWrite, StopsAt, Stops, free_slot, NoneDirtied, AreDirtied}
+use Rattle.shm_fault.specs.Placing.{Places, bare, places, takes, keeps_or_takes, slotted_for, slotted, with_bit, after_page_out, victim_in, after_turn, vacated_for, vacated, after_clean, after_eviction, after_room, frame_for, settled, referenced, visited_in, after_visit, after_access, visit_counted, StopsAtWrite, StopsAt, Stops, free_slot, NoneDirtied, AreDirtied}
 use Rattle.shm_fault.proofs.Placed.{bare-at}
 
 -- a frame that is set to one that is clean, or was dirty
@@ -108,21 +108,21 @@ none-write pinned s t stops g e =
     let at : (frame_at (after_page_out f false (after_turn pinned s)).frames g).dirty ≡ true = rw stops.places at e in
     none-turn pinned s g (none-out f false (after_turn pinned s) (λ same. turned-dirty pinned s f stops.dirty) g at)
 
-none-stop : (r : PageRef) (pinned : Option ℕ) (s t : Places) → StopsAt r pinned s t → NoneDirtied s.frames t.frames
-none-stop r pinned s t stops = elim stops.how [
-  | inl write ↦ none-write pinned s t write
-  | inr read ↦ (λ g e. none-room pinned s g (rw read.places at e))
+none-stop : (r : PageRef) (pinned : Option ℕ) (s t : Places) (b c : Transfers) → StopsAt r pinned s t b c → NoneDirtied s.frames t.frames
+none-stop r pinned s t b c stops = elim stops.how [
+  | inl write ↦ none-write pinned s t write.0
+  | inr read ↦ (λ g e. none-room pinned s g (rw read.0.places at e))
 ]
 
-none-stops : (ps : List Span) (s t : Places) → Stops ps s t → NoneDirtied s.frames t.frames
+none-stops : (ps : List Span) (s t : Places) (c : Transfers) → Stops ps s t c → NoneDirtied s.frames t.frames
 unfolding Stops
-none-stops [] s t stops = absurd stops
-none-stops (p ∷ []) s t stops = none-stop (ref_of p) None s t stops
-none-stops (p ∷ q ∷ ps) s t stops = elim stops [
-  | inl first ↦ none-stop (ref_of p) None s t first
+none-stops [] s t c stops = absurd stops
+none-stops (p ∷ []) s t c stops = none-stop (ref_of p) None s t no_transfers c stops
+none-stops (p ∷ q ∷ ps) s t c stops = elim stops [
+  | inl first ↦ none-stop (ref_of p) None s t no_transfers c first
   | inr second ↦
       (let first = after_visit (ref_of p) None s in
-      λ g e. none-visit (ref_of p) None s g (none-stop (ref_of q) (rec_by first.segs (ref_of p)).frame first t second g e))
+      λ g e. none-visit (ref_of p) None s g (none-stop (ref_of q) (rec_by first.segs (ref_of p)).frame first t (visit_counted (ref_of p) None s no_transfers) c second g e))
 ]
 
 -- of a store
@@ -133,8 +133,8 @@ from-places s t none f e = ap (λ (x : Frame). x.dirty) (sym (bare-at s.frames f
 pub none-in : (ps : List Span) (s t : StoreView) → places t ≡ after_access ps (places s) → NoneDirtied s.frames t.frames
 none-in ps s t is = from-places s t (λ g e. none-access ps (places s) g (rw is at e))
 
-pub none-stopped : (ps : List Span) (s t : StoreView) → Stops ps (places s) (places t) → NoneDirtied s.frames t.frames
-none-stopped ps s t stops = from-places s t (none-stops ps (places s) (places t) stops)
+pub none-stopped : (ps : List Span) (s t : StoreView) (c : Transfers) → Stops ps (places s) (places t) c → NoneDirtied s.frames t.frames
+none-stopped ps s t c stops = from-places s t (none-stops ps (places s) (places t) c stops)
 
 -- where a page is written its frame is dirty
 bit-at : (s t : StoreView) (f : ℕ) → f < length s.frames → places t ≡ with_bit f true (places s) → (frame_at t.frames f).dirty ≡ true

@@ -1,6 +1,7 @@
 -- Failures that are counted, and the areas that count them.
-use Rattle.shm_fault.proofs.Names.{◌≡◌, ◌⊎◌, ℕ, suc, [], ◌∷◌, None, Result, Ok, Err, OnOk, OnErr, ◌<◌, ◌≤◌, ◌+◌, true, false, List, length, get_or, sum_by, inl, inr, arith, list_any, false≢true, nat_tests, sum_by-set, sum_by-cons, Slot, last_count, AreaView, SwapView, no_area, area_at, rise, is_spent_here, size_of, sizes, with_slot_page, HasSlot, OneArea, AfterWriteFault, IsSwap, had_cause, GoesOn, rises-le, total-le, common_steps}
+use Rattle.shm_fault.proofs.Names.{Bool, sym, ap, ◌∙◌, set-get_or, StoreView, CountsFailure, ◌≡◌, ◌⊎◌, ℕ, suc, [], ◌∷◌, None, Result, Ok, Err, OnOk, OnErr, ◌<◌, ◌≤◌, ◌+◌, true, false, List, length, get_or, sum_by, inl, inr, arith, list_any, false≢true, nat_tests, sum_by-set, sum_by-cons, Slot, last_count, AreaView, SwapView, no_area, area_at, rise, is_spent_here, size_of, sizes, with_slot_page, HasSlot, OneArea, AfterReadFault, AfterWriteFault, IsSwap, had_cause, GoesOn, rises-le, total-le, common_steps}
 use Rattle.std.proofs.Math.ListN.{get_or-map}
+use Rattle.std.specs.Prelude.{IfErr}
 use Rattle.shm_slots.specs.Cause.{total, some_spent}
 
 -- sizes and what follows from them
@@ -17,6 +18,23 @@ total-written s k page lt = grind (arith, nat_tests, common_steps, sum_by-set, s
 pub total-fault : (s t : SwapView) (k : Slot) → IsSwap s → HasSlot s k.area k.slot → OneArea k.area s t → AfterWriteFault k.slot (area_at s k.area) (area_at t k.area) → some_spent t ≡ false → total t ≡ total s + 1
 unfolding total some_spent
 total-fault s t k swap there one fault unspent = grind (arith, common_steps)
+
+-- a read that failed is counted as a write that failed
+read-fault : (slot : ℕ) (a b : AreaView) → AfterReadFault a b → AfterWriteFault slot a b
+read-fault slot a b fault =
+    let pages : b.pages ≡ a.pages = ap (λ (x : AreaView). x.pages) fault.0 in (
+      fault.0 ∙ ap (λ (ps : List (List ℕ)). record a { pages = ps; failed = b.failed; most = b.most }) (sym pages),
+      rw pages (sym (set-get_or a.pages slot [])),
+      fault.1,
+    )
+
+pub total-unread : (s t : SwapView) (k : Slot) → IsSwap s → HasSlot s k.area k.slot → OneArea k.area s t → AfterReadFault (area_at s k.area) (area_at t k.area) → some_spent t ≡ false → total t ≡ total s + 1
+total-unread s t k swap there one fault unspent = total-fault s t k swap there one (read-fault k.slot (area_at s k.area) (area_at t k.area) fault) unspent
+
+-- a step that failed none, and another one
+pub failures-after : (ok : Bool) (s t u : StoreView) → total t.swap ≡ total s.swap → CountsFailure ok t u → CountsFailure ok s u
+failures-after true s t u none more = more ∙ none
+failures-after false s t u none more = λ unspent. rw (← none) (more unspent)
 
 -- counts that never fell, area by area
 record Rose (xs ys : List AreaView) : Type 0 where
@@ -64,6 +82,10 @@ cause-before s t u spent g h e = grind (arith, nat_tests, total-le s t g, spent,
 pub unspent-before : (s t : SwapView) → IsSwap t → GoesOn s t → sizes t ≡ sizes s → some_spent t ≡ false → some_spent s ≡ false
 unfolding some_spent
 unspent-before s t swap g same e = grind (arith, nat_tests, common_steps, spent-stays, s.areas, t.areas, rose, swap.each, pages-same)
+
+pub OnErr-if : {A E : Type 0} (r : Result A E) (P Q : Type 0) → IfErr r (λ _. P) → (P → Q) → OnErr r Q
+OnErr-if (Ok a) P Q e f = tt
+OnErr-if (Err x) P Q e f = f e
 
 pub OnErr-map : {A E : Type 0} (r : Result A E) (P Q : Type 0) → OnErr r P → (P → Q) → OnErr r Q
 OnErr-map (Ok a) P Q e f = tt

@@ -1,5 +1,5 @@
 -- A page on loan stays in its frame, unless a visit is made that was barred.
-use Rattle.shm_fault.proofs.Names.{◌≡◌, ◌∷◌, [], ℕ, Bool, true, false, true≢false, not, List, Option, Some, None, is_some, refl, sym, ap, ◌∙◌, arith, common_steps, nat_tests, get_or, PageRef, Slot, Span, Frame, no_frame, frame_at, rec_by, ref_of}
+use Rattle.shm_fault.proofs.Names.{◌≡◌, ◌∷◌, [], ℕ, Bool, true, false, true≢false, not, List, Option, Some, None, is_some, refl, sym, ap, ◌∙◌, arith, common_steps, nat_tests, get_or, PageRef, Slot, Span, Frame, no_frame, frame_at, rec_by, ref_of, Transfers}
 use Rattle.std.proofs.Common.{◌≢◌, ◌⊎◌, inl, inr}
 use Rattle.std.specs.Prelude.{position, unwrap_or, set, if◌then◌else◌}
 use Rattle.std.proofs.lemmas.List.Quantifiers.{position-Some}
@@ -180,12 +180,12 @@ stay-visit r pinned s free = by (rec_by s.segs r).frame free
     by (Some f) home = stay-referenced f s
     by None home = stay-comes r pinned s home
 
-pub stay-stops : (r : PageRef) (pinned : Option ℕ) (s t : Places) → is_barred r pinned s ≡ false → StopsAt r pinned s t → LoansStay s t
+pub stay-stops : (r : PageRef) (pinned : Option ℕ) (s t : Places) (b c : Transfers) → is_barred r pinned s ≡ false → StopsAt r pinned s t b c → LoansStay s t
 unfolding is_barred
-stay-stops r pinned s t free stop =
+stay-stops r pinned s t b c free stop =
     let home : lent_at s (leaver_in pinned s) ≡ false = rw stop.away at free in
     elim stop.how [
       | inl write ↦ let v = victim_in pinned s in let u = after_turn pinned s in
-          rw write.places (stay-same s (after_page_out v false u) (loans-trans s.frames u.frames (after_page_out v false u).frames (loans-turn pinned s) (loans-page-out v false u)))
-      | inr read ↦ rw read.places (stay-room pinned s home)
+          rw write.0.places (stay-same s (after_page_out v false u) (loans-trans s.frames u.frames (after_page_out v false u).frames (loans-turn pinned s) (loans-page-out v false u)))
+      | inr read ↦ rw read.0.places (stay-room pinned s home)
     ]

@@ -21,18 +21,18 @@ pub use Rattle.shm_fault.specs.Held.{FitsPage, Held, bytes_of, find_held, is_hel
 pub use Rattle.shm_slots.proofs.Causes.{rises-le, total-le}
 pub use Rattle.shm_slots.specs.Cause.{GoesOn, IsSteady, had_cause, some_spent, total}
 pub use Rattle.shm_slots.specs.Owners.{used_count}
-pub use Rattle.shm_slots.specs.View.{AreaView, HasSlot, IsArea, IsFirstFree, IsSwap, OneArea, SameSlots, SwapView, AfterWriteFault, area_at, is_spent_here, no_area, off, owner_of, page_in, rise, size_of, sizes, swap_slots, slots_in, used_in, used_slots, with_area, with_owner, with_page, with_slot_owner, with_slot_page, without_slot}
+pub use Rattle.shm_slots.specs.View.{AreaView, HasSlot, IsArea, IsFirstFree, IsSwap, OneArea, SameSlots, SwapView, AfterReadFault, AfterWriteFault, area_at, is_spent_here, no_area, off, owner_of, page_in, rise, size_of, sizes, swap_slots, slots_in, used_in, used_slots, with_area, with_owner, with_page, with_slot_owner, with_slot_page, without_slot}
 pub use mir.Val.{bool_byte}
 pub use Rattle.shm_fault.specs.Access.{Accessed, AreIn, Brings, IsUntouched, Visited}
-pub use Rattle.shm_fault.specs.Counting.{IsUncounted, CountsOn, one_if, raised}
+pub use Rattle.shm_fault.specs.Counting.{IsUncounted, CountsOn, Transfers, counted, no_transfers, one_if, raised}
 pub use Rattle.shm_fault.specs.Dropping.{Dropped, Given, IsBlank, StayNowhere, emptied}
 pub use Rattle.shm_fault.specs.Flushing.{IsFlushed, dirty_after, may_flush}
-pub use Rattle.shm_fault.specs.Goes.{Alike, Goes, KeepsLocked, MovesOn, Outline, StaysAway, Visits, frame_by, outline, outlines, referenced_at, unlocked}
+pub use Rattle.shm_fault.specs.Goes.{Alike, CountsFailure, Goes, KeepsLocked, MovesOn, Outline, StaysAway, Visits, frame_by, outline, outlines, referenced_at, unlocked}
 pub use Rattle.shm_fault.specs.Moving.{IsCleared, IsRelocated, SameOwned}
 pub use Rattle.shm_fault.specs.Segs.{AreApart, HasPage, NowhereFrom, NowhereUpTo, SegRec, but, count_by_id, find_seg, locked_by, locked_pages, new_seg, no_page, page_count, rec_at, rec_by, seg_with, with_rec, with_seg, with_seg_lock}
 pub use Rattle.shm_fault.specs.Sound.{IsStoreSound, IsTied, Tied}
 pub use Rattle.shm_fault.specs.Steps.{LockedPagesStay, moved}
-pub use Rattle.shm_fault.specs.Store.{IsResident, Still, StoreView, bytes_by, dirty, dirty_in, disowned, fresh_store, has_frame, has_slot, held, held_by, is_dirty_page, is_page, is_swapped, page_bytes, page_of, pages_among, ref_of, resident, same_page, slot_bytes, swapped_among, used}
+pub use Rattle.shm_fault.specs.Store.{IsResident, Still, StoreView, bytes_by, dirty, dirty_in, disowned, fresh_store, has_frame, has_slot, held, held_by, is_dirty_page, is_page, is_swapped, page_bytes, page_of, ref_of, resident, slot_bytes, used}
 pub use Rattle.shm_fault.specs.declared.access.InFrames.{InFrames}
 pub use Rattle.shm_fault.specs.declared.page_tables.PageRec.{PageRec}
 pub use Rattle.shm_fault.specs.declared.store.PageStore.TheInside.{Inside}

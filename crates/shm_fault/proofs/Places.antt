@@ -1,11 +1,11 @@
 -- What each step of paging makes of the places.
-use Rattle.shm_fault.proofs.Names.{next, ◌≡◌, ℕ, Bool, true, false, List, [], ◌∷◌, map, set, length, Option, Some, None, is_some, refl, sym, ap, ◌∙◌, inl, inr, PageRef, Slot, Span, with_slot_owner, Frame, no_frame, frame_at, rec_by, with_rec, StoreView, unlocked, ref_of, frame_by}
+use Rattle.shm_fault.proofs.Names.{next, arith, ◌≡◌, ◌+◌, ℕ, Bool, true, false, List, [], ◌∷◌, map, set, length, Option, Some, None, is_some, refl, sym, ap, ◌∙◌, inl, inr, PageRef, Slot, Span, with_slot_owner, Frame, no_frame, frame_at, rec_by, with_rec, StoreView, unlocked, ref_of, frame_by, Touched, IsUntouched, Transfers, counted, no_transfers, one_if}
 use Rattle.std.proofs.lemmas.List.{length-map}
 use Rattle.std.proofs.Math.Seq.{map-set_same}
 use Rattle.std.specs.Prelude.{position}
 use Rattle.shm_frames.specs.Frame.{is_free}
 use Rattle.shm_clock.specs.Clock.{candidates, victim_of, passed_by, unset_all}
-use Rattle.shm_fault.specs.Placing.{Places, bare, slot_owners, places, free_slot, slotted, with_bit, after_page_out, victim_in, after_turn, vacated, after_clean, after_eviction, after_room, frame_for, settled, referenced, after_visit, after_access, with_dirty, StopsAtWrite, StopsAt, Stops}
+use Rattle.shm_fault.specs.Placing.{Places, bare, slot_owners, places, free_slot, slotted, with_bit, after_page_out, victim_in, after_turn, vacated, after_clean, after_eviction, after_room, frame_for, settled, referenced, after_visit, after_access, with_dirty, room_counted, visit_counted, access_counted, StopsAtWrite, StopsAt, Stops}
 use Rattle.shm_fault.proofs.Placed.{bare-at, bare-set, candidates-bare, victim-bare, passed-bare, unset-bare, position-bare, owners-set}
 
 -- a page that has a slot keeps it
@@ -71,16 +71,20 @@ full-place : (s : StoreView) → position is_free s.frames ≡ None → is_some 
 unfolding places
 full-place s e = rw (position-bare s.frames, e) refl
 
-dirty-place : (s : StoreView) (f : ℕ) → (frame_at s.frames f).dirty ≡ true → (frame_at (places s).frames f).dirty ≡ true
+dirty-place : (s : StoreView) (f : ℕ) → (frame_at (places s).frames f).dirty ≡ (frame_at s.frames f).dirty
 unfolding places
-dirty-place s f e = rw (bare-at s.frames f) e
+dirty-place s f = ap (λ (x : Frame). x.dirty) (bare-at s.frames f)
+
+-- whether the victim's frame is dirty
+pub victim-dirty : (s : StoreView) (pinned : Option ℕ) (f : ℕ) → f ≡ victim_in pinned (places s) → (frame_at s.frames f).dirty ≡ (frame_at (places s).frames (victim_in pinned (places s))).dirty
+victim-dirty s pinned f victim = sym (dirty-place s f) ∙ ap (λ (n : ℕ). (frame_at (places s).frames n).dirty) victim
 
 -- or its write fails
 pub stops-write : (s t₁ t₂ : StoreView) (pinned : Option ℕ) (f : ℕ) → f ≡ victim_in pinned (places s) → places t₁ ≡ after_turn pinned (places s) → places t₂ ≡ after_page_out f false (places t₁)
     → position is_free s.frames ≡ None → (frame_at s.frames f).dirty ≡ true → StopsAtWrite pinned (places s) (places t₂)
 stops-write s t₁ t₂ pinned f victim turn out full dirty = record {
   full = full-place s full;
-  dirty = rw victim at (dirty-place s f dirty);
+  dirty = sym (victim-dirty s pinned f victim) ∙ dirty;
   places = rw (← victim, ← turn) out;
 }
 
@@ -100,6 +104,16 @@ frame-evicted s f pinned free e = rw (position-bare s.frames, free) e
 pub room-made : (s t : StoreView) (pinned : Option ℕ) (f : ℕ) → position is_free s.frames ≡ None → places t ≡ after_eviction pinned (places s) → f ≡ victim_in pinned (places s)
     → (places t ≡ after_room pinned (places s)) × (f ≡ frame_for pinned (places s))
 room-made s t pinned f free out victim = (room-evicted s (places t) pinned free out, frame-evicted s f pinned free victim)
+
+-- what was counted for that
+pub free-counted : (s : StoreView) (pinned : Option ℕ) (f : ℕ) (c : Transfers) → position is_free s.frames ≡ Some f → c ≡ room_counted pinned (places s) c
+unfolding places room_counted
+free-counted s pinned f c free = rw (position-bare s.frames, free) refl
+
+pub evicted-counted : (s : StoreView) (pinned : Option ℕ) (wrote : Bool) (c : Transfers) (writes : ℕ) → position is_free s.frames ≡ None → wrote ≡ (frame_at (places s).frames (victim_in pinned (places s))).dirty → writes ≡ c.writes + one_if wrote
+    → record c { writes = writes } ≡ room_counted pinned (places s) c
+unfolding room_counted
+evicted-counted s pinned wrote c writes free dirty more = rw (full-place s free, more, dirty) refl
 
 -- a page comes into a free frame
 pub settled-is : (s t : StoreView) (r : PageRef) (f : ℕ) → (frame_at s.frames f).dirty ≡ false → (frame_at s.frames f).lent ≡ false → t.hand ≡ s.hand → t.swap ≡ s.swap
@@ -128,12 +142,29 @@ pub visit-fault : (s : StoreView) (q : Places) (r : PageRef) (pinned : Option �
 unfolding places after_visit
 visit-fault s q r pinned away is = rw away is
 
-module _ (s t : StoreView) (r : PageRef) (pinned : Option ℕ) where
-  pub stops-at-write : frame_by s r ≡ None → StopsAtWrite pinned (places s) (places t) → StopsAt r pinned (places s) (places t)
-  stops-at-write away how = record { away = rw (place-by s r) away; how = inl how }
+-- and counted
+pub known-counted : (s : StoreView) (r : PageRef) (pinned : Option ℕ) (f : ℕ) (c : Transfers) → frame_by s r ≡ Some f → c ≡ visit_counted r pinned (places s) c
+unfolding places visit_counted
+known-counted s r pinned f c known = rw known refl
 
-  pub stops-at-read : frame_by s r ≡ None → is_some (rec_by s.segs r).slot ≡ true → places t ≡ after_room pinned (places s) → StopsAt r pinned (places s) (places t)
-  stops-at-read away slot is = record { away = rw (place-by s r) away; how = inr (record { slot = rw (place-by s r) slot; places = is }) }
+pub fault-counted : (s : StoreView) (r : PageRef) (pinned : Option ℕ) (u m v : Touched) → frame_by s r ≡ None → counted m ≡ room_counted pinned (places s) (counted u) → v.ins ≡ m.ins + one_if (is_some (rec_by s.segs r).slot) → v.outs ≡ m.outs
+    → counted v ≡ visit_counted r pinned (places s) (counted u)
+unfolding places visit_counted
+fault-counted s r pinned u m v away room ins outs = rw (away, ← room, ins, outs) refl
+
+-- a read that failed is not
+pub unread-counted : (m v : Touched) → v.ins ≡ m.ins + 0 → v.outs ≡ m.outs → counted v ≡ counted m
+unread-counted m v ins outs = let same : v.ins ≡ m.ins = omega (arith, ins) in rw (same, outs) refl
+
+pub untouched-counted : (u : Touched) → IsUntouched u → counted u ≡ no_transfers
+untouched-counted u none = rw (none.1, none.2) refl
+
+module _ (s t : StoreView) (r : PageRef) (pinned : Option ℕ) (b c : Transfers) where
+  pub stops-at-write : frame_by s r ≡ None → StopsAtWrite pinned (places s) (places t) → c ≡ b → StopsAt r pinned (places s) (places t) b c
+  stops-at-write away how none = record { away = rw (place-by s r) away; how = inl (how, none) }
+
+  pub stops-at-read : frame_by s r ≡ None → is_some (rec_by s.segs r).slot ≡ true → places t ≡ after_room pinned (places s) → c ≡ room_counted pinned (places s) b → StopsAt r pinned (places s) (places t) b c
+  stops-at-read away slot is room = record { away = rw (place-by s r) away; how = inr (record { slot = rw (place-by s r) slot; places = is }, room) }
 
 -- and the pages of spans, one after another
 module _ (p : Span) (s t : StoreView) where
@@ -141,26 +172,38 @@ module _ (p : Span) (s t : StoreView) where
   unfolding after_access
   access-one is = is
 
-  pub stops-one : StopsAt (ref_of p) None (places s) (places t) → Stops (p ∷ []) (places s) (places t)
+  pub counted-one : (c : Transfers) → c ≡ visit_counted (ref_of p) None (places s) no_transfers → c ≡ access_counted (p ∷ []) (places s)
+  unfolding access_counted
+  counted-one c is = is
+
+  pub stops-one : (u : Touched) (c : Transfers) → IsUntouched u → StopsAt (ref_of p) None (places s) (places t) (counted u) c → Stops (p ∷ []) (places s) (places t) c
   unfolding Stops
-  stops-one is = is
+  stops-one u c none is = rw (untouched-counted u none) at is
 
 module _ (p q : Span) (s t z : StoreView) (f : ℕ) (first : places t ≡ after_visit (ref_of p) None (places s)) (at : frame_by t (ref_of p) ≡ Some f) where
   pub access-two : places z ≡ after_visit (ref_of q) (Some f) (places t) → places z ≡ after_access (p ∷ q ∷ []) (places s)
   unfolding after_access
   access-two second = let known : (rec_by (places t).segs (ref_of p)).frame ≡ Some f = rw (place-by t (ref_of p)) at in rw (← first, known) second
 
-  pub stops-second : StopsAt (ref_of q) (Some f) (places t) (places z) → Stops (p ∷ q ∷ []) (places s) (places z)
-  unfolding Stops
-  stops-second second = let known : (rec_by (places t).segs (ref_of p)).frame ≡ Some f = rw (place-by t (ref_of p)) at in inr (rw (← first, known) second)
+  pub counted-two : (b c : Transfers) → b ≡ visit_counted (ref_of p) None (places s) no_transfers → c ≡ visit_counted (ref_of q) (Some f) (places t) b → c ≡ access_counted (p ∷ q ∷ []) (places s)
+  unfolding access_counted
+  counted-two b c one second = let known : (rec_by (places t).segs (ref_of p)).frame ≡ Some f = rw (place-by t (ref_of p)) at in rw (← first, known, ← one) second
 
-pub stops-first : (p q : Span) (s t : StoreView) → StopsAt (ref_of p) None (places s) (places t) → Stops (p ∷ q ∷ []) (places s) (places t)
+  pub stops-second : (b c : Transfers) → b ≡ visit_counted (ref_of p) None (places s) no_transfers → StopsAt (ref_of q) (Some f) (places t) (places z) b c → Stops (p ∷ q ∷ []) (places s) (places z) c
+  unfolding Stops
+  stops-second b c one second = let known : (rec_by (places t).segs (ref_of p)).frame ≡ Some f = rw (place-by t (ref_of p)) at in inr (rw (← first, known, ← one) second)
+
+pub stops-first : (p q : Span) (s t : StoreView) (u : Touched) (c : Transfers) → IsUntouched u → StopsAt (ref_of p) None (places s) (places t) (counted u) c → Stops (p ∷ q ∷ []) (places s) (places t) c
 unfolding Stops
-stops-first p q s t is = inl is
+stops-first p q s t u c none is = inl (rw (untouched-counted u none) at is)
 
 pub access-none : (s : StoreView) → places s ≡ after_access [] (places s)
 unfolding after_access
 access-none s = refl
+
+pub counted-none : (s : StoreView) (u : Touched) → IsUntouched u → counted u ≡ access_counted [] (places s)
+unfolding access_counted
+counted-none s u none = untouched-counted u none
 
 -- frames become dirty, one after another
 pub dirty-none : (s : StoreView) → places s ≡ with_dirty [] (places s)

@@ -8,10 +8,11 @@ use Rattle.shm_fault.specs.declared.access.InFrames.{InFrames}
 use Rattle.shm_fault.specs.declared.touched.Touched.{Touched}
 use Rattle.shm_fault.specs.declared.touched.PagerFailed.{PagerFailed}
 use Rattle.shm_fault.specs.Segs.{rec_by}
-use Rattle.shm_fault.specs.Store.{StoreView, frame_of, page_of, ref_of, is_swapped, IsResident, IsReferenced, pages_among, swapped_among}
+use Rattle.shm_fault.specs.Store.{StoreView, frame_of, page_of, ref_of, is_swapped, IsResident, IsReferenced}
 use Rattle.shm_fault.specs.Steps.{MovesLead, LockedPagesStay}
-use Rattle.shm_fault.specs.Goes.{Goes, KeepsLocked, Visits, MovesOn, frame_by, referenced_at}
-use Rattle.shm_fault.specs.Counting.{raised, one_if, CountsOn}
+use Rattle.shm_fault.specs.Goes.{Goes, KeepsLocked, Visits, MovesOn, CountsFailure, frame_by, referenced_at}
+use Rattle.shm_fault.specs.Counting.{counted, raised, one_if, CountsOn}
+use Rattle.shm_fault.specs.Placing.{access_counted, places, visit_counted}
 use Rattle.shm_fault.specs.Sound.{IsStoreSound}
 
 -- each span names the frame of its page
@@ -34,9 +35,11 @@ pub record Visited
   pub few : length v.moved.items ≤ length u.moved.items + 2
   pub ins : v.ins ≡ u.ins + one_if (ok && is_swapped (rec_by s.segs r))
   pub outs : v.outs ≤ u.outs + 1
+  pub transfers : ok ≡ true → counted v ≡ visit_counted r pinned (places s) (counted u)
   pub counts : CountsOn u v s t
   pub quiet : IsSome known → (ok ≡ true) × (v ≡ u) × (t.segs ≡ s.segs) × (t.swap ≡ s.swap)
   pub cause : ok ≡ false → had_cause s.swap t.swap ≡ true
+  pub failures : CountsFailure ok s t
 
 -- the page of a span is in this frame, whose referenced bit is set
 pub record IsIn (t : StoreView) (p : Span) (f : ℕ) : Type 0 where
@@ -49,18 +52,17 @@ AreIn t [] here = ⊤
 AreIn t (p ∷ []) here = IsIn t p here.first
 AreIn t (p ∷ q ∷ ps) here = IsIn t p here.first × IsIn t q here.second
 
--- The effects of paging for spans, whether it succeeds or not. At most as many pages are read, and at most as many written, as
--- the spans have pages. On success each page that was only in a slot was read. The caller's counts and the store's have each.
+-- The effects of paging for spans, whether it succeeds or not. The store's counts rose by the caller's. On success the places
+-- determine those; `Stops` says what was counted before a pager failed.
 pub record Paged (ps : List Span) (s t : StoreView) (u : Touched) (ok : Bool) : Type 0 where
   pub moves : MovesLead u.moved.items s t
   pub few : length u.moved.items ≤ 4
-  pub ins_few : u.ins ≤ pages_among ps
-  pub outs_few : u.outs ≤ pages_among ps
   pub read_in : t.ins ≡ raised s.ins u.ins
   pub written_out : t.outs ≡ raised s.outs u.outs
-  pub swapped : ok ≡ true → swapped_among s ps ≤ u.ins
+  pub transfers : ok ≡ true → counted u ≡ access_counted ps (places s)
   pub quiet : All (IsResident s) ps → (ok ≡ true) × (t.swap ≡ s.swap) × (u.ins ≡ 0) × (u.outs ≡ 0)
   pub cause : ok ≡ false → had_cause s.swap t.swap ≡ true
+  pub failures : CountsFailure ok s t
 
 -- the pages of spans were brought in, or one of them was not
 pub record Brings (ps : List Span) (s t : StoreView) (u : Touched) (ok : Bool) : Type 0 where

@@ -1,13 +1,14 @@
 -- What an access does at the bytes of its spans, and what it leaves.
 use Rattle.std.specs.Prelude.{ℕ, ◌≡◌, ◌+◌, ◌%◌, ◌^◌, ◌==◌, Bool, true, false, if◌then◌else◌, List, length, sum_by, Option, Some, None, is_some, Result, OnOk, OnErr, ⊤}
 use Rattle.std.specs.Int.{w64, from_le_bytes, to_le_bytes}
-use Rattle.shm_base.specs.Exchange.{same_bytes}
+use Rattle.shm_base.specs.Access.{same_bytes}
 use Rattle.shm_base.specs.declared.paging.Span.{Span}
 use Rattle.shm_fault.specs.declared.act.Act.{Act}
 use Rattle.shm_fault.specs.declared.act.Act.TheVariants.{Nothing, Put, PutIfEqual, Add}
 use Rattle.shm_fault.specs.declared.touched.Touched.{Touched}
 use Rattle.shm_fault.specs.declared.touched.PagerFailed.{PagerFailed}
-use Rattle.shm_fault.specs.Access.{Accessed}
+use Rattle.shm_fault.specs.Access.{Accessed, touched_of}
+use Rattle.shm_fault.specs.Counting.{counted}
 use Rattle.shm_fault.specs.Goes.{referenced_at}
 use Rattle.shm_fault.specs.Held.{Held, read_from, written}
 use Rattle.shm_fault.specs.Placing.{Places, places, with_dirty, after_access, Stops, NoneDirtied, AreDirtied}
@@ -93,5 +94,5 @@ pub record Acts
   pub access : Accessed ps s t answer
   pub dirtied : OnOk result (DirtiedIf (is_some put) ps s t)
   pub clean : OnErr result (NoneDirtied s.frames t.frames)
-  pub stopped : OnErr result (Stops ps (places s) (places t))
+  pub stopped : OnErr result (Stops ps (places s) (places t) (counted (touched_of answer)))
   pub places : OnOk result (places t ≡ left_by (is_some put) ps (after_access ps (places s)))

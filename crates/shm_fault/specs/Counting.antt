@@ -12,6 +12,18 @@ raised n (suc k) = raised (next_count n) k
 abbrev pub one_if : Bool → ℕ
 one_if b = if b then 1 else 0
 
+-- how many pages were read from slots, and written to slots
+pub record Transfers : Type 0 where
+  pub reads : ℕ
+  pub writes : ℕ
+
+abbrev pub no_transfers : Transfers
+no_transfers = record { reads = 0; writes = 0 }
+
+-- those that an access counted
+abbrev pub counted : Touched → Transfers
+counted u = record { reads = u.ins; writes = u.outs }
+
 -- no page is counted as read in or written out
 pub record IsUncounted (s t : StoreView) : Type 0 where
   pub ins : t.ins ≡ s.ins

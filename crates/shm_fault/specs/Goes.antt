@@ -94,6 +94,7 @@ IsSlotOf owner gs k = (r : PageRef) → owner ≡ Some r → (rec_by gs r).slot 
 abbrev pub OnlyWrites : StoreView → StoreView → Type 0
 OnlyWrites s t = t ≡ record s { segs = t.segs; frames = t.frames; swap = t.swap; outs = t.outs }
 
--- a write that failed was counted, unless an area has counted its last failure
-abbrev pub CountsWrite : Bool → StoreView → StoreView → Type 0
-CountsWrite ok s t = some_spent t.swap ≡ false → total t.swap ≡ total s.swap + (if ok then 0 else 1)
+-- failures: a step that succeeds counts none, and one that fails counts one, unless an area has counted its last
+abbrev pub CountsFailure : Bool → StoreView → StoreView → Type 0
+CountsFailure true s t = total t.swap ≡ total s.swap
+CountsFailure false s t = some_spent t.swap ≡ false → total t.swap ≡ total s.swap + 1

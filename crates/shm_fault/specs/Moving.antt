@@ -1,15 +1,16 @@
 -- Moving a page out of its slot.
-use Rattle.std.specs.Prelude.{ℕ, ◌≡◌, ◌≢◌, ◌+◌, ◌<◌, ◌≤◌, true, [], Some, None, Result, IfOk, IfErr, OnOk, OnErr, length, set}
+use Rattle.std.specs.Prelude.{ℕ, ◌≡◌, ◌≢◌, ◌+◌, ◌<◌, ◌≤◌, true, false, [], Some, None, Result, IfOk, IfErr, OnOk, OnErr, is_ok, length, set}
 use Rattle.shm_base.specs.declared.paging.PageRef.{PageRef}
 use Rattle.shm_base.specs.declared.paging.Slot.{Slot}
 use Rattle.shm_slots.specs.View.{SwapView, HasSlot, IsFirstFree, IsSwap, area_at, owner_of, page_in, sizes, swap_slots, used_in, used_slots}
-use Rattle.shm_slots.specs.Cause.{GoesOn, had_cause}
+use Rattle.shm_slots.specs.Cause.{GoesOn, had_cause, some_spent, total}
 use Rattle.shm_pager.specs.declared.pager.PagerFault.{PagerFault}
 use Rattle.shm_fault.specs.Held.{pages_in_store}
 use Rattle.shm_fault.specs.Store.{StoreView, Still, held}
 use Rattle.shm_fault.specs.Placing.{places, after_moves, free_slot, own_slot, slot_owners, without_area, StopsMoving}
 use Rattle.shm_fault.specs.declared.touched.PagerFailed.{PagerFailed}
 use Rattle.shm_fault.specs.Counting.{IsUncounted}
+use Rattle.shm_fault.specs.Goes.{CountsFailure}
 use Rattle.shm_fault.specs.Sound.{IsStoreSound}
 use Rattle.shm_fault.specs.Steps.{LockedPagesStay}
 
@@ -49,6 +50,8 @@ pub record Relocates
   pub err : OnErr result (SameOwned before after)
   pub same : OnErr result (slot_owners after ≡ slot_owners before)
   pub cause : OnErr result (had_cause before after ≡ true)
+  pub none : OnOk result (total after ≡ total before)
+  pub failed : OnErr result (some_spent after ≡ false → total after ≡ total before + 1)
   pub goes_on : GoesOn before after
   pub same_sizes : sizes after ≡ sizes before
   pub sound : IsSwap after
@@ -66,6 +69,7 @@ pub record MovesOff {A : Type 0} (area : ℕ) (s t : StoreView) (result : Result
   pub kept_sizes : OnErr result (sizes t.swap ≡ sizes s.swap)
   pub count : length t.frames ≡ length s.frames
   pub cause : OnErr result (had_cause s.swap t.swap ≡ true)
+  pub failures : CountsFailure (is_ok result) s t
   pub moved : IfErr result (λ e. e.touched.moved.items ≡ [])
   pub rest : IsUncounted s t
   pub moves : OnOk result

@@ -3,7 +3,7 @@ use Rattle.std.specs.Prelude.{ℕ, ◌≡◌, ◌<◌, ◌≤◌, ◌+◌, List,
 use Rattle.shm_base.specs.declared.paging.PageRef.{PageRef}
 use Rattle.shm_base.specs.declared.paging.Slot.{Slot}
 use Rattle.shm_slots.specs.View.{SwapView, SameSlots, IsFirstFree, IsSwap, sizes}
-use Rattle.shm_slots.specs.Cause.{had_cause, GoesOn, total}
+use Rattle.shm_slots.specs.Cause.{had_cause, GoesOn, some_spent, total}
 use Rattle.shm_clock.specs.Clock.{may_go}
 use Rattle.shm_frames.specs.Frame.{Frame, frame_at, no_frame}
 use Rattle.shm_fault.specs.declared.paging.Evicted.{Evicted}
@@ -11,9 +11,9 @@ use Rattle.shm_fault.specs.declared.touched.Touched.{Touched}
 use Rattle.shm_fault.specs.Segs.{rec_by, with_rec}
 use Rattle.shm_fault.specs.Store.{StoreView, Still, IsFreeFrame, marked, slot_bytes}
 use Rattle.shm_fault.specs.Sound.{IsStoreSound}
-use Rattle.shm_fault.specs.Goes.{Goes, Alike, unlocked, StaysAway, Visits, MovesOn, OnlyMoves, OnlyWrites, CountsWrite, IsSlotOf, frame_by, referenced_at}
-use Rattle.shm_fault.specs.Counting.{raised, one_if, CountsOn}
-use Rattle.shm_fault.specs.Placing.{places, after_page_out, after_clean, after_turn, after_eviction, after_room, frame_for, settled, slotted, vacated, victim_in, with_bit, StopsAtWrite}
+use Rattle.shm_fault.specs.Goes.{Goes, Alike, unlocked, StaysAway, Visits, MovesOn, OnlyMoves, OnlyWrites, CountsFailure, IsSlotOf, frame_by, referenced_at}
+use Rattle.shm_fault.specs.Counting.{counted, raised, one_if, CountsOn}
+use Rattle.shm_fault.specs.Placing.{places, after_page_out, after_clean, after_turn, after_eviction, after_room, frame_for, room_counted, settled, slotted, vacated, victim_in, with_bit, StopsAtWrite}
 
 -- A frame got the bytes of a slot, or zeros. If a pager failed its bytes are unknown.
 pub record FillsFrom
@@ -25,6 +25,7 @@ pub record FillsFrom
   pub kept : SameSlots old new
   pub slot : OnErr result (is_some from ≡ true)
   pub cause : OnErr result (had_cause old new ≡ true)
+  pub failed : IsSwap old → OnErr result (some_spent new ≡ false → total new ≡ total old + 1)
   pub goes_on : GoesOn old new
   pub sizes : sizes new ≡ sizes old
   pub sound : IsSwap old → IsSwap new
@@ -63,6 +64,7 @@ pub record Loads
   pub slot : OnErr result (is_some from ≡ true)
   pub visits : (page : PageRef) (pinned : Option ℕ) → Visits page pinned s t
   pub cause : OnErr result (had_cause s.swap t.swap ≡ true)
+  pub failures : CountsFailure (is_ok result) s t
 
 -- The slot of the page in a dirty frame. If it had none, it got the lowest free slot of the first area that has one.
 pub record FindsSlot (frame : ℕ) (s t : StoreView) (slot : Slot) : Type 0 where
@@ -84,7 +86,7 @@ pub record WritesBack {A E : Type 0} (frame : ℕ) (s t : StoreView) (result : R
   pub outs : t.outs ≡ raised s.outs (one_if (is_ok result))
   pub goes : Goes s t
   pub cause : OnErr result (had_cause s.swap t.swap ≡ true)
-  pub counted : CountsWrite (is_ok result) s t
+  pub failures : CountsFailure (is_ok result) s t
   pub placed : places t ≡ with_bit frame (not (is_ok result)) (places s)
   pub sound : IsStoreSound t
 
@@ -97,7 +99,7 @@ pub record PagesOut {A E : Type 0} (frame : ℕ) (s t : StoreView) (result : Res
   pub away : StaysAway s t
   pub goes : Goes s t
   pub cause : OnErr result (had_cause s.swap t.swap ≡ true)
-  pub counted : CountsWrite (is_ok result) s t
+  pub failures : CountsFailure (is_ok result) s t
   pub placed : places t ≡ after_page_out frame (is_ok result) (places s)
   pub sound : IsStoreSound t
 
@@ -115,6 +117,7 @@ pub record Cleans {E : Type 0} (frame : ℕ) (s t : StoreView) (result : Result 
   pub away : StaysAway s t
   pub goes : Goes s t
   pub cause : OnErr result (had_cause s.swap t.swap ≡ true)
+  pub failures : CountsFailure (is_ok result) s t
 
 -- the victim's page left its frame, or its write failed
 pub record Evicts
@@ -127,8 +130,11 @@ pub record Evicts
   pub outs : MatchResult result (λ e. t.outs ≡ raised s.outs (one_if e.written)) (λ _. t.outs ≡ s.outs)
   pub placed : OnOk result (places t ≡ after_eviction pinned (places s))
   pub chosen : IfOk result (λ e. e.frame ≡ victim_in pinned (places s))
+  pub written :
+      IfOk result (λ e. e.written ≡ (frame_at (places s).frames (victim_in pinned (places s))).dirty)
   pub stopped : OnErr result (StopsAtWrite pinned (places s) (places t))
   pub cause : OnErr result (had_cause s.swap t.swap ≡ true)
+  pub failures : CountsFailure (is_ok result) s t
 
 -- a frame is free now, or the write of the victim's page failed
 pub record MakesRoom
@@ -142,8 +148,11 @@ pub record MakesRoom
   pub counts : CountsOn u v s t
   pub placed : OnOk result (places t ≡ after_room pinned (places s))
   pub chosen : IfOk result (λ f. f ≡ frame_for pinned (places s))
+  pub transfers : OnOk result (counted v ≡ room_counted pinned (places s) (counted u))
+  pub uncounted : OnErr result (counted v ≡ counted u)
   pub stopped : OnErr result (StopsAtWrite pinned (places s) (places t))
   pub cause : OnErr result (had_cause s.swap t.swap ≡ true)
+  pub failures : CountsFailure (is_ok result) s t
 
 -- a page came into a free frame, or its read failed
 pub record ComesIn
@@ -161,3 +170,4 @@ pub record ComesIn
   pub stopped : OnErr result (places t ≡ places s)
   pub slot : OnErr result (is_some (rec_by s.segs page).slot ≡ true)
   pub cause : OnErr result (had_cause s.swap t.swap ≡ true)
+  pub failures : CountsFailure (is_ok result) s t

@@ -1,5 +1,5 @@
 -- Where pages are and which bits are set, without the bytes, and how each step of paging changes that.
-use Rattle.std.specs.Prelude.{ℕ, zero, suc, ◌≡◌, ◌≢◌, ⊤, ◌<◌, ◌⊎◌, Bool, true, false, not, ◌||◌, if◌then◌else◌, List, [], ◌∷◌, map, set, get_or, length, sum_by, Option, Some, None, is_some, is_none, nat_eq, unwrap_or, position}
+use Rattle.std.specs.Prelude.{ℕ, zero, suc, ◌≡◌, ◌≢◌, ⊤, ◌<◌, ◌+◌, ◌⊎◌, Bool, true, false, not, ◌||◌, if◌then◌else◌, List, [], ◌∷◌, map, set, get_or, length, sum_by, Option, Some, None, is_some, is_none, nat_eq, unwrap_or, position}
 use Rattle.shm_base.specs.declared.paging.PageRef.{PageRef}
 use Rattle.shm_base.specs.declared.paging.Slot.{Slot}
 use Rattle.shm_base.specs.declared.paging.Span.{Span}
@@ -11,6 +11,7 @@ use Rattle.shm_fault.specs.declared.touched.PageTally.{PageTally}
 use Rattle.shm_fault.specs.Segs.{SegRec, no_page, rec_by, with_rec, but}
 use Rattle.shm_fault.specs.Store.{StoreView, ref_of, dirty_in}
 use Rattle.shm_fault.specs.Goes.{unlocked, frame_by}
+use Rattle.shm_fault.specs.Counting.{Transfers, no_transfers, one_if}
 
 -- each page's frame and slot, each frame's page and bits, the clock's hand, and each slot's page by area
 pub record Places : Type 0 where
@@ -148,6 +149,31 @@ after_access (p ∷ q ∷ ps) s =
     let first = after_visit (ref_of p) None s in
     after_visit (ref_of q) (rec_by first.segs (ref_of p)).frame first
 
+-- for room: if no frame is free, the victim's page is written if it is dirty
+unfoldable pub room_counted : Option ℕ → Places → Transfers → Transfers
+room_counted pinned s c =
+    if is_some (position is_free s.frames)
+    then c
+    else record c { writes = c.writes + one_if (frame_at s.frames (victim_in pinned s)).dirty }
+
+-- for a page that is not resident: room, and it is read if it is in a slot
+abbrev pub page_counted : PageRef → Option ℕ → Option ℕ → Places → Transfers → Transfers
+page_counted r (Some f) pinned s c = c
+page_counted r None pinned s c =
+    let room = room_counted pinned s c in
+    record room { reads = room.reads + one_if (is_some (rec_by s.segs r).slot) }
+
+unfoldable pub visit_counted : PageRef → Option ℕ → Places → Transfers → Transfers
+visit_counted r pinned s c = page_counted r (rec_by s.segs r).frame pinned s c
+
+-- how many pages an access reads and writes, by the visits of `after_access`
+unfoldable pub access_counted : List Span → Places → Transfers
+access_counted [] s = no_transfers
+access_counted (p ∷ []) s = visit_counted (ref_of p) None s no_transfers
+access_counted (p ∷ q ∷ ps) s =
+    let first = after_visit (ref_of p) None s in
+    visit_counted (ref_of q) (rec_by first.segs (ref_of p)).frame first (visit_counted (ref_of p) None s no_transfers)
+
 -- the frames of the pages of spans are dirty
 abbrev pub dirtied : Option ℕ → Places → Places
 dirtied None s = s
@@ -168,18 +194,21 @@ pub record StopsAtRead (r : PageRef) (pinned : Option ℕ) (s t : Places) : Type
   pub slot : is_some (rec_by s.segs r).slot ≡ true
   pub places : t ≡ after_room pinned s
 
--- a page that was not resident did not come in
-pub record StopsAt (r : PageRef) (pinned : Option ℕ) (s t : Places) : Type 0 where
+-- a page that was not resident did not come in; neither the write nor the read that failed was counted
+pub record StopsAt (r : PageRef) (pinned : Option ℕ) (s t : Places) (before after : Transfers) : Type 0 where
   pub away : (rec_by s.segs r).frame ≡ None
-  pub how : StopsAtWrite pinned s t ⊎ StopsAtRead r pinned s t
+  pub how : (StopsAtWrite pinned s t × (after ≡ before))
+      ⊎ (StopsAtRead r pinned s t × (after ≡ room_counted pinned s before))
 
--- a pager failed for the first page; or for the second, after the first had come in
-unfoldable pub Stops : List Span → Places → Places → Type 0
-Stops [] s t = ⊥
-Stops (p ∷ []) s t = StopsAt (ref_of p) None s t
-Stops (p ∷ q ∷ ps) s t =
+-- A pager failed for the first page; or for the second, after the first had come in. This many pages were read and written before.
+unfoldable pub Stops : List Span → Places → Places → Transfers → Type 0
+Stops [] s t c = ⊥
+Stops (p ∷ []) s t c = StopsAt (ref_of p) None s t no_transfers c
+Stops (p ∷ q ∷ ps) s t c =
     let first = after_visit (ref_of p) None s in
-    StopsAt (ref_of p) None s t ⊎ StopsAt (ref_of q) (rec_by first.segs (ref_of p)).frame first t
+    let came = visit_counted (ref_of p) None s no_transfers in
+    StopsAt (ref_of p) None s t no_transfers c
+    ⊎ StopsAt (ref_of q) (rec_by first.segs (ref_of p)).frame first t came c
 
 -- frames were written in order; those whose write failed stay dirty
 unfoldable pub after_flush : (ℕ → Bool) → List ℕ → Places → Places

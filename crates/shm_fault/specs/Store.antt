@@ -1,6 +1,6 @@
 -- What contracts see of the page store: where each page of each segment is, and its bytes.
-use Rattle.std.specs.Prelude.{ℕ, ◌≡◌, ◌+◌, Bool, true, false, not, ◌==◌, ◌&&◌, if◌then◌else◌, List, [], ◌∷◌, Option, Some, None, map, is_some, sum_by, count_by, set, length, ◌<◌}
-use Rattle.std.specs.List.{flat_map, list_any}
+use Rattle.std.specs.Prelude.{ℕ, ◌≡◌, Bool, true, false, not, ◌==◌, ◌&&◌, if◌then◌else◌, List, [], Option, Some, None, map, is_some, sum_by, count_by, set, length, ◌<◌}
+use Rattle.std.specs.List.{flat_map}
 use Rattle.shm_base.specs.declared.paging.PageRef.{PageRef}
 use Rattle.shm_base.specs.declared.paging.Slot.{Slot}
 use Rattle.shm_base.specs.declared.paging.Span.{Span}
@@ -102,22 +102,6 @@ swapped s = sum_by swapped_pages s.segs
 
 abbrev pub is_page : PageRef → ℕ → ℕ → Bool
 is_page r seg page = (r.seg == seg) && (r.page == page)
-
--- the spans are in one page
-abbrev pub same_page : Span → Span → Bool
-same_page p q = is_page (ref_of p) q.seg (page_of q)
-
--- how many pages the spans have; two spans may be in one page
-abbrev pub pages_among : List Span → ℕ
-pages_among [] = 0
-pages_among (p ∷ ps) = (if list_any (same_page p) ps then 0 else 1) + pages_among ps
-
--- how many of these pages are swapped
-abbrev pub swapped_among : StoreView → List Span → ℕ
-swapped_among s [] = 0
-swapped_among s (p ∷ ps) =
-    (if is_swapped (rec_of s p.seg (page_of p)) && not (list_any (same_page p) ps) then 1 else 0)
-    + swapped_among s ps
 
 -- the frames, with one of them marked as dirty or clean
 abbrev pub marked : List Frame → ℕ → Bool → List Frame

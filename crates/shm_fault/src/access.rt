@@ -4,7 +4,7 @@
 //! write makes the frames of its pages dirty, even if it writes the bytes that were there.
 ghost use Rattle.std.specs.Prelude.{◌≡◌, ℕ, ◌+◌, ◌%◌, ◌^◌, None, ◌<◌, ◌≤◌, [], ◌∷◌, length, map, set, true, Some, is_ok, IfOk, OnOk, OnErr, All, IsSome};
 ghost use Rattle.std.specs.Int.{w64, from_le_bytes, to_le_bytes};
-ghost use Rattle.shm_base.specs.Exchange.{same_bytes};
+ghost use Rattle.shm_base.specs.Access.{same_bytes};
 ghost use Rattle.shm_base.specs.declared.paging.Span.{Span as SpanValue};
 ghost use Rattle.shm_base.specs.declared.paging.TheConstants.{PAGE_BYTES};
 ghost use Rattle.shm_fault.specs.Held.{FitsPage, read_from, written, pasted, paste, span_bytes};
@@ -14,7 +14,8 @@ ghost use Rattle.shm_fault.specs.Segs.{HasPage};
 ghost use Rattle.shm_fault.specs.Store.{held, ref_of};
 ghost use Rattle.shm_fault.specs.Sound.{IsStoreSound};
 ghost use Rattle.shm_fault.specs.Goes.{frame_by, referenced_at};
-ghost use Rattle.shm_fault.specs.Placing.{places, with_bit, with_dirty, after_access, Stops, AreDirtied};
+ghost use Rattle.shm_fault.specs.Placing.{places, with_bit, after_access, Stops};
+ghost use Rattle.shm_fault.specs.Counting.{counted};
 ghost use Rattle.shm_fault.specs.Access.{NameFrames, NamesFrame, IsUntouched, AreIn, Brings, answer_of};
 ghost use Rattle.shm_fault.specs.Acting.{Acts, FitsRoom, HasOld, PutAt, Puts, put_by, size_of};
 
@@ -132,7 +133,8 @@ impl<P: Pager> PageStore<P> {
         ensures here { IfOk result (AreIn self.new (first.now ∷ [])) }
         ensures brings { Brings (first.now ∷ []) self.old self.new touched.new (is_ok result) }
         ensures placed { OnOk result (places self.new ≡ after_access (first.now ∷ []) (places self.old)) }
-        ensures stopped { OnErr result (Stops (first.now ∷ []) (places self.old) (places self.new)) }
+        ensures stopped { let count = counted touched.new in
+            OnErr result (Stops (first.now ∷ []) (places self.old) (places self.new) count) }
     {
         let page = self.page_at(first);
         let frame = self.visit(page, first.frame, None, touched)?;
@@ -160,7 +162,7 @@ impl<P: Pager> PageStore<P> {
         ensures placed { let spans = first ∷ second ∷ [] in
             OnOk result (places self.new ≡ after_access spans (places self.old)) }
         ensures stopped { let spans = first ∷ second ∷ [] in
-            OnErr result (Stops spans (places self.old) (places self.new)) }
+            OnErr result (Stops spans (places self.old) (places self.new) (counted touched.new)) }
     {
         let page = self.page_at(&first);
         let near = self.visit(page, first.frame, None, touched)?;
@@ -187,7 +189,8 @@ impl<P: Pager> PageStore<P> {
         ensures here { IfOk result (AreIn self.new spans.now) }
         ensures brings { Brings spans.now self.old self.new touched.new (is_ok result) }
         ensures placed { OnOk result (places self.new ≡ after_access spans.now (places self.old)) }
-        ensures stopped { OnErr result (Stops spans.now (places self.old) (places self.new)) }
+        ensures stopped { let count = counted touched.new in
+            OnErr result (Stops spans.now (places self.old) (places self.new) count) }
         ensures sound { IsStoreSound self.new }
     {
         let brought = match spans {

@@ -1,5 +1,5 @@
 //! What an access does at the bytes of its spans.
-ghost use Rattle.std.specs.Prelude.{◌≡◌, length};
+ghost use Rattle.std.specs.Prelude.{◌≡◌};
 ghost use Rattle.shm_fault.specs.Acting.{size_of, writes};
 
 /// What an access does at its bytes, once their pages are resident.

@@ -1,11 +1,11 @@
 //! Removes swap areas, after moving their pages to the other areas.
-ghost use Rattle.std.specs.Prelude.{◌≡◌, true, Some, None, OnOk, OnErr};
+ghost use Rattle.std.specs.Prelude.{◌≡◌, true, Some, None, OnOk, OnErr, is_ok};
 ghost use Rattle.shm_slots.specs.View.{HasSlot, IsSwap, area_at, page_in};
 ghost use Rattle.shm_slots.specs.Cause.{had_cause};
 ghost use Rattle.shm_fault.specs.Segs.{rec_by};
 ghost use Rattle.shm_fault.specs.Store.{Still};
 ghost use Rattle.shm_fault.specs.Sound.{IsStoreSound};
-ghost use Rattle.shm_fault.specs.Goes.{Goes};
+ghost use Rattle.shm_fault.specs.Goes.{CountsFailure, Goes};
 ghost use Rattle.shm_fault.specs.Counting.{IsUncounted};
 ghost use Rattle.shm_fault.specs.Placing.{places, slot_owners, free_slot, moves_page, after_move, StopsAtMove};
 ghost use Rattle.shm_fault.specs.Moving.{HasFreeOutside, FitOutside, Relocates, MovesOff, IsCleared};
@@ -68,6 +68,7 @@ impl<P: Pager> PageStore<P> {
         ensures still { Still self.old self.new }
         ensures cleared { IsCleared slot self.old.swap self.new.swap }
         ensures rest { IsUncounted self.old self.new }
+        ensures failures { CountsFailure true self.old self.new }
         ensures placed { places self.new ≡ moves_page slot page (Some frame) None (places self.old) }
         ensures sound { IsStoreSound self.new }
     {
@@ -94,6 +95,7 @@ impl<P: Pager> PageStore<P> {
             OnOk result (places self.new ≡ moves_page slot page None to (places self.old)) }
         ensures stopped { OnErr result (places self.new ≡ places self.old) }
         ensures cause { OnErr result (had_cause self.old.swap self.new.swap ≡ true) }
+        ensures failures { CountsFailure (is_ok result) self.old self.new }
         ensures sound { IsStoreSound self.new }
     {
         let to = relocate(&mut self.swap, page, slot)?;
@@ -118,6 +120,7 @@ impl<P: Pager> PageStore<P> {
         ensures placed { OnOk result (places self.new ≡ after_move slot (places self.old)) }
         ensures stopped { OnErr result (StopsAtMove slot (places self.old) (places self.new)) }
         ensures cause { OnErr result (had_cause self.old.swap self.new.swap ≡ true) }
+        ensures failures { CountsFailure (is_ok result) self.old self.new }
         ensures sound { IsStoreSound self.new }
     {
         let Some(page) = self.swap.owner(slot) else {

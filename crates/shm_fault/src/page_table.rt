@@ -3,7 +3,7 @@
 //! Room for the records of all its pages is reserved when the table is made. A record is written once its page
 //! is somewhere, together with those of the pages before it. So pages that nobody touches cost nothing, neither
 //! when the table is made nor when it goes.
-ghost use Rattle.std.specs.Prelude.{◌≡◌, ℕ, ◌+◌, ◌<◌, ◌≤◌, ◌^◌, length, count_by, set, replicate, vec_capacity, false, true, IfOk};
+ghost use Rattle.std.specs.Prelude.{◌≡◌, ℕ, ◌+◌, ◌<◌, ◌≤◌, ◌^◌, length, count_by, set, vec_capacity, false, true, IfOk};
 ghost use Rattle.shm_base.specs.Stored.{padded};
 ghost use Rattle.shm_fault.specs.Segs.{rec_at, no_page, new_seg, is_placed};
 ghost use Rattle.shm_fault.specs.Store.{is_swapped};

@@ -8,6 +8,7 @@ ghost use Rattle.shm_fault.specs.Segs.{rec_by, HasPage};
 ghost use Rattle.shm_fault.specs.Store.{slot_bytes};
 ghost use Rattle.shm_fault.specs.Placing.{places, settled, referenced, after_visit, StopsAt};
 ghost use Rattle.shm_fault.specs.Access.{Visited};
+ghost use Rattle.shm_fault.specs.Counting.{counted};
 ghost use Rattle.shm_fault.specs.Paging.{FillsFrom, NamesVictim, FindsSlot, Leaves, Loads, WritesBack, PagesOut, Cleans, Evicts, MakesRoom, ComesIn};
 ghost use Rattle.shm_fault.specs.Goes.{Visits, IsSeenIn, OnlyMoves, IsSlotOf, referenced_at, unlocked, frame_by};
 
@@ -266,7 +267,8 @@ impl<P: Pager> PageStore<P> {
         ensures here { IfOk result (IsSeenIn self.new page) }
         ensures visited { Visited page pinned None self.old self.new touched.old touched.new (is_ok result) }
         ensures placed { OnOk result (places self.new ≡ after_visit page pinned (places self.old)) }
-        ensures stopped { OnErr result (StopsAt page pinned (places self.old) (places self.new)) }
+        ensures stopped { let c = counted touched.new in
+            OnErr result (StopsAt page pinned (places self.old) (places self.new) (counted touched.old) c) }
     {
         let frame = self.take_frame(pinned, touched)?;
         self.come_in(frame, page, touched)?;
@@ -302,7 +304,8 @@ impl<P: Pager> PageStore<P> {
         ensures here { IfOk result (IsSeenIn self.new page) }
         ensures visited { Visited page pinned known self.old self.new touched.old touched.new (is_ok result) }
         ensures placed { OnOk result (places self.new ≡ after_visit page pinned (places self.old)) }
-        ensures stopped { OnErr result (StopsAt page pinned (places self.old) (places self.new)) }
+        ensures stopped { let c = counted touched.new in
+            OnErr result (StopsAt page pinned (places self.old) (places self.new) (counted touched.old) c) }
     {
         match known {
             Some(frame) => {

@@ -4,7 +4,7 @@ ghost use Rattle.shm_fault.specs.Held.{is_held, pages_in_store, locked_pages_in_
 ghost use Rattle.shm_slots.specs.View.{swap_slots, owner_of, AreCountsOf};
 ghost use Rattle.shm_slots.specs.Cause.{total};
 ghost use Rattle.shm_frames.specs.Frame.{IsFrameBlank};
-ghost use Rattle.shm_fault.specs.Segs.{count_by_id, find_seg, with_seg, with_seg_lock};
+ghost use Rattle.shm_fault.specs.Segs.{count_by_id, find_seg, NowhereFrom, with_seg, with_seg_lock};
 ghost use Rattle.shm_fault.specs.Store.{fresh_store, held, frame_of, Still, resident, swapped, dirty, used};
 ghost use Rattle.shm_base.specs.declared.bounds.TheConstants.{MOST_FRAMES};
 ghost use Rattle.shm_fault.specs.Sound.{IsStoreSound};
@@ -114,10 +114,11 @@ impl<P: Pager> PageStore<P> {
         self.segs.page(PageRef { seg, page }).frame
     }
 
-    /// How many of the first pages of a segment may be in a frame. Later pages were never touched.
+    /// How many of the first pages of a segment may be in a frame or a slot. Later pages are in neither.
     pub fn touched(&self, seg: u32) -> u32
         ensures few { result ≤ count_by_id self.now.segs seg }
         ensures rest { (page : ℕ) → result ≤ page → frame_of self.now seg page ≡ None }
+        ensures nowhere { NowhereFrom result seg self.now.segs }
     {
         self.segs.touched(seg)
     }

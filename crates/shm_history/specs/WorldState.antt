@@ -57,9 +57,10 @@ pub record IsCalled (before : WorldState) (pid : ℕ) (call : ProcessCall) (repl
   pub move_of : IsMove before.machine (length before.events + 1) (event pid call reply) after.machine
   pub cause : is_failure call reply ≡ true → had_cause before.memory.swap after.memory.swap ≡ true
   pub keeps : KeepsOn before.memory after.memory
-  pub still : StillIfRefused reply before.memory after.memory
+  pub still : StillIfRefused (is_failure call reply) reply before.memory after.memory
   pub paged :
-      Pages (paging_of call (caller_of before.machine pid)) (is_failure call reply) reply before.memory after.memory
+      let does = paging_of before.machine.table call (caller_of before.machine pid) in
+      Pages does (is_failure call reply) reply before.memory after.memory
   pub opening : after.opening ≡ before.opening
   pub room : before.room ≤ after.room + 1
 

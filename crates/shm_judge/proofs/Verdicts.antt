@@ -23,7 +23,7 @@ use Rattle.shm_schedules.specs.Schedules.{Run, fresh, replies_to, reply_of, Lead
 use Rattle.shm_schedules.specs.Finding.{Finding, finding_of}
 use Rattle.shm_schedules.specs.Text.{reply_words, time_text}
 use Rattle.shm_schedules.specs.declared.search_error.SearchError.{SearchError}
-use Rattle.shm_schedules.specs.declared.search_error.SearchError.TheVariants.{Engine, Bound}
+use Rattle.shm_schedules.specs.declared.search_error.SearchError.TheVariants.{HostMemory, Bound}
 use Rattle.shm_schedules.proofs.Going.{GoAlike, alike-go, go-refl, go-sym, go-trans, goes-alike, leads-redone, over-alike, told-at}
 use Rattle.shm_schedules.proofs.Walking.{contains-none, follower-reached, followers-all, followers-contain, last-of, none-over, over-none, rest-of}
 
@@ -217,7 +217,7 @@ module _ (script : ScriptView) (log : List (List Answer)) (machine : Machine) wh
 
   too-many : (seen : List Finding) (m : Run) (most : ℕ) (error : SearchError)
       → All (IsFound script log first) seen → AllPairs AreApart seen → IsReached script first m → IsTooMany script log m seen most error → IsDoubt script log first most error
-  too-many seen m most (Engine e) found apart reached h = tt
+  too-many seen m most HostMemory found apart reached h = tt
   too-many seen m most Bound found apart reached h =
       let f = finding_of script m.events in (
         seen ++ f ∷ [],

@@ -11,7 +11,7 @@ use Rattle.shm_judge.specs.Stuck.{Stuck}
 use Rattle.shm_judge.specs.declared.verdict.Verdict.{Verdict}
 use Rattle.shm_judge.specs.declared.verdict.Verdict.TheVariants.{Legal, Illegal}
 use Rattle.shm_schedules.specs.declared.search_error.SearchError.{SearchError}
-use Rattle.shm_schedules.specs.declared.search_error.SearchError.TheVariants.{Engine, Bound}
+use Rattle.shm_schedules.specs.declared.search_error.SearchError.TheVariants.{HostMemory, Bound}
 
 -- these are the calls and replies of a schedule, and the replies are those of the log
 abbrev pub IsExplained : ScriptView → List (List Answer) → Run → List Event → Type 0
@@ -58,5 +58,5 @@ AreMore script log first most = (found : List Finding) × (most < length found) 
 
 -- why a judge has no verdict
 abbrev pub IsDoubt : ScriptView → List (List Answer) → Run → ℕ → SearchError → Type 0
-IsDoubt script log first most (Engine e) = Unit {0}
+IsDoubt script log first most HostMemory = Unit {0}
 IsDoubt script log first most Bound = AreMore script log first most

@@ -8,7 +8,7 @@ use Rattle.shm_schedules.specs.Schedules.{Run, goes, IsOver, IsSchedule, IsReach
 use Rattle.shm_schedules.specs.Finding.{Finding, finding_of}
 use Rattle.shm_judge.specs.Stuck.{Stuck}
 use Rattle.shm_schedules.specs.declared.search_error.SearchError.{SearchError}
-use Rattle.shm_schedules.specs.declared.search_error.SearchError.TheVariants.{Engine, Bound}
+use Rattle.shm_schedules.specs.declared.search_error.SearchError.TheVariants.{HostMemory, Bound}
 use Rattle.shm_judge.specs.Judge.{AreApart, IsBeginning, IsFound, stuck_at}
 
 -- THE SEARCH
@@ -36,7 +36,7 @@ IsTaken script log run seens news olds runs =
     IsLeft script log run seens news olds runs ⊎ (IsNew script log seens run × IsPut run (finding_of script run.events) seens news olds runs)
 
 abbrev pub IsTooMany : ScriptView → List (List Answer) → Run → List Finding → ℕ → SearchError → Type 0
-IsTooMany script log run seen most (Engine e) = Unit {0}
+IsTooMany script log run seen most HostMemory = Unit {0}
 IsTooMany script log run seen most Bound = IsNew script log seen run × (most ≤ length seen)
 
 -- a run that was visited does not have all of the log, is no longer than the longest, and all runs that follow it were met, or

@@ -12,16 +12,15 @@ use crate::log::{Entry, Log};
 use crate::ordered::{explained, is_whole};
 use crate::plan::last_line;
 use crate::verdict::{Stuck, Verdict};
-use shm_base::Event;
+use shm_base::{Event, HostMemory};
 use shm_schedules::{
-    Engine, EngineError, Finding, Outcome, Run, SearchError, are_same_events, changes,
-    push_followers,
+    Engine, Finding, Outcome, Run, SearchError, are_same_events, changes, push_followers,
 };
 use shm_text::Script;
 use std::alloc::Global;
 
 // Whether two runs are equivalent.
-fn are_alike(alloc: Global, finding: &Finding, other: &Finding) -> Result<bool, EngineError>
+fn are_alike(alloc: Global, finding: &Finding, other: &Finding) -> Result<bool, HostMemory>
     ensures { IfOk result (λ r. IsTrue r ↔ AreAlike finding.now other.now) }
 {
     if finding.events.len() != other.events.len() {
@@ -36,7 +35,7 @@ fn are_alike(alloc: Global, finding: &Finding, other: &Finding) -> Result<bool, 
 }
 
 // Whether a run like this one was met before.
-fn is_met(alloc: Global, seen: &[Finding], found: &Finding) -> Result<bool, EngineError>
+fn is_met(alloc: Global, seen: &[Finding], found: &Finding) -> Result<bool, HostMemory>
     ensures { IfOk result (λ r. IsTrue r ↔ IsMet seen.now found.now) }
 {
     for finding in seen {
@@ -51,7 +50,7 @@ fn finding_at<M: Engine>(
     alloc: Global,
     script: &Script,
     run: &Run<M>,
-) -> Result<Finding, EngineError>
+) -> Result<Finding, HostMemory>
     ensures { IfOk result (λ f. f ≡ finding_of script.now run.now.events) }
 {
     let outcome = Outcome::of(alloc, script, run.events())?;
@@ -60,7 +59,7 @@ fn finding_at<M: Engine>(
 }
 
 // The run, and the calls by which it can continue.
-fn stuck_at<M: Engine>(alloc: Global, script: &Script, run: &Run<M>) -> Result<Stuck, EngineError>
+fn stuck_at<M: Engine>(alloc: Global, script: &Script, run: &Run<M>) -> Result<Stuck, HostMemory>
     ensures { IfOk result (λ s. s ≡ stuck_at script.now run.now) }
 {
     let mut offered = Vec::new(alloc);
@@ -133,7 +132,7 @@ fn keep_longest<M: Engine>(
     script: &Script,
     run: &Run<M>,
     stuck: &mut Stuck,
-) -> Result<(), EngineError>
+) -> Result<(), HostMemory>
     ensures { OnOk result (IsLonger script.now run.now stuck.old stuck.new) }
 {
     if run.events().len() > stuck.events.len() {

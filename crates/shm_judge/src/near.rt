@@ -5,7 +5,8 @@ ghost use Rattle.shm_schedules.specs.Schedules.{IsReached, Run as FlatRun, fresh
 
 use crate::log::Entry;
 use crate::plan::{Move, Plan, Way};
-use shm_schedules::{Engine, EngineError, Run};
+use shm_base::HostMemory;
+use shm_schedules::{Engine, Run};
 use shm_text::Script;
 use std::alloc::{AllocError, Global};
 
@@ -30,7 +31,7 @@ fn goes_as<M: Engine>(
     script: &Script,
     run: &Run<M>,
     entry: &Entry,
-) -> Result<Option<Run<M>>, EngineError>
+) -> Result<Option<Run<M>>, HostMemory>
     ensures { IfOk result (λ r. IfSome r (λ next. goes script.now entry.now.pid run.now ≡ Some next)) }
 {
     let Some(call) = run.next(script, entry.pid) else {
@@ -59,7 +60,7 @@ fn put_next<M: Engine>(
     script: &Script,
     entry: &Entry,
     path: &mut Vec<Run<M>>,
-) -> Result<bool, EngineError>
+) -> Result<bool, HostMemory>
     ensures reached { OnOk result ((first : FlatRun) →
         All (IsReached script.now first) path.old.items → All (IsReached script.now first) path.new.items) }
 {
@@ -82,7 +83,7 @@ fn walk_on<M: Engine>(
     entries: &[Entry],
     plan: &mut Plan,
     path: &mut Vec<Run<M>>,
-) -> Result<bool, EngineError>
+) -> Result<bool, HostMemory>
     ensures reached { OnOk result ((first : FlatRun) →
         All (IsReached script.now first) path.old.items → All (IsReached script.now first) path.new.items) }
 {
@@ -114,7 +115,7 @@ pub(crate) fn near_order<M: Engine>(
     entries: &[Entry],
     machine: M,
     way: Way,
-) -> Result<Option<Run<M>>, EngineError>
+) -> Result<Option<Run<M>>, HostMemory>
     requires new { M.calls machine ≡ 0 }
     ensures { IfOk result (λ r. IfSome r (IsReached script.now (fresh (M.flat machine)))) }
 {
@@ -129,7 +130,7 @@ pub(crate) fn near_order<M: Engine>(
 }
 
 // The run before its first line, alone.
-fn first_path<M: Engine>(alloc: Global, machine: M) -> Result<Vec<Run<M>>, EngineError>
+fn first_path<M: Engine>(alloc: Global, machine: M) -> Result<Vec<Run<M>>, HostMemory>
     requires { M.calls machine ≡ 0 }
     ensures { IfOk result (λ path. path.items ≡ fresh (M.flat machine) ∷ []) }
 {

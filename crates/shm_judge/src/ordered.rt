@@ -8,8 +8,8 @@ ghost use Rattle.shm_schedules.specs.Schedules.{fresh, goes};
 use crate::log::{Entry, Log};
 use crate::near::near_order;
 use crate::plan::Way;
-use shm_base::Event;
-use shm_schedules::{Engine, EngineError, Run, push_followers};
+use shm_base::{Event, HostMemory};
+use shm_schedules::{Engine, Run, push_followers};
 use shm_text::Script;
 use std::alloc::Global;
 
@@ -24,7 +24,7 @@ pub(crate) fn explained<M: Engine>(
     log: &Log,
     entries: &[Entry],
     machine: &M,
-) -> Result<Option<Vec<Event>>, EngineError>
+) -> Result<Option<Vec<Event>>, HostMemory>
     requires new { M.calls machine.now ≡ 0 }
     ensures { IfOk result (λ r. IfSome r (λ events.
         IsExplained script.now log.now (fresh (M.flat machine.now)) events.items)) }
@@ -44,7 +44,7 @@ fn in_order<M: Engine>(
     log: &Log,
     entries: &[Entry],
     machine: M,
-) -> Result<Option<Vec<Event>>, EngineError>
+) -> Result<Option<Vec<Event>>, HostMemory>
     requires new { M.calls machine ≡ 0 }
     ensures some { IfOk result (λ r. IfSome r (λ events.
         IsExplained script.now log.now (fresh (M.flat machine)) events.items)) }
@@ -71,7 +71,7 @@ pub(crate) fn is_whole<M: Engine>(
     log: &Log,
     run: &Run<M>,
     offered: &[Run<M>],
-) -> Result<bool, EngineError>
+) -> Result<bool, HostMemory>
     ensures { IfOk result (λ r.
         IsTrue r ↔ (offered.now ≡ []) × AllFill script.now log.now run.now.events) }
 {
@@ -88,7 +88,7 @@ fn is_whole_in<M: Engine>(
     script: &Script,
     log: &Log,
     run: &Run<M>,
-) -> Result<bool, EngineError>
+) -> Result<bool, HostMemory>
     ensures { IfOk result (λ r. IsTrue r ↔ IsWholeIn script.now log.now run.now) }
 {
     let mut offered = Vec::new(alloc);
@@ -106,7 +106,7 @@ fn found_by<M: Engine>(
     entries: &[Entry],
     machine: M,
     way: Way,
-) -> Result<Option<Vec<Event>>, EngineError>
+) -> Result<Option<Vec<Event>>, HostMemory>
     requires new { M.calls machine ≡ 0 }
     ensures { IfOk result (λ r. IfSome r (λ events.
         IsExplained script.now log.now (fresh (M.flat machine)) events.items)) }
@@ -127,7 +127,7 @@ fn near_events<M: Engine>(
     log: &Log,
     entries: &[Entry],
     machine: &M,
-) -> Result<Option<Vec<Event>>, EngineError>
+) -> Result<Option<Vec<Event>>, HostMemory>
     requires new { M.calls machine.now ≡ 0 }
     ensures { IfOk result (λ r. IfSome r (λ events.
         IsExplained script.now log.now (fresh (M.flat machine.now)) events.items)) }

@@ -6,9 +6,9 @@ ghost use Rattle.shm_schedules.specs.Schedules.{fresh};
 
 use rand::RngExt;
 use rand_core::Rng;
-use shm_base::{Call, Event};
+use shm_base::{Call, Event, HostMemory};
 use shm_print::event_text;
-use shm_schedules::{Engine, EngineError, Run, put, put_number};
+use shm_schedules::{Engine, Run, put, put_number};
 use shm_text::Script;
 use std::alloc::{AllocError, Global};
 
@@ -69,7 +69,7 @@ fn sample<M: Engine, R: Rng>(
     script: &Script,
     machine: M,
     rng: &mut R,
-) -> Result<Vec<Event>, EngineError>
+) -> Result<Vec<Event>, HostMemory>
     requires new { M.calls machine ≡ 0 }
     ensures { IfOk result (λ events.
         IsSample script.now (fresh (M.flat machine)) (R.stream rng.old) events.items (R.stream rng.new)) }
@@ -90,7 +90,7 @@ fn put_sample<M: Engine, R: Rng>(
     number: u64,
     rng: &mut R,
     text: &mut Vec<u8>,
-) -> Result<(), EngineError>
+) -> Result<(), HostMemory>
     requires new { M.calls machine.now ≡ 0 }
     ensures { OnOk result (IsPutSample script.now (fresh (M.flat machine.now)) number
         (R.stream rng.old) (R.stream rng.new) text.old.items text.new.items) }
@@ -103,14 +103,14 @@ fn put_sample<M: Engine, R: Rng>(
 
 /// The text of this many runs of a script, from a machine that has made no call. In each run the
 /// generator draws the process that continues among those that can, until none can. The same generator gives
-/// the same runs. Errors: the host refused memory, or a pager failed.
+/// the same runs. HostMemory: the host refused memory.
 pub fn samples<M: Engine, R: Rng>(
     alloc: Global,
     script: &Script,
     machine: &M,
     count: u64,
     rng: &mut R,
-) -> Result<Vec<u8>, EngineError>
+) -> Result<Vec<u8>, HostMemory>
     requires new { M.calls machine.now ≡ 0 }
     ensures { IfOk result (λ text. AreSamples script.now (fresh (M.flat machine.now)) count
         (R.stream rng.old) (R.stream rng.new) text.items) }

@@ -1,5 +1,5 @@
 -- Each piece descends from a shmat that had permission, and each move refuses processes without it.
-use Rattle.shm_laws.proofs.Names.{new_piece, ◌≡◌, ◌⊎◌, ℕ, ◌+◌, ◌*◌, ◌%◌, ◌<◌, ℤ, Bool, true, false, not, List, [], ◌∷◌, ◌++◌, length, get_or, Option, Some, None, slice_get, slice_set, refl, sym, ap, subst, ◌∙◌, inl, inr, arith, true≢false, All, Contains, none-some, slice_get_within, get_or_from_slice_get, All-nil, All-append, All-filter, All-map, All-weaker, All-contains, Contains-get_or, flat_map-cons, common_steps, ProcessCall, Load, Store, Xadd, Done, Event, Place, covers, places, writable_places, Segment, Piece, Live, Runner, Machine, Opening, start_of, runner_at_start, pages_in, look, meets, part_below, part_above, parts, cut, inserted, Caller, Outcome, caller_of, acts, pieces_with, is_rdonly, controls, load, store, xadd, is_refusal, IsMove, IsHistory, all-cons, all-head, all-tail, all-slice_set, HasPiece, EachPiece, IsPart, IsGranted, IsInherited, GoesBack, Granted, Kept, Inherited, Reach, StaysInside, controlled, OwnerAsks, KeepsOut, KeepsCredentials, MayAsk, NoWayIn, ShmidDs, pos, negsuc, stat, wish_of, grants, not-false, Look, Found, Removed, Invalid, Stands, IsCreated, Swapoff, swapoff, IsUserZero, ◌==◌, Set, Rmid, Lock, Unlock, sets, removes, locks, unlocks}
+use Rattle.shm_laws.proofs.Names.{new_piece, ◌≡◌, ◌⊎◌, ℕ, ◌+◌, ◌*◌, ◌%◌, ◌<◌, ℤ, Bool, true, false, not, List, [], ◌∷◌, ◌++◌, length, get_or, Option, Some, None, slice_get, slice_set, refl, sym, ap, subst, ◌∙◌, inl, inr, arith, true≢false, All, Contains, none-some, slice_get_within, get_or_from_slice_get, All-nil, All-append, All-filter, All-map, All-weaker, All-contains, Contains-get_or, flat_map-cons, common_steps, ProcessCall, Load, Store, Xadd, Done, Event, Place, covers, places, writable_places, Segment, Piece, Live, Runner, Machine, Opening, start_of, runner_at_start, pages_in, look, meets, part_below, part_above, parts, cut, inserted, Caller, Outcome, caller_of, acts, pieces_with, is_rdonly, controls, load, store, xadd, is_refusal, IsMove, IsHistory, all-cons, all-head, all-tail, all-slice_set, HasPiece, EachPiece, IsPart, IsGranted, IsInherited, GoesBack, Granted, Kept, Inherited, Reach, StaysInside, controlled, OwnerAsks, KeepsOut, KeepsCredentials, MayAsk, NoWayIn, ShmidDs, pos, negsuc, stat, wish_of, grants, not-false, Look, Found, Removed, Invalid, Stands, IsCreated, Swapoff, swapoff, IsUserZero, ◌==◌, Set, Rmid, Lock, Unlock, sets, removes, locks, unlocks, Exchange, CompareExchange, exchange, compare_exchange}
 use Rattle.shm_laws.proofs.Accessing.{lies-in, place-of, writable-at, writable-parts}
 use Rattle.shm_laws.proofs.Handing.{CallerAt, caller-at, IsAligned, Attaches, Leaves, Forks, Hands, hands-acts}
 use Rattle.shm_laws.proofs.Inducting.{each_move, at_all_times}
@@ -224,10 +224,22 @@ module _ (s : Machine) (n pid : ℕ) (c : Caller) (live : caller_of s pid ≡ So
   inside-xadd a add None is clear = absurd (true≢false clear)
   inside-xadd a add (Some qs) is clear = lies-written a 8 qs is
 
+  inside-exchange : (a : ℕ) (bytes : List ℕ) (o : Option (List Place)) → writable_places c.pieces a (length bytes) ≡ o → Inside (Exchange bytes a) (exchange s bytes o)
+  inside-exchange a bytes None is clear = absurd (true≢false clear)
+  inside-exchange a bytes (Some qs) is clear = lies-written a (length bytes) qs is
+
+  inside-compare : (a : ℕ) (expected desired : List ℕ) (o : Option (List Place)) → writable_places c.pieces a (length desired) ≡ o
+      → Inside (CompareExchange expected desired a) (compare_exchange s expected desired o)
+  inside-compare a expected desired None is clear = absurd (true≢false clear)
+  inside-compare a expected desired (Some qs) is clear = lies-written a (length desired) qs is
+
   inside-acts : (call : ProcessCall) → Inside call (acts s n c call)
   inside-acts (Load a len) clear r reached = inside-load a len (places c.pieces a len) refl clear r reached
   inside-acts (Store bytes a) clear r reached = inside-store a bytes (writable_places c.pieces a (length bytes)) refl clear r reached
   inside-acts (Xadd a add) clear r reached = inside-xadd a add (writable_places c.pieces a 8) refl clear r reached
+  inside-acts (Exchange bytes a) clear r reached = inside-exchange a bytes (writable_places c.pieces a (length bytes)) refl clear r reached
+  inside-acts (CompareExchange expected desired a) clear r reached =
+      inside-compare a expected desired (writable_places c.pieces a (length desired)) refl clear r reached
   inside-acts call clear r reached = absurd (none-some r reached)
 
   asks : (id : ℤ) (act : ℕ → Segment → Outcome) → (controls s c act (look s.table id)).reply ≡ Done → OwnerAsks s pid id

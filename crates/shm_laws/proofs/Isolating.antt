@@ -1,5 +1,6 @@
 -- A call sees no byte that is hidden from its process.
-use Rattle.shm_laws.proofs.Names.{◌≡◌, ◌⊎◌, ℕ, ◌+◌, ◌*◌, ◌/◌, ◌%◌, ◌^◌, ◌==◌, ℤ, Bool, true, false, not, nat_lt, if◌then◌else◌, List, [], ◌∷◌, length, Option, Some, None, slice_get, refl, sym, ap, subst, ◌∙◌, inl, inr, arith, common_steps, w64, to_le_bytes, from_le_bytes, length-replicate, none-some, slice_get_within, Errno, Eperm, GetFlags, AtFlags, ProcessCall, Shmget, Shmat, Shmdt, Stat, Set, Rmid, Lock, Unlock, Load, Store, Xadd, Fork, Exec, Exit, Swapoff, Addr, Number, Done, Event, Place, place, places, writable_places, stored, Segment, Entry, Piece, Runner, Machine, Opening, pages_in, Look, identifier, destroyed_in, destroyed_at, find_key, look, cut_segments, origin_of, change, attached, detach_all, swept, after_detach, Outcome, gives, refuses, Caller, caller_of, with_pieces, with_end, segments_of, new_segment, creates, shmget, pieces_with, attaches, attaches_chosen, attaches_fixed, attaches_found, shmat, detaches, forks, unborn_from, stat, controls, sets, removes, locks, unlocks, load, store, xadd, number_at, takes_away, acts, step_by, step, is_failure, IsMove, IsHistory, HasPiece, Reach, reach, veiled, veiled_from, veil, DifferIn, HasNone, IsPrivate, IsAsked, IsBlindOn, IsIsolated, pieces_of_caller, clear_step, first_clear, rest_clear, Einval, Enospc, Enomem, creates_small, huge_errno, within, reserved, pages_of, rests, attach_all, pieces_errno, inherited, fork_marks, slice_set, Live, may_not_lock, passes_limit, locks_as, unlocked, is_no_owner, ◌&&◌, Eexist, Eacces, grants, wish_of, wants_no_other, wants_creation, Found, Removed, Invalid, Id, pos, remaps_null, is_rnd}
+use Rattle.shm_laws.proofs.Stepping.{pick}
+use Rattle.shm_laws.proofs.Names.{◌≡◌, ◌⊎◌, ℕ, ◌+◌, ◌*◌, ◌/◌, ◌%◌, ◌^◌, ◌==◌, ℤ, Bool, true, false, not, nat_lt, if◌then◌else◌, List, [], ◌∷◌, length, Option, Some, None, slice_get, refl, sym, ap, subst, ◌∙◌, inl, inr, arith, common_steps, w64, to_le_bytes, from_le_bytes, length-replicate, none-some, slice_get_within, Errno, Eperm, GetFlags, AtFlags, ProcessCall, Shmget, Shmat, Shmdt, Stat, Set, Rmid, Lock, Unlock, Load, Store, Xadd, Fork, Exec, Exit, Swapoff, Addr, Number, Done, Event, Place, place, places, writable_places, stored, Segment, Entry, Piece, Runner, Machine, Opening, pages_in, Look, identifier, destroyed_in, destroyed_at, find_key, look, cut_segments, origin_of, change, attached, detach_all, swept, after_detach, Outcome, gives, refuses, Caller, caller_of, with_pieces, with_end, segments_of, new_segment, creates, shmget, pieces_with, attaches, attaches_chosen, attaches_fixed, attaches_found, shmat, detaches, forks, unborn_from, stat, controls, sets, removes, locks, unlocks, load, store, xadd, number_at, takes_away, acts, step_by, step, is_failure, IsMove, IsHistory, HasPiece, Reach, reach, veiled, veiled_from, veil, DifferIn, HasNone, IsPrivate, IsAsked, IsBlindOn, IsIsolated, pieces_of_caller, clear_step, first_clear, rest_clear, Einval, Enospc, Enomem, creates_small, huge_errno, within, reserved, pages_of, rests, attach_all, pieces_errno, inherited, fork_marks, slice_set, Live, may_not_lock, passes_limit, locks_as, unlocked, is_no_owner, ◌&&◌, Eexist, Eacces, grants, wish_of, wants_no_other, wants_creation, Found, Removed, Invalid, Id, pos, remaps_null, is_rnd, Exchange, CompareExchange, exchange, compare_exchange, same_bytes, loaded, Bytes}
 use Rattle.shm_laws.proofs.Refusing.{by-move}
 use Rattle.shm_base.specs.Step.{gets}
 use Rattle.shm_laws.proofs.Accessing.{place-of, places-length, writable-parts}
@@ -177,6 +178,28 @@ module _ (hidden : ℕ → Bool) (s : Machine) (n : ℕ) (c : Caller) where
         ap (λ m. gives (record B { table = stored (V T) qs (to_le_bytes w64 ((m + add) % 2 ^ 64)) }) (Number m)) old
         ∙ (λ j. record { reply = Number (number_at s qs); state = record s { table = stored-veiled hidden T qs (to_le_bytes w64 ((number_at s qs + add) % 2 ^ 64)) seen j } })
 
+    out-exchange : (a : ℕ) (bytes : List ℕ) (o : Option (List Place)) → writable_places c.pieces a (length bytes) ≡ o → exchange B bytes o ≡ out hidden (exchange s bytes o)
+    out-exchange a bytes None is = refl
+    out-exchange a bytes (Some qs) is =
+        let seen = seen-places a (length bytes) qs (writable-parts (places c.pieces a (length bytes)) qs is).0 in
+        λ j. record { reply = Bytes (loaded-veiled hidden T qs seen j); state = record s { table = stored-veiled hidden T qs bytes seen j } }
+
+    out-compare : (a : ℕ) (expected desired : List ℕ) (o : Option (List Place)) → writable_places c.pieces a (length desired) ≡ o
+        → compare_exchange B expected desired o ≡ out hidden (compare_exchange s expected desired o)
+    out-compare a expected desired None is = refl
+    out-compare a expected desired (Some qs) is = ap (compared B (stored (V T) qs desired)) (loaded-veiled hidden T qs seen) ∙ by (same_bytes (loaded T qs) expected)
+      where
+        seen : (k : ℕ) (q : Place) → slice_get qs k ≡ Some q → Seen hidden T q
+        seen = seen-places a (length desired) qs (writable-parts (places c.pieces a (length desired)) qs is).0
+
+        compared : Machine → List Entry → List ℕ → Outcome
+        compared m table old = if same_bytes old expected then gives (record m { table = table }) (Bytes old) else gives m (Bytes old)
+
+        by : (b : Bool) → (if b then gives (record B { table = stored (V T) qs desired }) (Bytes (loaded T qs)) else gives B (Bytes (loaded T qs)))
+            ≡ out hidden (if b then gives (record s { table = stored T qs desired }) (Bytes (loaded T qs)) else gives s (Bytes (loaded T qs)))
+        by true = λ j. record { reply = Bytes (loaded T qs); state = record s { table = stored-veiled hidden T qs desired seen j } }
+        by false = refl
+
     out-takes : (area : ℕ) (o : Option (Option ℕ)) → takes_away B area o ≡ out hidden (takes_away s area o)
     out-takes area o = let same = reserved-veiled hidden T in grind arith
 
@@ -192,6 +215,8 @@ module _ (hidden : ℕ → Bool) (s : Machine) (n : ℕ) (c : Caller) where
     out-acts (Load a len) = out-load a len (places c.pieces a len) refl
     out-acts (Store bytes a) = out-store a bytes (writable_places c.pieces a (length bytes)) refl
     out-acts (Xadd a add) = out-xadd a add (writable_places c.pieces a 8) refl
+    out-acts (Exchange bytes a) = out-exchange a bytes (writable_places c.pieces a (length bytes)) refl
+    out-acts (CompareExchange expected desired a) = out-compare a expected desired (writable_places c.pieces a (length desired)) refl
     out-acts (Fork child) = out-forks child (unborn_from 0 child s.runners)
     out-acts Exec = out-after (with_pieces s.runners c []) (segments_of c)
     out-acts Exit = out-after (with_end s.runners c) (segments_of c)
@@ -273,6 +298,16 @@ module _ (hidden : ℕ → Bool) (s : Machine) (n : ℕ) (c : Caller) (hid : (a 
       by : (o : Option (List Place)) → writable_places c.pieces a 8 ≡ o → veil hidden (xadd s add o).state ≡ veil hidden s
       by None found = refl
       by (Some qs) found = private-store a 8 (to_le_bytes w64 ((number_at s qs + add) % 2 ^ 64)) qs found
+  private-acts (Exchange bytes a) r is = by (writable_places c.pieces a (length bytes)) refl
+    where
+      by : (o : Option (List Place)) → writable_places c.pieces a (length bytes) ≡ o → veil hidden (exchange s bytes o).state ≡ veil hidden s
+      by None found = refl
+      by (Some qs) found = private-store a (length bytes) bytes qs found
+  private-acts (CompareExchange expected desired a) r is = by (writable_places c.pieces a (length desired)) refl
+    where
+      by : (o : Option (List Place)) → writable_places c.pieces a (length desired) ≡ o → veil hidden (compare_exchange s expected desired o).state ≡ veil hidden s
+      by None found = refl
+      by (Some qs) found = pick (λ (o : Outcome). veil hidden o.state ≡ veil hidden s) (same_bytes (loaded s.table qs) expected) _ _ (private-store a (length desired) desired qs found) refl
   private-acts call r is = absurd (none-some r is)
 
 -- an access to what is hidden leaves the rest

@@ -1,5 +1,5 @@
 -- No call changes the limits of a machine.
-use Rattle.shm_laws.proofs.Names.{◌≡◌, ◌%◌, ◌==◌, ◌&&◌, ℕ, ℤ, not, nat_lt, List, length, Option, Some, None, refl, common_steps, arith, AtFlags, ProcessCall, Shmget, Shmat, Shmdt, Stat, Set, Rmid, Lock, Unlock, Load, Store, Xadd, Fork, Exec, Exit, Swapoff, Event, Place, Segment, Piece, Machine, pages_in, Look, Found, Removed, Invalid, look, places, writable_places, inside, origin_of, Outcome, Caller, pieces_with, attaches, attaches_chosen, attaches_fixed, attaches_found, shmat, detaches, forks, unborn_from, stat, controls, sets, removes, locks, unlocks, load, store, xadd, takes_away, acts, is_rnd, at_wish, grants, owns, IsMove, is_taken, is_full, is_no_owner, remaps_null, may_not_lock, passes_limit}
+use Rattle.shm_laws.proofs.Names.{◌≡◌, ◌%◌, ◌==◌, ◌&&◌, ℕ, ℤ, not, nat_lt, List, length, Option, Some, None, refl, common_steps, arith, AtFlags, ProcessCall, Shmget, Shmat, Shmdt, Stat, Set, Rmid, Lock, Unlock, Load, Store, Xadd, Fork, Exec, Exit, Swapoff, Event, Place, Segment, Piece, Machine, pages_in, Look, Found, Removed, Invalid, look, places, writable_places, inside, origin_of, Outcome, Caller, pieces_with, attaches, attaches_chosen, attaches_fixed, attaches_found, shmat, detaches, forks, unborn_from, stat, controls, sets, removes, locks, unlocks, load, store, xadd, takes_away, acts, is_rnd, at_wish, grants, owns, IsMove, is_taken, is_full, is_no_owner, remaps_null, may_not_lock, passes_limit, Exchange, CompareExchange, exchange, compare_exchange, same_bytes, loaded}
 use Rattle.shm_base.specs.Step.{creates_at}
 use Rattle.shm_laws.proofs.Asking.{by-shmget}
 use Rattle.shm_laws.proofs.Refusing.{by-move}
@@ -72,6 +72,14 @@ module _ (s : Machine) (n : ℕ) (c : Caller) where
   limited-xadd add None = refl
   limited-xadd add (Some qs) = refl
 
+  limited-exchange : (bytes : List ℕ) (o : Option (List Place)) → Limited (exchange s bytes o)
+  limited-exchange bytes None = refl
+  limited-exchange bytes (Some qs) = refl
+
+  limited-compare : (expected desired : List ℕ) (o : Option (List Place)) → Limited (compare_exchange s expected desired o)
+  limited-compare expected desired None = refl
+  limited-compare expected desired (Some qs) = pick Limited (same_bytes (loaded s.table qs) expected) _ _ refl refl
+
   limited-takes : (area : ℕ) (o : Option (Option ℕ)) → Limited (takes_away s area o)
   limited-takes area o = grind (arith, common_steps)
 
@@ -87,6 +95,8 @@ module _ (s : Machine) (n : ℕ) (c : Caller) where
   limited-acts (Load a len) = limited-load (places c.pieces a len)
   limited-acts (Store bytes a) = limited-store bytes (writable_places c.pieces a (length bytes))
   limited-acts (Xadd a add) = limited-xadd add (writable_places c.pieces a 8)
+  limited-acts (Exchange bytes a) = limited-exchange bytes (writable_places c.pieces a (length bytes))
+  limited-acts (CompareExchange expected desired a) = limited-compare expected desired (writable_places c.pieces a (length desired))
   limited-acts (Fork child) = limited-forks child (unborn_from 0 child s.runners)
   limited-acts Exec = refl
   limited-acts Exit = refl

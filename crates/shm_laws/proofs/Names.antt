@@ -13,7 +13,7 @@ pub use Rattle.shm_attach.proofs.Callers.{child_at, first_runner}
 pub use Rattle.shm_attach.proofs.Keeping.{occupied-cut}
 pub use Rattle.shm_attach.proofs.Processes.{one_more, pieces_of-cut_cons, pieces_of-filter, pieces_of-inserted, shorter_filter}
 pub use Rattle.shm_attach.specs.Spaces.{life_in}
-pub use Rattle.shm_base.specs.Access.{Place, all_writable, byte_at, byte_set, covers, end_of, entry_byte_set, loaded, only_writable, place, place_by, places, set_in, stored, with_byte, writable_places}
+pub use Rattle.shm_base.specs.Access.{Place, all_writable, byte_at, byte_set, covers, end_of, entry_byte_set, loaded, only_writable, same_bytes, place, place_by, places, set_in, stored, with_byte, writable_places}
 pub use Rattle.shm_base.specs.Bounds.{within}
 pub use Rattle.shm_base.specs.History.{IsExcused, IsHistory, IsMove, LeadsFrom, is_failure, is_refusal}
 pub use Rattle.shm_base.specs.Identifier.{Found, Invalid, Look, Removed, destroyed_at, destroyed_in, find_key, free_from, free_index, has_key, identifier, key_from, look, look_entry, look_segment, with_segment}
@@ -24,10 +24,10 @@ pub use Rattle.shm_base.specs.Rules.{fork_marks, pieces_errno, removed_errno, re
 pub use Rattle.shm_base.specs.Segments.{after_detach, attach_all, attach_count, attached, change, change_all, detach_all, detached, locked, marked, pages_held, pages_locked, reserved, locked_by_user, pages_locked_by, segment_count, slots, swept, swept_at, swept_from, with_entry}
 pub use Rattle.shm_base.specs.Space.{choose, cut, cut_segments, first_chosen, inserted, inside, is_gap, is_named, new_piece, end_address, lowest_address, meets, occupied, origin_of, part_above, part_below, parts, pieces_of, without_named}
 pub use Rattle.shm_base.specs.State.{Ended, Entry, Life, Live, Machine, Opening, Piece, Runner, Segment, Unborn, pages_in, pages_of, runner_at_start, start_of}
-pub use Rattle.shm_base.specs.Step.{Caller, Outcome, acts, at_wish, creates_small, huge_errno, inherited, is_full, is_no_owner, is_taken, outside_errno, remaps_null, rests, attaches, attaches_chosen, attaches_fixed, attaches_found, caller_from, caller_of, controls, creates, creates_at, detaches, forks, gives, is_rdonly, is_remap, is_rnd, load, locks, new_segment, number_at, pieces_with, refuses, removes, segments_of, sets, shmat, shmget, stat, step, step_by, store, swapoff, takes_away, unborn_from, unlocks, wants_creation, wants_no_other, with_end, with_pieces, xadd}
+pub use Rattle.shm_base.specs.Step.{Caller, Outcome, acts, at_wish, compare_exchange, exchange, creates_small, huge_errno, inherited, is_full, is_no_owner, is_taken, outside_errno, remaps_null, rests, attaches, attaches_chosen, attaches_fixed, attaches_found, caller_from, caller_of, controls, creates, creates_at, detaches, forks, gives, is_rdonly, is_remap, is_rnd, load, locks, new_segment, number_at, pieces_with, refuses, removes, segments_of, sets, shmat, shmget, stat, step, step_by, store, swapoff, takes_away, unborn_from, unlocks, wants_creation, wants_no_other, with_end, with_pieces, xadd}
 pub use Rattle.shm_base.specs.declared.owner.Cred.{Cred}
 pub use Rattle.shm_base.specs.Calls.{ProcessCall}
-pub use Rattle.shm_base.specs.declared.call.Call.TheVariants.{Exec, Exit, Fork, Load, Lock, Rmid, Set, Shmat, Shmdt, Shmget, Stat, Store, Swapoff, Unlock, Xadd}
+pub use Rattle.shm_base.specs.declared.call.Call.TheVariants.{CompareExchange, Exchange, Exec, Exit, Fork, Load, Lock, Rmid, Set, Shmat, Shmdt, Shmget, Stat, Store, Swapoff, Unlock, Xadd}
 pub use Rattle.shm_base.specs.declared.call.Event.{Event}
 pub use Rattle.shm_base.specs.declared.call.Process.{Process}
 pub use Rattle.shm_base.specs.declared.call.Reply.{Reply}

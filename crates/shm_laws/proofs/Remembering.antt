@@ -1,5 +1,5 @@
 -- Each byte is that of its last writer, and so is each byte that an event returns.
-use Rattle.shm_laws.proofs.Names.{◌≡◌, ◌⊎◌, ℕ, ◌+◌, ◌-◌, ◌*◌, ◌%◌, ◌<◌, true, false, List, [], ◌∷◌, ◌++◌, length, Option, Some, None, slice_get, refl, sym, ap, subst, ◌∙◌, inl, inr, arith, w64, from_le_bytes, option_map, length-map, common_steps, none-some, slice_get-map, slice_get-get_or, slice_get_within, ProcessCall, Load, Store, Xadd, Reply, Bytes, Number, Event, Segment, Piece, Machine, Opening, start_of, Place, covers, place_by, place, places, writable_places, byte_at, loaded, Caller, Outcome, caller_of, acts, step_by, step, load, store, xadd, number_at, is_refusal, IsMove, IsHistory, Stands, Began, Lasted, Put, put, pieces_of_caller, IsByte, Writes, Spares, IsLast, Remembers, AreLast, Recalls, HasLastWriters}
+use Rattle.shm_laws.proofs.Names.{◌≡◌, ◌⊎◌, ℕ, ◌+◌, ◌-◌, ◌*◌, ◌%◌, ◌<◌, true, false, List, [], ◌∷◌, ◌++◌, length, Option, Some, None, slice_get, refl, sym, ap, subst, ◌∙◌, inl, inr, arith, w64, from_le_bytes, option_map, length-map, common_steps, none-some, slice_get-map, slice_get-get_or, slice_get_within, ProcessCall, Load, Store, Xadd, Reply, Bytes, Number, Event, Segment, Piece, Machine, Opening, start_of, Place, covers, place_by, place, places, writable_places, byte_at, loaded, Caller, Outcome, caller_of, acts, step_by, step, load, store, xadd, number_at, is_refusal, IsMove, IsHistory, Stands, Began, Lasted, Put, put, pieces_of_caller, IsByte, Writes, Spares, IsLast, Remembers, AreLast, Recalls, HasLastWriters, Exchange, CompareExchange, exchange, compare_exchange, same_bytes, if◌then◌else◌, gives, Bool, stored}
 use Rattle.shm_laws.proofs.Accessing.{place-of, places-length, writable-parts}
 use Rattle.shm_laws.proofs.Fates.{kind-move}
 use Rattle.shm_laws.proofs.Fitting.{one-index, Fits, AllFit, IsFit, fit-start, fit-move, spot-fits}
@@ -24,8 +24,25 @@ module _ (s : Machine) (n : ℕ) (c : Caller) where
   placed-xadd a add None is p puts = absurd (none-some p puts)
   placed-xadd a add (Some qs) is p puts = (qs, grind arith)
 
+  placed-exchange : (a : ℕ) (bytes : List ℕ) (o : Option (List Place)) → writable_places c.pieces a (length bytes) ≡ o → Placed (Exchange bytes a) (exchange s bytes o)
+  placed-exchange a bytes None is p puts = absurd (none-some p puts)
+  placed-exchange a bytes (Some qs) is p puts = (qs, grind arith)
+
+  placed-compare : (a : ℕ) (expected desired : List ℕ) (o : Option (List Place)) → writable_places c.pieces a (length desired) ≡ o
+      → Placed (CompareExchange expected desired a) (compare_exchange s expected desired o)
+  placed-compare a expected desired None is p puts = absurd (none-some p puts)
+  placed-compare a expected desired (Some qs) is p puts = by (same_bytes (loaded s.table qs) expected) puts
+    where
+      old : Reply
+      old = Bytes (loaded s.table qs)
+
+      by : (b : Bool) → put (CompareExchange expected desired a) (if b then gives (record s { table = stored s.table qs desired }) old else gives s old).reply ≡ Some p
+          → (rs : List Place) × (places c.pieces p.from (length p.bytes) ≡ Some rs)
+      by true had = (qs, grind (arith, writable-parts))
+      by false had = (qs, grind (arith, writable-parts))
+
   placed-acts : (call : ProcessCall) → Placed call (acts s n c call)
-  placed-acts call p puts = grind (arith, placed-store, placed-xadd, none-some)
+  placed-acts call p puts = grind (arith, placed-store, placed-xadd, placed-exchange, placed-compare, none-some)
 
 abbrev PlacedBy : Option Caller → ProcessCall → Reply → Type 0
 PlacedBy o call reply = (p : Put) → put call reply ≡ Some p → (qs : List Place) × (places (pieces_of_caller o) p.from (length p.bytes) ≡ Some qs)
@@ -171,6 +188,13 @@ module _ (o : Opening) (before : List Event) (s : Machine) (n pid : ℕ) (now : 
           let same : loaded s.table qs ≡ bytes = cc told in
           subst (AreLast o before s pid a len) same (recall-places o before s pid a len qs now (ap (λ h. places (pieces_of_caller h) a len) is ∙ found))
 
+  -- what a write found at its places
+  told-recalls : (a len : ℕ) (bytes : List ℕ) (c : Caller) (qs : List Place) → caller_of s pid ≡ Some c → writable_places c.pieces a len ≡ Some qs
+      → loaded s.table qs ≡ bytes → AreLast o before s pid a len bytes
+  told-recalls a len bytes c qs is found same =
+      let there = (writable-parts (places c.pieces a len) qs found).0 in
+      subst (AreLast o before s pid a len) same (recall-places o before s pid a len qs now (ap (λ h. places (pieces_of_caller h) a len) is ∙ there))
+
   xadd-recalls : (a add old : ℕ) (c : Option Caller) → caller_of s pid ≡ c → (step_by s n (Xadd a add) c).reply ≡ Number old
       → (bytes : List ℕ) × (old ≡ from_le_bytes w64 bytes) × AreLast o before s pid a 8 bytes
   xadd-recalls a add old None is answer = absurd (cc answer)
@@ -182,6 +206,27 @@ module _ (o : Opening) (before : List Event) (s : Machine) (n pid : ℕ) (now : 
           let same : number_at s qs ≡ old = cc told in
           let there = (writable-parts (places c.pieces a 8) qs found).0 in
           (loaded s.table qs, sym same, recall-places o before s pid a 8 qs now (ap (λ h. places (pieces_of_caller h) a 8) is ∙ there))
+
+  exchange-recalls : (a : ℕ) (new bytes : List ℕ) (c : Option Caller) → caller_of s pid ≡ c → (step_by s n (Exchange new a) c).reply ≡ Bytes bytes → AreLast o before s pid a (length new) bytes
+  exchange-recalls a new bytes None is answer = absurd (cc answer)
+  exchange-recalls a new bytes (Some c) is answer = by (writable_places c.pieces a (length new)) refl answer
+    where
+      by : (r : Option (List Place)) → writable_places c.pieces a (length new) ≡ r → (exchange s new r).reply ≡ Bytes bytes → AreLast o before s pid a (length new) bytes
+      by None found refused = absurd (cc refused)
+      by (Some qs) found told = told-recalls a (length new) bytes c qs is found (cc told)
+
+  compare-recalls : (a : ℕ) (expected desired bytes : List ℕ) (c : Option Caller) → caller_of s pid ≡ c → (step_by s n (CompareExchange expected desired a) c).reply ≡ Bytes bytes
+      → AreLast o before s pid a (length desired) bytes
+  compare-recalls a expected desired bytes None is answer = absurd (cc answer)
+  compare-recalls a expected desired bytes (Some c) is answer = by (writable_places c.pieces a (length desired)) refl answer
+    where
+      by : (r : Option (List Place)) → writable_places c.pieces a (length desired) ≡ r → (compare_exchange s expected desired r).reply ≡ Bytes bytes → AreLast o before s pid a (length desired) bytes
+      by None found refused = absurd (cc refused)
+      by (Some qs) found told = told-recalls a (length desired) bytes c qs is found (cc (sym (either (same_bytes (loaded s.table qs) expected)) ∙ told))
+        where
+          either : (b : Bool) → (if b then gives (record s { table = stored s.table qs desired }) (Bytes (loaded s.table qs)) else gives s (Bytes (loaded s.table qs))).reply ≡ Bytes (loaded s.table qs)
+          either true = refl
+          either false = refl
 
 -- the reply of a move that is not a failure
 reply-of : (s : Machine) (n : ℕ) (e : Event) (t : Machine) → is_refusal e.reply ≡ false → IsMove s n e t → (step s n e.pid e.call).reply ≡ e.reply
@@ -195,6 +240,12 @@ recalls o before s n e t now m =
           (ap (λ call. (step s n e.pid call).reply) (sym asked) ∙ reply-of s n e t (ap is_refusal told) m ∙ told);
       xadd = λ a add old asked told.
           xadd-recalls o before s n e.pid now a add old (caller_of s e.pid) refl
+          (ap (λ call. (step s n e.pid call).reply) (sym asked) ∙ reply-of s n e t (ap is_refusal told) m ∙ told);
+      exchange = λ a new bytes asked told.
+          exchange-recalls o before s n e.pid now a new bytes (caller_of s e.pid) refl
+          (ap (λ call. (step s n e.pid call).reply) (sym asked) ∙ reply-of s n e t (ap is_refusal told) m ∙ told);
+      compare_exchange = λ a expected desired bytes asked told.
+          compare-recalls o before s n e.pid now a expected desired bytes (caller_of s e.pid) refl
           (ap (λ call. (step s n e.pid call).reply) (sym asked) ∙ reply-of s n e t (ap is_refusal told) m ∙ told);
     }
 

@@ -1,5 +1,5 @@
 -- The four kinds of step on the segments: still, a sweep after a detach, a creation, a removal.
-use Rattle.shm_laws.proofs.Names.{◌≡◌, ◌⊎◌, ℕ, ◌+◌, ◌*◌, ◌%◌, ◌^◌, ◌≤◌, ◌==◌, ◌&&◌, ℤ, pos, negsuc, Bool, true, false, not, nat_lt, nat_le, within, if◌then◌else◌, List, [], ◌∷◌, length, replicate, get_or, Option, Some, None, slice_get, slice_set, refl, sym, ap, subst, ◌∙◌, inl, inr, arith, common_steps, get-set_other, w64, to_le_bytes, slice_get-get_or, GetFlags, AtFlags, ProcessCall, Shmget, Shmat, Shmdt, Stat, Set, Rmid, Lock, Unlock, Load, Store, Xadd, Fork, Exec, Exit, Swapoff, Reply, Id, Done, Addr, Event, grants, owns, wish_of, Place, places, writable_places, stored, Segment, Entry, Piece, Unborn, Live, Ended, Runner, Machine, pages_in, pages_of, Look, Found, Removed, Invalid, identifier, destroyed_at, free_index, with_segment, look, find_key, inside, cut_segments, origin_of, attach_count, reserved, segment_count, change, attached, marked, detach_all, swept, Outcome, gives, refuses, segments_of, Caller, caller_of, acts, new_segment, creates, creates_at, shmget, wants_creation, wants_no_other, is_rnd, at_wish, attaches, attaches_chosen, attaches_fixed, attaches_found, shmat, pieces_with, with_pieces, detaches, forks, unborn_from, stat, controls, sets, removes, locks, unlocks, load, store, xadd, number_at, takes_away, swapoff, first_runner, child_at, life_in, keeps-set, IsSame, Put, put, pieces_of_caller, Errno, creates_small, huge_errno, rests, attach_all, is_taken, is_full, remaps_null, pieces_errno, inherited, fork_marks, may_not_lock, passes_limit, locks_as, unlocked, is_no_owner}
+use Rattle.shm_laws.proofs.Names.{◌≡◌, ◌⊎◌, ℕ, ◌+◌, ◌*◌, ◌%◌, ◌^◌, ◌≤◌, ◌==◌, ◌&&◌, ℤ, pos, negsuc, Bool, true, false, not, nat_lt, nat_le, within, if◌then◌else◌, List, [], ◌∷◌, length, replicate, get_or, Option, Some, None, slice_get, slice_set, refl, sym, ap, subst, ◌∙◌, inl, inr, arith, common_steps, get-set_other, w64, to_le_bytes, slice_get-get_or, GetFlags, AtFlags, ProcessCall, Shmget, Shmat, Shmdt, Stat, Set, Rmid, Lock, Unlock, Load, Store, Xadd, Exchange, CompareExchange, Fork, Exec, Exit, Swapoff, Reply, Id, Done, Addr, Event, grants, owns, wish_of, Place, places, writable_places, stored, Segment, Entry, Piece, Unborn, Live, Ended, Runner, Machine, pages_in, pages_of, Look, Found, Removed, Invalid, identifier, destroyed_at, free_index, with_segment, look, find_key, inside, cut_segments, origin_of, attach_count, reserved, segment_count, change, attached, marked, detach_all, swept, Outcome, gives, refuses, segments_of, Caller, caller_of, acts, new_segment, creates, creates_at, shmget, wants_creation, wants_no_other, is_rnd, at_wish, attaches, attaches_chosen, attaches_fixed, attaches_found, shmat, pieces_with, with_pieces, detaches, forks, unborn_from, stat, controls, sets, removes, locks, unlocks, load, store, xadd, number_at, takes_away, swapoff, first_runner, child_at, life_in, keeps-set, IsSame, Put, put, pieces_of_caller, Errno, creates_small, huge_errno, rests, attach_all, is_taken, is_full, remaps_null, pieces_errno, inherited, fork_marks, may_not_lock, passes_limit, locks_as, unlocked, is_no_owner, exchange, compare_exchange, same_bytes, loaded, Bytes}
 use Rattle.shm_base.specs.Step.{gets}
 use Rattle.shm_laws.proofs.Accessing.{writable-parts}
 use Rattle.shm_laws.proofs.Turning.{IsAlike, Turned, unchanged, puts_in, turned-refl, turned-trans, turned-change, turned-attach, turned-detach, turned-stored, set-got}
@@ -290,6 +290,33 @@ module _ (like : Segment → Type 0) (s : Machine) (n : ℕ) (c : Caller) where
   kind-xadd a add (Some qs) is =
       quiet _ like s _ _ (turned-put a (to_le_bytes w64 ((number_at s qs + add) % 2 ^ 64)) qs (writable-parts (places c.pieces a 8) qs is).0) refl
 
+  kind-exchange : (a : ℕ) (bytes : List ℕ) (o : Option (List Place)) → writable_places c.pieces a (length bytes) ≡ o → Puts (Exchange bytes a) (exchange s bytes o)
+  kind-exchange a bytes None is = still like s _
+  kind-exchange a bytes (Some qs) is = quiet _ like s _ _ (turned-put a bytes qs (writable-parts (places c.pieces a (length bytes)) qs is).0) refl
+
+  kind-compare : (a : ℕ) (expected desired : List ℕ) (o : Option (List Place)) → writable_places c.pieces a (length desired) ≡ o
+      → Puts (CompareExchange expected desired a) (compare_exchange s expected desired o)
+  kind-compare a expected desired None is = still like s _
+  kind-compare a expected desired (Some qs) is =
+      subst (λ p. Kind (over_put c.pieces p) like s None (told met).reply (told met).state) (sym (ap (put (CompareExchange expected desired a)) (same-told met))) (by met)
+    where
+      met : Bool
+      met = same_bytes (loaded s.table qs) expected
+
+      old : Reply
+      old = Bytes (loaded s.table qs)
+
+      told : Bool → Outcome
+      told b = if b then gives (record s { table = stored s.table qs desired }) old else gives s old
+
+      same-told : (b : Bool) → (told b).reply ≡ old
+      same-told true = refl
+      same-told false = refl
+
+      by : (b : Bool) → Kind (over_put c.pieces (if b then Some (record { from = a; bytes = desired }) else None)) like s None (told b).reply (told b).state
+      by true = quiet _ like s _ _ (turned-put a desired qs (writable-parts (places c.pieces a (length desired)) qs is).0) refl
+      by false = still like s _
+
   kind-takes : (area : ℕ) (o : Option (Option ℕ)) → Plain s (takes_away s area o)
   kind-takes area o = grind (arith, common_steps, still, pick, quiet, turned-refl)
 
@@ -315,6 +342,8 @@ module _ (like : Segment → Type 0) (s : Machine) (n : ℕ) (c : Caller) where
   kind-acts (Load a len) bare made = kind-load (places c.pieces a len)
   kind-acts (Store bytes a) bare made = kind-store a bytes (writable_places c.pieces a (length bytes)) refl
   kind-acts (Xadd a add) bare made = kind-xadd a add (writable_places c.pieces a 8) refl
+  kind-acts (Exchange bytes a) bare made = kind-exchange a bytes (writable_places c.pieces a (length bytes)) refl
+  kind-acts (CompareExchange expected desired a) bare made = kind-compare a expected desired (writable_places c.pieces a (length desired)) refl
   kind-acts (Fork child) bare made = kind-forks child (unborn_from 0 child s.runners) bare refl
   kind-acts Exec bare made = sweeps like s _ _ _ (turned-detach n c.pid (segments_of c) s.table) refl (living c [] s.runners)
   kind-acts Exit bare made = sweeps like s _ _ _ (turned-detach n c.pid (segments_of c) s.table) refl (λ h. bare-set s.runners c.index (record { pid = c.pid; life = Ended; pieces = [] }) h (λ (e : Ended ≡ Unborn). cc e))

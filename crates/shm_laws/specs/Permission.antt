@@ -6,7 +6,7 @@ use Rattle.shm_base.specs.declared.owner.Want.{Want}
 use Rattle.shm_base.specs.declared.flags.GetFlags.{GetFlags}
 use Rattle.shm_base.specs.declared.flags.AtFlags.{AtFlags}
 use Rattle.shm_base.specs.Calls.{ProcessCall}
-use Rattle.shm_base.specs.declared.call.Call.TheVariants.{Shmget, Shmat, Set, Rmid, Lock, Unlock, Load, Store, Xadd, Fork, Swapoff}
+use Rattle.shm_base.specs.declared.call.Call.TheVariants.{Shmget, Shmat, Set, Rmid, Lock, Unlock, Load, Store, Xadd, Exchange, CompareExchange, Fork, Swapoff}
 use Rattle.shm_base.specs.declared.call.Call.TheVariants as calls
 use Rattle.shm_base.specs.declared.call.ShmidDs.{ShmidDs}
 use Rattle.shm_base.specs.declared.call.Reply.TheVariants.{Id, Addr, Done}
@@ -78,6 +78,8 @@ abbrev pub reach : ProcessCall → Option Reach
 reach (Load addr len) = Some (record { from = addr; len = len; writes = false })
 reach (Store bytes addr) = Some (record { from = addr; len = length bytes; writes = true })
 reach (Xadd addr add) = Some (record { from = addr; len = 8; writes = true })
+reach (Exchange bytes addr) = Some (record { from = addr; len = length bytes; writes = true })
+reach (CompareExchange expected desired addr) = Some (record { from = addr; len = length desired; writes = true })
 reach _ = None
 
 -- an access that was not refused touches only bytes in pieces of the process; a write, only bytes in writable ones

@@ -2,7 +2,7 @@
 use Rattle.std.specs.Prelude.{◌≡◌, ℕ, ◌+◌, ◌*◌, ◌^◌, ◌==◌, pos, Bool, true, false, List, [], ◌∷◌, length, take, Option, None, Some, option_map, slice_get}
 use Rattle.shm_base.specs.Space.{new_piece}
 use Rattle.shm_base.specs.declared.errno.Errno.TheVariants.{Eperm, Enoent, Eacces, Einval, Eidrm, Sigbus, Sigsegv}
-use Rattle.shm_base.specs.declared.call.Call.TheVariants.{Shmdt, Set, Rmid, Load, Store, Xadd, Fork, Exec}
+use Rattle.shm_base.specs.declared.call.Call.TheVariants.{Shmdt, Set, Rmid, Load, Store, Xadd, Exchange, CompareExchange, Fork, Exec}
 use Rattle.shm_base.specs.declared.call.Reply.TheVariants.{Addr, Bytes, Number, Done, Refused}
 use Rattle.shm_base.specs.declared.call.Event.{Event}
 use Rattle.shm_base.specs.Bounds.{profile}
@@ -138,8 +138,8 @@ PermissionWorked =
     × (pieces_now three others_read 4 2 ≡ Some (read_only ∷ []))
     × (pieces_now three others_read 9 2 ≡ Some (read_only ∷ []))
 
--- THE LAST WRITER: a store over the seam of two segments, one over its last byte by another process, and an
--- xadd
+-- THE LAST WRITER: a store over the seam of two segments, one over its last byte by another process, an
+-- xadd, an exchange, and two compares with exchange of which the first finds what it expects
 
 abbrev pub two_write : List Event
 two_write =
@@ -152,11 +152,15 @@ two_write =
     ∷ does 2 (Store (9 ∷ []) 0x40000fff) Done
     ∷ does 2 (Xadd 0x40000ff8 256) (Number (2 ^ 48 + 9 * 2 ^ 56))
     ∷ does 1 (Load 0x40000ff8 9) (Bytes (0 ∷ 1 ∷ 0 ∷ 0 ∷ 0 ∷ 0 ∷ 1 ∷ 9 ∷ 3 ∷ []))
+    ∷ does 2 (Exchange (7 ∷ []) 0x40000ff9) (Bytes (1 ∷ []))
+    ∷ does 1 (CompareExchange (7 ∷ []) (8 ∷ []) 0x40000ff9) (Bytes (7 ∷ []))
+    ∷ does 1 (CompareExchange (7 ∷ []) (6 ∷ []) 0x40000ff9) (Bytes (8 ∷ []))
+    ∷ does 2 (Load 0x40000ff9 1) (Bytes (8 ∷ []))
     ∷ []
 
 -- it is legal; the third byte of the first store is byte 0 of segment 1, and the byte of the second store replaces the first
 -- store's second byte; that byte is its last writer's, the load shows what the xadd wrote before it, and a byte that nobody wrote
--- is 0
+-- is 0; the compare that does not find what it expects leaves the byte of the one before it
 abbrev pub WritingWorked : Type 0
 WritingWorked =
     IsLegal opening two_write
@@ -167,6 +171,8 @@ WritingWorked =
     × (slice_get (bytes_at (after opening two_write 7).table 0) 4095 ≡ Some 9)
     × (slice_get (bytes_at (after opening two_write 9).table 1) 0 ≡ Some 3)
     × (slice_get (bytes_at (after opening two_write 9).table 1) 1 ≡ Some 0)
+    × (slice_get (bytes_at (after opening two_write 11).table 0) 4089 ≡ Some 8)
+    × (slice_get (bytes_at (after opening two_write 12).table 0) 4089 ≡ Some 8)
 
 -- ISOLATION: process 2 stores one of two bytes into its own segment and reads it back; process 1 has a piece of another segment
 

@@ -1,13 +1,13 @@
 -- The last writer: a byte has the value of the last event that wrote it, or 0 if none has since the segment was made.
-use Rattle.std.specs.Prelude.{◌≡◌, ◌<◌, ◌⊎◌, ℕ, ◌+◌, ◌%◌, ◌^◌, pos, Bool, List, length, Option, Some, None, slice_get}
+use Rattle.std.specs.Prelude.{◌≡◌, ◌<◌, ◌⊎◌, ℕ, ◌+◌, ◌%◌, ◌^◌, pos, Bool, if◌then◌else◌, List, length, Option, Some, None, slice_get}
 use Rattle.std.specs.Int.{w64, to_le_bytes, from_le_bytes}
 use Rattle.shm_base.specs.Calls.{ProcessCall}
-use Rattle.shm_base.specs.declared.call.Call.TheVariants.{Load, Store, Xadd}
+use Rattle.shm_base.specs.declared.call.Call.TheVariants.{Load, Store, Xadd, Exchange, CompareExchange}
 use Rattle.shm_base.specs.declared.call.Reply.{Reply}
 use Rattle.shm_base.specs.declared.call.Reply.TheVariants.{Id, Bytes, Number, Done}
 use Rattle.shm_base.specs.declared.call.Event.{Event}
 use Rattle.shm_base.specs.State.{Segment, Machine, Opening}
-use Rattle.shm_base.specs.Access.{place}
+use Rattle.shm_base.specs.Access.{place, same_bytes}
 use Rattle.shm_base.specs.Identifier.{Invalid, look}
 use Rattle.shm_base.specs.Processes.{pieces_of_caller}
 use Rattle.shm_base.specs.Step.{caller_of}
@@ -20,11 +20,15 @@ pub record Put : Type 0 where
   pub from : ℕ
   pub bytes : List ℕ
 
--- the bytes that a successful store or xadd writes, and where. No other event writes
+-- the bytes that a successful store, xadd, exchange, or compare and exchange of the expected bytes writes, and where. No other
+-- event writes
 abbrev pub put : ProcessCall → Reply → Option Put
 put (Store bytes addr) Done = Some (record { from = addr; bytes = bytes })
 put (Xadd addr add) (Number old) =
     Some (record { from = addr; bytes = to_le_bytes w64 ((old + add) % 2 ^ 64) })
+put (Exchange bytes addr) (Bytes old) = Some (record { from = addr; bytes = bytes })
+put (CompareExchange expected desired addr) (Bytes old) =
+    if same_bytes old expected then Some (record { from = addr; bytes = desired }) else None
 put _ _ = None
 
 -- the address is, for the process, byte `at` of the segment
@@ -74,7 +78,7 @@ pub record AreLast
       (k b : ℕ) → slice_get bytes k ≡ Some b
       → (id : ℕ) × (at : ℕ) × IsByte s pid (addr + k) id at × IsLast o before id at b
 
--- a load returns the bytes that were written last, and an xadd the number in them
+-- a load and both exchanges return the bytes that were written last, and an xadd the number in them
 pub record Recalls (o : Opening) (before : List Event) (s : Machine) (e : Event) (t : Machine) : Type 0 where
   pub load :
       (addr len : ℕ) (bytes : List ℕ) → e.call ≡ Load addr len → e.reply ≡ Bytes bytes
@@ -82,6 +86,12 @@ pub record Recalls (o : Opening) (before : List Event) (s : Machine) (e : Event)
   pub xadd :
       (addr add old : ℕ) → e.call ≡ Xadd addr add → e.reply ≡ Number old
       → (bytes : List ℕ) × (old ≡ from_le_bytes w64 bytes) × AreLast o before s e.pid addr 8 bytes
+  pub exchange :
+      (addr : ℕ) (new bytes : List ℕ) → e.call ≡ Exchange new addr → e.reply ≡ Bytes bytes
+      → AreLast o before s e.pid addr (length new) bytes
+  pub compare_exchange :
+      (addr : ℕ) (expected desired bytes : List ℕ) → e.call ≡ CompareExchange expected desired addr
+      → e.reply ≡ Bytes bytes → AreLast o before s e.pid addr (length desired) bytes
 
 -- THE LAW. At each moment each byte is its last writer's, and so is each byte that an event returns
 pub record HasLastWriters (o : Opening) (events : List Event) (end : Machine) : Type 0 where

@@ -5,9 +5,8 @@ use Rattle.std.specs.Int.{w64, from_le_bytes, to_le_bytes}
 use Rattle.std.specs.Prelude.{◌^◌, is_some, map, Option, Result, Ok, Err, IfOk, IfErr, option_map}
 use Rattle.std.specs.Result.{result_and, result_or}
 use Rattle.std.proofs.lemmas.Result.{IfOk-weaker}
-use Rattle.shm_base.specs.Access.{places, stored, writable_places}
-use Rattle.shm_base.specs.Exchange.{compare, compares_of, exchange, exchanges_of, same_bytes}
-use Rattle.shm_base.specs.Step.{Caller, caller_of, load, step_by, store, xadd}
+use Rattle.shm_base.specs.Access.{places, same_bytes, stored, writable_places}
+use Rattle.shm_base.specs.Step.{Caller, caller_of, compare_exchange, exchange, load, step_by, store, xadd}
 use Rattle.shm_base.specs.History.{is_failure, is_refusal}
 use Rattle.shm_base.specs.declared.call.Call.TheVariants as call
 use Rattle.shm_base.specs.declared.call.Reply.{Reply}
@@ -26,9 +25,8 @@ use Rattle.shm_fault.specs.declared.touched.Touched.{Touched}
 use Rattle.shm_segments.specs.Table.{table_with}
 use Rattle.shm_life.specs.Accessing.{Does, DoesAt, DoesBy, LeavesOrFails}
 use Rattle.shm_segments.specs.Acted.{Acted}
-use Rattle.shm_life.specs.Exchanged.{IsExchange, is_bus_error}
 use Rattle.shm_life.specs.MachineView.{Answered, AnsweredTo, MachineView, done, replied, reply_in}
-use Rattle.shm_life.specs.Paging.{exchange_by, compare_by, page_spans}
+use Rattle.shm_life.specs.Paging.{page_spans}
 use Rattle.shm_life.specs.Paging.Paging.{Touches}
 use Rattle.shm_life.proofs.Touching.{comes-in, comes-up-to, have-pages}
 use Rattle.shm_life.proofs.Running.{answered_as, failing, granted}
@@ -43,7 +41,7 @@ accessed : {T : Type 0} (o : Outcome) (table : List Entry) (puts : Bool) (bytes 
 accessed o table puts bytes names reply s t (Ok x) fails none grant step leaves =
     rw (grant x).0 (granted o (Touches puts bytes) (reply x) false s t (step ∙ ap (λ (m : Machine). gives m (reply x)) (sym leaves.written)) (grant x).1 leaves.keeps leaves.came)
 accessed o table puts bytes names reply s t (Err e) fails none grant step leaves =
-    rw (leaves.err.told, fails) (failing o (Touches puts bytes) Sigbus false s t refl (record { instead = none; unchanged = leaves.same; cause = leaves.err.cause }) leaves.keeps leaves.stopped)
+    rw (leaves.err.told, fails) (failing o (Touches puts bytes) Sigbus false s t (record { instead = none; unchanged = leaves.same; cause = leaves.err.cause }) leaves.keeps leaves.stopped)
 
 abbrev pub view_with : Bounds → List Entry → List Runner → StoreView → MachineView
 view_with limits t rs m = record { flat = record { limits = limits; areas = sizes m.swap; table = t; runners = rs }; memory = m }
@@ -122,7 +120,7 @@ module _ (s : Machine) (ps : List Piece) (addr : ℕ) where
   exchange-wanted bytes wanted is = grind (arith, common_steps, are_asked, loaded-unmarked, stored-unmarked)
 
   compare-wanted : (expected bytes : List ℕ) (wanted : List Place) → wanted_in true ps addr (length bytes) ≡ Some wanted
-      → compare s expected bytes (writable_places ps addr (length bytes))
+      → compare_exchange s expected bytes (writable_places ps addr (length bytes))
       ≡ gives (record s { table = table_with s.table wanted (if same_bytes (loaded s.table wanted) expected then Some bytes else None) }) (Bytes (loaded s.table wanted))
   compare-wanted expected bytes wanted is = grind (arith, common_steps, are_asked, loaded-unmarked, stored-unmarked)
 
@@ -157,6 +155,11 @@ does-kept act addr (Some c) before after s t r d = at _ d.by
     at : (o : Option (List Place)) → DoesAt act o before after s r t → OnErr r (after ≡ before)
     at None d = rw d.0 d.1.0
     at (Some asked) d = d.kept
+
+-- a reply counts only if it was written
+pub told_as : (r : Result (Unit {0}) Errno) (p q : Reply) → OnOk r (p ≡ q) → reply_in p r ≡ reply_in q r
+told_as (Ok a) p q same = same
+told_as (Err e) p q same = refl
 
 module _ (s t : MachineView) (n addr : ℕ) (before after : List ℕ) (r : Result (Unit {0}) Errno) where
   pub loads : (len : ℕ) → len ≡ length before → (who : Option Caller) → DoesBy Nothing addr who before after s r t
@@ -199,25 +202,27 @@ module _ (s t : MachineView) (n addr : ℕ) (before after : List ℕ) (r : Resul
           let read = on-ok _ _ r (λ f. ap (from_le_bytes w64) (f ∙ filled _ _ before refl)) d.there in
           rw is (accessed _ _ true asked (is_failure (call.Xadd addr add)) Number s t (result_and r (Ok number)) refl (rw step refl) (λ _. (refl, refl)) (IfOk-weaker (result_and r (Ok number)) _ _ (λ x same. rw same step) (and-ok _ number r read)) (and-leaves _ _ _ s t number r d.leaves))
 
-  pub exchanges : (b : Bor (List ℕ)) (who : Option Caller) → length before ≡ length b.now → DoesBy (Put b) addr who before after s r t → IsExchange (record { outcome = exchanges_of s.flat addr b.now who; does = exchange_by b.now addr who }) (reply_in (Bytes after) r) s t
+  pub exchanges : (b : Bor (List ℕ)) (who : Option Caller) → length before ≡ length b.now → DoesBy (Put b) addr who before after s r t
+      → AnsweredTo (step_by s.flat n (call.Exchange b.now addr) who) who (call.Exchange b.now addr) (reply_in (Bytes after) r) s t
   exchanges b None long d = rw (d.by.0, d.by.1.1) (answered_as _ _ _ s refl)
   exchanges b (Some c) long d = at (wanted_in true c.pieces addr (length b.now)) refl d.by
     where
       at : (o : Option (List Place)) → wanted_in true c.pieces addr (length b.now) ≡ o → DoesAt (Put b) o before after s r t
-          → IsExchange (record { outcome = exchange s.flat b.now (writable_places c.pieces addr (length b.now)); does = exchange_by b.now addr (Some c) }) (reply_in (Bytes after) r) s t
+          → AnsweredTo (exchange s.flat b.now (writable_places c.pieces addr (length b.now))) (Some c) (call.Exchange b.now addr) (reply_in (Bytes after) r) s t
       at None is d = rw (d.0, d.1.1, none-asked (writable_places c.pieces addr (length b.now)) is) (answered_as _ _ _ s refl)
       at (Some asked) is d =
           let step = exchange-wanted s.flat c.pieces addr b.now asked is in
-          rw is (accessed _ _ true asked is_bus_error (λ _. Bytes after) s t r refl (rw step refl) (λ _. (refl, refl)) (IfOk-weaker r _ _ (λ _ same. rw same step) (on-ok _ _ r (λ f. f ∙ filled _ _ before (sym long)) d.there)) d.leaves)
+          rw is (accessed _ _ true asked (is_failure (call.Exchange b.now addr)) (λ _. Bytes after) s t r refl (rw step refl) (λ _. (refl, refl)) (IfOk-weaker r _ _ (λ _ same. rw same step) (on-ok _ _ r (λ f. f ∙ filled _ _ before (sym long)) d.there)) d.leaves)
 
-  pub compares : (e b : Bor (List ℕ)) (who : Option Caller) → length before ≡ length b.now → DoesBy (PutIfEqual e b) addr who before after s r t → IsExchange (record { outcome = compares_of s.flat addr e.now b.now who; does = compare_by s.flat.table e.now b.now addr who }) (reply_in (Bytes after) r) s t
+  pub compares : (e b : Bor (List ℕ)) (who : Option Caller) → length before ≡ length b.now → DoesBy (PutIfEqual e b) addr who before after s r t
+      → AnsweredTo (step_by s.flat n (call.CompareExchange e.now b.now addr) who) who (call.CompareExchange e.now b.now addr) (reply_in (Bytes after) r) s t
   compares e b None long d = rw (d.by.0, d.by.1.1) (answered_as _ _ _ s refl)
   compares e b (Some c) long d = at (wanted_in true c.pieces addr (length b.now)) refl (rw long at d.by)
     where
       at : (o : Option (List Place)) → wanted_in true c.pieces addr (length b.now) ≡ o → DoesAt (PutIfEqual e b) o before after s r t
-          → IsExchange (record { outcome = compare s.flat e.now b.now (writable_places c.pieces addr (length b.now)); does = compare_by s.flat.table e.now b.now addr (Some c) }) (reply_in (Bytes after) r) s t
+          → AnsweredTo (compare_exchange s.flat e.now b.now (writable_places c.pieces addr (length b.now))) (Some c) (call.CompareExchange e.now b.now addr) (reply_in (Bytes after) r) s t
       at None is d = rw (d.0, d.1.1, none-asked (writable_places c.pieces addr (length b.now)) is) (answered_as _ _ _ s refl)
       at (Some asked) is d =
           let step = compare-wanted s.flat c.pieces addr e.now b.now asked is in
           let leaves = rw (if-puts (same_bytes (loaded s.flat.table asked) e.now) b.now) at d.leaves in
-          rw is (accessed _ _ _ asked is_bus_error (λ _. Bytes after) s t r refl (rw step refl) (λ _. (refl, refl)) (IfOk-weaker r _ _ (λ _ same. rw same step) (on-ok _ _ r (λ f. f ∙ filled _ _ before refl) d.there)) leaves)
+          rw is (accessed _ _ _ asked (is_failure (call.CompareExchange e.now b.now addr)) (λ _. Bytes after) s t r refl (rw step refl) (λ _. (refl, refl)) (IfOk-weaker r _ _ (λ _ same. rw same step) (on-ok _ _ r (λ f. f ∙ filled _ _ before refl) d.there)) leaves)

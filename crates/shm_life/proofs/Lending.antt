@@ -20,9 +20,11 @@ use Rattle.shm_fault.specs.Acting.{PutAt, left_by, size_of, writes}
 use Rattle.shm_fault.specs.Goes.{frame_by}
 use Rattle.shm_fault.specs.Held.{FitsPage}
 use Rattle.shm_fault.specs.Loans.{LoansStay, SetsLent, is_barred, lent_at, loaned, with_loan}
-use Rattle.shm_fault.specs.Placing.{Places, Stops, StopsAt, after_access, after_visit, dirtied, places, visited_in, with_dirty}
+use Rattle.shm_fault.specs.Counting.{Transfers, no_transfers}
+use Rattle.shm_fault.specs.Placing.{Places, Stops, StopsAt, after_access, after_visit, dirtied, places, visit_counted, visited_in, with_dirty}
 use Rattle.shm_fault.specs.Segs.{HasPage, rec_by}
 use Rattle.shm_fault.specs.Store.{frame_of, held, is_page, ref_of}
+use Rattle.shm_slots.specs.Cause.{total}
 use Rattle.shm_segments.specs.Table.{table_with}
 use Rattle.shm_segments.specs.View.{IsTableExact, as_held}
 use Rattle.shm_segments.proofs.Again.{again, visited}
@@ -35,7 +37,7 @@ use Rattle.shm_life.proofs.Accessing.{filled, noted, on-ok, view_with}
 use Rattle.shm_life.proofs.Settled.{still-well}
 use Rattle.shm_life.proofs.Running.{true_still}
 use Rattle.shm_life.specs.MachineView.{MachineView}
-use Rattle.shm_life.specs.Paging.{ComeIn, ComeInUpTo, Transfers, page_spans, pages_of_bytes, whole_page}
+use Rattle.shm_life.specs.Paging.{ComeIn, ComeInUpTo, CountsPages, page_spans, pages_of_bytes, whole_page}
 use Rattle.shm_life.proofs.Touching.{span-first, span-next, whole-page, whole-ref}
 
 lt-zero : (n : ℕ) → nat_lt n 0 ≡ false
@@ -81,9 +83,9 @@ pub came-one : (r : PageRef) (s t : StoreView) → ComeIn false (whole_page r �
 unfolding after_access
 came-one r s t came = came.places ∙ ap (λ q. after_visit q None (places s)) (whole-ref r)
 
-stopped-one : (r : PageRef) (s t : StoreView) → ComeInUpTo (whole_page r ∷ []) s t → StopsAt r None (places s) (places t)
+stopped-one : (r : PageRef) (s t : StoreView) (to : ComeInUpTo (whole_page r ∷ []) s t) → StopsAt r None (places s) (places t) no_transfers to.before
 unfolding Stops
-stopped-one r s t to = subst (λ q. StopsAt q None (places s) (places t)) (whole-ref r) to.stopped
+stopped-one r s t to = subst (λ q. StopsAt q None (places s) (places t) no_transfers to.before) (whole-ref r) to.stopped
 
 pub frame-after : (r : PageRef) (m : StoreView) (s : Places) → places m ≡ s → frame_by m r ≡ (rec_by s.segs r).frame
 unfolding places
@@ -105,16 +107,12 @@ stay-loaned s None = stay-refl s
 stay-loaned s (Some f) = stay-marked s f
 
 -- only the marks of frames changed
-transfers-marked : (r : PageRef) (s m t : StoreView) → t ≡ record m { frames = t.frames } → Transfers (whole_page r ∷ []) s m true → Transfers (whole_page r ∷ []) s t true
-transfers-marked r s m t rest x = record {
-  reads = x.reads;
-  writes = x.writes;
+counts-marked : (c : Transfers) (ps : List Span) (s m t : StoreView) → t ≡ record m { frames = t.frames } → CountsPages c ps s m true → CountsPages c ps s t true
+counts-marked c ps s m t rest x = record {
   read_in = ap (λ (v : StoreView). v.ins) rest ∙ x.read_in;
   written_out = ap (λ (v : StoreView). v.outs) rest ∙ x.written_out;
-  few_reads = x.few_reads;
-  few_writes = x.few_writes;
-  swapped = x.swapped;
-  quiet = λ all. let q = x.quiet all in (ap (λ (v : StoreView). v.swap) rest ∙ q.0, q.1);
+  failures = ap (λ (v : StoreView). total v.swap) rest ∙ x.failures;
+  quiet = λ all. ap (λ (v : StoreView). v.swap) rest ∙ x.quiet all;
 }
 
 stay-came : (r : PageRef) (s t : StoreView) → is_barred r None (places s) ≡ false → ComeIn false (whole_page r ∷ []) s t → LoansStay (places s) (places t)
@@ -132,7 +130,7 @@ lent-now r s m t out free l bytes set keeps flat =
     record {
       flat = flat ∙ l.written;
       bytes = bytes;
-      transfers = transfers-marked r s.memory m.memory t.memory set.rest l.came.transfers;
+      counts = counts-marked _ (whole_page r ∷ []) s.memory m.memory t.memory set.rest l.came.counts;
       placed = placed ∙ ap (on_loan r true) came;
       keeps = memory-trans s.memory m.memory t.memory l.keeps keeps;
       stay = stay-trans (places s.memory) (places m.memory) (places t.memory) (stay-came r s.memory m.memory free l.came) (rw placed (stay-loaned (places m.memory) (rec_by (places m.memory).segs r).frame));
@@ -144,7 +142,7 @@ fails-to-come r s t e free l = record {
   stopped = l.stopped;
   cause = l.err.cause;
   keeps = l.keeps;
-  stay = stay-stops r None (places s.memory) (places t.memory) free (stopped-one r s.memory t.memory l.stopped);
+  stay = stay-stops r None (places s.memory) (places t.memory) no_transfers l.stopped.before free (stopped-one r s.memory t.memory l.stopped);
 }
 
 -- WHAT IS ON LOAN
@@ -425,8 +423,9 @@ first_visited r s = after_visit r None s
 abbrev both_visited : PageRef → PageRef → Places → Places
 both_visited r q s = after_visit q (rec_by (first_visited r s).segs r).frame (first_visited r s)
 
-abbrev StopsAtOne : PageRef → PageRef → Places → Places → Type 0
-StopsAtOne r q s t = StopsAt r None s t ⊎ StopsAt q (rec_by (first_visited r s).segs r).frame (first_visited r s) t
+abbrev StopsAtOne : PageRef → PageRef → Places → Places → Transfers → Type 0
+StopsAtOne r q s t c =
+    StopsAt r None s t no_transfers c ⊎ StopsAt q (rec_by (first_visited r s).segs r).frame (first_visited r s) t (visit_counted r None s no_transfers) c
 
 clear-both : (r q : PageRef) (s : Places) → (not (is_barred r None s) && not (is_barred q (rec_by (first_visited r s).segs r).frame (first_visited r s))) ≡ true
     → (is_barred r None s ≡ false) × (is_barred q (rec_by (first_visited r s).segs r).frame (first_visited r s) ≡ false)
@@ -447,20 +446,22 @@ stay-accessed (r ∷ q ∷ rs) s clear =
     let stay = stay-trans s first (both_visited r q s) (stay-visit r None s free.0) (stay-visit q (rec_by first.segs r).frame first free.1) in
     subst (λ x. LoansStay s (both_visited (ref_of (whole_page r)) x s)) (sym (whole-ref q)) (subst (λ x. LoansStay s (both_visited x q s)) (sym (whole-ref r)) stay)
 
-stay-stopped : (rs : List PageRef) (s t : Places) → is_clear rs s ≡ true → Stops (map whole_page rs) s t → LoansStay s t
+stay-stopped : (rs : List PageRef) (s t : Places) (c : Transfers) → is_clear rs s ≡ true → Stops (map whole_page rs) s t c → LoansStay s t
 unfolding Stops
-stay-stopped [] s t clear stops = absurd stops
-stay-stopped (r ∷ []) s t clear stops = stay-stops r None s t (not-true _ clear) (subst (λ q. StopsAt q None s t) (whole-ref r) stops)
-stay-stopped (r ∷ q ∷ rs) s t clear stops = elim at [
-  | inl here ↦ stay-stops r None s t free.0 here
-  | inr there ↦ stay-trans s (first_visited r s) t (stay-visit r None s free.0) (stay-stops q (rec_by (first_visited r s).segs r).frame (first_visited r s) t free.1 there)
+stay-stopped [] s t c clear stops = absurd stops
+stay-stopped (r ∷ []) s t c clear stops = stay-stops r None s t no_transfers c (not-true _ clear) (subst (λ q. StopsAt q None s t no_transfers c) (whole-ref r) stops)
+stay-stopped (r ∷ q ∷ rs) s t c clear stops = elim at [
+  | inl here ↦ stay-stops r None s t no_transfers c free.0 here
+  | inr there ↦
+      stay-trans s (first_visited r s) t (stay-visit r None s free.0)
+      (stay-stops q (rec_by (first_visited r s).segs r).frame (first_visited r s) t (visit_counted r None s no_transfers) c free.1 there)
 ]
   where
     free : (is_barred r None s ≡ false) × (is_barred q (rec_by (first_visited r s).segs r).frame (first_visited r s) ≡ false)
     free = clear-both r q s clear
 
-    at : StopsAtOne r q s t
-    at = subst (λ x. StopsAtOne r x s t) (whole-ref q) (subst (λ x. StopsAtOne x (ref_of (whole_page q)) s t) (whole-ref r) stops)
+    at : StopsAtOne r q s t c
+    at = subst (λ x. StopsAtOne r x s t c) (whole-ref q) (subst (λ x. StopsAtOne x (ref_of (whole_page q)) s t c) (whole-ref r) stops)
 
 keeps-still : (rs : List PageRef) (m : StoreView) → KeepsLoans rs m m
 keeps-still rs m clear = stay-refl (places m)
@@ -468,7 +469,7 @@ keeps-still rs m clear = stay-refl (places m)
 keeps-access : (puts : Bool) (bytes : List Place) (table : List Entry) (s t : MachineView) (r : Result (Unit {0}) Errno) → LeavesOrFails table puts (page_spans bytes) s r t → KeepsLoans (pages_of_bytes bytes) s.memory t.memory
 keeps-access puts bytes table s t r l (inl none) = λ f q owned lent. absurd (none-lent s.memory f none lent)
 keeps-access puts bytes table s t (Ok a) l (inr clear) = rw l.came.places (stay-left puts (page_spans bytes) (places s.memory) _ (stay-accessed (pages_of_bytes bytes) (places s.memory) clear))
-keeps-access puts bytes table s t (Err e) l (inr clear) = stay-stopped (pages_of_bytes bytes) (places s.memory) (places t.memory) clear l.stopped.stopped
+keeps-access puts bytes table s t (Err e) l (inr clear) = stay-stopped (pages_of_bytes bytes) (places s.memory) (places t.memory) l.stopped.before clear l.stopped.stopped
 
 pub keeps-loans : (act : Act) (addr : ℕ) (who : Option Caller) (before after : List ℕ) (s t : MachineView) (r : Result (Unit {0}) Errno) → DoesBy act addr who before after s r t
     → KeepsLoans (pages_asked_by (writes act) addr (size_of act (length before)) who) s.memory t.memory

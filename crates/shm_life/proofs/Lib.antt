@@ -25,3 +25,4 @@ pub mod Lending
 mod Indexed
 pub mod Noticing
 pub mod Residing
+mod Paged

@@ -11,18 +11,18 @@ use Rattle.shm_base.specs.declared.call.Reply.{Reply}
 use Rattle.shm_base.specs.declared.call.Reply.TheVariants.{Refused}
 use Rattle.shm_base.specs.declared.errno.Errno.{Errno}
 use Rattle.shm_life.specs.Sound.{AreProcesses}
-use Rattle.shm_life.specs.MachineView.{MachineView, Answered, IsFailed, names_failure}
+use Rattle.shm_life.specs.MachineView.{MachineView, Answered, IsFailed}
 use Rattle.shm_life.specs.Paging.{Did, DidUpTo, Pages, Paging}
 use Rattle.shm_life.specs.Paging.Paging.{Rests}
 use Rattle.shm_segments.specs.Staying.{Ends, MovesNone}
 use Rattle.shm_segments.proofs.Staying.{ends-refl, moves-refl}
-use Rattle.std.specs.Prelude.{Result, Ok, Err}
+use Rattle.std.specs.Prelude.{Result, Ok, Err, is_ok}
+use Rattle.shm_fault.specs.Goes.{CountsFailure}
 use Rattle.shm_base.specs.Calls.{ProcessCall}
 use Rattle.shm_attach.specs.Spaces.{IsCaller}
 use Rattle.shm_attach.specs.declared.process.Caller.{Caller}
 use Rattle.shm_life.specs.MachineView.{AnsweredBy, Served}
-use Rattle.shm_life.specs.Exchanged.{seen}
-use Rattle.shm_life.specs.SystemState.{SystemState, Replied, most_calls, time_of}
+use Rattle.shm_life.specs.SystemState.{SystemState, Replied, most_calls, seen, time_of}
 use Rattle.shm_base.specs.History.{IsMove, is_failure}
 use Rattle.std.proofs.Common.{inl, inr}
 
@@ -111,13 +111,13 @@ pub refused_as : (o : Outcome) (does : Paging) (errno : Errno) (locks : Bool) (s
 refused_as o does errno locks s step = answered_with o does (Refused errno) locks s step (pages_refused does errno s.memory)
 
 -- a refusal that names a pager's failure
-pub failing : (o : Outcome) (does : Paging) (errno : Errno) (locks : Bool) (s t : MachineView) → names_failure (Refused errno) ≡ true → IsFailed o s t → KeepsMemory s.memory t.memory → DidUpTo does s.memory t.memory → Answered o does true locks (Refused errno) s t
-failing o does errno locks s t names failed keeps did = record {
+pub failing : (o : Outcome) (does : Paging) (errno : Errno) (locks : Bool) (s t : MachineView) → IsFailed o s t → KeepsMemory s.memory t.memory → DidUpTo does s.memory t.memory → Answered o does true locks (Refused errno) s t
+failing o does errno locks s t failed keeps did = record {
   step = λ e. absurd (true≢false e);
   failed = λ _. failed;
   keeps = keeps_on s.memory t.memory keeps;
   locked = λ _. keeps.locks;
-  still = λ _ n. absurd (true≢false (sym names ∙ n));
+  still = λ _ n. absurd (true≢false n);
   paged = pages_stopped does errno s.memory t.memory did;
 }
 
@@ -186,3 +186,12 @@ ok_fact (Err e) P none fact = absurd (true≢false none)
 pub err_fact : {A E : Type 0} (r : Result A E) (P : Type 0) → is_err r ≡ true → OnErr r P → P
 err_fact (Ok a) P is fact = absurd (true≢false (sym is))
 err_fact (Err e) P is fact = fact
+
+-- the failures that were counted, by the result
+pub none-failed : {A E : Type 0} (r : Result A E) (s t : StoreView) → is_err r ≡ false → CountsFailure (is_ok r) s t → CountsFailure true s t
+none-failed (Ok a) s t none fact = fact
+none-failed (Err e) s t none fact = absurd (true≢false none)
+
+pub one-failed : {A E : Type 0} (r : Result A E) (s t : StoreView) → is_err r ≡ true → CountsFailure (is_ok r) s t → CountsFailure false s t
+one-failed (Ok a) s t is fact = absurd (true≢false (sym is))
+one-failed (Err e) s t is fact = fact

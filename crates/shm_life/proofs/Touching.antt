@@ -1,19 +1,20 @@
 -- The pages of an access: those of its spans are those of its bytes.
 use Rattle.shm_life.proofs.Names.{◌≡◌, ℕ, zero, suc, ◌+◌, ◌*◌, ◌/◌, ◌≤◌, Bool, true, false, List, [], ◌∷◌, length, None, refl, sym, ap, ◌∙◌, arith, inl, inr, All, Place, Span, InPage, page_of, span_places, PageRef, StoreView, eq-eqb, subst}
-use Rattle.std.proofs.Common.{◌++◌, if◌then◌else◌, is_some}
+use Rattle.std.proofs.Common.{Option, Some, ◌++◌, if◌then◌else◌, is_some}
 use Rattle.std.proofs.lemmas.Bool.{false≢true}
-use Rattle.std.specs.Prelude.{map, ◌&&◌, ◌⊎◌}
+use Rattle.std.specs.Prelude.{map, ◌⊎◌}
 use Rattle.shm_base.specs.Spans.{run}
 use Rattle.shm_fault.specs.Acting.{left_by}
-use Rattle.shm_fault.specs.Placing.{Places, after_access, after_visit, dirtied, places, with_dirty, Stops, StopsAt}
+use Rattle.shm_fault.specs.Placing.{Places, access_counted, after_access, after_visit, dirtied, page_counted, places, visit_counted, with_dirty, Stops, StopsAt}
+use Rattle.shm_fault.specs.Counting.{Transfers, counted, no_transfers}
 use Rattle.shm_fault.specs.Segs.{HasPage, rec_by}
-use Rattle.shm_fault.specs.Store.{IsResident, frame_of, is_page, is_swapped, pages_among, rec_of, ref_of, same_page, swapped_among}
-use Rattle.shm_fault.proofs.Pages.{same-self, same-true}
+use Rattle.shm_fault.specs.Store.{IsResident, frame_of, is_page, ref_of}
+use Rattle.shm_fault.proofs.Pages.{same-true}
 use Rattle.shm_segments.proofs.Again.{again, dirtied-again, visited}
 use Rattle.shm_fault.specs.Access.{Paged}
 use Rattle.shm_fault.specs.declared.touched.Touched.{Touched}
 use Rattle.std.proofs.lemmas.List.Elements.{All-cons, All-nil}
-use Rattle.shm_life.specs.Paging.{page_of_byte, pages_after, pages_of_bytes, whole_page, ComeIn, ComeInUpTo, Transfers}
+use Rattle.shm_life.specs.Paging.{page_of_byte, pages_after, pages_of_bytes, whole_page, ComeIn, ComeInUpTo, CountsPages}
 
 -- WHICH PAGES
 
@@ -71,22 +72,24 @@ whole-page n = omega arith
 pub whole-ref : (r : PageRef) → ref_of (whole_page r) ≡ r
 whole-ref r = ap (λ n. record { seg = r.seg; page = n }) (whole-page r.page)
 
-same-span : (p q : Span) → ref_of p ≡ ref_of q → same_page p q ≡ true
-same-span p q same = ap (λ (r : PageRef). is_page r q.seg (page_of q)) same ∙ same-self (ref_of q)
-
 -- each span's page exists
 abbrev pub AllHave : Places → List Span → Type 0
 AllHave s ps = All (λ (p : Span). HasPage s.segs (ref_of p)) ps
 
--- two visits, two pages that become dirty, and a stop at one of two pages
+-- two visits and what they count, two pages that become dirty, and a stop at one of two pages
 abbrev visits : PageRef → PageRef → Places → Places
 visits r q s = let first = after_visit r None s in after_visit q (rec_by first.segs r).frame first
 
 abbrev dirties : PageRef → PageRef → Places → Places
 dirties r q s = let first = dirtied (rec_by s.segs r).frame s in dirtied (rec_by first.segs q).frame first
 
-abbrev StopsAtOne : PageRef → PageRef → Places → Places → Type 0
-StopsAtOne r q s t = let first = after_visit r None s in StopsAt r None s t ⊎ StopsAt q (rec_by first.segs r).frame first t
+abbrev visits_counted : PageRef → PageRef → Places → Transfers
+visits_counted r q s = let first = after_visit r None s in visit_counted q (rec_by first.segs r).frame first (visit_counted r None s no_transfers)
+
+abbrev StopsAtOne : PageRef → PageRef → Places → Places → Transfers → Type 0
+StopsAtOne r q s t c =
+    let first = after_visit r None s in
+    StopsAt r None s t no_transfers c ⊎ StopsAt q (rec_by first.segs r).frame first t (visit_counted r None s no_transfers) c
 
 pub came-pages : (s : Places) {ps : List Span} {rs : List PageRef} → HavePages ps rs → AllHave s ps → after_access ps s ≡ after_access (map whole_page rs) s
 unfolding after_access
@@ -95,6 +98,27 @@ came-pages s (one {p}) has = rw (whole-ref (ref_of p)) refl
 came-pages s (two {p} {q}) has = ap (λ r. visits r (ref_of q) s) (sym (whole-ref (ref_of p))) ∙ ap (λ r. visits (ref_of (whole_page (ref_of p))) r s) (sym (whole-ref (ref_of q)))
 came-pages s (twice {p} {q} same) has =
     ap (λ r. visits (ref_of p) r s) (sym same) ∙ again (ref_of p) s (has 0 p (omega arith)) ∙ ap (λ r. after_visit r None s) (sym (whole-ref (ref_of p)))
+
+-- a visit to a resident page counts nothing
+seen-counted : (r : PageRef) (pinned : Option ℕ) (s : Places) (c : Transfers) → is_some (rec_by s.segs r).frame ≡ true → visit_counted r pinned s c ≡ c
+unfolding visit_counted
+seen-counted r pinned s c some = by (rec_by s.segs r).frame some
+  where
+    by : (o : Option ℕ) → is_some o ≡ true → page_counted r o pinned s c ≡ c
+    by None some = absurd (false≢true some)
+    by (Some f) some = refl
+
+pub counted-pages : (s : Places) {ps : List Span} {rs : List PageRef} → HavePages ps rs → AllHave s ps → access_counted ps s ≡ access_counted (map whole_page rs) s
+unfolding access_counted
+counted-pages s none has = refl
+counted-pages s (one {p}) has = rw (whole-ref (ref_of p)) refl
+counted-pages s (two {p} {q}) has =
+    ap (λ r. visits_counted r (ref_of q) s) (sym (whole-ref (ref_of p))) ∙ ap (λ r. visits_counted (ref_of (whole_page (ref_of p))) r s) (sym (whole-ref (ref_of q)))
+counted-pages s (twice {p} {q} same) has =
+    let first = after_visit (ref_of p) None s in
+    ap (λ r. visits_counted (ref_of p) r s) (sym same)
+    ∙ seen-counted (ref_of p) (rec_by first.segs (ref_of p)).frame first (visit_counted (ref_of p) None s no_transfers) (visited (ref_of p) s (has 0 p (omega arith)))
+    ∙ ap (λ r. visit_counted r None s no_transfers) (sym (whole-ref (ref_of p)))
 
 pub dirty-pages : (s : Places) {ps : List Span} {rs : List PageRef} → HavePages ps rs → with_dirty ps s ≡ with_dirty (map whole_page rs) s
 unfolding with_dirty
@@ -108,34 +132,16 @@ pub left-pages : (puts : Bool) (s : Places) {ps : List Span} {rs : List PageRef}
 left-pages true s have has = dirty-pages _ have ∙ ap (with_dirty _) (came-pages s have has)
 left-pages false s have has = came-pages s have has
 
-pub stop-pages : (s t : Places) {ps : List Span} {rs : List PageRef} → HavePages ps rs → AllHave s ps → Stops ps s t → Stops (map whole_page rs) s t
+pub stop-pages : (s t : Places) (c : Transfers) {ps : List Span} {rs : List PageRef} → HavePages ps rs → AllHave s ps → Stops ps s t c → Stops (map whole_page rs) s t c
 unfolding Stops
-stop-pages s t none has stops = stops
-stop-pages s t (one {p}) has stops = rw (whole-ref (ref_of p)) stops
-stop-pages s t (two {p} {q}) has stops =
-    subst (λ r. StopsAtOne (ref_of (whole_page (ref_of p))) r s t) (sym (whole-ref (ref_of q))) (subst (λ r. StopsAtOne r (ref_of q) s t) (sym (whole-ref (ref_of p))) stops)
-stop-pages s t (twice {p} {q} same) has (inl first) = rw (whole-ref (ref_of p)) first
-stop-pages s t (twice {p} {q} same) has (inr second) =
+stop-pages s t c none has stops = stops
+stop-pages s t c (one {p}) has stops = rw (whole-ref (ref_of p)) stops
+stop-pages s t c (two {p} {q}) has stops =
+    subst (λ r. StopsAtOne (ref_of (whole_page (ref_of p))) r s t c) (sym (whole-ref (ref_of q))) (subst (λ r. StopsAtOne r (ref_of q) s t c) (sym (whole-ref (ref_of p))) stops)
+stop-pages s t c (twice {p} {q} same) has (inl first) = rw (whole-ref (ref_of p)) first
+stop-pages s t c (twice {p} {q} same) has (inr second) =
     let away = subst (λ r. (rec_by (after_visit (ref_of p) None s).segs r).frame ≡ None) (sym same) second.away in
     absurd (false≢true (ap is_some (sym away) ∙ visited (ref_of p) s (has 0 p (omega arith))))
-
-pub among-pages : {ps : List Span} {rs : List PageRef} → HavePages ps rs → pages_among ps ≡ pages_among (map whole_page rs)
-among-pages none = refl
-among-pages (one {p}) = refl
-among-pages (two {p} {q}) = rw (whole-page (page_of p), whole-page (page_of q)) refl
-among-pages (twice {p} {q} same) = rw (same-span p q same) refl
-
-pub swapped-pages : (s : StoreView) {ps : List Span} {rs : List PageRef} → HavePages ps rs → swapped_among s ps ≡ swapped_among s (map whole_page rs)
-swapped-pages s none = refl
-swapped-pages s (one {p}) = rw (whole-page (page_of p)) refl
-swapped-pages s (two {p} {q}) = rw (whole-page (page_of p), whole-page (page_of q)) refl
-swapped-pages s (twice {p} {q} same) =
-    let at : rec_of s q.seg (page_of q) ≡ rec_of s p.seg (page_of p) = ap (λ (r : PageRef). rec_of s r.seg r.page) (sym same) in
-    rw (same-span p q same, at, whole-page (page_of p)) (by (is_swapped (rec_of s p.seg (page_of p))))
-  where
-    by : (b : Bool) → (if b && false then 1 else 0) + ((if b && true then 1 else 0) + 0) ≡ (if b && true then 1 else 0) + 0
-    by true = refl
-    by false = refl
 
 resident-at : (s : StoreView) (p q : Span) → ref_of p ≡ ref_of q → IsResident s p → IsResident s q
 resident-at s p q same is = ap (λ (r : PageRef). is_some (frame_of s r.seg r.page)) (sym same) ∙ is
@@ -155,17 +161,8 @@ resident-pages s (twice {p} {q} same) all =
 
 -- WHAT AN ACCESS DOES TO THEM
 
-transfers : (s t : StoreView) (u : Touched) (ok : Bool) (ps : List Span) (rs : List PageRef) → HavePages ps rs → Paged ps s t u ok → Transfers (map whole_page rs) s t ok
-transfers s t u ok ps rs have p = record {
-  reads = u.ins;
-  writes = u.outs;
-  read_in = p.read_in;
-  written_out = p.written_out;
-  few_reads = rw (among-pages have) at p.ins_few;
-  few_writes = rw (among-pages have) at p.outs_few;
-  swapped = λ is. rw (swapped-pages s have) at (p.swapped is);
-  quiet = λ all. let q = p.quiet (resident-pages s have all) in (q.1, (q.2, q.3));
-}
+counts : (s t : StoreView) (u : Touched) (ok : Bool) (ps : List Span) (rs : List PageRef) → HavePages ps rs → Paged ps s t u ok → CountsPages (counted u) (map whole_page rs) s t ok
+counts s t u ok ps rs have p = record { read_in = p.read_in; written_out = p.written_out; failures = p.failures; quiet = λ all. (p.quiet (resident-pages s have all)).1 }
 
 has-places : (s : StoreView) (ps : List Span) → All (λ (p : Span). HasPage s.segs (ref_of p)) ps → AllHave (places s) ps
 unfolding places
@@ -173,7 +170,16 @@ has-places s ps has = has
 
 pub comes-in : (puts : Bool) (s t : StoreView) (u : Touched) (ps : List Span) (rs : List PageRef) → HavePages ps rs → All (λ (p : Span). HasPage s.segs (ref_of p)) ps → Paged ps s t u true
     → places t ≡ left_by puts ps (after_access ps (places s)) → ComeIn puts (map whole_page rs) s t
-comes-in puts s t u ps rs have has p came = record { transfers = transfers s t u true ps rs have p; places = came ∙ left-pages puts (places s) have (has-places s ps has) }
+comes-in puts s t u ps rs have has p came =
+    let there = has-places s ps has in
+    record {
+      counts = rw (← counted-pages (places s) have there, ← p.transfers refl) (counts s t u true ps rs have p);
+      places = came ∙ left-pages puts (places s) have there;
+    }
 
-pub comes-up-to : (s t : StoreView) (u : Touched) (ps : List Span) (rs : List PageRef) → HavePages ps rs → All (λ (p : Span). HasPage s.segs (ref_of p)) ps → Paged ps s t u false → Stops ps (places s) (places t) → ComeInUpTo (map whole_page rs) s t
-comes-up-to s t u ps rs have has p stops = record { transfers = transfers s t u false ps rs have p; stopped = stop-pages (places s) (places t) have (has-places s ps has) stops }
+pub comes-up-to : (s t : StoreView) (u : Touched) (ps : List Span) (rs : List PageRef) → HavePages ps rs → All (λ (p : Span). HasPage s.segs (ref_of p)) ps → Paged ps s t u false → Stops ps (places s) (places t) (counted u) → ComeInUpTo (map whole_page rs) s t
+comes-up-to s t u ps rs have has p stops = record {
+  before = counted u;
+  counts = counts s t u false ps rs have p;
+  stopped = stop-pages (places s) (places t) (counted u) have (has-places s ps has) stops;
+}

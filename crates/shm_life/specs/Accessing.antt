@@ -1,7 +1,9 @@
 -- Accesses of bytes by a process.
-use Rattle.std.specs.Prelude.{ℕ, ◌≡◌, Bool, true, if◌then◌else◌, List, [], ◌∷◌, length, Option, Some, None, Result, Err, is_some, IfErr, OnOk, OnErr}
+use Rattle.std.specs.Prelude.{ℕ, ◌≡◌, Bool, true, if◌then◌else◌, List, [], ◌∷◌, length, replicate, Option, Some, None, Result, Err, is_some, IfErr, OnOk, OnErr}
 use Rattle.shm_base.specs.Access.{Place, loaded}
 use Rattle.shm_base.specs.Step.{Caller}
+use Rattle.shm_base.specs.declared.call.Reply.{Reply}
+use Rattle.shm_base.specs.declared.call.Reply.TheVariants.{Bytes}
 use Rattle.shm_base.specs.declared.errno.Errno.{Errno}
 use Rattle.shm_base.specs.declared.errno.Errno.TheVariants.{Esrch, Sigbus, Sigsegv}
 use Rattle.shm_base.specs.declared.paging.Span.{Span}
@@ -69,3 +71,11 @@ pub record DoesBy
     (act : Act) (addr : ℕ) (who : Option Caller) (before after : List ℕ) (s : MachineView)
     (r : Result (Unit {0}) Errno) (t : MachineView) : Type 0 where
   pub by : DoesFor act addr who before after s r t
+
+-- an act at this many bytes, whose reply has the old ones if it was done
+pub record RepliesOld
+    (act : Act) (addr len : ℕ) (who : Option Caller) (reply : Reply) (s : MachineView) (r : Result (Unit {0}) Errno)
+    (t : MachineView) : Type 0 where
+  pub old : List ℕ
+  pub by : DoesBy act addr who (replicate len 0) old s r t
+  pub has_old : OnOk r (reply ≡ Bytes old)

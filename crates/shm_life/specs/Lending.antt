@@ -13,14 +13,14 @@ use Rattle.shm_frames.specs.Frame.{lent_of}
 use Rattle.shm_fault.specs.Acting.{left_by}
 use Rattle.shm_fault.specs.Goes.{frame_by}
 use Rattle.shm_fault.specs.Loans.{LoansStay, info_of, is_barred, leaver_in, lent_at, loaned}
-use Rattle.shm_fault.specs.Placing.{Places, after_visit, places}
+use Rattle.shm_fault.specs.Placing.{Places, access_counted, after_visit, places}
 use Rattle.shm_fault.specs.Segs.{rec_by}
 use Rattle.shm_fault.specs.Store.{StoreView}
 use Rattle.shm_fault.specs.declared.loans.FrameInfo.{FrameInfo}
 use Rattle.shm_segments.specs.Table.{live, page_there, table_with}
 use Rattle.shm_segments.specs.View.{KeepsMemory}
 use Rattle.shm_life.specs.MachineView.{MachineView}
-use Rattle.shm_life.specs.Paging.{ComeIn, ComeInUpTo, Transfers, page_of_byte, pages_of_bytes, whole_page}
+use Rattle.shm_life.specs.Paging.{ComeIn, ComeInUpTo, CountsPages, page_of_byte, pages_of_bytes, whole_page}
 use Rattle.shm_life.specs.declared.loans.LendRefusal.{LendRefusal}
 use Rattle.shm_life.specs.declared.loans.LendRefusal.TheVariants as lending
 use Rattle.shm_life.specs.declared.loans.ReturnRefusal.{ReturnRefusal}
@@ -52,7 +52,9 @@ lend_refusal s r =
 pub record IsLent (r : PageRef) (s : MachineView) (out : List ℕ) (t : MachineView) : Type 0 where
   pub flat : t.flat ≡ s.flat
   pub bytes : out ≡ loaded s.flat.table (page_places r)
-  pub transfers : Transfers (whole_page r ∷ []) s.memory t.memory true
+  pub counts :
+      let page = whole_page r ∷ [] in
+      CountsPages (access_counted page (places s.memory)) page s.memory t.memory true
   pub placed : places t.memory ≡ on_loan r true (after_visit r None (places s.memory))
   pub keeps : KeepsMemory s.memory t.memory
   pub stay : LoansStay (places s.memory) (places t.memory)

@@ -12,8 +12,8 @@ pub mod MachineView
 pub mod Counts
 pub mod Guest
 pub mod Mapped
-pub mod Exchanged
 pub mod Paging
+pub mod PagingRows
 pub mod Accessing
 pub mod Lending
 pub mod Notices

@@ -5,7 +5,6 @@ use Rattle.shm_base.specs.declared.call.Call.TheVariants.{Lock}
 use Rattle.shm_base.specs.declared.call.Reply.{Reply}
 use Rattle.shm_base.specs.declared.call.Reply.TheVariants.{Done, Refused}
 use Rattle.shm_base.specs.declared.errno.Errno.{Errno}
-use Rattle.shm_base.specs.declared.errno.Errno.TheVariants.{Sigbus, Eio}
 use Rattle.shm_base.specs.Bounds.{lockable}
 use Rattle.shm_base.specs.State.{Machine}
 use Rattle.shm_base.specs.Step.{Caller as FlatCaller, Outcome, acts, caller_of, step}
@@ -42,15 +41,9 @@ abbrev pub is_lock : ProcessCall → Bool
 is_lock (Lock id) = true
 is_lock _ = false
 
--- the refusals that report a pager's failure
-abbrev pub names_failure : Reply → Bool
-names_failure (Refused Sigbus) = true
-names_failure (Refused Eio) = true
-names_failure _ = false
-
--- every other refusal leaves the memory unchanged: no page moves, no bit changes, no count rises
-abbrev pub StillIfRefused : Reply → StoreView → StoreView → Type 0
-StillIfRefused reply before after = is_refusal reply ≡ true → names_failure reply ≡ false → after ≡ before
+-- a refusal that reports no pager's failure leaves the memory unchanged: no page moves, no bit changes, no count rises
+abbrev pub StillIfRefused : (failed : Bool) → Reply → StoreView → StoreView → Type 0
+StillIfRefused failed reply before after = is_refusal reply ≡ true → failed ≡ false → after ≡ before
 
 -- a pager failed in a call that the flat machine does not refuse, and the flat machine is unchanged
 pub record IsFailed (o : Outcome) (s t : MachineView) : Type 0 where
@@ -78,12 +71,13 @@ pub record Answered (o : Outcome) (does : Paging) (names locks : Bool) (reply : 
   pub failed : names ≡ true → IsFailed o s t
   pub keeps : KeepsOn s.memory t.memory
   pub locked : locks ≡ false → LocksNothing s.memory t.memory
-  pub still : StillIfRefused reply s.memory t.memory
+  pub still : StillIfRefused names reply s.memory t.memory
   pub paged : Pages does names reply s.memory t.memory
 
 -- the machine after an answer to a call of a process, if it is live
 abbrev pub AnsweredTo : Outcome → Option FlatCaller → ProcessCall → Reply → MachineView → MachineView → Type 0
-AnsweredTo o who call reply s t = Answered o (paging_of call who) (is_failure call reply) (is_lock call) reply s t
+AnsweredTo o who call reply s t =
+    Answered o (paging_of s.flat.table call who) (is_failure call reply) (is_lock call) reply s t
 
 -- the machine after it served a caller's call at place n
 abbrev pub Served : MachineView → ℕ → Caller → ProcessCall → Reply → MachineView → Type 0

@@ -1,21 +1,21 @@
 -- What calls do to pages: an access brings in the pages of its bytes, a swapoff moves those of an area, and no other call moves one.
-use Rattle.std.specs.Prelude.{ℕ, ◌≡◌, ◌≤◌, ◌*◌, ◌/◌, Bool, true, false, if◌then◌else◌, List, [], ◌∷◌, map, length, Option, Some, None, All}
-use Rattle.shm_base.specs.Access.{Place, loaded}
+use Rattle.std.specs.Prelude.{ℕ, ◌≡◌, ◌*◌, ◌/◌, Bool, true, false, if◌then◌else◌, List, [], ◌∷◌, map, length, Option, Some, None, All}
+use Rattle.shm_base.specs.Access.{Place, loaded, same_bytes}
 use Rattle.shm_base.specs.Calls.{ProcessCall}
-use Rattle.shm_base.specs.Exchange.{same_bytes}
 use Rattle.shm_base.specs.History.{is_refusal}
 use Rattle.shm_base.specs.State.{Entry}
 use Rattle.shm_base.specs.Step.{Caller}
-use Rattle.shm_base.specs.declared.call.Call.TheVariants.{Load, Store, Xadd, Swapoff}
+use Rattle.shm_base.specs.declared.call.Call.TheVariants.{Load, Store, Xadd, Exchange, CompareExchange, Swapoff}
 use Rattle.shm_base.specs.declared.call.Reply.{Reply}
 use Rattle.shm_base.specs.declared.paging.PageRef.{PageRef}
 use Rattle.shm_base.specs.declared.paging.Span.{Span}
 use Rattle.shm_base.specs.declared.paging.TheConstants.{PAGE_SIZE}
 use Rattle.shm_attach.specs.Spans.{wanted_in}
 use Rattle.shm_fault.specs.Acting.{left_by}
-use Rattle.shm_fault.specs.Counting.{IsUncounted, raised}
-use Rattle.shm_fault.specs.Placing.{after_access, after_moves, places, without_area, Stops, StopsMoving}
-use Rattle.shm_fault.specs.Store.{IsResident, StoreView, is_page, pages_among, swapped_among}
+use Rattle.shm_fault.specs.Counting.{IsUncounted, Transfers, raised}
+use Rattle.shm_fault.specs.Goes.{CountsFailure}
+use Rattle.shm_fault.specs.Placing.{access_counted, after_access, after_moves, places, without_area, Stops, StopsMoving}
+use Rattle.shm_fault.specs.Store.{IsResident, StoreView, is_page}
 use Rattle.shm_slots.specs.View.{area_at}
 use Rattle.shm_segments.specs.Staying.{MovesNone}
 
@@ -57,62 +57,56 @@ abbrev pub touching : Bool → Option (List Place) → Paging
 touching puts None = Rests
 touching puts (Some bytes) = Touches puts bytes
 
-abbrev pub paging_by : ProcessCall → Caller → Paging
-paging_by (Load addr len) c = touching false (wanted_in false c.pieces addr len)
-paging_by (Store new addr) c = touching true (wanted_in true c.pieces addr (length new))
-paging_by (Xadd addr add) c = touching true (wanted_in true c.pieces addr 8)
-paging_by (Swapoff area) c = TakesAway area
-paging_by _ c = Rests
-
--- what a call of a process does, if the process is live
-abbrev pub paging_of : ProcessCall → Option Caller → Paging
-paging_of call None = Rests
-paging_of call (Some c) = paging_by call c
-
-abbrev pub exchange_by : List ℕ → ℕ → Option Caller → Paging
-exchange_by new addr None = Rests
-exchange_by new addr (Some c) = touching true (wanted_in true c.pieces addr (length new))
-
 -- a compare and exchange puts bytes only if the old ones are the expected ones
-abbrev pub compare_at : List Entry → List ℕ → Option (List Place) → Paging
-compare_at table expected None = Rests
-compare_at table expected (Some bytes) = Touches (same_bytes (loaded table bytes) expected) bytes
+abbrev pub comparing : List Entry → List ℕ → Option (List Place) → Paging
+comparing table expected None = Rests
+comparing table expected (Some bytes) = Touches (same_bytes (loaded table bytes) expected) bytes
 
-abbrev pub compare_by : List Entry → List ℕ → List ℕ → ℕ → Option Caller → Paging
-compare_by table expected new addr None = Rests
-compare_by table expected new addr (Some c) = compare_at table expected (wanted_in true c.pieces addr (length new))
+abbrev pub paging_by : List Entry → ProcessCall → Caller → Paging
+paging_by table (Load addr len) c = touching false (wanted_in false c.pieces addr len)
+paging_by table (Store new addr) c = touching true (wanted_in true c.pieces addr (length new))
+paging_by table (Xadd addr add) c = touching true (wanted_in true c.pieces addr 8)
+paging_by table (Exchange new addr) c = touching true (wanted_in true c.pieces addr (length new))
+paging_by table (CompareExchange expected new addr) c =
+    comparing table expected (wanted_in true c.pieces addr (length new))
+paging_by table (Swapoff area) c = TakesAway area
+paging_by table _ c = Rests
+
+-- what a call of a process does, if the process is live, to the pages of the segments in a table
+abbrev pub paging_of : List Entry → ProcessCall → Option Caller → Paging
+paging_of table call None = Rests
+paging_of table call (Some c) = paging_by table call c
 
 -- WHERE THE PAGES ARE AFTERWARDS
 
--- how many pages an access read and wrote; each was counted
-pub record Transfers (ps : List Span) (s t : StoreView) (ok : Bool) : Type 0 where
-  pub reads : ℕ
-  pub writes : ℕ
-  pub read_in : t.ins ≡ raised s.ins reads
-  pub written_out : t.outs ≡ raised s.outs writes
-  pub few_reads : reads ≤ pages_among ps
-  pub few_writes : writes ≤ pages_among ps
-  pub swapped : ok ≡ true → swapped_among s ps ≤ reads
-  pub quiet : All (IsResident s) ps → (t.swap ≡ s.swap) × ((reads ≡ 0) × (writes ≡ 0))
+-- an access counted these reads and writes of pages, and a failure if a pager failed
+pub record CountsPages (c : Transfers) (ps : List Span) (s t : StoreView) (ok : Bool) : Type 0 where
+  pub read_in : t.ins ≡ raised s.ins c.reads
+  pub written_out : t.outs ≡ raised s.outs c.writes
+  pub failures : CountsFailure ok s t
+  pub quiet : All (IsResident s) ps → t.swap ≡ s.swap
 
 -- the pages came in, one after the other, and became dirty if bytes were put there
 pub record ComeIn (puts : Bool) (ps : List Span) (s t : StoreView) : Type 0 where
-  pub transfers : Transfers ps s t true
+  pub counts : CountsPages (access_counted ps (places s)) ps s t true
   pub places : places t ≡ left_by puts ps (after_access ps (places s))
 
 -- a pager failed for one of the pages
 pub record ComeInUpTo (ps : List Span) (s t : StoreView) : Type 0 where
-  pub transfers : Transfers ps s t false
-  pub stopped : Stops ps (places s) (places t)
+  pub before : Transfers
+  pub counts : CountsPages before ps s t false
+  pub stopped : Stops ps (places s) (places t) before
 
 -- the pages in the area's slots moved, in order of their slots, and the area has no slots any more
 pub record MoveOff (area : ℕ) (s t : StoreView) : Type 0 where
   pub uncounted : IsUncounted s t
+  pub failures : CountsFailure true s t
   pub places : places t ≡ without_area area (after_moves area (length (area_at s.swap area).pages) (places s))
 
 -- a pager failed for one of those pages
 pub record MoveOffUpTo (area : ℕ) (s t : StoreView) : Type 0 where
   pub uncounted : IsUncounted s t
+  pub failures : CountsFailure false s t
   pub stopped : StopsMoving area (places s) (places t)
 
 abbrev pub Did : Paging → StoreView → StoreView → Type 0

@@ -11,7 +11,7 @@ ghost use Rattle.shm_fault.specs.Allowed.{IsAccess};
 ghost use Rattle.shm_attach.specs.Spaces.{IsCaller, caller_seen, pieces_at};
 ghost use Rattle.shm_attach.specs.Spans.{wanted_in};
 ghost use Rattle.shm_segments.specs.Table.{SpanFits};
-ghost use Rattle.shm_life.specs.Accessing.{Does, DoesBy, sole_resident};
+ghost use Rattle.shm_life.specs.Accessing.{Does, DoesBy, RepliesOld, sole_resident};
 ghost use Rattle.shm_life.specs.MachineView.{Served, done, replied, reply_in};
 
 use crate::kernel::Kernel;
@@ -33,6 +33,15 @@ fn resident(spans: &[Span]) -> Option<Span>
         return None;
     }
     Some(*span)
+}
+
+// How many bytes these are.
+#[inline(always)]
+fn length_of(bytes: &[u8]) -> AccessLen
+    requires { (1 ≤ length bytes.now) × (length bytes.now ≤ 64) }
+    ensures { result ≡ length bytes.now }
+{
+    AccessLen::new(bytes.len() as u64).unwrap()
 }
 
 impl<P: Pager> Kernel<P> {
@@ -139,6 +148,30 @@ impl<P: Pager> Kernel<P> {
         self.access(&caller, addr, act, there)
     }
 
+    // Does an act at this many bytes, and replies with the old ones; refused as [`Kernel::access`] is.
+    #[inline(always)]
+    fn reply_old(
+        &mut self,
+        caller: &Caller,
+        addr: u64,
+        act: Act<'_>,
+        len: AccessLen,
+        reply: &mut Reply,
+    ) -> Result<(), Errno>
+        requires caller { IsCaller caller.now self.old.flat.runners }
+        requires room { FitsRoom act len }
+        requires size { size_of act len ≡ len }
+        ensures { let seen = Some (caller_seen caller.now self.old.flat.runners) in
+            RepliesOld act.entry addr len seen reply.new self.old result self.new }
+    {
+        let mut bytes = [0; LONGEST_ACCESS];
+        if let Err(errno) = self.access(caller, addr, act, &mut bytes[..len.get()]) {
+            return Err(errno);
+        }
+        *reply = Reply::Bytes(Chunk::from_array(bytes, len));
+        Ok(())
+    }
+
     /// Reads bytes into a reply; refused as [`Kernel::access`] is.
     pub(crate) fn load(
         &mut self,
@@ -151,12 +184,45 @@ impl<P: Pager> Kernel<P> {
         ensures { let reply = reply_in reply.new result in
             (n : ℕ) → Served self.old n caller.now (call.Load addr len) reply self.new }
     {
-        let mut bytes = [0; LONGEST_ACCESS];
-        if let Err(errno) = self.access(caller, addr, Act::Nothing, &mut bytes[..len.get()]) {
-            return Err(errno);
-        }
-        *reply = Reply::Bytes(Chunk::from_array(bytes, len));
-        Ok(())
+        self.reply_old(caller, addr, Act::Nothing, len, reply)
+    }
+
+    /// Replaces bytes, and replies with the old ones; refused as [`Kernel::access`] is.
+    pub(crate) fn exchange(
+        &mut self,
+        caller: &Caller,
+        addr: u64,
+        bytes: &[u8],
+        reply: &mut Reply,
+    ) -> Result<(), Errno>
+        requires caller { IsCaller caller.now self.old.flat.runners }
+        requires size { (1 ≤ length bytes.now) × (length bytes.now ≤ 64) }
+        ensures { let reply = reply_in reply.new result in
+            (n : ℕ) → Served self.old n caller.now (call.Exchange bytes.now addr) reply self.new }
+    {
+        self.reply_old(caller, addr, Act::Put(bytes), length_of(bytes), reply)
+    }
+
+    /// As [`Kernel::exchange`], but replaces the bytes only if they equal the expected ones.
+    pub(crate) fn compare_exchange(
+        &mut self,
+        caller: &Caller,
+        addr: u64,
+        expected: &[u8],
+        desired: &[u8],
+        reply: &mut Reply,
+    ) -> Result<(), Errno>
+        requires caller { IsCaller caller.now self.old.flat.runners }
+        requires size { (1 ≤ length desired.now) × (length desired.now ≤ 64) }
+        ensures { let compare = call.CompareExchange expected.now desired.now addr in
+            let reply = reply_in reply.new result in
+            (n : ℕ) → Served self.old n caller.now compare reply self.new }
+    {
+        let act = Act::PutIfEqual {
+            expected,
+            bytes: desired,
+        };
+        self.reply_old(caller, addr, act, length_of(desired), reply)
     }
 
     /// Replaces bytes; refused as [`Kernel::access`] is.

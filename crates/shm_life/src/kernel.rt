@@ -136,6 +136,17 @@ impl<P: Pager> Kernel<P> {
                 }
                 Err(errno) => Err(errno),
             },
+            Call::Exchange { chunk, addr } => {
+                self.exchange(caller, *addr, chunk.as_slice(), reply)
+            }
+            Call::CompareExchange {
+                expected,
+                desired,
+                addr,
+            } => {
+                let (expected, desired) = (expected.as_slice(), desired.as_slice());
+                self.compare_exchange(caller, *addr, expected, desired, reply)
+            }
             Call::Fork { child } => self.fork(time, caller, *child),
             Call::Exec => {
                 self.exec(time, caller);

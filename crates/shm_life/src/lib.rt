@@ -14,6 +14,7 @@ mod loans;
 mod mapping;
 mod notices;
 mod residency;
+mod rows;
 mod shmat;
 mod shmctl;
 mod shmdt;

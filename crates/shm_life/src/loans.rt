@@ -14,9 +14,9 @@ ghost use Rattle.shm_fault.specs.Placing.{after_visit, places};
 ghost use Rattle.shm_fault.specs.Segs.{HasPage};
 ghost use Rattle.shm_segments.specs.Table.{page_there};
 ghost use Rattle.shm_life.specs.Accessing.{LeavesOrFails};
-ghost use Rattle.shm_life.specs.Exchanged.{seen};
 ghost use Rattle.shm_life.specs.Lending.{ArePages, Lends, MakesReady, PutsBytes, Returns, is_clear, leaver_seen, lend_refusal, listed, page_places, page_seen, pages_asked, return_refusal};
 ghost use Rattle.shm_life.specs.Paging.{whole_page};
+ghost use Rattle.shm_life.specs.SystemState.{seen};
 
 use crate::kernel::Kernel;
 use crate::system::System;

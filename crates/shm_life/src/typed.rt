@@ -1,11 +1,10 @@
 //! Accesses without a call's record: bytes go straight between the frames and the caller's buffer. Each is
-//! the step of the call, and is counted as one. Exchanges are no calls of the script language. A host that lends
-//! pages asks [`System::make_ready`] before each of them; then each page on loan stays in its frame.
+//! the step of the call, and is counted as one. A host that lends pages asks [`System::make_ready`] before each
+//! of them; then each page on loan stays in its frame.
 ghost use Rattle.std.specs.Prelude.{◌≡◌, ◌<◌, ◌≤◌, true, false, length, OnErr};
 ghost use Rattle.shm_base.specs.declared.call.Call.TheVariants as call;
 ghost use Rattle.shm_base.specs.declared.call.Reply.TheVariants.{Bytes, Number};
 ghost use Rattle.shm_base.specs.declared.paging.TheConstants.{PAGE_SIZE};
-ghost use Rattle.shm_life.specs.Exchanged.{Exchanged, comparing, exchanging};
 ghost use Rattle.shm_life.specs.MachineView.{done, replied, reply_in};
 ghost use Rattle.shm_life.specs.SystemState.{Replied, most_calls};
 ghost use Rattle.shm_life.specs.Lending.{KeepsLoans, pages_asked};
@@ -90,8 +89,8 @@ impl<P: Pager> System<P> {
         requires room { self.old.calls < most_calls }
         requires size { (1 ≤ length bytes.now) × (length bytes.now ≤ PAGE_SIZE) }
         requires before { length before.old ≡ length bytes.now }
-        ensures exchanged { let reply = reply_in (Bytes before.new) result in
-            Exchanged (exchanging self.old.machine pid addr bytes.now) self.old reply self.new }
+        ensures replied { let reply = reply_in (Bytes before.new) result in
+            Replied self.old pid (call.Exchange bytes.now addr) reply self.new }
         ensures kept { OnErr result (before.new ≡ before.old) }
         ensures loans { let pages = pages_asked self.old.machine pid addr (length bytes.now) true in
             KeepsLoans pages self.old.memory self.new.memory }
@@ -114,8 +113,8 @@ impl<P: Pager> System<P> {
         requires room { self.old.calls < most_calls }
         requires size { (1 ≤ length bytes.now) × (length bytes.now ≤ PAGE_SIZE) }
         requires before { length before.old ≡ length bytes.now }
-        ensures compared { let reply = reply_in (Bytes before.new) result in
-            Exchanged (comparing self.old.machine pid addr expected.now bytes.now) self.old reply self.new }
+        ensures replied { let compare = call.CompareExchange expected.now bytes.now addr in
+            Replied self.old pid compare (reply_in (Bytes before.new) result) self.new }
         ensures kept { OnErr result (before.new ≡ before.old) }
         ensures loans { let pages = pages_asked self.old.machine pid addr (length bytes.now) true in
             KeepsLoans pages self.old.memory self.new.memory }

@@ -4,7 +4,7 @@ use Rattle.std.proofs.lemmas.Grind.{common_steps}
 use Rattle.shm_base.specs.declared.flags.GetFlags.{GetFlags}
 use Rattle.shm_base.specs.declared.flags.AtFlags.{AtFlags}
 use Rattle.shm_base.specs.Calls.{ProcessCall}
-use Rattle.shm_base.specs.declared.call.Call.TheVariants.{Shmget, Shmat, Load}
+use Rattle.shm_base.specs.declared.call.Call.TheVariants.{Shmget, Shmat, Load, Exchange, CompareExchange}
 use Rattle.shm_base.specs.declared.call.Reply.{Reply}
 use Rattle.shm_base.specs.declared.call.Event.{Event}
 use Rattle.shm_base.specs.State.{Piece, Segment, Machine, pages_in, pages_of}
@@ -18,7 +18,7 @@ use Rattle.shm_base.specs.Rules.{pieces_errno, removed_errno}
 use Rattle.shm_base.specs.Segments.{reserved, segment_count, slots}
 use Rattle.std.specs.Prelude.{nat_le, nat_lt, pos, not, ◌&&◌, ◌==◌, ◌*◌}
 use Rattle.shm_base.specs.Identifier.{Look, Found, Removed, Invalid, destroyed_at, find_key, free_index, identifier, look}
-use Rattle.shm_base.specs.Access.{Place, places}
+use Rattle.shm_base.specs.Access.{Place, places, writable_places}
 use Rattle.shm_base.specs.History.{is_refusal, is_failure, IsMove}
 use Rattle.shm_base.specs.Step.{Outcome, Caller, acts, step_by, caller_of, gives, refuses, pieces_with, at_wish, is_full, is_rnd, is_taken, outside_errno, remaps_null, wants_creation, wants_no_other, creates, creates_at, creates_small, huge_errno, gets, shmget, attaches, attaches_chosen, attaches_fixed, attaches_found, shmat}
 use Rattle.shm_machine.specs.Answered.{fits}
@@ -104,10 +104,15 @@ pub places-length : (pieces : List Piece) (a n : ℕ) (ps : List Place) → plac
 places-length pieces a zero ps is = grind (arith, common_steps)
 places-length pieces a (suc n) ps is = grind (arith, common_steps, places-length pieces (a + 1) n)
 
+writable-length : (pieces : List Piece) (a n : ℕ) (ps : List Place) → writable_places pieces a n ≡ Some ps → length ps ≡ n
+writable-length pieces a n ps is = grind (arith, common_steps, places-length pieces a n)
+
 fine-acts : (s : Machine) (n : ℕ) (c : Caller) (call : ProcessCall) → Fine call (acts s n c call)
 fine-acts s n c (Shmget key size mode flags) = fine-shmget s n c key size mode flags
 fine-acts s n c (Shmat id addr flags) = fine-shmat s n c id addr flags
 fine-acts s n c (Load addr len) = record { fit = grind (arith, common_steps, places-length c.pieces addr len) }
+fine-acts s n c (Exchange new addr) = record { fit = grind (arith, common_steps, writable-length c.pieces addr (length new)) }
+fine-acts s n c (CompareExchange expected new addr) = record { fit = grind (arith, common_steps, writable-length c.pieces addr (length new)) }
 fine-acts s n c call = record { fit = grind (arith, common_steps) }
 
 fine-by : (s : Machine) (n : ℕ) (call : ProcessCall) (o : Option Caller) → Fine call (step_by s n call o)

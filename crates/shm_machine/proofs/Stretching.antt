@@ -5,7 +5,7 @@ use Rattle.shm_slots.specs.Cause.{GoesOn}
 use borrow.Rule.Slice.PartMut.{put_mid}
 use Rattle.std.proofs.lemmas.Grind.{common_steps}
 use Rattle.std.proofs.Math.Seq.{take-add}
-use Rattle.std.proofs.lemmas.List.{length-append, length-take-le, map-append, drop-drop, take-append-drop}
+use Rattle.std.proofs.lemmas.List.{length-append, length-drop, length-take-le, map-append, drop-drop, take-append-drop}
 use Rattle.std.proofs.lemmas.Slice.{take-put_mid, drop-put_mid}
 use Rattle.shm_base.specs.Calls.{ProcessCall}
 use Rattle.shm_base.specs.declared.call.Reply.{Reply}
@@ -24,15 +24,15 @@ use Rattle.shm_life.specs.MachineView.{is_lock}
 use Rattle.shm_life.specs.declared.loans.NotReady.{NotReady}
 use Rattle.shm_life.specs.declared.loans.NotReady.TheVariants as ready
 use Rattle.shm_machine.specs.Ready.{AccessMade, AccessedBy, Waits}
-use Rattle.shm_machine.specs.Stretched.{Reached, ReadTo, StoppedAt, WrittenTo, calls_for, next_len}
+use Rattle.shm_machine.specs.Stretched.{CallsMade, NoCall, OneMore, Reached, ReadTo, StoppedAt, WrittenTo, calls_for, load_on, next_len, store_on}
 use Rattle.shm_machine.specs.declared.refusal.Refusal.{Refusal}
 use Rattle.shm_machine.specs.declared.refusal.Refusal.TheVariants.{Refused, HostMemory, Spent, Lent}
-use Rattle.shm_fault.proofs.Sound.{GoesOn-trans}
+use Rattle.shm_fault.proofs.Sound.{GoesOn-refl, GoesOn-trans}
 use Rattle.shm_base.specs.declared.call.Call.TheVariants.{Load, Store}
 use Rattle.shm_base.specs.declared.call.Reply.TheVariants.{Bytes, Done}
 use Rattle.shm_base.specs.State.{Entry, Piece, Machine}
 use Rattle.shm_base.specs.Access.{Place, places, all_writable, writable_places, byte_at, with_byte, loaded, stored}
-use Rattle.shm_base.specs.History.{IsMove}
+use Rattle.shm_base.specs.History.{IsMove, is_refusal}
 use Rattle.shm_base.specs.Step.{Caller, step, caller_of}
 use Rattle.shm_machine.proofs.Fitting.{places-length}
 
@@ -233,6 +233,13 @@ whole-next addr done size whole lt = (
   λ less _. omega (arith, lt, less),
 )
 
+-- the next call takes up where these ended
+made-next : (pid addr size done len : ℕ) (puts : Bool) (next : ℕ → ℕ → ProcessCall) (before now after : SystemState) (reply : Reply) → len ≡ next_len (addr + done) (size - done) → CallsMade pid addr size puts next before done now
+    → is_refusal reply ≡ false → AccessMade (pages_asked now.machine pid (addr + done) len puts) now pid (next done len) reply after → CallsMade pid addr size puts next before (done + len) after
+made-next pid addr size done len puts next before now after reply len-is made done-so access =
+    subst (λ n. CallsMade pid addr size puts next before (done + n) after) (sym len-is)
+    (OneMore done now reply after made done-so (subst (λ n. AccessMade (pages_asked now.machine pid (addr + done) n puts) now pid (next done n) reply after) len-is access))
+
 pub record ReadSo (before : SystemState) (pid addr : ℕ) (old : List ℕ) (done : ℕ) (new : List ℕ) (now : SystemState) : Type 0 where
   pub whole : AreWhole addr done (length old)
   pub size : length new ≡ length old
@@ -240,7 +247,24 @@ pub record ReadSo (before : SystemState) (pid addr : ℕ) (old : List ℕ) (done
   pub bytes : 0 < done → (step before.machine (time_of before) pid (Load addr done)).reply ≡ Bytes (take done new)
   pub reached : Reached before addr done now
   pub machine : now.machine ≡ before.machine
+  pub made : CallsMade pid addr (length old) false (load_on addr) before done now
   pub leaves : Leaves before.memory now.memory
+
+reached-none : (before : SystemState) (addr : ℕ) → Reached before addr 0 before
+reached-none before addr = record { calls = omega arith; opening = refl; clock = refl; goes_on = GoesOn-refl before.memory.swap }
+
+-- nothing was read yet
+pub read_none : (before : SystemState) (pid addr : ℕ) (old : List ℕ) → ReadSo before pid addr old 0 old before
+read_none before pid addr old = record {
+  whole = (omega arith, λ less some. absurd (omega (arith, some)));
+  size = refl;
+  rest = refl;
+  bytes = λ some. absurd (omega (arith, some));
+  reached = reached-none before addr;
+  machine = refl;
+  made = NoCall;
+  leaves = leaves-same before.memory;
+}
 
 -- one more part was read
 read-one : (m : Machine) (first now pid addr room done len : ℕ) (new xs : List ℕ) → (0 < done → (step m first pid (Load addr done)).reply ≡ Bytes (take done new)) → (step m now pid (Load (addr + done) len)).reply ≡ Bytes xs
@@ -249,8 +273,9 @@ read-one m first now pid addr room zero len new xs before next front = grind (ar
 read-one m first now pid addr room (suc d) len new xs before next front = grind (arith, read_more m first now pid addr (suc d) len (take (suc d) new) xs)
 
 pub read_next : (before now after : SystemState) (pid addr : ℕ) (old new xs : List ℕ) (done len room : ℕ) → ReadSo before pid addr old done new now → done < length old → len ≡ next_len (addr + done) (length old - done) → room ≡ len
-    → Advances now pid (Load (addr + done) len) (Bytes xs) after → length xs ≡ len → ReadSo before pid addr old (done + len) (put_mid done room new xs) after
-read_next before now after pid addr old new xs done len room so lt len-is room-is moves size =
+    → AccessMade (pages_asked now.machine pid (addr + done) len false) now pid (Load (addr + done) len) (Bytes xs) after → length xs ≡ len → ReadSo before pid addr old (done + len) (put_mid done room new xs) after
+read_next before now after pid addr old new xs done len room so lt len-is room-is access size =
+    let moves = advances (pages_asked now.machine pid (addr + done) len false) now after pid (Load (addr + done) len) (Bytes xs) refl access in
     let l = loads now.machine after.machine (time_of now) pid (addr + done) len xs moves.move in
     let within : done ≤ length new = omega (arith, so.size, lt) in
     let fits : done + room ≤ length new = omega (arith, so.size, lt, room-is, len-is) in
@@ -264,6 +289,7 @@ read_next before now after pid addr old new xs done len room so lt len-is room-i
       bytes = λ some. read-one before.machine (time_of before) (time_of now) pid addr room done len new xs so.bytes next front;
       reached = reached-next before now after addr done len pid (Load (addr + done) len) (Bytes xs) so.reached moves (so.whole.1 lt) (omega (arith, lt, len-is)) (omega (arith, len-is));
       machine = l.state ∙ so.machine;
+      made = made-next pid addr (length old) done len false (load_on addr) before now after (Bytes xs) len-is so.made refl access;
       leaves = leaves-trans before.memory now.memory after.memory so.leaves (record { locked = moves.locked; stay = moves.stay });
     }
   where
@@ -275,17 +301,35 @@ pub record WrittenSo (before : SystemState) (pid addr : ℕ) (bytes : List ℕ) 
   pub none : done ≡ 0 → now.machine ≡ before.machine
   pub stored : 0 < done → Stores before.machine (time_of before) pid addr (take done bytes) now.machine
   pub reached : Reached before addr done now
+  pub made : CallsMade pid addr (length bytes) true (store_on bytes addr) before done now
   pub leaves : Leaves before.memory now.memory
 
+-- nothing was written yet
+pub write_none : (before : SystemState) (pid addr : ℕ) (bytes : List ℕ) → WrittenSo before pid addr bytes 0 before
+write_none before pid addr bytes = record {
+  whole = (omega arith, λ less some. absurd (omega (arith, some)));
+  none = λ zero-is. refl;
+  stored = λ some. absurd (omega (arith, some));
+  reached = reached-none before addr;
+  made = NoCall;
+  leaves = leaves-same before.memory;
+}
+
 pub write_next : (before now after : SystemState) (pid addr : ℕ) (bytes xs : List ℕ) (done len : ℕ) → WrittenSo before pid addr bytes done now → done < length bytes → len ≡ next_len (addr + done) (length bytes - done)
-    → xs ≡ take len (drop done bytes) → Advances now pid (Store xs (addr + done)) Done after → WrittenSo before pid addr bytes (done + len) after
-write_next before now after pid addr bytes xs done len so lt len-is is moves =
+    → xs ≡ take len (drop done bytes) → AccessMade (pages_asked now.machine pid (addr + done) (length xs) true) now pid (Store xs (addr + done)) Done after → WrittenSo before pid addr bytes (done + len) after
+write_next before now after pid addr bytes xs done len so lt len-is is access =
+    let moves = advances (pages_asked now.machine pid (addr + done) (length xs) true) now after pid (Store xs (addr + done)) Done refl access in
+    let left : len ≤ length (drop done bytes) = rw (length-drop done bytes) (omega (arith, len-is)) in
+    let long : length xs ≡ len = ap length is ∙ length-take-le len (drop done bytes) left in
+    let sized = subst (λ n. AccessMade (pages_asked now.machine pid (addr + done) n true) now pid (Store xs (addr + done)) Done after) long access in
+    let own = subst (λ ys. AccessMade (pages_asked now.machine pid (addr + done) len true) now pid (Store ys (addr + done)) Done after) is sized in
     let some : 0 < len = omega (arith, lt, len-is) in
     record {
       whole = rw len-is (whole-next addr done (length bytes) so.whole lt);
       none = λ zero-is. absurd (omega (arith, zero-is, some));
       stored = λ more. rw (take-add done len bytes, ← is) (one done lt so.none so.stored (stores now.machine after.machine (time_of now) pid (addr + done) xs moves.move));
       reached = reached-next before now after addr done len pid (Store xs (addr + done)) Done so.reached moves (so.whole.1 lt) some (omega (arith, len-is));
+      made = made-next pid addr (length bytes) done len true (store_on bytes addr) before now after Done len-is so.made refl own;
       leaves = leaves-trans before.memory now.memory after.memory so.leaves (record { locked = moves.locked; stay = moves.stay });
     }
   where
@@ -315,6 +359,7 @@ read_stopped before now after pid addr old new done len refusal so lt len-is sto
       stood = now;
       reached = so.reached;
       machine = so.machine;
+      made = so.made;
       ended = (lt, subst (λ n. StoppedAt now pid (addr + done) n false (Load (addr + done) n) refusal after) len-is stopped);
       kept = all.locked.kept;
       locks = all.locked.locks;
@@ -331,6 +376,7 @@ write_stopped before now after pid addr bytes done len refusal so lt len-is stop
       reached = so.reached;
       none = so.none;
       stored = so.stored;
+      made = so.made;
       ended = (lt, subst (λ n. StoppedAt now pid (addr + done) n true (Store (take n (drop done bytes)) (addr + done)) refusal after) len-is stopped);
       kept = all.locked.kept;
       locks = all.locked.locks;

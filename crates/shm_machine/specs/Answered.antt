@@ -1,7 +1,7 @@
 -- The answer to a call and the machine afterwards, for all calls at once.
 use Rattle.std.specs.Prelude.{ℕ, ◌≡◌, ◌==◌, Bool, true, false, length, Result, Ok, Err}
 use Rattle.shm_base.specs.Calls.{ProcessCall}
-use Rattle.shm_base.specs.declared.call.Call.TheVariants.{Shmget, Shmat, Shmdt, Stat, Set, Rmid, Lock, Unlock, Load, Store, Xadd, Fork, Exec, Exit, Swapoff}
+use Rattle.shm_base.specs.declared.call.Call.TheVariants.{Shmget, Shmat, Shmdt, Stat, Set, Rmid, Lock, Unlock, Load, Store, Xadd, Exchange, CompareExchange, Fork, Exec, Exit, Swapoff}
 use Rattle.shm_base.specs.declared.call.Reply.{Reply}
 use Rattle.shm_base.specs.declared.call.Reply.TheVariants as replies
 use Rattle.shm_base.specs.declared.call.Reply.TheVariants.{Id, Addr, Bytes, Number, Done}
@@ -27,6 +27,8 @@ fits (Shmat id addr flags) (Addr at) = true
 fits (Stat id) (replies.Stat shown) = true
 fits (Load addr len) (Bytes bytes) = length bytes == len
 fits (Xadd addr add) (Number n) = true
+fits (Exchange new addr) (Bytes old) = length old == length new
+fits (CompareExchange expected new addr) (Bytes old) = length old == length new
 fits (Shmdt addr) Done = true
 fits (Set id uid gid mode) Done = true
 fits (Rmid id) Done = true

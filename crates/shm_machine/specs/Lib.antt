@@ -2,4 +2,3 @@ pub mod Answered
 pub mod Opened
 pub mod Stretched
 pub mod Ready
-pub mod Exchanged

@@ -9,9 +9,8 @@ use Rattle.shm_base.specs.declared.paging.PageRef.{PageRef}
 use Rattle.shm_frames.specs.Frame.{lent_of}
 use Rattle.shm_fault.specs.Loans.{LoansStay}
 use Rattle.shm_fault.specs.Placing.{places}
-use Rattle.shm_life.specs.Exchanged.{seen}
 use Rattle.shm_life.specs.Lending.{MakesReady}
-use Rattle.shm_life.specs.SystemState.{SystemState, most_calls, Replied}
+use Rattle.shm_life.specs.SystemState.{SystemState, most_calls, seen, Replied}
 use Rattle.shm_life.specs.declared.loans.NotReady.{NotReady}
 use Rattle.shm_life.specs.declared.loans.NotReady.TheVariants as ready
 use Rattle.shm_machine.specs.declared.refusal.Refusal.{Refusal}
@@ -44,29 +43,20 @@ NotMade rs HostMemory before after = ⊥
 NotMade rs Spent before after = (before.calls ≡ most_calls) × (after ≡ before)
 NotMade rs Lent before after = Waits rs ready.Lent before after
 
--- the access was made once way was made for it, and each page on loan stays in its frame
-pub record Made
-    (rs : List PageRef) (before : SystemState) (Access : SystemState → SystemState → Type 0) (after : SystemState)
+-- the access was made once way was made for it, and got this reply; each page on loan stays in its frame
+pub record AccessMade
+    (rs : List PageRef) (before : SystemState) (pid : ℕ) (call : ProcessCall) (reply : Reply) (after : SystemState)
     : Type 0 where
   pub mid : SystemState
   pub ready : IsReady rs before mid
-  pub access : Access mid after
+  pub access : Replied mid pid call reply after
   pub stay : LoansStay (places before.memory) (places after.memory)
 
--- a load, a store or an addition was made, and got this reply
-abbrev pub AccessMade : List PageRef → SystemState → ℕ → ProcessCall → Reply → SystemState → Type 0
-AccessMade rs before pid call reply after = Made rs before (λ (s t : SystemState). Replied s pid call reply t) after
-
 -- the result of an access, and the machine afterwards
-abbrev pub OnceReady :
-    List PageRef → SystemState → (Reply → SystemState → SystemState → Type 0) → Result Reply Refusal → SystemState → Type 0
-OnceReady rs before Access (Ok reply) after = Made rs before (Access reply) after
-OnceReady rs before Access (Err (Refused e)) after =
-    Made rs before (Access (replies.Refused e)) after ⊎ NotMade rs (Refused e) before after
-OnceReady rs before Access (Err HostMemory) after = ⊥
-OnceReady rs before Access (Err Spent) after = NotMade rs Spent before after
-OnceReady rs before Access (Err Lent) after = NotMade rs Lent before after
-
--- a load, a store or an addition
 abbrev pub AccessedBy : List PageRef → SystemState → ℕ → ProcessCall → Result Reply Refusal → SystemState → Type 0
-AccessedBy rs before pid call result after = OnceReady rs before (λ (reply : Reply) (s t : SystemState). Replied s pid call reply t) result after
+AccessedBy rs before pid call (Ok reply) after = AccessMade rs before pid call reply after
+AccessedBy rs before pid call (Err (Refused e)) after =
+    AccessMade rs before pid call (replies.Refused e) after ⊎ NotMade rs (Refused e) before after
+AccessedBy rs before pid call (Err HostMemory) after = ⊥
+AccessedBy rs before pid call (Err Spent) after = NotMade rs Spent before after
+AccessedBy rs before pid call (Err Lent) after = NotMade rs Lent before after

@@ -2,8 +2,10 @@
 use Rattle.std.specs.Prelude.{ℕ, zero, suc, ◌≡◌, ◌+◌, ◌-◌, ◌/◌, ◌%◌, ◌^◌, ◌<◌, ◌≤◌, ◌⊎◌, min, Bool, true, false, List, length, take, drop, replicate, Err, MatchOption, Option, Some, None}
 use Rattle.shm_base.specs.Calls.{ProcessCall}
 use Rattle.shm_base.specs.declared.call.Call.TheVariants.{Load, Store}
+use Rattle.shm_base.specs.declared.call.Reply.{Reply}
 use Rattle.shm_base.specs.declared.call.Reply.TheVariants.{Bytes, Done}
 use Rattle.shm_base.specs.declared.errno.Errno.TheVariants.{Sigsegv}
+use Rattle.shm_base.specs.History.{is_refusal}
 use Rattle.shm_base.specs.Step.{step}
 use Rattle.shm_base.specs.declared.paging.TheConstants.{PAGE_SIZE}
 use Rattle.shm_slots.specs.Cause.{GoesOn}
@@ -16,7 +18,7 @@ use Rattle.shm_life.specs.SystemState.{SystemState, time_of}
 use Rattle.shm_machine.specs.declared.refusal.Refusal.{Refusal}
 use Rattle.shm_machine.specs.declared.refusal.Refusal.TheVariants.{Refused}
 use Rattle.shm_machine.specs.declared.stretch.Progress.{Progress}
-use Rattle.shm_machine.specs.Ready.{AccessedBy}
+use Rattle.shm_machine.specs.Ready.{AccessMade, AccessedBy}
 
 -- how many calls an access of n bytes at an address makes: one for each page
 abbrev pub calls_for : ℕ → ℕ → ℕ
@@ -26,6 +28,25 @@ calls_for addr (suc n) = (addr % PAGE_SIZE + suc n + (PAGE_SIZE - 1)) / PAGE_SIZ
 -- how many of n bytes the next call takes
 abbrev pub next_len : ℕ → ℕ → ℕ
 next_len addr n = min n (PAGE_SIZE - addr % PAGE_SIZE)
+
+-- the next call of a read, and of a write, once some bytes were done
+abbrev pub load_on : ℕ → ℕ → ℕ → ProcessCall
+load_on addr done len = Load (addr + done) len
+
+abbrev pub store_on : List ℕ → ℕ → ℕ → ℕ → ProcessCall
+store_on bytes addr done len = Store (take len (drop done bytes)) (addr + done)
+
+-- These calls were made for the first bytes of `size`, each where the one before it left the machine. So each has its own pages
+-- that came in or left, and its own counts.
+pub data CallsMade
+    (pid addr size : ℕ) (puts : Bool) (next : ℕ → ℕ → ProcessCall) (before : SystemState) : ℕ → SystemState → Type 0 where
+  NoCall : CallsMade pid addr size puts next before 0 before
+  OneMore :
+      (done : ℕ) (now : SystemState) (reply : Reply) (after : SystemState)
+      → CallsMade pid addr size puts next before done now → is_refusal reply ≡ false
+      → AccessMade (pages_asked now.machine pid (addr + done) (next_len (addr + done) (size - done)) puts) now pid
+      (next done (next_len (addr + done) (size - done))) reply after
+      → CallsMade pid addr size puts next before (done + next_len (addr + done) (size - done)) after
 
 -- this many bytes were done, by one call for each page, and no count of failures fell
 pub record Reached (before : SystemState) (addr bytes : ℕ) (stood : SystemState) : Type 0 where
@@ -41,11 +62,11 @@ StoppedAt stood pid addr len puts call refusal after =
     ⊎ ((2 ^ 64 ≤ addr) × (refusal ≡ Refused Sigsegv) × (after ≡ stood))
 
 -- everything was done, or the next call was refused
-abbrev pub EndedAt : SystemState → ℕ → ℕ → ℕ → Bool → (ℕ → ProcessCall) → Progress → SystemState → Type 0
+abbrev pub EndedAt : SystemState → ℕ → ℕ → ℕ → Bool → (ℕ → ℕ → ProcessCall) → Progress → SystemState → Type 0
 EndedAt stood pid addr size puts next p after =
     let len = next_len (addr + p.done) (size - p.done) in
     MatchOption p.stopped ((p.done ≡ size) × (after ≡ stood))
-    (λ refusal. (p.done < size) × StoppedAt stood pid (addr + p.done) len puts (next len) refusal after)
+    (λ refusal. (p.done < size) × StoppedAt stood pid (addr + p.done) len puts (next p.done len) refusal after)
 
 -- the bytes that were read are those of one load of the flat machine, and the rest of the buffer is unchanged; pages of locked
 -- segments stay resident, no segment becomes locked, and each page on loan stays in its frame
@@ -56,7 +77,8 @@ pub record ReadTo (before : SystemState) (pid addr : ℕ) (old : List ℕ) (p : 
   pub stood : SystemState
   pub reached : Reached before addr p.done stood
   pub machine : stood.machine ≡ before.machine
-  pub ended : EndedAt stood pid addr (length old) false (λ n. Load (addr + p.done) n) p after
+  pub made : CallsMade pid addr (length old) false (load_on addr) before p.done stood
+  pub ended : EndedAt stood pid addr (length old) false (load_on addr) p after
   pub kept : LockedPagesStay before.memory after.memory
   pub locks : LocksNothing before.memory after.memory
   pub stay : LoansStay (places before.memory) (places after.memory)
@@ -69,7 +91,8 @@ pub record WrittenTo (before : SystemState) (pid addr : ℕ) (bytes : List ℕ) 
   pub reached : Reached before addr p.done stood
   pub none : p.done ≡ 0 → stood.machine ≡ before.machine
   pub stored : 0 < p.done → step before.machine (time_of before) pid (Store (take p.done bytes) addr) ≡ record { reply = Done; state = stood.machine }
-  pub ended : EndedAt stood pid addr (length bytes) true (λ n. Store (take n (drop p.done bytes)) (addr + p.done)) p after
+  pub made : CallsMade pid addr (length bytes) true (store_on bytes addr) before p.done stood
+  pub ended : EndedAt stood pid addr (length bytes) true (store_on bytes addr) p after
   pub kept : LockedPagesStay before.memory after.memory
   pub locks : LocksNothing before.memory after.memory
   pub stay : LoansStay (places before.memory) (places after.memory)

@@ -5,11 +5,9 @@ ghost use Rattle.std.specs.Prelude.{◌≡◌, ◌<◌, ◌≤◌, true, false, 
 ghost use Rattle.shm_base.specs.declared.call.Call.TheVariants as call;
 ghost use Rattle.shm_base.specs.declared.call.Reply.TheVariants as reply;
 ghost use Rattle.shm_base.specs.declared.paging.TheConstants.{PAGE_SIZE};
-ghost use Rattle.shm_life.specs.Exchanged.{comparing, exchanging};
 ghost use Rattle.shm_life.specs.Lending.{pages_asked};
 ghost use Rattle.shm_life.specs.SystemState.{most_calls};
 ghost use Rattle.shm_machine.specs.Answered.{as_reply, done};
-ghost use Rattle.shm_machine.specs.Exchanged.{ExchangedBy};
 ghost use Rattle.shm_machine.specs.Ready.{AccessedBy, IsReady, NotMade, refusal_of, refused_by};
 
 use crate::machine::Machine;
@@ -117,9 +115,9 @@ impl Machine {
     ) -> Result<(), Refusal>
         requires size { (1 ≤ length bytes.now) × (length bytes.now ≤ PAGE_SIZE) }
         requires before { length before.old ≡ length bytes.now }
-        ensures exchanged { let exchange = exchanging self.old.system.machine pid addr bytes.now in
-            let pages = pages_asked self.old.system.machine pid addr (length bytes.now) true in
-            ExchangedBy pages exchange self.old.system before.new result self.new.system }
+        ensures answered { let pages = pages_asked self.old.system.machine pid addr (length bytes.now) true in
+            let answer = as_reply (λ _. reply.Bytes before.new) result in
+            AccessedBy pages self.old.system pid (call.Exchange bytes.now addr) answer self.new.system }
         ensures kept { OnErr result (before.new ≡ before.old) }
     {
         if let Err(refusal) = self.make_ready(pid, addr, bytes.len() as u64, true) {
@@ -140,9 +138,10 @@ impl Machine {
     ) -> Result<(), Refusal>
         requires size { (1 ≤ length bytes.now) × (length bytes.now ≤ PAGE_SIZE) }
         requires before { length before.old ≡ length bytes.now }
-        ensures compared { let exchange = comparing self.old.system.machine pid addr expected.now bytes.now in
-            let pages = pages_asked self.old.system.machine pid addr (length bytes.now) true in
-            ExchangedBy pages exchange self.old.system before.new result self.new.system }
+        ensures answered { let pages = pages_asked self.old.system.machine pid addr (length bytes.now) true in
+            let compare = call.CompareExchange expected.now bytes.now addr in
+            let answer = as_reply (λ _. reply.Bytes before.new) result in
+            AccessedBy pages self.old.system pid compare answer self.new.system }
         ensures kept { OnErr result (before.new ≡ before.old) }
     {
         if let Err(refusal) = self.make_ready(pid, addr, bytes.len() as u64, true) {

@@ -10,7 +10,7 @@ use Rattle.shm_schedules.specs.Schedules.{Run}
 use Rattle.shm_schedules.specs.Finding.{Finding}
 use Rattle.shm_outcomes.specs.declared.moves.Move.{Move}
 use Rattle.shm_schedules.specs.declared.search_error.SearchError.{SearchError}
-use Rattle.shm_schedules.specs.declared.search_error.SearchError.TheVariants.{Engine, Bound}
+use Rattle.shm_schedules.specs.declared.search_error.SearchError.TheVariants.{HostMemory, Bound}
 use Rattle.shm_outcomes.specs.Groups.{AreAllMoves, ArePut, Groups, no_groups}
 use Rattle.shm_outcomes.specs.Levels.{IsLevelCause, Level}
 use Rattle.std.proofs.lemmas.List.{get_or_default}
@@ -91,7 +91,7 @@ in-moves listed moves i m same lt is = (subst (λ (l : List (Option Move)). i < 
 pub full-more : (ps : List Process) (w : Way) (listed moves : List (Option Move)) (i : ℕ) (m : Option Move) (olds mid : Members) (most : ℕ) (error : SearchError)
     → listed ≡ moves → i < length listed → m ≡ slice_index_or listed i m
     → AreAdded most (ways_on ps w (take i moves)) olds mid → AreFull (one_way ps w m) mid most error → AreFull (ways_on ps w moves) olds most error
-full-more ps w listed moves i m olds mid most (Engine e) same lt is added full = tt
+full-more ps w listed moves i m olds mid most HostMemory same lt is added full = tt
 full-more ps w listed moves i m olds mid most Bound same lt is added full =
     let at = in-moves listed moves i m same lt is in
     subst (λ (l : List Way). AreTooMany l olds most) (sym (ways-split ps w moves i m at.0 at.1))
@@ -124,7 +124,7 @@ known-one ps w v m o olds most some is there = added-one ps w v m o olds olds mo
 -- it is one too many
 pub full-one : (ps : List Process) (w v : Way) (m : Move) (o : Option Move) (olds : Members) (most : ℕ) (error : SearchError)
     → o ≡ Some m → v ≡ way_after ps w m → IsFull v olds most error → AreFull (one_way ps w o) olds most error
-full-one ps w v m o olds most (Engine e) some is full = tt
+full-one ps w v m o olds most HostMemory some is full = tt
 full-one ps w v m o olds most Bound some is full =
     let all = ap (one_way ps w) some ∙ ap (λ (x : Way). x ∷ []) (sym is) in
     record { before = []; way = v; after = []; all = all; mid = olds; added = refl; many = full }
@@ -160,7 +160,7 @@ stopped :
     (script : ScriptView) (first : Run) (most : ℕ) (moves : List (List (Option Move))) (ways : List Way) (i : ℕ) (w : Way) (a b : Members) (f g : List Finding) (error : SearchError)
     → i < length ways → slice_index_or ways i w ≡ w
     → AreTakenUp script first most moves (take i ways) a b f g → AreFull (ways_on script.processes w (slice_index_or moves w.member.group [])) b most error → IsStoppedBy script first moves ways a f most error
-stopped script first most moves ways i w a b f g (Engine e) lt at before full = tt
+stopped script first most moves ways i w a b f g HostMemory lt at before full = tt
 stopped script first most moves ways i w a b f g Bound lt at before full =
     record { done = take i ways; way = w; rest = drop (i + 1) ways; all = (ways-at ways i w lt at).1; mid = b; noted = g; taken = before; many = full }
 
@@ -222,5 +222,5 @@ pub level-cause :
     (script : ScriptView) (first : Run) (level : Level) (before : List Finding) (most : ℕ) (groups : Groups) (moves : List (List (Option Move))) (error : SearchError)
     → AreAllMoves script groups level.groups.all moves → ArePut script level.groups.all no_groups groups
     → IsStoppedBy script first moves level.members.ways (no_members level.members.count) before most error → IsLevelCause script first level before most error
-level-cause script first level before most groups moves (Engine e) all put stopped = tt
+level-cause script first level before most groups moves HostMemory all put stopped = tt
 level-cause script first level before most groups moves Bound all put stopped = record { groups = groups; moves = moves; all = all; put = put; stopped = stopped }

@@ -14,7 +14,7 @@ use Rattle.shm_outcomes.specs.Keys.{AreMoreKeys, AreOther, IsKeyOf, Key, key_of}
 use Rattle.shm_outcomes.specs.Levels.{IsFirstCause, IsLevelCause, IsLevelFull, IsNextLevel, Level, first_level}
 use Rattle.shm_outcomes.specs.Merging.{IsCause}
 use Rattle.shm_schedules.specs.declared.search_error.SearchError.{SearchError}
-use Rattle.shm_schedules.specs.declared.search_error.SearchError.TheVariants.{Bound, Engine}
+use Rattle.shm_schedules.specs.declared.search_error.SearchError.TheVariants.{Bound, HostMemory}
 use Rattle.shm_outcomes.specs.Members.{Member, Way, member, member_in, members_in, no_members, way}
 use Rattle.shm_schedules.specs.Outcomes.{outcome_of}
 use Rattle.shm_schedules.specs.Schedules.{Run, fresh, goes, IsOver, Leads, schedule_of, IsReached}
@@ -409,9 +409,9 @@ more-runs script first most (keys, more, each, apart) =
     )
 
 pub first-cause : (script : ScriptView) (machine : Machine) (most : ℕ) (error : SearchError) → IsFirstCause most error → IsCause script (fresh machine) most error
-first-cause script machine most (Engine e) h = tt
+first-cause script machine most HostMemory h = tt
 first-cause script machine most Bound h = more-runs script (fresh machine) most (first-full script machine most h)
 
 pub next-cause : (script : ScriptView) (machine : Machine) (most : ℕ) (level : Level) (before : List Finding) (error : SearchError) → AreSearched script machine most level before → IsLevelCause script (fresh machine) level before most error → IsCause script (fresh machine) most error
-next-cause script machine most level before (Engine e) all h = tt
+next-cause script machine most level before HostMemory all h = tt
 next-cause script machine most level before Bound all h = more-runs script (fresh machine) most (full-level script machine most level before all h)

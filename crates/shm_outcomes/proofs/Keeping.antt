@@ -171,6 +171,9 @@ all-kept-more script es fs e f pid same (p ∷ ps) h =
 refusal-masked : (r : Reply) → is_refusal (masked r) ≡ is_refusal r
 refusal-masked r = grind (arith, common_steps)
 
+looks-masked : (call : ProcessCall) (r : Reply) → looks call (masked r) ≡ looks call r
+looks-masked call r = grind (arith, common_steps)
+
 patch-masked : (call : ProcessCall) (r : Reply) → patch_by call (masked r) ≡ patch_by call r
 patch-masked call r = grind (arith, common_steps)
 
@@ -182,9 +185,11 @@ trail-same : (s m : Machine) (pid : ℕ) (call : ProcessCall) (r q : Reply) (t :
     → trail_after s (event_with pid call r) t ≡ trail_after m (event_with pid call q) t
 trail-same s m pid call r q t machines replies =
     let refusals : is_refusal r ≡ is_refusal q = sym (refusal-masked r) ∙ ap is_refusal replies ∙ refusal-masked q in
+    let looked : looks call r ≡ looks call q = sym (looks-masked call r) ∙ ap (looks call) replies ∙ looks-masked call q in
     let patches : patch_by call r ≡ patch_by call q = sym (patch-masked call r) ∙ ap (patch_by call) replies ∙ patch-masked call q in
     let callers : caller_of s pid ≡ caller_of m pid = ap (λ (x : Machine). caller_of x pid) machines in
-    ap (λ (b : Bool). cond (not b && not (looks call)) (noted s (event_with pid call r) (patch_by call r) t) t) refusals
+    ap (λ (b : Bool). cond (not b && not (looks call r)) (noted s (event_with pid call r) (patch_by call r) t) t) refusals
+    ∙ ap (λ (b : Bool). cond (not (is_refusal q) && not b) (noted s (event_with pid call r) (patch_by call r) t) t) looked
     ∙ ap (λ (p : Option Patch). cond (is_change (event_with pid call q)) (noted s (event_with pid call r) p t) t) patches
     ∙ ap (λ (n : Trail). cond (is_change (event_with pid call q)) n t) (by (patch_by call q) callers)
   where

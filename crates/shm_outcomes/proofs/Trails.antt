@@ -5,15 +5,16 @@ use Rattle.std.proofs.lemmas.Bool.{cases_Bool}
 use Rattle.std.proofs.lemmas.List.{append-nil}
 use Rattle.std.proofs.lemmas.Option.{none-some, same_Some}
 use Rattle.std.specs.Int.{w64, to_le_bytes}
-use Rattle.shm_base.specs.Access.{Place, all_writable, joined, only_writable, place, places, stored}
+use Rattle.shm_base.specs.Access.{Place, all_writable, joined, loaded, only_writable, place, places, same_bytes, stored}
 use Rattle.shm_base.specs.History.{is_refusal}
 use Rattle.shm_base.specs.Rules.{fork_marks}
 use Rattle.shm_base.specs.Segments.{attach_all}
 use Rattle.shm_base.specs.State.{Entry, Machine}
-use Rattle.shm_base.specs.Step.{Caller, Outcome, acts, caller_of, forks, inherited, number_at, segments_of, step, step_by, store, unborn_from, xadd}
+use Rattle.shm_base.specs.Step.{Caller, Outcome, acts, caller_of, compare_exchange, exchange, forks, inherited, number_at, segments_of, step, step_by, store, unborn_from, xadd}
 use Rattle.shm_base.specs.Calls.{ProcessCall}
-use Rattle.shm_base.specs.declared.call.Call.TheVariants.{Shmget, Shmat, Shmdt, Stat, Set, Rmid, Lock, Unlock, Load, Store, Xadd, Fork, Exec, Exit, Swapoff}
+use Rattle.shm_base.specs.declared.call.Call.TheVariants.{Shmget, Shmat, Shmdt, Stat, Set, Rmid, Lock, Unlock, Load, Store, Xadd, Exchange, CompareExchange, Fork, Exec, Exit, Swapoff}
 use Rattle.shm_base.specs.declared.call.Event.{Event}
+use Rattle.shm_base.specs.declared.call.Reply.{Reply}
 use Rattle.shm_text.specs.Script.{ScriptView}
 use Rattle.shm_schedules.specs.Alike.{is_change, looks}
 use Rattle.shm_outcomes.specs.Changes.{Trail, all_changes, call_of, fits, is_fork, made, no_trail, noted, patch_by, put, put_at, puts, trail_after, trail_from, trail_of, write_at, wrote}
@@ -94,6 +95,17 @@ fits-is addr bytes p h = by (nat_lt (addr + length bytes) (2 ^ 64)) h
     by true some-is = same_Some _ _ some-is
     by false none-is = absurd (none-some p none-is)
 
+first-false : (a b : Bool) → not a && not b ≡ true → a ≡ false
+first-false false b h = refl
+first-false true b h = absurd (cc)
+
+-- a call with this reply changed the machine
+abbrev altered : ProcessCall → Reply → Bool
+altered call r = not (is_refusal r) && not (looks call r)
+
+not-refused : (call : ProcessCall) (r : Reply) → altered call r ≡ true → is_refusal r ≡ false
+not-refused call r h = first-false (is_refusal r) (looks call r) h
+
 module _ (s : Machine) (n : ℕ) (c : Caller) where
   store-stores : (addr : ℕ) (bytes : List ℕ) (o : Option (List Place)) → places c.pieces addr (length bytes) ≡ o
       → is_refusal (store s bytes (only_writable o)).reply ≡ false → Stores s c (patch addr bytes) (store s bytes (only_writable o))
@@ -119,9 +131,38 @@ module _ (s : Machine) (n : ℕ) (c : Caller) where
           (ps, is, refl)
       by false k = absurd (none-some p k)
 
-  acts-store : (call : ProcessCall) (p : Patch) → patch_by call (acts s n c call).reply ≡ Some p → is_refusal (acts s n c call).reply ≡ false → Stores s c p (acts s n c call)
+  exchange-stores : (addr : ℕ) (bytes : List ℕ) (o : Option (List Place)) → places c.pieces addr (length bytes) ≡ o
+      → is_refusal (exchange s bytes (only_writable o)).reply ≡ false → Stores s c (patch addr bytes) (exchange s bytes (only_writable o))
+  exchange-stores addr bytes None is h = absurd (cc)
+  exchange-stores addr bytes (Some ps) is h = by (all_writable ps) h
+    where
+      by : (b : Bool) → is_refusal (exchange s bytes (cond b (Some ps) None)).reply ≡ false → Stores s c (patch addr bytes) (exchange s bytes (cond b (Some ps) None))
+      by true k = (ps, is, refl)
+      by false k = absurd (cc)
+
+  compare-stores : (addr : ℕ) (expected desired : List ℕ) (o : Option (List Place)) → places c.pieces addr (length desired) ≡ o
+      → altered (CompareExchange expected desired addr) (compare_exchange s expected desired (only_writable o)).reply ≡ true
+      → Stores s c (patch addr desired) (compare_exchange s expected desired (only_writable o))
+  compare-stores addr expected desired None is h = absurd (cc)
+  compare-stores addr expected desired (Some ps) is h = by (all_writable ps) h
+    where
+      by : (b : Bool) → altered (CompareExchange expected desired addr) (compare_exchange s expected desired (cond b (Some ps) None)).reply ≡ true
+          → Stores s c (patch addr desired) (compare_exchange s expected desired (cond b (Some ps) None))
+      by true k =
+          elim (cases_Bool (same_bytes (loaded s.table ps) expected)) [
+            | inl same ↦ rw same (ps, is, refl)
+            | inr other ↦ (let none = rw other at k in absurd (cc))
+          ]
+      by false k = absurd (cc)
+
+  acts-store : (call : ProcessCall) (p : Patch) → patch_by call (acts s n c call).reply ≡ Some p → altered call (acts s n c call).reply ≡ true → Stores s c p (acts s n c call)
   acts-store (Store bytes addr) p is h =
-      subst (λ (q : Patch). Stores s c q (acts s n c (Store bytes addr))) (fits-is addr bytes p is) (store-stores addr bytes (places c.pieces addr (length bytes)) refl h)
+      subst (λ (q : Patch). Stores s c q (acts s n c (Store bytes addr))) (fits-is addr bytes p is) (store-stores addr bytes (places c.pieces addr (length bytes)) refl (not-refused (Store bytes addr) _ h))
+  acts-store (Exchange bytes addr) p is h =
+      subst (λ (q : Patch). Stores s c q (acts s n c (Exchange bytes addr))) (fits-is addr bytes p is) (exchange-stores addr bytes (places c.pieces addr (length bytes)) refl (not-refused (Exchange bytes addr) _ h))
+  acts-store (CompareExchange expected desired addr) p is h =
+      subst (λ (q : Patch). Stores s c q (acts s n c (CompareExchange expected desired addr))) (fits-is addr desired p is)
+      (compare-stores addr expected desired (places c.pieces addr (length desired)) refl h)
   acts-store (Xadd addr add) p is h = xadd-stores addr add p (places c.pieces addr 8) refl is
   acts-store (Shmget key size mode flags) p is h = absurd (none-some p is)
   acts-store (Shmat id addr flags) p is h = absurd (none-some p is)
@@ -140,11 +181,11 @@ module _ (s : Machine) (n : ℕ) (c : Caller) where
 -- the machine that the trail leads to after a call that wrote bytes
 stored-after :
     (m s : Machine) (n pid : ℕ) (call : ProcessCall) (p : Patch) (ws : List Write) → written m ws ≡ timeless s
-    → patch_by call (step s n pid call).reply ≡ Some p → is_refusal (step s n pid call).reply ≡ false
+    → patch_by call (step s n pid call).reply ≡ Some p → altered call (step s n pid call).reply ≡ true
     → written m (puts s pid p.addr p.bytes ws) ≡ timeless (step s n pid call).state
 stored-after m s n pid call p ws at is change = by (caller_of s pid) refl is change
   where
-    by : (o : Option Caller) → caller_of s pid ≡ o → patch_by call (step_by s n call o).reply ≡ Some p → is_refusal (step_by s n call o).reply ≡ false
+    by : (o : Option Caller) → caller_of s pid ≡ o → patch_by call (step_by s n call o).reply ≡ Some p → altered call (step_by s n call o).reply ≡ true
         → written m (puts s pid p.addr p.bytes ws) ≡ timeless (step_by s n call o).state
     by None caller patched kept = absurd (cc)
     by (Some c) caller patched kept =
@@ -156,11 +197,11 @@ stored-after m s n pid call p ws at is change = by (caller_of s pid) refl is cha
 
 -- a call that writes bytes leaves its caller where it was
 stored-caller :
-    (s : Machine) (n pid : ℕ) (call : ProcessCall) (p : Patch) → patch_by call (step s n pid call).reply ≡ Some p → is_refusal (step s n pid call).reply ≡ false
+    (s : Machine) (n pid : ℕ) (call : ProcessCall) (p : Patch) → patch_by call (step s n pid call).reply ≡ Some p → altered call (step s n pid call).reply ≡ true
     → caller_of (step s n pid call).state pid ≡ caller_of s pid
 stored-caller s n pid call p is change = by (caller_of s pid) refl is change
   where
-    by : (o : Option Caller) → caller_of s pid ≡ o → patch_by call (step_by s n call o).reply ≡ Some p → is_refusal (step_by s n call o).reply ≡ false
+    by : (o : Option Caller) → caller_of s pid ≡ o → patch_by call (step_by s n call o).reply ≡ Some p → altered call (step_by s n call o).reply ≡ true
         → caller_of (step_by s n call o).state pid ≡ caller_of s pid
     by None caller patched kept = absurd (cc)
     by (Some c) caller patched kept = ap (λ (m : Machine). caller_of m pid) (acts-store s n c call p patched kept).2
@@ -170,10 +211,6 @@ puts-same s m pid same [] addr ws = refl
 puts-same s m pid same (b ∷ bs) addr ws =
     puts-same s m pid same bs (addr + 1) (put_at (place_of s pid addr) b ws)
     ∙ ap (λ (o : Option Caller). puts m pid (addr + 1) bs (put_at (place_by o addr) b ws)) same
-
-first-false : (a b : Bool) → not a && not b ≡ true → a ≡ false
-first-false false b h = refl
-first-false true b h = absurd (cc)
 
 -- FORKS
 
@@ -204,6 +241,8 @@ fork-first : (s : Machine) (pid : ℕ) (call : ProcessCall) (ws : List Write) �
 fork-first s pid (Fork child) ws h = sym (fork-written s pid child ws)
 fork-first s pid (Store bytes addr) ws h = absurd (cc)
 fork-first s pid (Xadd addr add) ws h = absurd (cc)
+fork-first s pid (Exchange bytes addr) ws h = absurd (cc)
+fork-first s pid (CompareExchange expected desired addr) ws h = absurd (cc)
 fork-first s pid (Shmget key size mode flags) ws h = absurd (cc)
 fork-first s pid (Shmat id addr flags) ws h = absurd (cc)
 fork-first s pid (Shmdt addr) ws h = absurd (cc)
@@ -244,9 +283,8 @@ one-changed base s n pid call t not-zero at =
     by : is_change (event_at s n pid call) ≡ true → (o : Option Patch) → patch_by call (step s n pid call).reply ≡ o
         → changed base (all_changes (noted s (event_at s n pid call) o t)) ≡ timeless (step s n pid call).state
     by yes-changes (Some p) is =
-        let kept = first-false (is_refusal (step s n pid call).reply) (looks call) yes-changes in
         let w : Trail = record { past = t.past; writes = puts s pid p.addr p.bytes t.writes } in
-        changed-all base w ∙ stored-after (changed base t.past) s n pid call p t.writes (sym (changed-all base t) ∙ at) is kept
+        changed-all base w ∙ stored-after (changed base t.past) s n pid call p t.writes (sym (changed-all base t) ∙ at) is yes-changes
     by yes-changes None is =
         made-changed base (call_of (event_at s n pid call)) t
         ∙ ap (λ (m : Machine). (step m 1 pid call).state) at
@@ -305,6 +343,5 @@ late-trail s n pid call t =
     by : is_change (event_at s n pid call) ≡ true → (o : Option Patch) → patch_by call (step s n pid call).reply ≡ o
         → noted (step s n pid call).state (event_at s n pid call) o t ≡ noted s (event_at s n pid call) o t
     by yes-changes (Some p) is =
-        let kept = first-false (is_refusal (step s n pid call).reply) (looks call) yes-changes in
-        ap (λ (ws : List Write). record { past = t.past; writes = ws }) (puts-same (step s n pid call).state s pid (stored-caller s n pid call p is kept) p.bytes p.addr t.writes)
+        ap (λ (ws : List Write). record { past = t.past; writes = ws }) (puts-same (step s n pid call).state s pid (stored-caller s n pid call p is yes-changes) p.bytes p.addr t.writes)
     by yes-changes None is = refl

@@ -7,7 +7,7 @@ use Rattle.shm_base.specs.State.{Machine}
 use Rattle.shm_base.specs.Step.{step}
 use Rattle.shm_base.specs.declared.bounds.TheConstants.{INDEXES}
 use Rattle.shm_base.specs.Calls.{ProcessCall}
-use Rattle.shm_base.specs.declared.call.Call.TheVariants.{Fork, Store, Xadd}
+use Rattle.shm_base.specs.declared.call.Call.TheVariants.{CompareExchange, Exchange, Fork, Store, Xadd}
 use Rattle.shm_base.specs.declared.call.Event.{Event}
 use Rattle.shm_base.specs.declared.call.Reply.{Reply}
 use Rattle.shm_base.specs.declared.call.Reply.TheVariants.{Number}
@@ -57,10 +57,12 @@ puts s pid addr (byte ∷ bytes) ws = puts s pid (addr + 1) bytes (put_at (place
 abbrev pub fits : ℕ → List ℕ → Option Patch
 fits addr bytes = if nat_lt (addr + length bytes) (2 ^ 64) then Some (record { addr = addr; bytes = bytes }) else None
 
--- the bytes that a call wrote, if it wrote no more than bytes
+-- the bytes that a call wrote, if it changed the machine, and no more than bytes
 abbrev pub patch_by : ProcessCall → Reply → Option Patch
 patch_by (Store bytes addr) reply = fits addr bytes
 patch_by (Xadd addr add) (Number old) = fits addr (to_le_bytes w64 ((old + add) % 2 ^ 64))
+patch_by (Exchange bytes addr) reply = fits addr bytes
+patch_by (CompareExchange expected desired addr) reply = fits addr desired
 patch_by call reply = None
 
 abbrev pub wrote : Write → Change

@@ -8,7 +8,7 @@ use Rattle.shm_schedules.specs.Schedules.{Run}
 use Rattle.shm_schedules.specs.Finding.{Finding}
 use Rattle.shm_outcomes.specs.declared.moves.Move.{Move}
 use Rattle.shm_schedules.specs.declared.search_error.SearchError.{SearchError}
-use Rattle.shm_schedules.specs.declared.search_error.SearchError.TheVariants.{Engine, Bound}
+use Rattle.shm_schedules.specs.declared.search_error.SearchError.TheVariants.{HostMemory, Bound}
 
 pub record Level : Type 0 where
   pub groups : Groups
@@ -28,7 +28,7 @@ first_level script first =
 
 -- the first level is over the bound
 abbrev pub IsFirstCause : ℕ → SearchError → Type 0
-IsFirstCause most (Engine e) = Unit {0}
+IsFirstCause most HostMemory = Unit {0}
 IsFirstCause most Bound = most ≡ 0
 
 -- the members of a level are extended, and those that extend them are the next level
@@ -47,5 +47,5 @@ pub record IsLevelFull (script : ScriptView) (first : Run) (level : Level) (befo
   pub stopped : IsStopped script first moves level.members.ways (no_members level.members.count) before most
 
 abbrev pub IsLevelCause : ScriptView → Run → Level → List Finding → ℕ → SearchError → Type 0
-IsLevelCause script first level before most (Engine e) = Unit {0}
+IsLevelCause script first level before most HostMemory = Unit {0}
 IsLevelCause script first level before most Bound = IsLevelFull script first level before most

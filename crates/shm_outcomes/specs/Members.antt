@@ -10,7 +10,7 @@ use Rattle.shm_schedules.specs.Finding.{Finding}
 use Rattle.shm_outcomes.specs.Search.{IsNoted}
 use Rattle.shm_outcomes.specs.declared.moves.Move.{Move}
 use Rattle.shm_schedules.specs.declared.search_error.SearchError.{SearchError}
-use Rattle.shm_schedules.specs.declared.search_error.SearchError.TheVariants.{Engine, Bound}
+use Rattle.shm_schedules.specs.declared.search_error.SearchError.TheVariants.{HostMemory, Bound}
 
 pub record Member : Type 0 where
   pub group : ℕ
@@ -61,7 +61,7 @@ abbrev pub IsOneTooMany : Way → Members → ℕ → Type 0
 IsOneTooMany w olds most = (Contains (members_in olds.ways) w.member → ⊥) × (most ≤ olds.count)
 
 abbrev pub IsFull : Way → Members → ℕ → SearchError → Type 0
-IsFull w olds most (Engine e) = Unit {0}
+IsFull w olds most HostMemory = Unit {0}
 IsFull w olds most Bound = IsOneTooMany w olds most
 
 -- one of these members was one too many, once those before it were added
@@ -75,7 +75,7 @@ pub record AreTooMany (ways : List Way) (olds : Members) (most : ℕ) : Type 0 w
   pub many : IsOneTooMany way mid most
 
 abbrev pub AreFull : List Way → Members → ℕ → SearchError → Type 0
-AreFull ways olds most (Engine e) = Unit {0}
+AreFull ways olds most HostMemory = Unit {0}
 AreFull ways olds most Bound = AreTooMany ways olds most
 
 -- WAYS ON
@@ -125,5 +125,5 @@ pub record IsStopped (script : ScriptView) (first : Run) (moves : List (List (Op
   pub many : AreTooMany (ways_on script.processes way (slice_index_or moves way.member.group [])) mid most
 
 abbrev pub IsStoppedBy : ScriptView → Run → List (List (Option Move)) → List Way → Members → List Finding → ℕ → SearchError → Type 0
-IsStoppedBy script first moves ways olds before most (Engine e) = Unit {0}
+IsStoppedBy script first moves ways olds before most HostMemory = Unit {0}
 IsStoppedBy script first moves ways olds before most Bound = IsStopped script first moves ways olds before most

@@ -3,8 +3,8 @@ ghost use Rattle.std.specs.Prelude.{◌≡◌, IfOk};
 ghost use Rattle.shm_outcomes.specs.Branches.{grown, sprout};
 
 use crate::trail::Trail;
-use shm_base::Call;
-use shm_schedules::{Engine, EngineError, Lists, Outcome, Run};
+use shm_base::{Call, HostMemory};
+use shm_schedules::{Engine, Lists, Outcome, Run};
 use shm_text::Script;
 use std::alloc::Global;
 use std::marker::Model;
@@ -39,7 +39,7 @@ impl<M: Engine> Branch<M> {
         alloc: Global,
         script: &Script,
         start: &Run<M>,
-    ) -> Result<Branch<M>, EngineError>
+    ) -> Result<Branch<M>, HostMemory>
         ensures { IfOk result (λ b. b ≡ sprout script.now start.now) }
     {
         let told = Outcome::of(alloc, script, start.events())?;
@@ -74,7 +74,7 @@ impl<M: Engine> Branch<M> {
         pid: u32,
         call: &Call,
         lists: &mut Lists,
-    ) -> Result<Branch<M>, EngineError>
+    ) -> Result<Branch<M>, HostMemory>
         ensures { IfOk result (λ b. b ≡ grown script.now self.now pid call.now) }
     {
         let count = self.run.events().len();

@@ -9,7 +9,8 @@ use crate::findings::Findings;
 use crate::groups::Groups;
 use crate::members::{Member, Members, Schedule};
 use crate::moves::{Move, Moves, all_moves};
-use shm_schedules::{Engine, EngineError, Lists, Outcome, Run, SearchError};
+use shm_base::HostMemory;
+use shm_schedules::{Engine, Lists, Outcome, Run, SearchError};
 use shm_text::Script;
 use std::alloc::Global;
 use std::marker::Model;
@@ -202,7 +203,7 @@ fn note_end<M: Engine>(
     told: &Outcome,
     schedule: &Schedule,
     found: &mut Findings,
-) -> Result<(), EngineError>
+) -> Result<(), HostMemory>
     ensures { OnOk result (IsEndNoted
         (walked script.now schedule.now start.now) told.now found.old found.new) }
 {

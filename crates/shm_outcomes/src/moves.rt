@@ -4,8 +4,8 @@ ghost use Rattle.shm_outcomes.specs.Groups.{AreAllMoves, AreMovesBy, ArePut, IsM
 
 use crate::branches::Branch;
 use crate::groups::Groups;
-use shm_base::{Event, Process};
-use shm_schedules::{Engine, EngineError, Lists};
+use shm_base::{Event, HostMemory, Process};
+use shm_schedules::{Engine, Lists};
 use shm_text::Script;
 use std::alloc::Global;
 use std::marker::Model;
@@ -60,7 +60,7 @@ fn move_by<M: Engine>(
     process: &Process,
     lists: &mut Lists,
     next: &mut Groups<M>,
-) -> Result<Option<Move>, EngineError>
+) -> Result<Option<Move>, HostMemory>
     ensures step { IfOk result (λ move. IsMove script.now next.new branch.now process.now.pid move) }
     ensures put { OnOk result (ArePut script.now (branch.now ∷ []) next.old next.new) }
 {
@@ -82,7 +82,7 @@ fn moves_of<M: Engine>(
     branch: &Branch<M>,
     lists: &mut Lists,
     next: &mut Groups<M>,
-) -> Result<Moves, EngineError>
+) -> Result<Moves, HostMemory>
     ensures moves { IfOk result (λ moves. AreMovesBy script.now next.new branch.now processes.now moves) }
     ensures put { OnOk result (ArePut script.now (branch.now ∷ []) next.old next.new) }
 {
@@ -101,7 +101,7 @@ pub(crate) fn all_moves<M: Engine>(
     groups: &[Branch<M>],
     lists: &mut Lists,
     next: &mut Groups<M>,
-) -> Result<Vec<Moves>, EngineError>
+) -> Result<Vec<Moves>, HostMemory>
     ensures moves { IfOk result (λ all. AreAllMoves script.now next.new groups.now all.items) }
     ensures put { OnOk result (ArePut script.now groups.now next.old next.new) }
 {

@@ -11,8 +11,8 @@ use shm_text::Script;
 use std::alloc::Global;
 
 /// Every outcome of a script, each once, with a run that has it. The machine has made no call. The search keeps
-/// at most `most` runs, of which no two are equivalent. Errors: the host refused memory, a pager failed,
-/// or there are more such runs.
+/// at most `most` runs, of which no two are equivalent. Errors: the host refused memory, or there are more
+/// such runs.
 pub fn outcomes<M: Engine>(
     alloc: Global,
     script: &Script,

@@ -6,7 +6,7 @@ ghost use Rattle.shm_outcomes.specs.declared.trail.Change.TheVariants.{Made};
 ghost use Rattle.shm_outcomes.specs.Changes.{call_of, fits, is_above, is_below, is_fork, made, no_trail, noted, patch_by, put, put_at, puts, trail_after, write_at, wrote};
 
 use shm_areas::Place;
-use shm_base::{Call, Chunk, Event, INDEXES, Reply};
+use shm_base::{Call, Chunk, Event, INDEXES, Reply, Word};
 use shm_schedules::{Engine, is_change};
 use std::alloc::{AllocError, Global};
 use std::hash::{Hash, Hasher};
@@ -52,7 +52,7 @@ fn fits(addr: u64, bytes: Chunk) -> Option<Patch>
     Some(Patch { addr, bytes })
 }
 
-// What a call wrote, if it wrote no more than bytes.
+// What a call that changed the machine wrote, if it changed no more than bytes.
 fn patch_by(call: &Call, reply: &Reply) -> Option<Patch>
     ensures value { result ≡ patch_by call.now reply.now }
     ensures within { IfSome result (λ p. p.addr + length p.bytes < 2 ^ 64) }
@@ -60,6 +60,8 @@ fn patch_by(call: &Call, reply: &Reply) -> Option<Patch>
     match (call, reply) {
         (Call::Store { addr, chunk }, _) => fits(*addr, *chunk),
         (Call::Xadd { addr, add }, Reply::Number(old)) => sum_patch(*addr, *old, *add),
+        (Call::Exchange { addr, chunk }, _) => fits(*addr, *chunk),
+        (Call::CompareExchange { addr, desired, .. }, _) => word_patch(*addr, desired),
         _ => None,
     }
 }
@@ -70,6 +72,14 @@ fn sum_patch(addr: u64, old: u64, add: u64) -> Option<Patch>
 {
     let bytes = old.wrapping_add(add).to_le_bytes();
     let chunk = Chunk::new(&bytes)?;
+    fits(addr, chunk)
+}
+
+fn word_patch(addr: u64, word: &Word) -> Option<Patch>
+    ensures value { result ≡ fits addr word.now }
+    ensures within { IfSome result (λ p. p.addr + length p.bytes < 2 ^ 64) }
+{
+    let chunk = Chunk::new(word.as_slice())?;
     fits(addr, chunk)
 }
 

@@ -2,6 +2,7 @@
 use bitflags::Flags;
 use shm_base::{
     AccessLen, AtFlags, Call, Chunk, Errno, Event, GetFlags, Perm, Reply, ShmidDs, Status, Tally,
+    Word,
 };
 use shm_print::{event_text, reply_text, segment_line, usage_text};
 use std::test::Fail;
@@ -11,6 +12,8 @@ fn printed_calls(rt: HostRuntime) -> Result<(), Fail> {
     let alloc = rt.alloc();
     let len = AccessLen::new(64).ok_or("1 to 64")?;
     let chunk = Chunk::new(&[0, 171]).ok_or("1 to 64")?;
+    let expected = Word::new(&[0]).ok_or("1 to 16")?;
+    let desired = Word::new(&[171]).ok_or("1 to 16")?;
     let printed = [
         (
             Call::Shmget {
@@ -63,6 +66,15 @@ fn printed_calls(rt: HostRuntime) -> Result<(), Fail> {
                 add: 1,
             },
             "xadd 0x40000000 1",
+        ),
+        (Call::Exchange { addr: 16, chunk }, "swap 0x10 00ab"),
+        (
+            Call::CompareExchange {
+                expected,
+                desired,
+                addr: 16,
+            },
+            "cas 0x10 00 ab",
         ),
         (Call::Fork { child: 2 }, "fork 2"),
         (Call::Swapoff { area: 7 }, "swapoff 7"),

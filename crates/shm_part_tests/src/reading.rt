@@ -1,7 +1,7 @@
 //! What no contract says: a script is read while there is memory, also the longest one; and each form and
 //! fault once.
 use bitflags::Flags;
-use shm_base::{AccessLen, AtFlags, Call, Chunk, GetFlags, Reply};
+use shm_base::{AccessLen, AtFlags, Call, Chunk, GetFlags, Reply, Word};
 use shm_text::{FaultKind, FlushLine, Line, ReadRefused, Script, Vars, read_script};
 use std::alloc::Global;
 use std::process::Abort;
@@ -187,6 +187,51 @@ fn each_other_form(rt: HostRuntime) -> Result<(), Fail> {
     Ok(())
 }
 
+#[test]
+fn each_exchange(rt: HostRuntime) -> Result<(), Fail> {
+    let alloc = rt.alloc();
+    let chunk = Chunk::new(&[0, 171]).ok_or("1 to 64")?;
+    let longest = Chunk::new(&[17; 64]).ok_or("1 to 64")?;
+    let expected = Word::new(&[0, 0, 0, 0, 0, 0, 0, 0]).ok_or("1 to 16")?;
+    let desired = Word::new(&[1, 2, 3, 4, 5, 6, 7, 171]).ok_or("1 to 16")?;
+    let widest = Word::new(&[17; 16]).ok_or("1 to 16")?;
+    let mut swap_of_the_longest = b"1 swap null ".to_vec(alloc)?;
+    for _ in 0..64 {
+        swap_of_the_longest.extend_from_slice(b"11")?;
+    }
+    let read: [(&[u8], Call); 5] = [
+        (b"1 swap 0x10 00Ab", Call::Exchange { chunk, addr: 16 }),
+        (b"1 x = swap a+1 00ab", Call::Exchange { chunk, addr: 1 }),
+        (
+            &swap_of_the_longest,
+            Call::Exchange {
+                chunk: longest,
+                addr: 0,
+            },
+        ),
+        (
+            b"1 x = cas a 0000000000000000 01020304050607aB",
+            Call::CompareExchange {
+                expected,
+                desired,
+                addr: 0,
+            },
+        ),
+        (
+            b"1 cas 16 11111111111111111111111111111111 11111111111111111111111111111111",
+            Call::CompareExchange {
+                expected: widest,
+                desired: widest,
+                addr: 16,
+            },
+        ),
+    ];
+    for (line, call) in &read {
+        assert!(rt; call_of(alloc, line)? == *call);
+    }
+    Ok(())
+}
+
 fn are_rounds(rt: &impl Abort, lines: &[Line], all: &[u64]) -> Result<(), Fail> {
     assert_eq!(rt; lines.len(), all.len());
     for (line, pages) in lines.iter().zip(all) {
@@ -209,7 +254,7 @@ fn flush_lines(rt: HostRuntime) -> Result<(), Fail> {
 }
 
 /// Third lines of a script, each with its fault.
-const FAULTS: [(&[u8], FaultKind); 66] = [
+const FAULTS: [(&[u8], FaultKind); 83] = [
     (b"process 1 5 5", FaultKind::Twice),
     (b"2 exit", FaultKind::UnknownProcess),
     (b"1 fork 9", FaultKind::UnknownProcess),
@@ -252,6 +297,38 @@ const FAULTS: [(&[u8], FaultKind); 66] = [
     (b"1 xadd a", FaultKind::BadLine),
     (b"1 xadd a b", FaultKind::BadLine),
     (b"1 xadd a 18446744073709551616", FaultKind::BadNumber),
+    (b"1 swap a", FaultKind::BadLine),
+    (b"1 swap a abc", FaultKind::BadLine),
+    (b"1 swap a 00 11", FaultKind::BadLine),
+    (b"1 swap a+18446744073709551616 00", FaultKind::BadNumber),
+    (b"1 x = swap a 001122334455667788", FaultKind::TooWide),
+    (b"2 x = swap a 001122334455667788", FaultKind::TooWide),
+    (b"1 cas a 00", FaultKind::BadLine),
+    (b"1 cas a 00 0g", FaultKind::BadLine),
+    (b"1 cas a 0g 00", FaultKind::BadLine),
+    (
+        b"1 cas a 00 1111111111111111111111111111111111",
+        FaultKind::BadLine,
+    ),
+    (
+        b"1 cas a 1111111111111111111111111111111111 00",
+        FaultKind::BadLine,
+    ),
+    (b"1 cas a 00 0011", FaultKind::LengthsDiffer),
+    (b"2 cas a 0011 00", FaultKind::LengthsDiffer),
+    (
+        b"1 cas a+18446744073709551616 00 0011",
+        FaultKind::LengthsDiffer,
+    ),
+    (
+        b"1 x = cas a 001122334455667788 001122334455667788",
+        FaultKind::TooWide,
+    ),
+    (
+        b"1 x = cas a 00 001122334455667788",
+        FaultKind::LengthsDiffer,
+    ),
+    (b"1 Cas a 00 00", FaultKind::BadLine),
     (b"1 v = load a 1", FaultKind::BadLine),
     (b"1 v = shmdt a", FaultKind::BadLine),
     (b"1 v = exit", FaultKind::BadLine),

@@ -9,6 +9,13 @@ pub pushed : {E : Type 0} (r : Result (Unit {0}) E) (a b t : List ℕ) → b ≡
 pushed (Ok _) a b t e = e
 pushed (Err _) a b t e = tt
 
+-- a word, an address and two operands, part by part
+pub operands_pushed : {E : Type 0} (r : Result (Unit {0}) E) (a b c d word addr one two : List ℕ)
+    → b ≡ a ++ (word ++ addr) → c ≡ b ++ (codes " " ++ one) → OnOk r (d ≡ c ++ (codes " " ++ two))
+    → OnOk r (d ≡ a ++ (word ++ (addr ++ (codes " " ++ (one ++ (codes " " ++ two))))))
+operands_pushed (Ok _) a b c d word addr one two p q u = rw (u, q, p) (simp append_assoc refl)
+operands_pushed (Err _) a b c d word addr one two p q u = tt
+
 -- the line of an event, part by part
 pub event_pushed : {E : Type 0} (r : Result (Unit {0}) E) (place : ℕ) (event : Event) (a b c d e f : List ℕ)
     → b ≡ a ++ (decimal place ++ (codes " " ++ (decimal event.pid ++ codes " "))) → c ≡ b ++ call_text event.call → d ≡ c ++ codes " = " → e ≡ d ++ reply_text event.reply

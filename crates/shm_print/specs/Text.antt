@@ -7,7 +7,7 @@ use Rattle.shm_base.specs.declared.flags.AtFlags.{AtFlags}
 use Rattle.shm_base.specs.declared.flags.Status.{Status}
 use Rattle.shm_base.specs.declared.owner.Perm.{Perm}
 use Rattle.shm_base.specs.Calls.{ProcessCall}
-use Rattle.shm_base.specs.declared.call.Call.TheVariants.{Shmget, Shmat, Shmdt, Stat, Set, Rmid, Lock, Unlock, Load, Store, Xadd, Fork, Exec, Exit, Swapoff}
+use Rattle.shm_base.specs.declared.call.Call.TheVariants.{Shmget, Shmat, Shmdt, Stat, Set, Rmid, Lock, Unlock, Load, Store, Xadd, Exchange, CompareExchange, Fork, Exec, Exit, Swapoff}
 use Rattle.shm_base.specs.declared.call.ShmidDs.{ShmidDs}
 use Rattle.shm_base.specs.declared.call.Reply.{Reply}
 use Rattle.shm_base.specs.declared.call.Reply.TheVariants as replies
@@ -68,6 +68,8 @@ call_text (Unlock id) = codes "unlock " ++ signed_decimal id
 call_text (Load addr len) = codes "load " ++ (address_text addr ++ (codes " " ++ decimal len))
 call_text (Store bytes addr) = codes "store " ++ (address_text addr ++ (codes " " ++ encode_lower bytes))
 call_text (Xadd addr add) = codes "xadd " ++ (address_text addr ++ (codes " " ++ decimal add))
+call_text (Exchange bytes addr) = codes "swap " ++ (address_text addr ++ (codes " " ++ encode_lower bytes))
+call_text (CompareExchange expected desired addr) = codes "cas " ++ (address_text addr ++ (codes " " ++ (encode_lower expected ++ (codes " " ++ encode_lower desired))))
 call_text (Fork child) = codes "fork " ++ decimal child
 call_text Exec = codes "exec"
 call_text Exit = codes "exit"

@@ -39,6 +39,16 @@ fn push_bytes(text: &mut String, bytes: &[u8]) -> Result<(), AllocError>
     text.push_str(str::from_utf8(digits).unwrap())
 }
 
+// Appends a space and bytes to a text.
+fn push_operand(text: &mut String, bytes: &[u8]) -> Result<(), AllocError>
+    requires { length bytes.now ≤ 64 }
+    ensures { OnOk result (string_bytes text.new
+        ≡ string_bytes text.old ++ (codes " " ++ encode_lower bytes.now)) }
+{
+    text.push_str(" ")?;
+    push_bytes(text, bytes)
+}
+
 // Appends a word and an identifier to a text.
 fn push_id(text: &mut String, word: &str, id: ShmId) -> Result<(), AllocError>
     ensures { OnOk result (string_bytes text.new ≡ string_bytes text.old ++ (word.now ++ signed_decimal id)) }
@@ -98,12 +108,24 @@ fn push_call(text: &mut String, call: &Call) -> Result<(), AllocError>
         }
         Call::Store { addr, chunk } => {
             push_at(text, "store ", *addr)?;
-            text.push_str(" ")?;
-            push_bytes(text, chunk.as_slice())
+            push_operand(text, chunk.as_slice())
         }
         Call::Xadd { addr, add } => {
             push_at(text, "xadd ", *addr)?;
             push_counted(text, " ", *add)
+        }
+        Call::Exchange { addr, chunk } => {
+            push_at(text, "swap ", *addr)?;
+            push_operand(text, chunk.as_slice())
+        }
+        Call::CompareExchange {
+            expected,
+            desired,
+            addr,
+        } => {
+            push_at(text, "cas ", *addr)?;
+            push_operand(text, expected.as_slice())?;
+            push_operand(text, desired.as_slice())
         }
         Call::Fork { child } => push_counted(text, "fork ", u64::from(*child)),
         Call::Exec => text.push_str("exec"),

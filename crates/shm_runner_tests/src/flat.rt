@@ -195,6 +195,12 @@ impl Flat {
             Call::Load { addr, len } => self.load(pid, addr, len.get()).map(Reply::Bytes),
             Call::Store { addr, chunk } => self.store(pid, addr, chunk.as_slice()),
             Call::Xadd { addr, add } => self.xadd(pid, addr, add),
+            Call::Exchange { chunk, addr } => self.exchange(pid, addr, None, chunk.as_slice()),
+            Call::CompareExchange {
+                expected,
+                desired,
+                addr,
+            } => self.exchange(pid, addr, Some(expected.as_slice()), desired.as_slice()),
             _ => None,
         };
         reply.unwrap_or(Reply::Refused(Errno::Sigsegv))
@@ -464,6 +470,24 @@ impl Flat {
         let sum = old.wrapping_add(add).to_le_bytes();
         self.store(pid, addr, &sum)?;
         Some(Reply::Number(old))
+    }
+
+    // Without expected bytes it replaces what is there in any case. Bytes that stay are written too.
+    fn exchange(
+        &mut self,
+        pid: u32,
+        addr: u64,
+        expected: Option<&[u8]>,
+        bytes: &[u8],
+    ) -> Option<Reply> {
+        let stood = self.load(pid, addr, bytes.len())?;
+        let is_met = match expected {
+            Some(expected) => stood.as_slice() == expected,
+            None => true,
+        };
+        let written = if is_met { bytes } else { stood.as_slice() };
+        self.store(pid, addr, written)?;
+        Some(Reply::Bytes(stood))
     }
 
     /// The live segment at an index: its identifier, what `stat` shows, and its bytes.

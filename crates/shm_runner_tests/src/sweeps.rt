@@ -187,9 +187,11 @@ fn load(addr: u64, len: u64) -> Result<Call, Fail> {
 // Whether a call was refused because a pager failed.
 fn is_failure(call: &Call, reply: &Reply) -> bool {
     match call {
-        Call::Load { .. } | Call::Store { .. } | Call::Xadd { .. } => {
-            matches!(reply, Reply::Refused(Errno::Sigbus))
-        }
+        Call::Load { .. }
+        | Call::Store { .. }
+        | Call::Xadd { .. }
+        | Call::Exchange { .. }
+        | Call::CompareExchange { .. } => matches!(reply, Reply::Refused(Errno::Sigbus)),
         Call::Swapoff { .. } => matches!(reply, Reply::Refused(Errno::Eio)),
         _ => false,
     }

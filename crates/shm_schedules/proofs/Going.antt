@@ -8,6 +8,7 @@ use Rattle.std.proofs.lemmas.List.Elements.{filter-append}
 use Rattle.std.proofs.lemmas.Option.{none-some}
 use Rattle.shm_base.specs.History.{is_refusal, own_part}
 use Rattle.shm_base.specs.Processes.{has_pid}
+use Rattle.shm_base.specs.Access.{Place, writable_places}
 use Rattle.shm_base.specs.Bounds.{within}
 use Rattle.shm_base.specs.Identifier.{Look, Found, Removed, Invalid, identifier, destroyed_at, find_key, look}
 use Rattle.shm_base.specs.Locking.{may_not_lock, passes_limit}
@@ -15,9 +16,9 @@ use Rattle.shm_base.specs.Permission.{grants, owns, wish_of}
 use Rattle.shm_base.specs.Segments.{reserved}
 use Rattle.shm_base.specs.Space.{choose, inside}
 use Rattle.shm_base.specs.State.{Machine, Segment, pages_in, pages_of}
-use Rattle.shm_base.specs.Step.{Caller, Outcome, acts, at_wish, attaches, attaches_chosen, attaches_fixed, attaches_found, caller_of, controls, creates, creates_small, gets, huge_errno, is_full, is_no_owner, is_rnd, is_taken, pieces_with, remaps_null, step, step_by, wants_creation, wants_no_other}
+use Rattle.shm_base.specs.Step.{Caller, Outcome, acts, at_wish, attaches, attaches_chosen, attaches_fixed, attaches_found, caller_of, compare_exchange, controls, creates, creates_small, gets, huge_errno, is_full, is_no_owner, is_rnd, is_taken, pieces_with, remaps_null, step, step_by, wants_creation, wants_no_other}
 use Rattle.shm_base.specs.Calls.{ProcessCall}
-use Rattle.shm_base.specs.declared.call.Call.TheVariants.{Shmget, Shmat, Shmdt, Stat, Set, Rmid, Lock, Unlock, Load, Store, Xadd, Fork, Exec, Exit, Swapoff}
+use Rattle.shm_base.specs.declared.call.Call.TheVariants.{Shmget, Shmat, Shmdt, Stat, Set, Rmid, Lock, Unlock, Load, Store, Xadd, Exchange, CompareExchange, Fork, Exec, Exit, Swapoff}
 use Rattle.shm_base.specs.declared.errno.Errno.{Errno}
 use Rattle.shm_base.specs.declared.flags.GetFlags.{GetFlags}
 use Rattle.shm_base.specs.declared.flags.AtFlags.{AtFlags}
@@ -100,6 +101,8 @@ module _ (s : Machine) (n : ℕ) (c : Caller) where
   still-acts (Load addr len) = λ h. grind (arith, common_steps)
   still-acts (Store bytes addr) = λ h. grind (arith, common_steps)
   still-acts (Xadd addr add) = λ h. grind (arith, common_steps)
+  still-acts (Exchange bytes addr) = λ h. grind (arith, common_steps)
+  still-acts (CompareExchange expected desired addr) = λ h. grind (arith, common_steps)
   still-acts (Fork child) = λ h. grind (arith, common_steps)
   still-acts Exec = λ h. absurd (cc)
   still-acts Exit = λ h. absurd (cc)
@@ -109,8 +112,15 @@ still-by : (s : Machine) (n : ℕ) (call : ProcessCall) (o : Option Caller) → 
 still-by s n call None = λ h. refl
 still-by s n call (Some c) = still-acts s n c call
 
-looked-by : (s : Machine) (n : ℕ) (call : ProcessCall) (o : Option Caller) → looks call ≡ true → (step_by s n call o).state ≡ s
-looked-by s n call o h = grind (arith, common_steps)
+looked-compare : (s : Machine) (expected desired : List ℕ) (addr : ℕ) (o : Option (List Place))
+    → looks (CompareExchange expected desired addr) (compare_exchange s expected desired o).reply ≡ true → (compare_exchange s expected desired o).state ≡ s
+looked-compare s expected desired addr None h = refl
+looked-compare s expected desired addr (Some ps) h = grind (arith, common_steps)
+
+looked-by : (s : Machine) (n : ℕ) (call : ProcessCall) (o : Option Caller) → looks call (step_by s n call o).reply ≡ true → (step_by s n call o).state ≡ s
+looked-by s n call None h = refl
+looked-by s n (CompareExchange expected desired addr) (Some c) h = looked-compare s expected desired addr (writable_places c.pieces addr (length desired)) h
+looked-by s n call (Some c) h = grind (arith, common_steps)
 
 no-change : (a b : Bool) → not a && not b ≡ false → (a ≡ true) ⊎ (b ≡ true)
 no-change true b h = inl refl
@@ -123,7 +133,7 @@ event_at s n pid call = record { pid = pid; call = call; reply = (step s n pid c
 -- a call that changes nothing leaves the machine as it is
 pub still : (s : Machine) (n pid : ℕ) (call : ProcessCall) → is_change (event_at s n pid call) ≡ false → (step s n pid call).state ≡ s
 still s n pid call h =
-    elim (no-change (is_refusal (step s n pid call).reply) (looks call) h) [
+    elim (no-change (is_refusal (step s n pid call).reply) (looks call (step s n pid call).reply) h) [
       | inl refused ↦ still-by s n call (caller_of s pid) refused
       | inr looked ↦ looked-by s n call (caller_of s pid) looked
     ]

@@ -4,3 +4,4 @@ pub mod Timing
 pub mod Timeless
 pub mod Going
 pub mod Telling
+pub mod Failing

@@ -4,13 +4,13 @@ use Rattle.std.proofs.Common.{refl, ap, sym, ◌∙◌, arith}
 use Rattle.std.proofs.lemmas.Grind.{common_steps}
 use Rattle.std.specs.Int.{w64, to_le_bytes, from_le_bytes}
 use Rattle.shm_base.specs.Calls.{ProcessCall}
-use Rattle.shm_base.specs.declared.call.Call.TheVariants.{Shmget, Shmat, Shmdt, Stat, Set, Rmid, Lock, Unlock, Load, Store, Xadd, Fork, Exec, Exit, Swapoff}
-use Rattle.shm_base.specs.declared.call.Reply.TheVariants.{Addr, Number, Done, Id}
+use Rattle.shm_base.specs.declared.call.Call.TheVariants.{Shmget, Shmat, Shmdt, Stat, Set, Rmid, Lock, Unlock, Load, Store, Xadd, Exchange, CompareExchange, Fork, Exec, Exit, Swapoff}
+use Rattle.shm_base.specs.declared.call.Reply.TheVariants.{Addr, Bytes, Number, Done, Id}
 use Rattle.shm_base.specs.declared.errno.Errno.{Errno}
 use Rattle.shm_base.specs.declared.errno.Errno.TheVariants.{Eperm, Einval, Enospc, Enomem, Eexist, Eacces}
 use Rattle.shm_base.specs.declared.flags.GetFlags.{GetFlags}
 use Rattle.shm_base.specs.declared.flags.AtFlags.{AtFlags}
-use Rattle.shm_base.specs.Access.{Place, places, writable_places, stored}
+use Rattle.shm_base.specs.Access.{Place, places, writable_places, loaded, stored, same_bytes}
 use Rattle.shm_base.specs.Bounds.{within}
 use Rattle.shm_base.specs.Identifier.{Look, Found, Removed, Invalid, identifier, find_key, look}
 use Rattle.shm_base.specs.Locking.{may_not_lock, passes_limit, locks_as, unlocked}
@@ -19,7 +19,7 @@ use Rattle.shm_base.specs.Rules.{fork_marks, pieces_errno}
 use Rattle.shm_base.specs.Segments.{reserved, change, attached, attach_all, detach_all, swept, after_detach}
 use Rattle.shm_base.specs.Space.{cut_segments, origin_of}
 use Rattle.shm_base.specs.State.{Segment, Entry, Piece, Runner, Machine, Live, pages_in, pages_of}
-use Rattle.shm_base.specs.Step.{Outcome, Caller, gives, refuses, caller_of, with_pieces, with_end, segments_of, new_segment, creates_small, huge_errno, creates, gets, shmget, wants_no_other, wants_creation, is_rnd, pieces_with, rests, attaches, attaches_chosen, attaches_fixed, attaches_found, remaps_null, shmat, detaches, inherited, forks, unborn_from, stat, controls, is_no_owner, sets, removes, locks, unlocks, load, store, xadd, number_at, takes_away, acts, step_by}
+use Rattle.shm_base.specs.Step.{Outcome, Caller, gives, refuses, caller_of, with_pieces, with_end, segments_of, new_segment, creates_small, huge_errno, creates, gets, shmget, wants_no_other, wants_creation, is_rnd, pieces_with, rests, attaches, attaches_chosen, attaches_fixed, attaches_found, remaps_null, shmat, detaches, inherited, forks, unborn_from, stat, controls, is_no_owner, sets, removes, locks, unlocks, load, store, xadd, number_at, exchange, compare_exchange, takes_away, acts, step_by}
 use Rattle.shm_schedules.specs.Outcomes.{masked_time}
 use Rattle.shm_schedules.specs.Times.{TimesReachTimes, timeless_segment, timeless_entry, timeless, timeless_outcome}
 use Rattle.shm_schedules.proofs.Timing.{Match, timeless_look, timeless-destroyed, reserved-timeless, locked-sum, locked_by-sum, count-timeless, free-timeless, find-timeless, look-timeless, change-timeless, attached-timeless, detach-timeless, attach-timeless, swept-timeless, made-timeless, loaded-timeless, stored-timeless}
@@ -174,6 +174,17 @@ module _ (s : Machine) (n : ℕ) (c : Caller) (one : masked_time n ≡ 1) where
       ap (λ m. gives (record B { table = stored (V T) qs (to_le_bytes w64 ((m + add) % 2 ^ 64)) }) (Number m)) old
       ∙ (λ j. record { reply = Number (number_at s qs); state = record s { table = stored-timeless T qs (to_le_bytes w64 ((number_at s qs + add) % 2 ^ 64)) j } })
 
+  out-exchange : (bytes : List ℕ) (o : Option (List Place)) → exchange B bytes o ≡ timeless_outcome (exchange s bytes o)
+  out-exchange bytes None = refl
+  out-exchange bytes (Some qs) = λ j. record { reply = Bytes (loaded-timeless T qs j); state = record s { table = stored-timeless T qs bytes j } }
+
+  out-compare : (expected desired : List ℕ) (o : Option (List Place)) → compare_exchange B expected desired o ≡ timeless_outcome (compare_exchange s expected desired o)
+  out-compare expected desired None = refl
+  out-compare expected desired (Some qs) =
+      both (same_bytes (loaded (V T) qs) expected) (same_bytes (loaded T qs) expected) _ _ _ _ (ap (λ bs. same_bytes bs expected) (loaded-timeless T qs))
+      (λ j. record { reply = Bytes (loaded-timeless T qs j); state = record s { table = stored-timeless T qs desired j } })
+      (λ j. record { reply = Bytes (loaded-timeless T qs j); state = B })
+
   out-takes : (area : ℕ) (o : Option (Option ℕ)) → takes_away B area o ≡ timeless_outcome (takes_away s area o)
   out-takes area o = let same = reserved-timeless T in grind arith
 
@@ -189,6 +200,8 @@ module _ (s : Machine) (n : ℕ) (c : Caller) (one : masked_time n ≡ 1) where
   out-acts (Load a len) = out-load (places c.pieces a len)
   out-acts (Store bytes a) = out-store bytes (writable_places c.pieces a (length bytes))
   out-acts (Xadd a add) = out-xadd add (writable_places c.pieces a 8)
+  out-acts (Exchange bytes a) = out-exchange bytes (writable_places c.pieces a (length bytes))
+  out-acts (CompareExchange expected desired a) = out-compare expected desired (writable_places c.pieces a (length desired))
   out-acts (Fork child) = out-forks child (unborn_from 0 child s.runners)
   out-acts Exec = out-after (with_pieces s.runners c []) (segments_of c)
   out-acts Exit = out-after (with_end s.runners c) (segments_of c)

@@ -1,20 +1,24 @@
 -- Runs that no later call can tell apart.
 use Rattle.std.specs.Prelude.{◌≡◌, ◌&&◌, Bool, true, false, not, List, filter, length}
+use Rattle.shm_base.specs.Access.{same_bytes}
 use Rattle.shm_base.specs.History.{is_refusal}
 use Rattle.shm_base.specs.Calls.{ProcessCall}
-use Rattle.shm_base.specs.declared.call.Call.TheVariants.{Load, Stat}
+use Rattle.shm_base.specs.declared.call.Call.TheVariants.{CompareExchange, Load, Stat}
 use Rattle.shm_base.specs.declared.call.Event.{Event}
+use Rattle.shm_base.specs.declared.call.Reply.{Reply}
+use Rattle.shm_base.specs.declared.call.Reply.TheVariants.{Bytes}
 use Rattle.shm_schedules.specs.Finding.{Finding}
 
--- calls that change nothing
-abbrev pub looks : ProcessCall → Bool
-looks (Load addr len) = true
-looks (Stat id) = true
-looks _ = false
+-- calls that change nothing. A compare and exchange that found other bytes than it expects is one: its reply says so
+abbrev pub looks : ProcessCall → Reply → Bool
+looks (Load addr len) reply = true
+looks (Stat id) reply = true
+looks (CompareExchange expected desired addr) (Bytes old) = not (same_bytes old expected)
+looks call reply = false
 
 -- a call that may have changed the machine
 abbrev pub is_change : Event → Bool
-is_change e = not (is_refusal e.reply) && not (looks e.call)
+is_change e = not (is_refusal e.reply) && not (looks e.call e.reply)
 
 abbrev pub changes : List Event → List Event
 changes events = filter is_change events

@@ -16,13 +16,9 @@ use Rattle.shm_base.specs.contracts.call.EventPartialEq.TheImpl as event
 use Rattle.shm_base.specs.contracts.call.ReplyPartialEq.TheImpl as reply
 use Rattle.shm_base.specs.contracts.call.ShmidDsPartialEq.TheImpl as ds
 use Rattle.shm_base.specs.contracts.errno.ErrnoPartialEq.TheImpl as errno
-use Rattle.shm_base.specs.contracts.access.ChunkPartialEq.TheImpl as chunk
 
 pub same-errno : (a b : Errno) → Decides (errno.ghosts.eq a b) (a ≡ b)
 same-errno a b = search rules
-
-pub same-chunk : (a b : List ℕ) → Decides (chunk.ghosts.eq a b) (a ≡ b)
-same-chunk a b = search rules
 
 pub same-ds : (a b : ShmidDs) → Decides (ds.ghosts.eq a b) (a ≡ b)
 same-ds a b =
@@ -91,6 +87,8 @@ same-call (calls.Unlock id) d = search rules
 same-call (calls.Load addr len) d = search rules
 same-call (calls.Store chunk addr) d = search rules
 same-call (calls.Xadd addr add) d = search rules
+same-call (calls.Exchange chunk addr) d = search rules
+same-call (calls.CompareExchange expected desired addr) d = search rules
 same-call (calls.Fork child) d = search rules
 same-call calls.Exec d = search rules
 same-call calls.Exit d = search rules

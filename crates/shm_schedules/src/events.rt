@@ -1,5 +1,6 @@
 //! Which calls may have changed a machine, and whether two calls are the same.
 ghost use Rattle.std.specs.Prelude.{◌≡◌, ◌↔◌, IfOk, IsTrue};
+ghost use Rattle.shm_base.specs.Access.{same_bytes};
 ghost use Rattle.shm_base.specs.History.{is_refusal};
 ghost use Rattle.shm_schedules.specs.Alike.{changes, is_change, looks};
 
@@ -16,20 +17,32 @@ pub fn is_refusal(reply: &Reply) -> bool
     }
 }
 
-fn looks(call: &Call) -> bool
-    ensures { result ≡ looks call.now }
+fn are_same(bytes: &[u8], expected: &[u8]) -> bool
+    ensures { result ≡ same_bytes bytes.now expected.now }
 {
-    match call {
-        Call::Load { .. } | Call::Stat { .. } => true,
+    bytes == expected
+}
+
+// Whether a call that is not refused changes nothing.
+fn looks(call: &Call, reply: &Reply) -> bool
+    ensures { result ≡ looks call.now reply.now }
+{
+    match (call, reply) {
+        (Call::Load { .. }, _) => true,
+        (Call::Stat { .. }, _) => true,
+        (Call::CompareExchange { expected, .. }, Reply::Bytes(old)) => {
+            !are_same(old.as_slice(), expected.as_slice())
+        }
         _ => false,
     }
 }
 
-/// Whether a call may have changed the machine: it succeeded, and is no `load` and no `stat`.
+/// Whether a call may have changed the machine: it succeeded, and is no `load`, no `stat`, and no `cas` that
+/// found other bytes than it expects.
 pub fn is_change(event: &Event) -> bool
     ensures { result ≡ is_change event.now }
 {
-    !is_refusal(&event.reply) && !looks(&event.call)
+    !is_refusal(&event.reply) && !looks(&event.call, &event.reply)
 }
 
 /// The calls that may have changed the machine, in order. AllocError: the host refused memory.

@@ -2,20 +2,20 @@
 ghost use Rattle.std.specs.Prelude.{◌≡◌, ◌++◌, OnOk};
 ghost use Rattle.shm_schedules.specs.Schedules.{followers, goes, one_run};
 
-use crate::engine::{Engine, EngineError};
+use crate::engine::Engine;
 use crate::runs::Run;
-use shm_base::Process;
+use shm_base::{HostMemory, Process};
 use shm_text::Script;
 use std::alloc::Global;
 
-/// Appends each run that extends this one by a call, in the script's order of processes. Errors: the
-/// host refused memory, or a pager failed; `runs` may have some of them then.
+/// Appends each run that extends this one by a call, in the script's order of processes.
+/// HostMemory: the host refused memory; `runs` may have some of them then.
 pub fn push_followers<M: Engine>(
     alloc: Global,
     script: &Script,
     run: &Run<M>,
     runs: &mut Vec<Run<M>>,
-) -> Result<(), EngineError>
+) -> Result<(), HostMemory>
     ensures { OnOk result (runs.new.items
         ≡ runs.old.items ++ followers script.now script.now.processes run.now) }
 {
@@ -32,7 +32,7 @@ fn push_follower<M: Engine>(
     run: &Run<M>,
     process: &Process,
     runs: &mut Vec<Run<M>>,
-) -> Result<(), EngineError>
+) -> Result<(), HostMemory>
     ensures { OnOk result (runs.new.items
         ≡ runs.old.items ++ one_run (goes script.now process.now.pid run.now)) }
 {

@@ -14,7 +14,7 @@ mod search_error;
 mod simulated;
 mod text;
 
-pub use engine::{Engine, EngineError};
+pub use engine::Engine;
 pub use events::{are_same_events, changes, is_change, is_refusal};
 pub use finding::Finding;
 pub use followers::push_followers;

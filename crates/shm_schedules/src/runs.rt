@@ -2,9 +2,9 @@
 ghost use Rattle.std.specs.Prelude.{◌≡◌, IfOk};
 ghost use Rattle.shm_schedules.specs.Schedules.{after, fresh, goes, next, walked};
 
-use crate::engine::{Engine, EngineError};
+use crate::engine::Engine;
 use crate::lines::next_call;
-use shm_base::{Call, Event, has_pid};
+use shm_base::{Call, Event, HostMemory, has_pid};
 use shm_text::Script;
 use std::alloc::{AllocError, Global};
 use std::marker::Model;
@@ -74,9 +74,9 @@ impl<M: Engine> Run<M> {
         next_call(&script.lines, pid, &self.events)
     }
 
-    /// The run after the next line of a process; none if the process can't continue. The run is consumed. Errors:
-    /// the host refused memory, or a pager failed.
-    pub fn goes(self, script: &Script, pid: u32) -> Result<Option<Run<M>>, EngineError>
+    /// The run after the next line of a process; none if the process can't continue. The run is consumed.
+    /// HostMemory: the host refused memory.
+    pub fn goes(self, script: &Script, pid: u32) -> Result<Option<Run<M>>, HostMemory>
         ensures { IfOk result (λ r. r ≡ goes script.now pid self) }
     {
         let Some(call) = self.next(script, pid) else {
@@ -86,9 +86,8 @@ impl<M: Engine> Run<M> {
         Ok(Some(next))
     }
 
-    /// The run after one more call of a process. The run is consumed. Errors: the host refused memory, or a pager
-    /// failed.
-    pub fn make(self, pid: u32, call: &Call) -> Result<Run<M>, EngineError>
+    /// The run after one more call of a process. The run is consumed. HostMemory: the host refused memory.
+    pub fn make(self, pid: u32, call: &Call) -> Result<Run<M>, HostMemory>
         ensures { IfOk result (λ run. run ≡ after self pid call.now) }
     {
         let Run {
@@ -111,14 +110,14 @@ impl<M: Engine> Run<M> {
         &self.machine
     }
 
-    /// The run to which a schedule leads from here; none if a process that it names can't continue. Errors: the
-    /// host refused memory, or a pager failed.
+    /// The run to which a schedule leads from here; none if a process that it names can't continue. HostMemory:
+    /// the host refused memory.
     pub fn walk(
         &self,
         alloc: Global,
         script: &Script,
         pids: &[u32],
-    ) -> Result<Option<Run<M>>, EngineError>
+    ) -> Result<Option<Run<M>>, HostMemory>
         ensures { IfOk result (λ end. end ≡ walked script.now pids.now self.now) }
     {
         let mut run = self.copied(alloc)?;
@@ -131,18 +130,16 @@ impl<M: Engine> Run<M> {
         Ok(Some(run))
     }
 
-    /// The run after one more call of a process. This one stays as it is. Errors: the host refused memory, or a
-    /// pager failed.
-    pub fn after(&self, alloc: Global, pid: u32, call: &Call) -> Result<Run<M>, EngineError>
+    /// The run after one more call of a process. This one stays as it is. HostMemory: the host refused memory.
+    pub fn after(&self, alloc: Global, pid: u32, call: &Call) -> Result<Run<M>, HostMemory>
         ensures { IfOk result (λ run. run ≡ after self.now pid call.now) }
     {
         let copy = self.copied(alloc)?;
         copy.make(pid, call)
     }
 
-    /// The same run once more. Afterwards the two are independent. Errors: the host refused memory, or a pager
-    /// failed.
-    pub fn copied(&self, alloc: Global) -> Result<Run<M>, EngineError>
+    /// The same run once more. Afterwards the two are independent. HostMemory: the host refused memory.
+    pub fn copied(&self, alloc: Global) -> Result<Run<M>, HostMemory>
         ensures { IfOk result (λ run. run ≡ self.now) }
     {
         let machine = Box::new(alloc, self.machine.snapshot()?)?;

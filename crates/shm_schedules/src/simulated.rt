@@ -1,31 +1,32 @@
-//! A system as an engine: it behaves as the flat machine as long as no pager fails.
-ghost use Rattle.std.specs.Prelude.{◌≡◌, ◌-◌, ◌<◌, length, map, IfErr, IfOk, OnOk, None};
-ghost use Rattle.shm_life.specs.MachineView.{names_failure};
+//! A system as an engine.
+ghost use Rattle.std.specs.Prelude.{◌≡◌, length, map, IfErr, IfOk, OnOk, None};
+ghost use Rattle.shm_base.specs.History.{is_failure};
 ghost use Rattle.shm_life.specs.Start.{start_error, IsFirstError};
+ghost use Rattle.shm_pager.specs.Sparse.{SparseView};
 ghost use Rattle.shm_schedules.specs.Schedules.{is_live, start};
-ghost use Rattle.shm_schedules.specs.declared.engine.EngineError.TheVariants as engines;
 
-use crate::engine::{Engine, EngineError};
+use crate::engine::Engine;
 use shm_areas::Place;
 use shm_base::{Call, Errno, HostMemory, Reply};
 use shm_life::{StartError, System};
-use shm_pager::ClonePager;
+use shm_pager::SparsePager;
 use shm_text::Script;
 use std::alloc::Global;
 use std::marker::Model;
 
-/// A system whose host gives no time, so the time of each call is its place in the history.
-pub struct Simulated<P: ClonePager> {
-    system: System<P>,
+/// A system whose host gives no time, so the time of each call is its place in the history. Its swap areas keep their
+/// pages in memory, and fail only if the host refuses memory for a page.
+pub struct Simulated {
+    system: System<SparsePager>,
 }
 
-impl<P: ClonePager> Drop for Simulated<P> {
+impl Drop for Simulated {
     fn drop(self) {
         let Simulated { system: _ } = self;
     }
 }
 
-impl<P: ClonePager> Model for Simulated<P> {
+impl Model for Simulated {
     ghost use Rattle.std.specs.Prelude.{◌≡◌, None};
     ghost use Rattle.shm_life.specs.SystemState.{SystemState};
 
@@ -36,44 +37,46 @@ impl<P: ClonePager> Model for Simulated<P> {
     ghost invariant = { λ s. s.system.clock ≡ None };
 }
 
-impl<P: ClonePager> Simulated<P> {
-    /// The system that a script opens over the pagers. Fails with the first start error; the pagers are
+impl Simulated {
+    /// The system that a script opens over these swap areas. Fails with the first start error; the areas are
     /// dropped then.
-    pub fn open(alloc: Global, script: &Script, pagers: Vec<P>) -> Result<Simulated<P>, StartError>
-        ensures machine { IfOk result (λ s.
-            s.machine ≡ (start script.now (map (λ p. length (P.content p)) pagers.items)).machine) }
+    pub fn open(
+        alloc: Global,
+        script: &Script,
+        areas: Vec<SparsePager>,
+    ) -> Result<Simulated, StartError>
+        ensures machine { let sizes = map (λ (p : SparseView). length p.pages) areas.items in
+            IfOk result (λ s. s.machine ≡ (start script.now sizes).machine) }
         ensures calls { IfOk result (λ s. s.calls ≡ 0) }
-        ensures ok { OnOk result (start_error script.now.limits
-            (map (λ p. length (P.content p)) pagers.items) script.now.processes ≡ None) }
-        ensures err { IfErr result (λ e. IsFirstError e (start_error script.now.limits
-            (map (λ p. length (P.content p)) pagers.items) script.now.processes)) }
+        ensures ok { let sizes = map (λ (p : SparseView). length p.pages) areas.items in
+            OnOk result (start_error script.now.limits sizes script.now.processes ≡ None) }
+        ensures err { let sizes = map (λ (p : SparseView). length p.pages) areas.items in
+            IfErr result (λ e. IsFirstError e (start_error script.now.limits sizes script.now.processes)) }
     {
-        match System::start(alloc, script.limits, pagers, &script.processes) {
+        match System::start(alloc, script.limits, areas, &script.processes) {
             Ok(system) => Ok(Simulated { system }),
             Err(error) => Err(error),
         }
     }
 }
 
-impl From<HostMemory> for EngineError {
-    ghost from_gives = { λ _ r. r ≡ engines.HostMemory };
-
-    fn from(_refused: HostMemory) -> EngineError {
-        EngineError::HostMemory
-    }
-}
-
 // Whether a reply reports a pager's failure.
-fn names_failure(reply: &Reply) -> bool
-    ensures { result ≡ names_failure reply.now }
+fn is_failure(call: &Call, reply: &Reply) -> bool
+    ensures { result ≡ is_failure call.now reply.now }
 {
-    match reply {
-        Reply::Refused(Errno::Sigbus) | Reply::Refused(Errno::Eio) => true,
+    match (call, reply) {
+        (Call::Load { .. }, Reply::Refused(Errno::Sigbus)) => true,
+        (Call::Store { .. }, Reply::Refused(Errno::Sigbus)) => true,
+        (Call::Xadd { .. }, Reply::Refused(Errno::Sigbus)) => true,
+        (Call::Exchange { .. }, Reply::Refused(Errno::Sigbus)) => true,
+        (Call::CompareExchange { .. }, Reply::Refused(Errno::Sigbus)) => true,
+        (Call::Swapoff { .. }, Reply::Refused(Errno::Eio)) => true,
         _ => false,
     }
 }
 
-impl<P: ClonePager> Engine for Simulated<P> {
+#[tactic(auto, using(crate::proofs::Failing::is_excused))]
+impl Engine for Simulated {
     ghost flat = { λ s. s.machine };
 
     ghost calls = { λ s. s.calls };
@@ -88,15 +91,15 @@ impl<P: ClonePager> Engine for Simulated<P> {
         spaces.space(&caller).place(addr)
     }
 
-    fn snapshot(&self) -> Result<Simulated<P>, EngineError> {
+    fn snapshot(&self) -> Result<Simulated, HostMemory> {
         let system = self.system.try_clone()?;
         Ok(Simulated { system })
     }
 
-    fn call(&mut self, pid: u32, call: &Call) -> Result<Reply, EngineError> {
+    fn call(&mut self, pid: u32, call: &Call) -> Result<Reply, HostMemory> {
         let reply = self.system.call(pid, call)?;
-        if names_failure(&reply) {
-            return Err(EngineError::PagerFailed);
+        if is_failure(call, &reply) {
+            return Err(HostMemory);
         }
         Ok(reply)
     }

@@ -1,6 +1,6 @@
 -- What holds after an access of the bytes of spans.
 use Rattle.shm_segments.proofs.Names.{◌≡◌, ℕ, Bool, true, false, List, length, Option, Some, None, refl, sym, ◌∙◌, All, Result, OnOk, OnErr, Ok, Err, if◌then◌else◌, Span, Held, StoreView, Head, held, joined_table, read_from, SegmentsView, KeepsMemory, IsWhole, loaded, span_places, SpanFits, Entry, Agree}
-use Rattle.shm_base.specs.Exchange.{same_bytes}
+use Rattle.shm_base.specs.Access.{same_bytes}
 use Rattle.shm_fault.specs.Acting.{Acts, FitsRoom, put_by, size_of}
 use Rattle.shm_fault.specs.Allowed.{IsAccess}
 use Rattle.shm_fault.specs.declared.act.Act.{Act}

@@ -5,7 +5,8 @@ use Rattle.shm_base.specs.Spans.{span_places}
 use Rattle.shm_base.specs.declared.paging.Span.{Span}
 use Rattle.shm_fault.specs.declared.touched.Touched.{Touched}
 use Rattle.shm_fault.specs.declared.touched.PagerFailed.{PagerFailed}
-use Rattle.shm_fault.specs.Access.{Accessed}
+use Rattle.shm_fault.specs.Access.{Accessed, touched_of}
+use Rattle.shm_fault.specs.Counting.{counted}
 use Rattle.shm_fault.specs.Acting.{bytes_in, left_by, place_after}
 use Rattle.shm_fault.specs.Placing.{after_access, places, Stops}
 use Rattle.shm_fault.specs.Segs.{HasPage}
@@ -25,5 +26,5 @@ pub record Acted
   pub access : Accessed ps s.memory t.memory answer
   pub keeps : KeepsMemory s.memory t.memory
   pub has : All (λ (p : Span). HasPage s.memory.segs (ref_of p)) ps
-  pub stopped : OnErr result (Stops ps (places s.memory) (places t.memory))
+  pub stopped : OnErr result (Stops ps (places s.memory) (places t.memory) (counted (touched_of answer)))
   pub places : OnOk result (places t.memory ≡ left_by (is_some put) ps (after_access ps (places s.memory)))

@@ -1,17 +1,17 @@
--- The calls of a line: a word, and the operands that follow it. Each form first reads its words, and then tests their ranges, so
--- a bad line is reported before a bad number.
-use Rattle.std.specs.Prelude.{ℕ, ◌+◌, Bool, true, false, ◌==◌, ◌&&◌, not, ◌||◌, List, length, take, drop, Option, Some, None, Result, Ok, Err, codes, if◌then◌else◌}
+-- The calls of a line: a word, and the operands that follow it. Each form first reads its words, then tests how many bytes they
+-- have, and then their ranges. So a bad line is reported before a wrong number of bytes, and that before a bad number.
+use Rattle.std.specs.Prelude.{ℕ, ◌+◌, Bool, true, false, ◌==◌, ◌&&◌, not, ◌||◌, List, length, nat_lt, take, drop, Option, Some, None, Result, Ok, Err, codes, if◌then◌else◌}
 use Rattle.std.specs.Option.{ok_or}
 use Rattle.std.specs.Str.{bytes_eq}
 use Rattle.shm_text.specs.declared.fault.FaultKind.{FaultKind}
-use Rattle.shm_text.specs.declared.fault.FaultKind.TheVariants.{BadLine}
+use Rattle.shm_text.specs.declared.fault.FaultKind.TheVariants.{BadLine, LengthsDiffer, TooWide}
 use Rattle.shm_text.specs.declared.calls.Verb.{Verb}
 use Rattle.shm_text.specs.declared.calls.Verb.TheVariants as verbs
 use Rattle.shm_text.specs.declared.script.LineId.{LineId}
 use Rattle.shm_text.specs.declared.script.LineAddr.{LineAddr}
 use Rattle.shm_text.specs.Form.{LineCall}
-use Rattle.shm_base.specs.declared.call.Call.TheVariants.{Shmget, Shmat, Shmdt, Stat, Set, Rmid, Lock, Unlock, Load, Store, Xadd, Fork, Exec, Exit, Swapoff}
-use Rattle.shm_text.specs.Operand.{◌>>=◌, required_number, ranged, within_64_bits, key_word, id_word, ranged_id, addr_word, ranged_addr, mode_word, get_flags_word, at_flags_word, chunk_word}
+use Rattle.shm_base.specs.declared.call.Call.TheVariants.{Shmget, Shmat, Shmdt, Stat, Set, Rmid, Lock, Unlock, Load, Store, Xadd, Exchange, CompareExchange, Fork, Exec, Exit, Swapoff}
+use Rattle.shm_text.specs.Operand.{◌>>=◌, required_number, ranged, within_64_bits, key_word, id_word, ranged_id, addr_word, ranged_addr, mode_word, get_flags_word, at_flags_word, chunk_word, short_word}
 use Rattle.shm_text.specs.Words.{word_at}
 use Rattle.shm_base.specs.declared.bounds.TheConstants.{LAST_PID}
 
@@ -40,6 +40,8 @@ access_verb_of w =
     if bytes_eq w (codes "shmdt") then Some verbs.Shmdt else
     if bytes_eq w (codes "load") then Some verbs.Load else
     if bytes_eq w (codes "store") then Some verbs.Store else
+    if bytes_eq w (codes "swap") then Some verbs.Swap else
+    if bytes_eq w (codes "cas") then Some verbs.Cas else
     control_verb_of w
 
 -- the word of a call
@@ -58,6 +60,8 @@ operands verbs.Xadd = 2
 operands verbs.Shmdt = 1
 operands verbs.Load = 2
 operands verbs.Store = 2
+operands verbs.Swap = 2
+operands verbs.Cas = 3
 operands verbs.Stat = 1
 operands verbs.Set = 4
 operands verbs.Rmid = 1
@@ -73,6 +77,8 @@ abbrev pub may_be_taken : Verb → Bool
 may_be_taken verbs.Shmget = true
 may_be_taken verbs.Shmat = true
 may_be_taken verbs.Xadd = true
+may_be_taken verbs.Swap = true
+may_be_taken verbs.Cas = true
 may_be_taken _ = false
 
 -- THE FORMS: the first operand is at index i
@@ -125,6 +131,32 @@ store_call ws i = do
   addr ← ranged_addr addr
   Ok (Store bytes addr)
 
+-- a variable takes at most eight bytes
+abbrev pub within_variable : Bool → List ℕ → Result (Unit {0}) FaultKind
+within_variable taken bytes = if taken && nat_lt 8 (length bytes) then Err TooWide else Ok tt
+
+unfoldable pub swap_call : Bool → List (List ℕ) → ℕ → Result LineCall FaultKind
+swap_call taken ws i = do
+  addr ← addr_word (word_at ws i)
+  bytes ← chunk_word (word_at ws (i + 1))
+  fits ← within_variable taken bytes
+  addr ← ranged_addr addr
+  Ok (Exchange bytes addr)
+
+-- the desired bytes have to be as many as the expected ones
+abbrev pub as_many : List ℕ → List ℕ → Result (Unit {0}) FaultKind
+as_many expected desired = if length expected == length desired then Ok tt else Err LengthsDiffer
+
+unfoldable pub cas_call : Bool → List (List ℕ) → ℕ → Result LineCall FaultKind
+cas_call taken ws i = do
+  addr ← addr_word (word_at ws i)
+  expected ← short_word (word_at ws (i + 1))
+  desired ← short_word (word_at ws (i + 2))
+  same ← as_many expected desired
+  fits ← within_variable taken desired
+  addr ← ranged_addr addr
+  Ok (CompareExchange expected desired addr)
+
 unfoldable pub set_call : List (List ℕ) → ℕ → Result LineCall FaultKind
 set_call ws i = do
   id ← id_word (word_at ws i)
@@ -148,22 +180,25 @@ swapoff_call ws i = do
   area ← ranged 0 7 area
   Ok (Swapoff area)
 
-abbrev pub call_by : Verb → List (List ℕ) → ℕ → Result LineCall FaultKind
-call_by verbs.Shmget ws i = shmget_call ws i
-call_by verbs.Shmat ws i = shmat_call ws i
-call_by verbs.Xadd ws i = xadd_call ws i
-call_by verbs.Shmdt ws i = addr_operand ws i >>= λ addr. Ok (Shmdt addr)
-call_by verbs.Load ws i = load_call ws i
-call_by verbs.Store ws i = store_call ws i
-call_by verbs.Stat ws i = id_operand ws i >>= λ id. Ok (Stat id)
-call_by verbs.Set ws i = set_call ws i
-call_by verbs.Rmid ws i = id_operand ws i >>= λ id. Ok (Rmid id)
-call_by verbs.Lock ws i = id_operand ws i >>= λ id. Ok (Lock id)
-call_by verbs.Unlock ws i = id_operand ws i >>= λ id. Ok (Unlock id)
-call_by verbs.Fork ws i = fork_call ws i
-call_by verbs.Exec ws i = Ok Exec
-call_by verbs.Exit ws i = Ok Exit
-call_by verbs.Swapoff ws i = swapoff_call ws i
+-- `taken` says that a variable takes the answer
+abbrev pub call_by : Verb → Bool → List (List ℕ) → ℕ → Result LineCall FaultKind
+call_by verbs.Shmget taken ws i = shmget_call ws i
+call_by verbs.Shmat taken ws i = shmat_call ws i
+call_by verbs.Xadd taken ws i = xadd_call ws i
+call_by verbs.Shmdt taken ws i = addr_operand ws i >>= λ addr. Ok (Shmdt addr)
+call_by verbs.Load taken ws i = load_call ws i
+call_by verbs.Store taken ws i = store_call ws i
+call_by verbs.Swap taken ws i = swap_call taken ws i
+call_by verbs.Cas taken ws i = cas_call taken ws i
+call_by verbs.Stat taken ws i = id_operand ws i >>= λ id. Ok (Stat id)
+call_by verbs.Set taken ws i = set_call ws i
+call_by verbs.Rmid taken ws i = id_operand ws i >>= λ id. Ok (Rmid id)
+call_by verbs.Lock taken ws i = id_operand ws i >>= λ id. Ok (Lock id)
+call_by verbs.Unlock taken ws i = id_operand ws i >>= λ id. Ok (Unlock id)
+call_by verbs.Fork taken ws i = fork_call ws i
+call_by verbs.Exec taken ws i = Ok Exec
+call_by verbs.Exit taken ws i = Ok Exit
+call_by verbs.Swapoff taken ws i = swapoff_call ws i
 
 -- the index of a call's word: it follows the pid, and also a variable and `=` if one takes the answer
 abbrev pub place_of : Bool → ℕ
@@ -174,7 +209,7 @@ place_of true = 3
 abbrev pub call_with : List (List ℕ) → Bool → Verb → Result LineCall FaultKind
 call_with ws taken verb =
     if (not taken || may_be_taken verb) && (length ws == place_of taken + 1 + operands verb)
-    then call_by verb ws (place_of taken + 1)
+    then call_by verb taken ws (place_of taken + 1)
     else Err BadLine
 
 -- the call of a line; `taken` says that a variable takes its answer

@@ -1,5 +1,5 @@
 -- The forms of a script's lines: the values that a command line may hold.
-use Rattle.std.specs.Prelude.{ℕ, Bool, true, false, ◌&&◌, ◌==◌, nat_le, nat_lt, bit_and, is_some, Option}
+use Rattle.std.specs.Prelude.{ℕ, Bool, true, false, ◌&&◌, ◌==◌, nat_le, nat_lt, bit_and, is_some, length, Option}
 use Rattle.shm_base.specs.Bounds.{within}
 use Rattle.shm_base.specs.declared.flags.GetFlags.{GetFlags}
 use Rattle.shm_base.specs.declared.flags.AtFlags.{AtFlags}
@@ -7,7 +7,7 @@ use Rattle.shm_text.specs.declared.script.LineId.{LineId}
 use Rattle.shm_text.specs.declared.script.LineId.TheVariants as ids
 use Rattle.shm_text.specs.declared.script.LineAddr.{LineAddr}
 use Rattle.shm_base.specs.declared.call.Call.{Call}
-use Rattle.shm_base.specs.declared.call.Call.TheVariants.{Shmget, Shmat, Shmdt, Stat, Set, Rmid, Lock, Unlock, Load, Store, Xadd, Fork, Exec, Exit, Swapoff}
+use Rattle.shm_base.specs.declared.call.Call.TheVariants.{Shmget, Shmat, Shmdt, Stat, Set, Rmid, Lock, Unlock, Load, Store, Xadd, Exchange, CompareExchange, Fork, Exec, Exit, Swapoff}
 use Rattle.shm_base.specs.declared.bounds.TheConstants.{LAST_ID, LAST_PID, MODES}
 
 -- a line's call: an identifier or an address may be a variable
@@ -50,16 +50,20 @@ is_call (Unlock id) = is_id id
 is_call (Load addr len) = true
 is_call (Store bytes addr) = true
 is_call (Xadd addr add) = true
+is_call (Exchange bytes addr) = true
+is_call (CompareExchange expected desired addr) = length expected == length desired
 is_call (Fork child) = is_pid child
 is_call Exec = true
 is_call Exit = true
 is_call (Swapoff area) = nat_le area 7
 
--- the calls whose answer a variable may take
+-- the calls whose answer a variable may take: a number, or at most eight bytes
 abbrev pub has_answer : LineCall → Bool
 has_answer (Shmget key size mode flags) = true
 has_answer (Shmat id addr flags) = true
 has_answer (Xadd addr add) = true
+has_answer (Exchange bytes addr) = nat_le (length bytes) 8
+has_answer (CompareExchange expected desired addr) = nat_le (length desired) 8
 has_answer _ = false
 
 -- only a call that has an answer may follow a variable

@@ -3,6 +3,7 @@ pub mod Words
 pub mod Form
 pub mod Script
 pub mod Operand
+pub mod Rules
 pub mod Fault
 pub mod Calls
 pub mod Reading

@@ -117,10 +117,19 @@ at_flags_word w =
     if bytes_eq w (codes "-") then Ok (record { 0 = 0 }) else
     flags_by (times w (codes "rdonly")) (times w (codes "rnd")) (times w (codes "remap")) (length (names_of w))
 
--- 1 to 64 bytes in hexadecimal digits
-abbrev pub chunk_by : Result (List ℕ) FromHexError → Result (List ℕ) FaultKind
-chunk_by (Ok bytes) = Ok bytes
-chunk_by (Err e) = Err BadLine
+-- bytes in hexadecimal digits, two digits each
+abbrev pub bytes_by : Result (List ℕ) FromHexError → Result (List ℕ) FaultKind
+bytes_by (Ok bytes) = Ok bytes
+bytes_by (Err e) = Err BadLine
 
+-- 1 to `most` bytes
+abbrev pub bytes_word : ℕ → List ℕ → Result (List ℕ) FaultKind
+bytes_word most w = if within 2 (2 * most) (length w) then bytes_by (decode_of w) else Err BadLine
+
+-- the bytes of a store or an exchange
 abbrev pub chunk_word : List ℕ → Result (List ℕ) FaultKind
-chunk_word w = if within 2 128 (length w) then chunk_by (decode_of w) else Err BadLine
+chunk_word w = bytes_word 64 w
+
+-- an operand of a compare and exchange
+abbrev pub short_word : List ℕ → Result (List ℕ) FaultKind
+short_word w = bytes_word 16 w

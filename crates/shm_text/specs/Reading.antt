@@ -1,8 +1,9 @@
 -- What the lines of a script say, and its first fault.
 use Rattle.std.specs.Prelude.{ℕ, ◌+◌, Bool, true, ◌==◌, ◌&&◌, ◌||◌, not, List, [], ◌∷◌, ◌++◌, length, Option, Some, None, Result, Ok, Err, IsOk, ◌≡◌, nat_le, nat_lt, ◌<◌, is_some, slice_get, slice_index, codes, if◌then◌else◌}
 use Rattle.std.specs.List.{list_all, list_any}
+use Rattle.std.specs.Option.{ok_or}
 use Rattle.std.specs.Str.{bytes_eq}
-use Rattle.shm_base.specs.Bounds.{Bounds, limits_of}
+use Rattle.shm_base.specs.Bounds.{Bounds, limits_of, ruled}
 use Rattle.shm_base.specs.declared.limits.BadLimits.{BadLimits as BadBounds}
 use Rattle.shm_base.specs.declared.call.Process.{Process as Declared}
 use Rattle.shm_text.specs.declared.fault.FaultKind.{FaultKind}
@@ -20,6 +21,7 @@ use Rattle.shm_text.specs.Script.{ScriptView}
 use Rattle.shm_text.specs.declared.number.Number.{Number}
 use Rattle.shm_text.specs.Calls.{call_words}
 use Rattle.shm_text.specs.Operand.{◌>>=◌, required_number, ranged, within_64_bits, letter_of}
+use Rattle.shm_text.specs.Rules.{rules_word}
 use Rattle.shm_text.specs.Words.{is_allowed, words_of, lines_of, word_at}
 use Rattle.shm_base.specs.declared.bounds.TheConstants.{LAST_PID, LONGEST_SCRIPT, MOST_COMMANDS, MOST_FLUSHED}
 
@@ -33,7 +35,7 @@ pub record SeenView : Type 0 where
 abbrev pub word_at_is : List (List ℕ) → ℕ → List ℕ → Bool
 word_at_is ws i text = bytes_eq (word_at ws i) text
 
--- LIMITS AND PROCESSES
+-- LIMITS, RULES AND PROCESSES
 
 abbrev pub limits_by : Result Bounds BadBounds → Result Item FaultKind
 limits_by (Ok b) = Ok (items.Limits b)
@@ -52,6 +54,22 @@ limits_item ws = if length ws == 6 then (do
   frames ← within_64_bits frames
   memlock ← within_64_bits memlock
   limits_by (limits_of shmmax shmmni shmall frames memlock)) else Err BadLine
+
+-- the limits, while no rule holds
+abbrev pub without_rules : Option Bounds → Option Bounds
+without_rules None = None
+without_rules (Some b) = if b.rules.0 == 0 then Some b else None
+
+-- the limits, while rules may follow: no rule holds yet, and only limits are above
+abbrev pub unruled : SeenView → Option Bounds
+unruled seen = if (length seen.pids == 0) && (seen.commands == 0) then without_rules seen.limits else None
+
+-- the rules of Linux: the limits once more, with these rules
+unfoldable pub rules_item : SeenView → List (List ℕ) → Result Item FaultKind
+rules_item seen ws = if length ws == 2 then (do
+  limits ← ok_or (unruled seen) BadLine
+  rules ← rules_word (word_at ws 1)
+  limits_by (ruled rules limits)) else Err BadLine
 
 abbrev pub is_declared : SeenView → ℕ → Bool
 is_declared seen pid = list_any (λ p. p == pid) seen.pids
@@ -139,6 +157,7 @@ with_room seen said = said >>= λ item. if nat_lt seen.commands MOST_COMMANDS th
 -- a line after the limits
 unfoldable pub body_item : SeenView → List (List ℕ) → Result Item FaultKind
 body_item seen ws =
+    if word_at_is ws 0 (codes "rules") then rules_item seen ws else
     if word_at_is ws 0 (codes "process") || word_at_is ws 0 (codes "child") then declaration seen ws else
     with_room seen (command_item seen ws)
 
@@ -154,7 +173,10 @@ words_item seen ws =
 
 -- a command of a process comes after the limits, and does not begin with a word of another kind of line
 abbrev pub is_command : SeenView → List (List ℕ) → Bool
-is_command seen ws = is_some seen.limits && (not (word_at_is ws 0 (codes "0")) && (not (word_at_is ws 0 (codes "process")) && not (word_at_is ws 0 (codes "child"))))
+is_command seen ws =
+    is_some seen.limits
+    && (not (word_at_is ws 0 (codes "0"))
+    && (not (word_at_is ws 0 (codes "process")) && (not (word_at_is ws 0 (codes "child")) && not (word_at_is ws 0 (codes "rules")))))
 
 -- a line that says something
 abbrev pub some_item : Result Item FaultKind → Result (Option Item) FaultKind

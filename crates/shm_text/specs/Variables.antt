@@ -1,9 +1,10 @@
 -- The variables of a process, and the call that a line makes with them.
-use Rattle.std.specs.Prelude.{ℕ, ◌+◌, ◌-◌, ◌%◌, ◌^◌, ℤ, pos, negsuc, nat_le, if◌then◌else◌, List, Option, Some, None, get_or, set, replicate}
-use Rattle.shm_base.specs.declared.call.Call.TheVariants.{Shmget, Shmat, Shmdt, Stat, Set, Rmid, Lock, Unlock, Load, Store, Xadd, Fork, Exec, Exit, Swapoff}
+use Rattle.std.specs.Prelude.{ℕ, ◌+◌, ◌-◌, ◌%◌, ◌^◌, ◌++◌, ℤ, pos, negsuc, nat_le, if◌then◌else◌, List, length, Option, Some, None, get_or, set, replicate}
+use Rattle.std.specs.Int.{w64, from_le_bytes}
+use Rattle.shm_base.specs.declared.call.Call.TheVariants.{Shmget, Shmat, Shmdt, Stat, Set, Rmid, Lock, Unlock, Load, Store, Xadd, Exchange, CompareExchange, Fork, Exec, Exit, Swapoff}
 use Rattle.shm_base.specs.Calls.{ProcessCall}
 use Rattle.shm_base.specs.declared.call.Reply.{Reply}
-use Rattle.shm_base.specs.declared.call.Reply.TheVariants.{Id, Addr, Number}
+use Rattle.shm_base.specs.declared.call.Reply.TheVariants.{Id, Addr, Bytes, Number}
 use Rattle.shm_text.specs.declared.script.LineId.{LineId}
 use Rattle.shm_text.specs.declared.script.LineId.TheVariants as ids
 use Rattle.shm_text.specs.declared.script.LineAddr.{LineAddr}
@@ -51,6 +52,8 @@ call_of values (Unlock id) = Unlock (id_of values id)
 call_of values (Load addr len) = Load (addr_of values addr) len
 call_of values (Store bytes addr) = Store bytes (addr_of values addr)
 call_of values (Xadd addr add) = Xadd (addr_of values addr) add
+call_of values (Exchange bytes addr) = Exchange bytes (addr_of values addr)
+call_of values (CompareExchange expected desired addr) = CompareExchange expected desired (addr_of values addr)
 call_of values (Fork child) = Fork child
 call_of values Exec = Exec
 call_of values Exit = Exit
@@ -60,10 +63,15 @@ abbrev pub id_number : ℤ → Option ℕ
 id_number (pos n) = Some n
 id_number (negsuc n) = None
 
+-- at most eight bytes as a number, the least significant first
+abbrev pub bytes_number : List ℕ → Option ℕ
+bytes_number bytes = if nat_le (length bytes) 8 then Some (from_le_bytes w64 (bytes ++ replicate (8 - length bytes) 0)) else None
+
 -- the number that a variable takes from a reply
 abbrev pub reply_number : Reply → Option ℕ
 reply_number (Id id) = id_number id
 reply_number (Addr addr) = Some addr
+reply_number (Bytes bytes) = bytes_number bytes
 reply_number (Number n) = Some n
 reply_number _ = None
 

@@ -1,12 +1,12 @@
 //! The calls of a line: a word, and the operands that follow it.
-ghost use Rattle.std.specs.Prelude.{◌≡◌, ◌≤◌, ◌<◌, ◌+◌, length, take, drop, true, IfOk};
+ghost use Rattle.std.specs.Prelude.{◌≡◌, ◌≤◌, ◌<◌, ◌+◌, length, take, drop, true, IfOk, OnOk};
 ghost use Rattle.shm_text.specs.Form.{is_id, is_call, has_answer, is_answer_taken};
-ghost use Rattle.shm_text.specs.Calls.{verb_of, access_verb_of, control_verb_of, process_verb_of, operands, may_be_taken, id_operand, addr_operand, shmget_call, shmat_call, xadd_call, load_call, store_call, set_call, fork_call, swapoff_call, call_by, place_of, call_words};
+ghost use Rattle.shm_text.specs.Calls.{verb_of, access_verb_of, control_verb_of, process_verb_of, operands, may_be_taken, id_operand, addr_operand, shmget_call, shmat_call, xadd_call, load_call, store_call, swap_call, cas_call, within_variable, as_many, set_call, fork_call, swapoff_call, call_by, place_of, call_words};
 
 use crate::fault::FaultKind;
 use crate::operand::{
     addr_word, at_flags_word, chunk_word, get_flags_word, id_word, key_word, mode_word, ranged,
-    ranged_addr, ranged_id, required_number, within_64_bits,
+    ranged_addr, ranged_id, required_number, short_word, within_64_bits,
 };
 use crate::script::{LineAddr, LineCall, LineId};
 use crate::words::{Words, is_word};
@@ -24,6 +24,8 @@ pub(crate) enum Verb {
     Shmdt,
     Load,
     Store,
+    Swap,
+    Cas,
     Stat,
     Set,
     Rmid,
@@ -62,6 +64,10 @@ impl Verb {
             Some(Verb::Load)
         } else if is_word(word, b"store") {
             Some(Verb::Store)
+        } else if is_word(word, b"swap") {
+            Some(Verb::Swap)
+        } else if is_word(word, b"cas") {
+            Some(Verb::Cas)
         } else {
             Verb::of_control(word)
         }
@@ -118,8 +124,8 @@ impl Verb {
             | Verb::Unlock
             | Verb::Fork
             | Verb::Swapoff => 1,
-            Verb::Xadd | Verb::Load | Verb::Store => 2,
-            Verb::Shmget | Verb::Shmat => 3,
+            Verb::Xadd | Verb::Load | Verb::Store | Verb::Swap => 2,
+            Verb::Shmget | Verb::Shmat | Verb::Cas => 3,
             Verb::Set => 4,
         }
     }
@@ -128,7 +134,10 @@ impl Verb {
     fn may_be_taken(self) -> bool
         ensures { result ≡ may_be_taken self }
     {
-        matches!(self, Verb::Shmget | Verb::Shmat | Verb::Xadd)
+        matches!(
+            self,
+            Verb::Shmget | Verb::Shmat | Verb::Xadd | Verb::Swap | Verb::Cas
+        )
     }
 }
 
@@ -256,6 +265,68 @@ fn store_call(words: &Words<'_>, index: usize) -> Result<LineCall, FaultKind>
     Ok(Call::Store { chunk, addr })
 }
 
+// A variable takes at most eight bytes.
+fn within_variable(taken: bool, bytes: &[u8]) -> Result<(), FaultKind>
+    ensures value { result ≡ within_variable taken bytes.now }
+    ensures fits { OnOk result (taken ≡ true → length bytes.now ≤ 8) }
+{
+    if taken && bytes.len() > 8 {
+        return Err(FaultKind::TooWide);
+    }
+    Ok(())
+}
+
+// Kept out of line, as a store is.
+#[inline(never)]
+#[tactic(auto, unfolding(crate::specs::Calls::swap_call))]
+fn swap_call(taken: bool, words: &Words<'_>, index: usize) -> Result<LineCall, FaultKind>
+    requires small { index ≤ 4 }
+    requires words { index + 2 ≡ length words.now }
+    ensures value { result ≡ swap_call taken words.now index }
+    ensures form { IfOk result (λ c. is_call c ≡ true) }
+    ensures answer { taken ≡ true → IfOk result (λ c. has_answer c ≡ true) }
+{
+    let addr = addr_word(words.at(index))?;
+    let chunk = chunk_word(words.at(index + 1))?;
+    within_variable(taken, chunk.as_slice())?;
+    let addr = ranged_addr(addr)?;
+    Ok(Call::Exchange { chunk, addr })
+}
+
+// The desired bytes have to be as many as the expected ones.
+fn as_many(expected: &[u8], desired: &[u8]) -> Result<(), FaultKind>
+    ensures value { result ≡ as_many expected.now desired.now }
+    ensures same { OnOk result (length expected.now ≡ length desired.now) }
+{
+    if expected.len() != desired.len() {
+        return Err(FaultKind::LengthsDiffer);
+    }
+    Ok(())
+}
+
+// Kept out of line, as a store is.
+#[inline(never)]
+#[tactic(auto, unfolding(crate::specs::Calls::cas_call))]
+fn cas_call(taken: bool, words: &Words<'_>, index: usize) -> Result<LineCall, FaultKind>
+    requires small { index ≤ 4 }
+    requires words { index + 3 ≡ length words.now }
+    ensures value { result ≡ cas_call taken words.now index }
+    ensures form { IfOk result (λ c. is_call c ≡ true) }
+    ensures answer { taken ≡ true → IfOk result (λ c. has_answer c ≡ true) }
+{
+    let addr = addr_word(words.at(index))?;
+    let expected = short_word(words.at(index + 1))?;
+    let desired = short_word(words.at(index + 2))?;
+    as_many(expected.as_slice(), desired.as_slice())?;
+    within_variable(taken, desired.as_slice())?;
+    let addr = ranged_addr(addr)?;
+    Ok(Call::CompareExchange {
+        expected,
+        desired,
+        addr,
+    })
+}
+
 #[tactic(auto, unfolding(crate::specs::Calls::set_call))]
 fn set_call(words: &Words<'_>, index: usize) -> Result<LineCall, FaultKind>
     requires small { index ≤ 4 }
@@ -295,13 +366,14 @@ fn swapoff_call(words: &Words<'_>, index: usize) -> Result<LineCall, FaultKind>
     Ok(Call::Swapoff { area })
 }
 
-// The call of a word. Its operands begin at an index and end the line.
-fn call_by(verb: Verb, words: &Words<'_>, index: usize) -> Result<LineCall, FaultKind>
+// The call of a word. Its operands begin at an index and end the line; `taken` says that a variable takes
+// the answer.
+fn call_by(verb: Verb, taken: bool, words: &Words<'_>, index: usize) -> Result<LineCall, FaultKind>
     requires small { index ≤ 4 }
     requires words { index + operands verb ≡ length words.now }
-    ensures value { result ≡ call_by verb words.now index }
+    ensures value { result ≡ call_by verb taken words.now index }
     ensures form { IfOk result (λ c. is_call c ≡ true) }
-    ensures answer { may_be_taken verb ≡ true → IfOk result (λ c. has_answer c ≡ true) }
+    ensures answer { taken ≡ true → may_be_taken verb ≡ true → IfOk result (λ c. has_answer c ≡ true) }
 {
     match verb {
         Verb::Shmget => shmget_call(words, index),
@@ -309,6 +381,8 @@ fn call_by(verb: Verb, words: &Words<'_>, index: usize) -> Result<LineCall, Faul
         Verb::Xadd => xadd_call(words, index),
         Verb::Load => load_call(words, index),
         Verb::Store => store_call(words, index),
+        Verb::Swap => swap_call(taken, words, index),
+        Verb::Cas => cas_call(taken, words, index),
         Verb::Set => set_call(words, index),
         Verb::Fork => fork_call(words, index),
         Verb::Swapoff => swapoff_call(words, index),
@@ -362,5 +436,5 @@ pub(crate) fn call_words(words: &Words<'_>, taken: bool) -> Result<LineCall, Fau
     if (taken && !verb.may_be_taken()) || words.len() != place + 1 + verb.operands() {
         return Err(FaultKind::BadLine);
     }
-    call_by(verb, words, place + 1)
+    call_by(verb, taken, words, place + 1)
 }

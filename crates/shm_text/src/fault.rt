@@ -12,6 +12,8 @@ use thiserror::Error;
 /// - `NoLimits`: the first line with words does not begin with `limits`, or there is no such line and this is
 ///   line 1.
 /// - `BadLine`: the words have no form of the language.
+/// - `LengthsDiffer`: the two operands of a `cas` do not have the same number of bytes.
+/// - `TooWide`: a variable before a `swap` or `cas` of more than eight bytes.
 /// - `BadNumber`: a number is out of its range.
 /// - `BadLimits`: the limits are refused, with the number of the first that is out of its range.
 /// - `UnknownProcess`: the pid of a command, or the child of a fork, is not declared above.
@@ -23,6 +25,8 @@ pub enum FaultKind {
     BadByte,
     NoLimits,
     BadLine,
+    LengthsDiffer,
+    TooWide,
     BadNumber,
     BadLimits(u8),
     UnknownProcess,
@@ -39,6 +43,8 @@ impl fmt::Display for FaultKind {
             FaultKind::BadByte => f.write_str("bad byte"),
             FaultKind::NoLimits => f.write_str("no limits line"),
             FaultKind::BadLine => f.write_str("bad line"),
+            FaultKind::LengthsDiffer => f.write_str("lengths differ"),
+            FaultKind::TooWide => f.write_str("too wide for a variable"),
             FaultKind::BadNumber => f.write_str("bad number"),
             FaultKind::BadLimits(number) => write!(f, "bad limits {number}"),
             FaultKind::UnknownProcess => f.write_str("unknown process"),

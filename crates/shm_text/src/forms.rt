@@ -1,7 +1,7 @@
 //! The forms of lines.
 ghost use Rattle.std.specs.Prelude.{◌≡◌, ◌<◌, ◌≤◌, length, true, false, Err, IfOk, OnOk, IfErr};
 ghost use Rattle.shm_text.specs.Form.{is_pid};
-ghost use Rattle.shm_text.specs.Reading.{limits_item, process_item, child_item, declared, declaration, taker, known, known_child, declared_pid, flush_item, words_item, line_item, is_command, with_room, some_item, is_skipped, HasPlace, Takes, IsLimits, IsLine};
+ghost use Rattle.shm_text.specs.Reading.{limits_item, rules_item, limits_by, process_item, child_item, declared, declaration, taker, known, known_child, declared_pid, flush_item, words_item, line_item, is_command, with_room, some_item, is_skipped, HasPlace, Takes, IsLimits, IsLine};
 
 use crate::calls::call_words;
 use crate::fault::FaultKind;
@@ -10,9 +10,10 @@ use crate::lines::Lines;
 use crate::number::Number;
 use crate::operand::{first_letter, ranged, required_number, within_64_bits};
 use crate::reading::Seen;
+use crate::rules::rules_word;
 use crate::script::{Command, FlushLine, Item, Line, LineCall, Variable};
 use crate::words::Words;
-use shm_base::{Call, Cred, LAST_PID, Limits, MOST_COMMANDS, MOST_FLUSHED, Process};
+use shm_base::{BadLimits, Call, Cred, LAST_PID, Limits, MOST_COMMANDS, MOST_FLUSHED, Process};
 
 #[tactic(auto, unfolding(crate::specs::Reading::limits_item))]
 fn limits_item(words: &Words<'_>) -> Result<Item, FaultKind>
@@ -32,10 +33,31 @@ fn limits_item(words: &Words<'_>) -> Result<Item, FaultKind>
     let shmall = within_64_bits(shmall)?;
     let frames = within_64_bits(frames)?;
     let memlock = within_64_bits(memlock)?;
-    match Limits::new(shmmax, shmmni, shmall, frames, memlock) {
+    limits_by(Limits::new(shmmax, shmmni, shmall, frames, memlock))
+}
+
+fn limits_by(limits: Result<Limits, BadLimits>) -> Result<Item, FaultKind>
+    ensures value { result ≡ limits_by limits }
+    ensures item { IfOk result IsLimits }
+{
+    match limits {
         Ok(limits) => Ok(Item::Limits(limits)),
         Err(bad) => Err(FaultKind::BadLimits(bad.0)),
     }
+}
+
+// The rules of Linux: the limits once more, with these rules.
+#[tactic(auto, unfolding(crate::specs::Reading::rules_item))]
+fn rules_item(seen: &Seen, words: &Words<'_>) -> Result<Item, FaultKind>
+    ensures value { result ≡ rules_item seen.now words.now }
+    ensures item { IfOk result IsLimits }
+{
+    if words.len() != 2 {
+        return Err(FaultKind::BadLine);
+    }
+    let limits = seen.unruled().ok_or(FaultKind::BadLine)?;
+    let rules = rules_word(words.at(1))?;
+    limits_by(limits.with_rules(rules))
 }
 
 // A new process. Its pid must not be declared above.
@@ -173,7 +195,7 @@ fn counted_flush(seen: &Seen, words: &Words<'_>) -> Result<Item, FaultKind>
     }
 }
 
-// A line that is not a command of a process: the limits, a process, or a flush round.
+// A line that is not a command of a process: the limits, rules, a process, or a flush round.
 #[tactic(auto, unfolding(crate::specs::Reading::words_item, crate::specs::Reading::body_item, crate::specs::Reading::command_item))]
 fn other_item(seen: &Seen, words: &Words<'_>) -> Result<Item, FaultKind>
     requires words { 0 < length words.now }
@@ -184,6 +206,8 @@ fn other_item(seen: &Seen, words: &Words<'_>) -> Result<Item, FaultKind>
     if seen.has_limits() {
         if words.is(0, b"0") {
             counted_flush(seen, words)
+        } else if words.is(0, b"rules") {
+            rules_item(seen, words)
         } else {
             declaration(seen, words)
         }
@@ -215,7 +239,11 @@ fn is_command(seen: &Seen, words: &Words<'_>) -> bool
     requires { 0 < length words.now }
     ensures { result ≡ is_command seen.now words.now }
 {
-    seen.has_limits() && !words.is(0, b"0") && !words.is(0, b"process") && !words.is(0, b"child")
+    seen.has_limits()
+        && !words.is(0, b"0")
+        && !words.is(0, b"process")
+        && !words.is(0, b"child")
+        && !words.is(0, b"rules")
 }
 
 // Takes the command of a process. Its pid is tested after the call. The command goes into the lines here,

@@ -9,6 +9,7 @@ mod lines;
 mod number;
 mod operand;
 mod reading;
+mod rules;
 mod script;
 mod variables;
 mod words;

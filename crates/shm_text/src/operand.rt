@@ -1,7 +1,7 @@
 //! The operands of a line: one word each. Words that can't be read make a bad line; ranges are tested
 //! afterwards, so a bad line is reported before a bad number.
 ghost use Rattle.std.specs.Prelude.{◌≡◌, ◌≤◌, ◌<◌, ◌==◌, true, length, drop, Ok, IfOk, Some};
-ghost use Rattle.shm_text.specs.Operand.{required_number, ranged, within_64_bits, key_word, letter_of, addr_by, id_word, addr_word, ranged_id, ranged_addr, mode_word, get_flags_word, names_of, times, at_flags_word, chunk_word};
+ghost use Rattle.shm_text.specs.Operand.{required_number, ranged, within_64_bits, key_word, letter_of, addr_by, id_word, addr_word, ranged_id, ranged_addr, mode_word, get_flags_word, names_of, times, at_flags_word, bytes_word, chunk_word, short_word};
 ghost use Rattle.shm_text.specs.Form.{is_id, is_get_flags, is_at_flags};
 
 use crate::fault::FaultKind;
@@ -9,7 +9,7 @@ use crate::number::{Number, read_number};
 use crate::script::{LineAddr, LineId, Variable};
 use crate::words::is_word;
 use bitflags::Flags;
-use shm_base::{AtFlags, Chunk, GetFlags, LAST_ID, LONGEST_ACCESS};
+use shm_base::{AccessBytes, AtFlags, Chunk, GetFlags, LAST_ID, Word};
 
 /// An identifier before its range is tested.
 #[derive(Clone, Copy)]
@@ -189,14 +189,14 @@ pub(crate) fn get_flags_word(word: &[u8]) -> Result<GetFlags, FaultKind>
 }
 
 // How many names a comma-separated list has.
-fn names(word: &[u8]) -> usize
+pub(crate) fn names(word: &[u8]) -> usize
     ensures { result ≡ length (names_of word.now) }
 {
     word.split(|b| *b == b',').count()
 }
 
 // How often a comma-separated list has a name.
-fn times(word: &[u8], name: &[u8]) -> usize
+pub(crate) fn times(word: &[u8], name: &[u8]) -> usize
     ensures { result ≡ times word.now name.now }
 {
     word.split(|b| *b == b',').filter(|n| *n == name).count()
@@ -229,17 +229,32 @@ pub(crate) fn at_flags_word(word: &[u8]) -> Result<AtFlags, FaultKind>
     Ok(flags)
 }
 
-/// 1 to 64 bytes in hexadecimal digits of either case.
-pub(crate) fn chunk_word(word: &[u8]) -> Result<Chunk, FaultKind>
-    ensures { result ≡ chunk_word word.now }
+// 1 to `N` bytes in hexadecimal digits of either case.
+fn bytes_word<const N: usize>(word: &[u8]) -> Result<AccessBytes<N>, FaultKind>
+    requires { N ≤ 64 }
+    ensures { result ≡ bytes_word N word.now }
 {
-    if word.len() < 2 || word.len() > 2 * LONGEST_ACCESS {
+    if word.len() < 2 || word.len() > 2 * N {
         return Err(FaultKind::BadLine);
     }
-    let mut room = [0u8; LONGEST_ACCESS];
+    let mut room = [0u8; N];
     let bytes = &mut room[..word.len() / 2];
     if hex::decode_to_slice(word, bytes).is_err() {
         return Err(FaultKind::BadLine);
     }
-    Ok(Chunk::new(bytes).unwrap())
+    Ok(AccessBytes::new(bytes).unwrap())
+}
+
+/// The bytes of a store or an exchange.
+pub(crate) fn chunk_word(word: &[u8]) -> Result<Chunk, FaultKind>
+    ensures { result ≡ chunk_word word.now }
+{
+    bytes_word(word)
+}
+
+/// An operand of a compare and exchange.
+pub(crate) fn short_word(word: &[u8]) -> Result<Word, FaultKind>
+    ensures { result ≡ short_word word.now }
+{
+    bytes_word(word)
 }

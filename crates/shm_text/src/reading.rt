@@ -1,7 +1,7 @@
 //! Reads a script line by line.
 ghost use Rattle.std.specs.Prelude.{◌≡◌, ◌<◌, ◌≤◌, ◌+◌, ◌/◌, IfOk, IfErr, Ok, length, not, nat_le, is_some, min};
 ghost use Rattle.std.specs.List.{list_all};
-ghost use Rattle.shm_text.specs.Reading.{script_of_lines, script_of, without_words, is_wordless, nothing, seen_with, is_declared, IsFaultOf, HasPlace};
+ghost use Rattle.shm_text.specs.Reading.{unruled, script_of_lines, script_of, without_words, is_wordless, nothing, seen_with, is_declared, IsFaultOf, HasPlace};
 ghost use Rattle.shm_text.specs.Words.{lines_of};
 
 use crate::fault::{FaultKind, ReadRefused, ScriptFault};
@@ -10,6 +10,7 @@ use crate::kept::Kept;
 use crate::lines::Lines;
 use crate::script::{Item, Script};
 use arrayvec::ArrayVec;
+use bitflags::Flags;
 use shm_base::{LONGEST_SCRIPT, Limits, MOST_COMMANDS, PROFILE_PROCESSES};
 use std::alloc::Global;
 use std::marker::Model;
@@ -65,6 +66,18 @@ impl Seen {
         ensures { result ≡ nat_le 64 (length self.now.pids) }
     {
         self.pids.len() >= PROFILE_PROCESSES
+    }
+
+    /// The limits, while rules may follow them: no rule holds yet, and nothing else is above.
+    pub(crate) fn unruled(&self) -> Option<Limits>
+        ensures { result ≡ unruled self.now }
+    {
+        let limits = self.limits?;
+        if self.pids.is_empty() && self.commands == 0 && limits.rules().is_empty() {
+            Some(limits)
+        } else {
+            None
+        }
     }
 
     /// Counts a command or flush line.

@@ -3,7 +3,7 @@ ghost use Rattle.std.specs.Prelude.{◌≡◌, ◌-◌, ◌<◌, List, Option, �
 ghost use Rattle.std.specs.Option.{option_copied};
 ghost use Rattle.std.specs.Prelude.{true};
 ghost use Rattle.shm_text.specs.Form.{is_id};
-ghost use Rattle.shm_text.specs.Variables.{no_values, value_at, id_of, id_from, addr_of, addr_from, call_of, reply_number, values_after};
+ghost use Rattle.shm_text.specs.Variables.{no_values, value_at, id_of, id_from, addr_of, addr_from, call_of, bytes_number, reply_number, values_after};
 
 use crate::script::{Command, LineAddr, LineId, Variable};
 use shm_base::{Call, LAST_ID, Reply, ShmId};
@@ -29,6 +29,18 @@ impl Drop for Vars {
     }
 }
 
+// The bytes as a number, the least significant first; none if there are more than eight.
+fn number_in(bytes: &[u8]) -> Option<u64>
+    ensures { result ≡ bytes_number bytes.now }
+{
+    if bytes.len() > 8 {
+        return None;
+    }
+    let mut number = [0; 8];
+    number[..bytes.len()].copy_from_slice(bytes);
+    Some(u64::from_le_bytes(number))
+}
+
 fn number_of(reply: &Reply) -> Option<u64>
     ensures { result ≡ reply_number reply.now }
 {
@@ -36,7 +48,8 @@ fn number_of(reply: &Reply) -> Option<u64>
         Reply::Id(id) => u64::try_from(*id).ok(),
         Reply::Addr(addr) => Some(*addr),
         Reply::Number(number) => Some(*number),
-        Reply::Bytes(_) | Reply::Stat(_) | Reply::Done | Reply::Refused(_) => None,
+        Reply::Bytes(chunk) => number_in(chunk.as_slice()),
+        Reply::Stat(_) | Reply::Done | Reply::Refused(_) => None,
     }
 }
 
@@ -137,6 +150,19 @@ impl Vars {
                 addr: self.addr(addr),
                 add,
             },
+            Call::Exchange { chunk, addr } => Call::Exchange {
+                chunk,
+                addr: self.addr(addr),
+            },
+            Call::CompareExchange {
+                expected,
+                desired,
+                addr,
+            } => Call::CompareExchange {
+                expected,
+                desired,
+                addr: self.addr(addr),
+            },
             Call::Fork { child } => Call::Fork { child },
             Call::Exec => Call::Exec,
             Call::Exit => Call::Exit,
@@ -145,7 +171,8 @@ impl Vars {
     }
 
     /// Stores the answer of a command line in the line's variable, if it has one: the identifier, address or
-    /// number of the reply. A refusal stores -1, and so does out of memory, which has no reply.
+    /// number of the reply, or its bytes as a number. A refusal stores -1, and so does out of memory, which
+    /// has no reply.
     pub fn took(&mut self, command: &Command, reply: Option<&Reply>)
         ensures { self.new ≡ values_after self.old command.now.var (option_copied reply.entry) }
     {

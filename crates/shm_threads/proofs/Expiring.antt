@@ -1,5 +1,5 @@
 -- A run that its gate ended: the threads that come before the one that it ended have made all their calls.
-use Rattle.std.specs.Prelude.{◌≡◌, ◌<◌, ◌&&◌, ℕ, Bool, true, false, List, Option, Some, None, length, map, All, IfErr, IfSome, OnOk}
+use Rattle.std.specs.Prelude.{◌≡◌, ◌<◌, ℕ, Bool, false, List, Option, Some, None, length, map, IfErr, IfSome, OnOk}
 use Rattle.std.proofs.Common.{◌∙◌}
 use Rattle.std.proofs.Math.ListN.{get_or}
 use Rattle.std.proofs.lemmas.Bool.{lt-ltb}
@@ -8,7 +8,7 @@ use Rattle.std.proofs.lemmas.List.Elements.{All-map}
 use Rattle.shm_history.specs.WorldState.{WorldState}
 use Rattle.shm_text.specs.Script.{ScriptView}
 use Rattle.shm_threads.specs.Asked.{rounds_of}
-use Rattle.shm_threads.specs.Ends.{CanStop, IsEnded, IsExpired, comes_before, ended_by}
+use Rattle.shm_threads.specs.Ends.{CanStop, IsEnded, IsExpired, ended_by}
 use Rattle.shm_threads.specs.Moves.{entries_in}
 use Rattle.shm_threads.specs.Passed.{ArePassed, Passes}
 use Rattle.shm_threads.specs.Running.{IsOver}

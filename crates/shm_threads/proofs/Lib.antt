@@ -12,6 +12,7 @@ mod Noting
 mod Over
 mod Passing
 mod Placing
+mod Remaining
 mod Starts
 mod Stepping
 mod Steps

@@ -6,6 +6,7 @@ use Rattle.std.proofs.lemmas.Bool.{cases_eq}
 use Rattle.std.proofs.lemmas.List.{take_more}
 use Rattle.shm_base.specs.declared.paging.FlushReport.{FlushReport}
 use Rattle.shm_history.specs.WorldState.{WorldState, IsRound}
+use Rattle.shm_text.specs.Form.{CommandView}
 use Rattle.shm_text.specs.declared.script.Line.{Line}
 use Rattle.shm_threads.specs.Asked.{rounds_of}
 use Rattle.shm_threads.specs.Moves.{AreMoves, Called, Flushed, Leads, Makes, Moment, Move, entries_by, entries_in, rounds_by, rounds_in}
@@ -53,9 +54,9 @@ module _ (lines : List Line) (start before after : WorldState) (ss : List Strand
       }
 
   -- a strand has one more entry, and no other has
-  pub moves-step : (k : ℕ) (s t : Strand) (effect : Made) → k < length ss → ((d : Strand) → get_or ss k d ≡ s) → ((j : ℕ) (d : Strand) → j < length ss → j ≢ k → (get_or ss j d).pid ≢ s.pid)
-      → (is : IsMade before s effect after t) → AreMoves lines start after (set ss k t) made (ms ++ record { move = Called s.pid is.entry; world = after } ∷ [])
-  moves-step k s t effect lt here others is =
+  pub moves-step : (k : ℕ) (s t : Strand) (command : CommandView) (effect : Made) → k < length ss → ((d : Strand) → get_or ss k d ≡ s) → ((j : ℕ) (d : Strand) → j < length ss → j ≢ k → (get_or ss j d).pid ≢ s.pid)
+      → (is : IsMade before s command effect after t) → AreMoves lines start after (set ss k t) made (ms ++ record { move = Called s.pid is.entry; world = after } ∷ [])
+  moves-step k s t command effect lt here others is =
       let m : Moment = record { move = Called s.pid is.entry; world = after } in
       let Has : List Moment → Strand → Type 0 = λ all x. x.entries.items ≡ entries_in x.pid all in
       let old : Has ms s = subst (Has ms) (here s) (are.entries k s lt) in

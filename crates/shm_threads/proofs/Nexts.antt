@@ -1,16 +1,14 @@
 -- The next call of a strand that can continue.
 use Rattle.std.specs.Prelude.{◌≡◌, ◌<◌, ◌+◌, ℕ, true, List, length}
-use Rattle.std.proofs.Common.{ap, arith, inr, subst, sym, ◌∙◌}
+use Rattle.std.proofs.Common.{ap, arith, subst, sym, ◌∙◌}
 use Rattle.std.proofs.Math.ListN.{get_or}
-use Rattle.std.proofs.lemmas.List.{length-map}
 use Rattle.shm_history.specs.WorldState.{WorldState}
 use Rattle.shm_text.specs.Script.{ScriptView}
-use Rattle.shm_threads.specs.Ends.{HasCall}
+use Rattle.shm_threads.specs.Asked.{IsWithin}
 use Rattle.shm_threads.specs.Running.{IsProcessAt, IsRunning}
-use Rattle.shm_threads.specs.Strands.{can_go, lines_of, now_of, pid_of_strand}
+use Rattle.shm_threads.specs.Strands.{can_go, pid_of_strand}
 use Rattle.shm_threads.specs.Transcripts.{commands_of}
 use Rattle.shm_threads.specs.declared.strand.Strand.{Strand}
-use Rattle.shm_threads.proofs.Placing.{declared-at}
 use Rattle.shm_threads.proofs.Turns.{as-long, has-line, pid-at}
 
 module _ (script : ScriptView) (start w : WorldState) (ss : List Strand) (made k : ℕ) (s : Strand) (running : IsRunning script start w ss made) (lt : k < length ss) (here : s ≡ get_or ss k s) where
@@ -21,10 +19,9 @@ module _ (script : ScriptView) (start w : WorldState) (ss : List Strand) (made k
       (less, λ d. sym (pid-at ss script.processes running.listed k s d lt) ∙ ap pid_of_strand (sym here))
 
   -- and has a line
-  pub has-call : can_go w.machine (get_or ss k s) ≡ true → HasCall script s.pid (length s.entries.items + 1)
-  has-call go =
+  pub within-lines : can_go w.machine (get_or ss k s) ≡ true → IsWithin (length s.entries.items + 1) (length (commands_of s.pid script.lines))
+  within-lines go =
       let can : can_go w.machine s ≡ true = subst (λ (x : Strand). can_go w.machine x ≡ true) (sym here) go in
       let line = has-line w.machine s can in
-      let commands : lines_of s ≡ commands_of s.pid script.lines = subst (λ (x : Strand). lines_of x ≡ commands_of x.pid script.lines) (sym here) (running.each k s lt).commands in
-      let same : length s.commands.items ≡ length (commands_of s.pid script.lines) = sym (length-map s.commands.items now_of) ∙ ap length commands in
-      inr (declared-at script.processes k s.pid at-process, (omega arith, omega (arith, line, same)))
+      let same : s.lines ≡ length (commands_of s.pid script.lines) = subst (λ (x : Strand). x.lines ≡ length (commands_of x.pid script.lines)) (sym here) (running.each k s lt).lines in
+      (omega arith, omega (arith, line, same))

@@ -3,7 +3,7 @@ use Rattle.std.specs.Prelude.{◌≡◌, ◌≤◌, ℕ, true, false, List, [], 
 use Rattle.std.proofs.Common.{subst, sym, ap, ◌∙◌, refl, arith, inl, inr}
 use Rattle.std.proofs.Math.ListN.{get_or}
 use Rattle.std.proofs.lemmas.Bool.{and_cases, ltb-false, true≢false}
-use Rattle.std.proofs.lemmas.List.{length-map, take_all}
+use Rattle.std.proofs.lemmas.List.{take_all}
 use Rattle.std.proofs.lemmas.List.Elements.{All-map}
 use Rattle.shm_base.specs.History.{IsHistory}
 use Rattle.shm_base.specs.State.{Ended, Life, Live, Machine, Unborn}
@@ -15,7 +15,7 @@ use Rattle.shm_threads.specs.Asked.{rounds_of}
 use Rattle.shm_threads.specs.Moves.{entries_in}
 use Rattle.shm_threads.specs.Outcomes.{AreAllMoves, IsOutcome}
 use Rattle.shm_threads.specs.Running.{IsOver}
-use Rattle.shm_threads.specs.Strands.{IsStrand, StandsAt, can_go, life_from, now_of, pid_of_strand, transcript_of}
+use Rattle.shm_threads.specs.Strands.{IsStrand, StandsAt, can_go, life_from, pid_of_strand, transcript_of}
 use Rattle.shm_threads.specs.Transcripts.{HasLines, IsThrough, IsTranscript, commands_of, pid_of}
 use Rattle.shm_threads.specs.declared.strand.Strand.{Strand}
 use Rattle.shm_threads.specs.declared.transcript.Transcript.{Transcript}
@@ -26,8 +26,8 @@ module _ (script : ScriptView) (m : Machine) (h : List Event) (s : Strand) (is :
   -- a live process has made all its lines
   pub no-line : is_some (caller_of m s.pid) ≡ true → length (commands_of s.pid script.lines) ≤ length s.entries.items
   no-line live =
-      elim (and_cases (nat_lt (length s.entries.items) (length s.commands.items)) (is_some (caller_of m s.pid)) none) [
-        | inl few ↦ (let le = ltb-false (length s.entries.items) (length s.commands.items) few in omega (arith, le, ap length is.commands, length-map s.commands.items now_of))
+      elim (and_cases (nat_lt (length s.entries.items) s.lines) (is_some (caller_of m s.pid)) none) [
+        | inl few ↦ (let le = ltb-false (length s.entries.items) s.lines few in omega (arith, le, is.lines))
         | inr gone ↦ absurd (true≢false (sym live ∙ gone))
       ]
 

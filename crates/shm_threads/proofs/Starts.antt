@@ -3,7 +3,6 @@ use Rattle.std.specs.Prelude.{◌≡◌, ◌≢◌, ◌<◌, ◌≤◌, ◌+◌,
 use Rattle.std.proofs.Common.{subst, sym, ap, ◌∙◌, refl, arith, inl, inr, eq-eqb, ne_eqb, true≢false}
 use Rattle.std.proofs.Math.ListN.{get_or}
 use Rattle.std.proofs.lemmas.Bool.{cases_eq, or_left, or_right, and_from, or_parts}
-use Rattle.std.proofs.lemmas.List.{length-map}
 use Rattle.std.proofs.lemmas.List.Elements.{All-head, All-nil, All-tail}
 use Rattle.shm_base.specs.History.{IsHistory, LeadsFrom}
 use Rattle.shm_base.specs.Processes.{has_pid}
@@ -20,7 +19,7 @@ use Rattle.shm_text.specs.declared.script.Line.{Line}
 use Rattle.shm_text.specs.declared.script.Line.TheVariants.{Command, Flush}
 use Rattle.shm_threads.specs.Outcomes.{IsOpened}
 use Rattle.shm_threads.specs.Running.{IsRunning}
-use Rattle.shm_threads.specs.Strands.{IsFresh, IsStrand, StandsAt, left_in, life_from, now_of, pid_of_strand}
+use Rattle.shm_threads.specs.Strands.{IsFresh, IsStrand, StandsAt, left_in, life_from, pid_of_strand}
 use Rattle.shm_threads.specs.Transcripts.{IsAdmitted, IsMarkAllowed, commands_of, is_child, pid_in, transcript_events}
 use Rattle.shm_threads.specs.declared.strand.Strand.{Strand}
 use Rattle.shm_threads.specs.declared.transcript.Entry.{Entry}
@@ -96,7 +95,7 @@ left-total ls (s ∷ ss) (p ∷ ps) same fresh =
     let rest : map pid_of_strand ss ≡ map pid_in ps = cc same in
     let f = All-head (IsFresh ls) s ss fresh in
     let more = left-total ls ss ps rest (All-tail (IsFresh ls) s ss fresh) in
-    let mine : length s.commands.items ≡ length (commands_of p.pid ls) = sym (length-map s.commands.items now_of) ∙ ap length f.commands ∙ ap (λ (q : ℕ). length (commands_of q ls)) first in
+    let mine : s.lines ≡ length (commands_of p.pid ls) = f.lines ∙ ap (λ (q : ℕ). length (commands_of q ls)) first in
     let none : length s.entries.items ≡ 0 = ap length f.entries in
     omega (arith, more, mine, none)
 
@@ -110,7 +109,7 @@ module _ (script : ScriptView) (w : WorldState) (s : Strand) (is : IsFresh scrip
   fresh-strand : (born : Option Cred) → life_from s.pid w.machine.runners ≡ Some (life_at_start born) → (born ≡ None → is_child s.pid script.processes ≡ true) → IsStrand script w.machine [] s
   fresh-strand born life child =
       record {
-        commands = is.commands;
+        lines = is.lines;
         room = is.room;
         place = subst (StandsAt script [] s) (sym life) (fresh-stands born child);
         own = ap (λ (es : List Entry). transcript_events s.pid es) is.entries;

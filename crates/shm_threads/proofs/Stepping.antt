@@ -1,9 +1,8 @@
 -- A step of a run: one strand has one more entry, and the others stay as they are.
 use Rattle.std.specs.Prelude.{◌≡◌, ◌≢◌, ◌<◌, ◌++◌, ℕ, Bool, true, false, List, [], ◌∷◌, Option, Some, None, length, MatchBool, All, vec_capacity}
-use Rattle.std.proofs.Common.{subst, sym, ap, ◌∙◌, refl, arith, inl, inr}
+use Rattle.std.proofs.Common.{subst, sym, ap, ◌∙◌, refl, inl, inr}
 use Rattle.std.proofs.Math.ListN.{get_or}
 use Rattle.std.proofs.lemmas.Bool.{cases_Bool}
-use Rattle.std.proofs.lemmas.List.{length-map}
 use Rattle.std.proofs.lemmas.List.Elements.{All-push}
 use Rattle.shm_base.specs.History.{own_part}
 use Rattle.shm_base.specs.State.{Ended, Life, Live, Machine, Runner, Unborn}
@@ -11,7 +10,7 @@ use Rattle.shm_base.specs.declared.call.Event.{Event}
 use Rattle.shm_text.specs.Form.{CommandView}
 use Rattle.shm_text.specs.Script.{ScriptView}
 use Rattle.shm_text.specs.Variables.{call_of, no_values, values_after}
-use Rattle.shm_threads.specs.Strands.{IsStrand, IsUnderway, StandsAt, life_from, lines_of, now_of}
+use Rattle.shm_threads.specs.Strands.{IsStrand, IsUnderway, StandsAt, life_from}
 use Rattle.shm_threads.specs.Transcripts.{Follows, IsMarkAllowed, commands_of, is_end, is_fork_of, reply_in, transcript_events}
 use Rattle.shm_threads.specs.declared.strand.Strand.{Strand}
 use Rattle.shm_threads.specs.declared.transcript.Entry.{Entry}
@@ -37,7 +36,7 @@ module _ (script : ScriptView) (h : List Event) (e : Event) (s : Strand) (olds n
 pub strand-other : (script : ScriptView) (m n : Machine) (h : List Event) (e : Event) (s : Strand) → Ages e m.runners n.runners → s.pid ≢ e.pid → IsStrand script m h s → IsStrand script n (h ++ e ∷ []) s
 strand-other script m n h e s ages apart is =
     record {
-      commands = is.commands;
+      lines = is.lines;
       room = is.room;
       place = stands-other script h e s m.runners n.runners ages apart (life_from s.pid m.runners) refl is.place;
       own = is.own ∙ sym (own-other s.pid h e (λ same. apart (sym same)));
@@ -48,26 +47,19 @@ strand-other script m n h e s ages apart is =
 
 -- what was noted of a call: one more entry
 pub record Notes (s : Strand) (e : Entry) (c : CommandView) (t : Strand) : Type 0 where
-  pub line : (d : CommandView) → get_or (lines_of s) (length s.entries.items) d ≡ c
   pub call : e.call ≡ call_of s.vars c.call
   pub pid : t.pid ≡ s.pid
-  pub commands : t.commands ≡ s.commands
+  pub lines : t.lines ≡ s.lines
   pub values : t.vars ≡ values_after s.vars c.var (reply_in e.answer)
   pub entries : t.entries.items ≡ s.entries.items ++ e ∷ []
   pub room : vec_capacity t.entries ≡ vec_capacity s.entries
 
 module _ (script : ScriptView) (m n : Machine) (h after : List Event) (s t : Strand) (e : Entry) (c : CommandView) (notes : Notes s e c t) (is : IsStrand script m h s)
-    (lt : length s.entries.items < length s.commands.items) (live : IsLive s.pid m.runners)
+    (less : length s.entries.items < length (commands_of s.pid script.lines)) (next : get_or (commands_of s.pid script.lines) (length s.entries.items) c ≡ c) (live : IsLive s.pid m.runners)
     (aged : MatchBool (is_end e.call e.answer) (life_from s.pid n.runners ≡ Some Ended) (IsLive s.pid n.runners))
     (own : own_part s.pid after ≡ own_part s.pid h ++ transcript_events s.pid (e ∷ [])) (mark : IsMarkAllowed e) where
   abbrev cs : List CommandView
   cs = commands_of s.pid script.lines
-
-  less : length s.entries.items < length cs
-  less = omega (arith, lt, ap length is.commands, length-map s.commands.items now_of)
-
-  next : get_or cs (length s.entries.items) c ≡ c
-  next = ap (λ (l : List CommandView). get_or l (length s.entries.items) c) (sym is.commands) ∙ notes.line c
 
   under : IsUnderway cs s.vars s.entries.items
   under = subst (StandsAt script h s) live.1 is.place
@@ -85,8 +77,8 @@ module _ (script : ScriptView) (m n : Machine) (h after : List Event) (s t : Str
   pub strand-own : IsStrand script n after t
   strand-own =
       record {
-        commands = rw (notes.commands, notes.pid) is.commands;
-        room = rw (notes.commands, notes.room) is.room;
+        lines = rw (notes.lines, notes.pid) is.lines;
+        room = rw (notes.lines, notes.room) is.room;
         place = stands (is_end e.call e.answer) refl aged;
         own = rw (notes.pid, notes.entries) (events-append s.pid s.entries.items (e ∷ []) ∙ ap (λ (l : List Event). l ++ transcript_events s.pid (e ∷ [])) is.own ∙ sym own);
         marks = subst (All IsMarkAllowed) (sym notes.entries) (All-push IsMarkAllowed s.entries.items e is.marks mark);

@@ -3,7 +3,7 @@ use Rattle.std.specs.Prelude.{◌≡◌, ◌≢◌, ◌<◌, ◌≤◌, ◌+◌,
 use Rattle.std.proofs.Common.{subst, sym, ap, ◌∙◌, refl, arith, append-nil}
 use Rattle.std.proofs.Math.ListN.{get_or, set}
 use Rattle.std.proofs.lemmas.Bool.{and_parts, ltb-true}
-use Rattle.std.proofs.lemmas.List.{get_or-map, length-map, length_push, map-set, set-get_or}
+use Rattle.std.proofs.lemmas.List.{get_or-map, get_or_at, length-map, length_push, map-set, set-get_or}
 use Rattle.std.proofs.lemmas.List.Elements.{All-push}
 use Rattle.std.proofs.lemmas.Option.{get_or_from_slice_get, slice_get_within}
 use Rattle.shm_base.specs.Calls.{ProcessCall}
@@ -16,13 +16,15 @@ use Rattle.shm_base.specs.declared.call.Process.{Process}
 use Rattle.shm_slots.proofs.Causes.{GoesOn-trans}
 use Rattle.shm_base.specs.declared.paging.FlushReport.{FlushReport}
 use Rattle.shm_history.specs.WorldState.{WorldState, IsRound, event}
+use Rattle.shm_text.specs.Form.{CommandView}
 use Rattle.shm_text.specs.Script.{ScriptView}
-use Rattle.shm_threads.specs.Asked.{rounds_of}
+use Rattle.shm_text.specs.declared.script.Line.{Line}
+use Rattle.shm_threads.specs.Asked.{IsNth, rounds_of}
 use Rattle.shm_threads.specs.Moves.{AreMoves, Moment}
 use Rattle.shm_threads.specs.Outcomes.{StartedFrom}
 use Rattle.shm_threads.specs.Running.{IsProcessAt, IsRunning}
 use Rattle.shm_threads.specs.Strands.{IsAnswered, IsMade, IsStrand, can_go, left_in, left_of, life_from, pid_of_strand}
-use Rattle.shm_threads.specs.Transcripts.{IsAdmitted, events_of, is_end, pid_in, transcript_events}
+use Rattle.shm_threads.specs.Transcripts.{IsAdmitted, commands_of, events_of, is_end, pid_in, transcript_events}
 use Rattle.shm_threads.specs.declared.strand.Made.{Made}
 use Rattle.shm_threads.specs.declared.strand.Strand.{Strand}
 use Rattle.shm_threads.specs.declared.transcript.Answer.{Answer}
@@ -83,9 +85,17 @@ module _ (ss : List Strand) (ps : List Process) (listed : map pid_of_strand ss �
       let p = some-process k at.0 in
       ap pid_of_strand (sym (here s)) ∙ pid-at k s p lt ∙ at.1 p
 
+-- the n-th command of a process is that of the next line of its strand
+pub nth-next : (lines : List Line) (pid n : ℕ) (s : Strand) (c : CommandView) → s.pid ≡ pid → length s.entries.items + 1 ≡ n → IsNth (commands_of pid lines) n c
+    → get_or (commands_of s.pid lines) (length s.entries.items) c ≡ c
+nth-next lines pid n s c own nth is =
+    let place : length is.before ≡ length s.entries.items = omega (arith, is.place, nth) in
+    ap (λ (p : ℕ). get_or (commands_of p lines) (length s.entries.items) c) own ∙ ap (λ (cs : List CommandView). get_or cs (length s.entries.items) c) is.whole
+    ∙ get_or_at is.before c is.after c (length s.entries.items) place
+
 -- the event of a call has a place, and so has its entry
-pub has-line : (m : Machine) (s : Strand) → can_go m s ≡ true → length s.entries.items < length s.commands.items
-has-line m s go = ltb-true _ _ (and_parts (nat_lt (length s.entries.items) (length s.commands.items)) (is_some (caller_of m s.pid)) go).0
+pub has-line : (m : Machine) (s : Strand) → can_go m s ≡ true → length s.entries.items < s.lines
+has-line m s go = ltb-true _ _ (and_parts (nat_lt (length s.entries.items) s.lines) (is_some (caller_of m s.pid)) go).0
 
 pub has-place : (m : Machine) (ss : List Strand) (k room : ℕ) (s : Strand) → k < length ss → ((d : Strand) → get_or ss k d ≡ s) → can_go m s ≡ true → left_in ss ≤ room → 0 < room
 has-place m ss k room s lt here go enough =
@@ -93,22 +103,26 @@ has-place m ss k room s lt here go enough =
     let mine : left_of (get_or ss k s) ≡ left_of s = ap left_of (here s) in
     omega (arith, some, mine, has-line m s go, enough)
 
-module _ (script : ScriptView) (start before after : WorldState) (ss : List Strand) (made k : ℕ) (s t : Strand) (effect : Made)
-    (running : IsRunning script start before ss made) (lt : k < length ss) (here : (d : Strand) → get_or ss k d ≡ s) (go : can_go before.machine s ≡ true) (is : IsMade before s effect after t) where
-  parts : (nat_lt (length s.entries.items) (length s.commands.items) ≡ true) × (is_some (caller_of before.machine s.pid) ≡ true)
-  parts = and_parts (nat_lt (length s.entries.items) (length s.commands.items)) (is_some (caller_of before.machine s.pid)) go
+module _ (script : ScriptView) (start before after : WorldState) (ss : List Strand) (made k : ℕ) (s t : Strand) (command : CommandView) (effect : Made)
+    (running : IsRunning script start before ss made) (lt : k < length ss) (here : (d : Strand) → get_or ss k d ≡ s) (go : can_go before.machine s ≡ true) (next : get_or (commands_of s.pid script.lines) (length s.entries.items) command ≡ command)
+    (is : IsMade before s command effect after t) where
+  parts : (nat_lt (length s.entries.items) s.lines ≡ true) × (is_some (caller_of before.machine s.pid) ≡ true)
+  parts = and_parts (nat_lt (length s.entries.items) s.lines) (is_some (caller_of before.machine s.pid)) go
 
-  line : length s.entries.items < length s.commands.items
+  line : length s.entries.items < s.lines
   line = has-line before.machine s go
 
   live : IsLive s.pid before.machine.runners
   live = lives before.machine s.pid parts.1
 
-  notes : Notes s is.entry is.command t
-  notes = record { line = is.line; call = is.call; pid = is.pid; commands = is.commands; values = is.values; entries = is.entries; room = is.room }
+  notes : Notes s is.entry command t
+  notes = record { call = is.call; pid = is.pid; lines = is.lines; values = is.values; entries = is.entries; room = is.room }
 
   old : IsStrand script before.machine before.events s
   old = subst (IsStrand script before.machine before.events) (here s) (running.each k s lt)
+
+  less : length s.entries.items < length (commands_of s.pid script.lines)
+  less = omega (arith, line, old.lines)
 
   -- the other strands are of other processes
   others : (j : ℕ) (d : Strand) → j < length ss → j ≢ k → (get_or ss j d).pid ≢ s.pid
@@ -135,12 +149,11 @@ module _ (script : ScriptView) (start before after : WorldState) (ss : List Stra
   left : left_in (set ss k t) + 1 ≡ left_in ss
   left =
       let long : length t.entries.items ≡ length s.entries.items + 1 = ap length is.entries ∙ length_push s.entries.items is.entry in
-      let same : length t.commands.items ≡ length s.commands.items = ap (λ c. length c.items) is.commands in
-      let one : left_of t + 1 ≡ left_of s = omega (arith, long, same, line) in
+      let one : left_of t + 1 ≡ left_of s = omega (arith, long, is.lines, line) in
       left-set ss k t s lt (one ∙ ap left_of (sym (here s)))
 
   moves : (ms : List Moment) × AreMoves script.lines start after (set ss k t) made ms
-  moves = (_, moves-step script.lines start before after ss made running.moments running.moves k s t effect lt here others is)
+  moves = (_, moves-step script.lines start before after ss made running.moments running.moves k s t command effect lt here others is)
 
   by : (a : Answer) → is.entry.answer ≡ a → IsAnswered before s.pid is.entry.call a after → IsRunning script start after (set ss k t) made
   by (Replied r) answer called =
@@ -150,7 +163,7 @@ module _ (script : ScriptView) (start before after : WorldState) (ss : List Stra
       let aged = subst (λ (a : Answer). MatchBool (is_end is.entry.call a) (life_from s.pid after.machine.runners ≡ Some Ended) (IsLive s.pid after.machine.runners)) (sym answer) (lives-on (is_end is.entry.call (Replied r)) _ _ _ ages.own live) in
       let told : transcript_events s.pid (is.entry ∷ []) ≡ e ∷ [] = ap (λ (a : Answer). events_of s.pid is.entry.call a []) answer in
       let whole : own_part s.pid (before.events ++ e ∷ []) ≡ own_part s.pid before.events ++ transcript_events s.pid (is.entry ∷ []) = own-same s.pid before.events e refl ∙ ap (λ (l : List Event). own_part s.pid before.events ++ l) (sym told) in
-      let mine : IsStrand script after.machine (before.events ++ e ∷ []) t = strand-own script before.machine after.machine before.events (before.events ++ e ∷ []) s t is.entry is.command notes old line live aged whole (λ none. absurd (let both = sym answer ∙ none in cc)) in
+      let mine : IsStrand script after.machine (before.events ++ e ∷ []) t = strand-own script before.machine after.machine before.events (before.events ++ e ∷ []) s t is.entry command notes old less next live aged whole (λ none. absurd (let both = sym answer ∙ none in cc)) in
       let each : All (IsStrand script after.machine (before.events ++ e ∷ [])) (set ss k t) =
       each-set (IsStrand script before.machine before.events) (IsStrand script after.machine (before.events ++ e ∷ [])) ss k t lt running.each
       (λ j d less apart strand. strand-other script before.machine after.machine before.events e (get_or ss j d) ages (others j d less apart) strand) mine in
@@ -170,7 +183,7 @@ module _ (script : ScriptView) (start before after : WorldState) (ss : List Stra
       let aged : MatchBool (is_end is.entry.call is.entry.answer) (life_from s.pid before.machine.runners ≡ Some Ended) (IsLive s.pid before.machine.runners) = rw goes live in
       let told : transcript_events s.pid (is.entry ∷ []) ≡ [] = ap (λ (a : Answer). events_of s.pid is.entry.call a []) answer in
       let whole : own_part s.pid before.events ≡ own_part s.pid before.events ++ transcript_events s.pid (is.entry ∷ []) = sym (ap (λ (l : List Event). own_part s.pid before.events ++ l) told ∙ append-nil (own_part s.pid before.events)) in
-      let mine : IsStrand script before.machine before.events t = strand-own script before.machine before.machine before.events before.events s t is.entry is.command notes old line live aged whole (λ none. takes) in
+      let mine : IsStrand script before.machine before.events t = strand-own script before.machine before.machine before.events before.events s t is.entry command notes old less next live aged whole (λ none. takes) in
       let each : All (IsStrand script before.machine before.events) (set ss k t) =
       each-set (IsStrand script before.machine before.events) (IsStrand script before.machine before.events) ss k t lt running.each (λ j d less apart strand. strand) mine in
       record {

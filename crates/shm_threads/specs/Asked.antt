@@ -1,13 +1,14 @@
 -- The requests of a run's threads, in order.
 use Prim.Native.Nat.{zero, suc}
-use Rattle.std.specs.Prelude.{◌≡◌, ◌<◌, ◌≤◌, ◌+◌, ◌++◌, ℕ, Bool, true, false, List, [], ◌∷◌, Option, Some, None, MatchBool, if◌then◌else◌}
+use Rattle.std.specs.Prelude.{◌≡◌, ◌<◌, ◌≤◌, ◌+◌, ◌++◌, ℕ, Bool, true, false, List, [], ◌∷◌, length, MatchBool, if◌then◌else◌}
+use Rattle.shm_text.specs.Form.{CommandView}
 use Rattle.shm_text.specs.declared.script.Line.{Line}
 use Rattle.shm_text.specs.declared.script.Line.TheVariants.{Command, Flush}
 
--- What a worker asks or reports, with the answer: how many lines its process has, once it is born; whether it may make its n-th
+-- What a worker asks or reports, with the answer: whether its process is born, once that is known; whether it may make its n-th
 -- call; the call of its next line, and whether it can continue; that the n-th call got its reply; that the process has left
 pub data Asked : Type 0 where
-  Born : (lines : Option ℕ) → Asked
+  Born : (is_born : Bool) → Asked
   Before : (n : ℕ) → (may : Bool) → Asked
   Stepped : (goes_on : Bool) → Asked
   After : (n : ℕ) → Asked
@@ -16,6 +17,13 @@ pub data Asked : Type 0 where
 -- the n-th of this many
 abbrev pub IsWithin : ℕ → ℕ → Type 0
 IsWithin n count = (1 ≤ n) × (n ≤ count)
+
+-- this is the n-th of the commands
+pub record IsNth (commands : List CommandView) (n : ℕ) (command : CommandView) : Type 0 where
+  pub before : List CommandView
+  pub after : List CommandView
+  pub place : length before + 1 ≡ n
+  pub whole : commands ≡ before ++ command ∷ after
 
 -- these were asked next, whatever was asked before
 abbrev pub Adds : {A : Type 0} → (List A → Type 0) → List A → (List A → Type 0) → Type 0
@@ -43,20 +51,20 @@ pub record RunsLines (before after : List Asked → Type 0) (lines : ℕ) (whole
   pub asked : Adds before (asks_of 1 lines steps) after
 
 -- the requests after a process is born, if it is
-abbrev pub asks_after : Option ℕ → List Bool → List Asked
-asks_after None steps = []
-asks_after (Some lines) steps = asks_of 1 lines steps
+abbrev pub asks_after : Bool → ℕ → List Bool → List Asked
+asks_after false lines steps = []
+asks_after true lines steps = asks_of 1 lines steps
 
-abbrev pub EndsAfter : Option ℕ → List Bool → Bool → Type 0
-EndsAfter None steps whole = (steps ≡ []) × (whole ≡ true)
-EndsAfter (Some lines) steps whole = GoTo lines steps whole
+abbrev pub EndsAfter : Bool → ℕ → List Bool → Bool → Type 0
+EndsAfter false lines steps whole = (steps ≡ []) × (whole ≡ true)
+EndsAfter true lines steps whole = GoTo lines steps whole
 
 -- A worker asks whether its process is born, runs its lines if so, and reports that the process has left
-pub record Works (before after : List Asked → Type 0) (whole : Bool) : Type 0 where
-  pub lines : Option ℕ
+pub record Works (before after : List Asked → Type 0) (lines : ℕ) (whole : Bool) : Type 0 where
+  pub is_born : Bool
   pub steps : List Bool
-  pub ends : EndsAfter lines steps whole
-  pub asked : Adds before (Born lines ∷ asks_after lines steps ++ Left ∷ []) after
+  pub ends : EndsAfter is_born lines steps whole
+  pub asked : Adds before (Born is_born ∷ asks_after is_born lines steps ++ Left ∷ []) after
 
 -- What the flusher asks or reports: whether it may make its n-th round; the next round; that it was made
 pub data RoundAsked : Type 0 where

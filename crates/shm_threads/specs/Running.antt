@@ -8,6 +8,7 @@ use Rattle.shm_history.specs.Gauges.{Seat}
 use Rattle.shm_history.specs.WorldState.{WorldState, IsRound}
 use Rattle.shm_life.specs.Start.{are_pids}
 use Rattle.shm_slots.specs.View.{new_swap}
+use Rattle.shm_text.specs.Form.{CommandView}
 use Rattle.shm_text.specs.Script.{ScriptView}
 use Rattle.shm_threads.specs.Outcomes.{StartedFrom}
 use Rattle.shm_threads.specs.Asked.{rounds_of}
@@ -67,13 +68,13 @@ abbrev pub goes_on_by : Made → Bool
 goes_on_by End = false
 goes_on_by _ = true
 
--- A strand that can continue made the call of its next line: its entry, a birth if there was one, and whether it may have more
-pub record IsTurn (before : RunView) (index : ℕ) (goes_on news : Bool) (after : RunView) : Type 0 where
+-- A strand that can continue made the call of this command, its next line: its entry, a birth if there was one, and whether it may have more
+pub record IsTurn (before : RunView) (index : ℕ) (command : CommandView) (goes_on news : Bool) (after : RunView) : Type 0 where
   pub strand : Strand
   pub next : Strand
   pub effect : Made
   pub at : (d : Strand) → slice_index_or before.strands index d ≡ strand
-  pub step : IsMade before.world strand effect after.world next
+  pub step : IsMade before.world strand command effect after.world next
   pub rest : after ≡ record before { world = after.world; strands = slice_set before.strands index next; processes = births_after effect before.processes }
   pub noted : news ≡ is_birth effect
   pub more : goes_on ≡ goes_on_by effect

@@ -1,6 +1,5 @@
 -- Where the processes of a run are in their lines.
-use Rattle.std.specs.Prelude.{◌≡◌, ◌≤◌, ◌+◌, ◌-◌, ◌++◌, ◌==◌, ◌&&◌, ℕ, Bool, true, false, List, [], ◌∷◌, length, map, drop, slice_index_or, vec_capacity, nat_lt, is_some, if◌then◌else◌, Option, Some, None, All}
-use Rattle.std.specs.Borrow.{Bor}
+use Rattle.std.specs.Prelude.{◌≡◌, ◌≤◌, ◌+◌, ◌-◌, ◌++◌, ◌==◌, ◌&&◌, ℕ, Bool, true, false, List, [], ◌∷◌, length, drop, vec_capacity, nat_lt, is_some, if◌then◌else◌, Option, Some, None, All}
 use Rattle.shm_base.specs.Calls.{ProcessCall}
 use Rattle.shm_base.specs.History.{own_part}
 use Rattle.shm_base.specs.Memory.{takes_memory}
@@ -26,27 +25,20 @@ use Rattle.shm_threads.specs.declared.transcript.Transcript.{Transcript}
 abbrev pub pid_of_strand : Strand → ℕ
 pid_of_strand s = s.pid
 
-abbrev pub now_of : Bor CommandView → CommandView
-now_of c = c.now
-
--- the commands of a strand
-abbrev pub lines_of : Strand → List CommandView
-lines_of s = map now_of s.commands.items
-
 -- how many lines a strand has left
 abbrev pub left_of : Strand → ℕ
-left_of s = length s.commands.items - length s.entries.items
+left_of s = s.lines - length s.entries.items
 
 abbrev pub left_in : List Strand → ℕ
 left_in [] = 0
 left_in (s ∷ ss) = left_of s + left_in ss
 
 -- a strand before its first line
-pub record IsFresh (lines : List Line) (s : Strand) : Type 0 where
-  pub commands : lines_of s ≡ commands_of s.pid lines
+pub record IsFresh (all : List Line) (s : Strand) : Type 0 where
+  pub lines : s.lines ≡ length (commands_of s.pid all)
   pub values : s.vars ≡ no_values
   pub entries : s.entries.items ≡ []
-  pub room : length s.commands.items ≤ vec_capacity s.entries
+  pub room : s.lines ≤ vec_capacity s.entries
 
 -- what a call did to the lives of processes
 abbrev pub made_by : ProcessCall → Answer → Made
@@ -60,15 +52,13 @@ IsAnswered before pid call (Replied r) after = IsCalled before pid call r after
 IsAnswered before pid call HostMemory after = (after ≡ record before { room = after.room }) × (before.room ≤ after.room) × (takes_memory call ≡ true)
 
 -- the call of a strand's next line, with its answer
-pub record IsMade (before : WorldState) (s : Strand) (made : Made) (after : WorldState) (t : Strand) : Type 0 where
+pub record IsMade (before : WorldState) (s : Strand) (command : CommandView) (made : Made) (after : WorldState) (t : Strand) : Type 0 where
   pub entry : Entry
-  pub command : CommandView
-  pub line : (d : CommandView) → slice_index_or (lines_of s) (length s.entries.items) d ≡ command
   pub call : entry.call ≡ call_of s.vars command.call
   pub answered : IsAnswered before s.pid entry.call entry.answer after
   pub effect : made ≡ made_by entry.call entry.answer
   pub pid : t.pid ≡ s.pid
-  pub commands : t.commands ≡ s.commands
+  pub lines : t.lines ≡ s.lines
   pub values : t.vars ≡ values_after s.vars command.var (reply_in entry.answer)
   pub entries : t.entries.items ≡ s.entries.items ++ entry ∷ []
   pub room : vec_capacity t.entries ≡ vec_capacity s.entries
@@ -92,15 +82,15 @@ StandsAt script history s (Some Ended) = Follows no_values (commands_of s.pid sc
 
 -- A strand of a script, its place in its lines, and its own part of the history
 pub record IsStrand (script : ScriptView) (machine : Machine) (history : List Event) (s : Strand) : Type 0 where
-  pub commands : lines_of s ≡ commands_of s.pid script.lines
-  pub room : length s.commands.items ≤ vec_capacity s.entries
+  pub lines : s.lines ≡ length (commands_of s.pid script.lines)
+  pub room : s.lines ≤ vec_capacity s.entries
   pub place : StandsAt script history s (life_from s.pid machine.runners)
   pub own : transcript_events s.pid s.entries.items ≡ own_part s.pid history
   pub marks : All IsMarkAllowed s.entries.items
 
 -- the process is live and has a line left
 abbrev pub can_go : Machine → Strand → Bool
-can_go machine s = nat_lt (length s.entries.items) (length s.commands.items) && is_some (caller_of machine s.pid)
+can_go machine s = nat_lt (length s.entries.items) s.lines && is_some (caller_of machine s.pid)
 
 -- the transcript of a strand
 abbrev pub transcript_of : Strand → Transcript

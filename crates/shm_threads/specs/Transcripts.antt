@@ -1,6 +1,7 @@
 -- How transcripts match a history.
 use Rattle.std.specs.Prelude.{◌≡◌, ◌≢◌, ◌≤◌, ◌⊎◌, ◌==◌, ℕ, List, [], ◌∷◌, length, map, Bool, true, false, not, ◌&&◌, is_some, if◌then◌else◌, Option, Some, None, MatchBool, All}
 use Rattle.std.specs.List.{list_any}
+use Rattle.std.specs.Borrow.{Bor}
 use Rattle.shm_base.specs.History.{own_part}
 use Rattle.shm_base.specs.Calls.{ProcessCall}
 use Rattle.shm_base.specs.declared.call.Call.TheVariants.{Fork, Exit}
@@ -29,6 +30,11 @@ abbrev pub commands_of : ℕ → List Line → List CommandView
 commands_of pid [] = []
 commands_of pid (Flush n ∷ ls) = commands_of pid ls
 commands_of pid (Command c ∷ ls) = if c.pid == pid then c ∷ commands_of pid ls else commands_of pid ls
+
+-- the command of a line, if there is one
+abbrev pub commands_in : Option (Bor CommandView) → List CommandView
+commands_in None = []
+commands_in (Some c) = c.now ∷ []
 
 -- out of memory is not a reply
 abbrev pub reply_in : Answer → Option Reply

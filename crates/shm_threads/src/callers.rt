@@ -10,12 +10,13 @@ use crate::origin::Origin;
 use crate::shared::Shared;
 use crate::worker::{Caller, work};
 use shm_pager::Pager;
+use shm_text::{Command, Line};
 use std::sync::Wait;
 
 #[derive(Drop)]
-struct ProcessCaller<'a, 'l, R: Wait, G: Gate, P: Pager, O: Origin> {
+struct ProcessCaller<'a, R: Wait, G: Gate, P: Pager, O: Origin> {
     rt: &'a R,
-    shared: &'a Shared<'l, P, O>,
+    shared: &'a Shared<P, O>,
     gate: &'a G,
     index: usize,
     pid: u32,
@@ -23,15 +24,15 @@ struct ProcessCaller<'a, 'l, R: Wait, G: Gate, P: Pager, O: Origin> {
     ghost declared: { IsProcessAt O.script.processes index pid },
 }
 
-impl<R: Wait, G: Gate, P: Pager, O: Origin> Caller for ProcessCaller<'_, '_, R, G, P, O> {
+impl<R: Wait, G: Gate, P: Pager, O: Origin> Caller for ProcessCaller<'_, R, G, P, O> {
     ghost asked = { λ _ _. Unit {0} };
 
-    ghost lines = { λ c. length (commands_of c.pid O.script.lines) };
+    ghost lines = { λ c. commands_of c.pid O.script.lines };
 
     ghost may = { λ c n. O.answers c.pid n true ≡ true };
 
-    fn born(&mut self) -> Option<usize> {
-        self.shared.wait_for_birth(self.rt, self.index, self.pid)
+    fn born(&mut self) -> bool {
+        self.shared.wait_for_birth(self.rt, self.pid)
     }
 
     fn before(&mut self, n: u64) -> bool {
@@ -42,8 +43,8 @@ impl<R: Wait, G: Gate, P: Pager, O: Origin> Caller for ProcessCaller<'_, '_, R, 
         may
     }
 
-    fn step(&mut self, n: u64) -> bool {
-        self.shared.step(self.rt, self.index, self.pid, n)
+    fn step(&mut self, n: u64, command: &Command) -> bool {
+        self.shared.step(self.rt, self.index, self.pid, n, command)
     }
 
     fn after(&mut self, n: u64) {
@@ -58,13 +59,15 @@ impl<R: Wait, G: Gate, P: Pager, O: Origin> Caller for ProcessCaller<'_, '_, R, 
 /// Runs the process at an index of a run, from its birth to its end, or until the gate ends its thread.
 pub(crate) fn run_process<R: Wait, G: Gate, P: Pager, O: Origin>(
     rt: &R,
-    shared: &Shared<'_, P, O>,
+    shared: &Shared<P, O>,
     gate: &G,
     index: usize,
     pid: u32,
+    lines: &[Line],
 )
     requires gate { G.answers gate.now ≡ O.answers }
     requires process { IsProcessAt O.script.processes index pid }
+    requires lines { O.script.lines ≡ lines.now }
 {
     let mut caller = ProcessCaller {
         rt,
@@ -73,18 +76,18 @@ pub(crate) fn run_process<R: Wait, G: Gate, P: Pager, O: Origin>(
         index,
         pid,
     };
-    work(&mut caller);
+    work(&mut caller, pid, lines);
 }
 
 #[derive(Drop)]
-struct RoundFlusher<'a, 'l, R: Wait, G: Gate, P: Pager, O: Origin> {
+struct RoundFlusher<'a, R: Wait, G: Gate, P: Pager, O: Origin> {
     rt: &'a R,
-    shared: &'a Shared<'l, P, O>,
+    shared: &'a Shared<P, O>,
     gate: &'a G,
     ghost of_run: { G.answers gate.now ≡ O.answers },
 }
 
-impl<R: Wait, G: Gate, P: Pager, O: Origin> Flusher for RoundFlusher<'_, '_, R, G, P, O> {
+impl<R: Wait, G: Gate, P: Pager, O: Origin> Flusher for RoundFlusher<'_, R, G, P, O> {
     ghost asked = { λ _ _. Unit {0} };
 
     ghost rounds = { λ _. length (rounds_of O.script.lines) };
@@ -111,7 +114,7 @@ impl<R: Wait, G: Gate, P: Pager, O: Origin> Flusher for RoundFlusher<'_, '_, R, 
 /// Makes the flush rounds of a run in order, or until the gate ends the flusher.
 pub(crate) fn run_rounds<R: Wait, G: Gate, P: Pager, O: Origin>(
     rt: &R,
-    shared: &Shared<'_, P, O>,
+    shared: &Shared<P, O>,
     gate: &G,
     rounds: usize,
 )

@@ -5,6 +5,7 @@ mod births;
 mod callers;
 mod flusher;
 mod gate;
+mod lines;
 mod origin;
 mod outcome;
 mod run;

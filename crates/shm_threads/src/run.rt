@@ -19,7 +19,7 @@ use crate::shared::{Left, Shared, transcripts_of};
 use crate::start::{Refused, WorkerHandle, start_flusher, start_worker};
 use crate::strand::{Strand, strands};
 use crate::transcript::Transcript;
-use shm_base::{HostMemory, Process};
+use shm_base::HostMemory;
 use shm_history::{Keeper, World};
 use shm_pager::Pager;
 use shm_text::Script;
@@ -125,7 +125,7 @@ fn run_with<R: Threads + Wait + Sync, G: Gate, P: Pager + Send>(
 fn run_from<O: Origin + Send + Sync, R: Threads + Wait + Sync, G: Gate, P: Pager + Send>(
     rt: &R,
     world: World<P>,
-    start: Start<'_>,
+    start: Start,
     keeper: Option<Keeper>,
     script: &Script,
     gate: &G,
@@ -151,13 +151,13 @@ fn run_from<O: Origin + Send + Sync, R: Threads + Wait + Sync, G: Gate, P: Pager
         transcripts,
     } = start;
     let count = rounds.len();
-    let shared: Shared<'_, P, O> = Shared::new(world, strands, rounds, processes, keeper);
-    let refused = run_all(rt, &shared, count, &script.processes, gate, handles);
+    let shared: Shared<P, O> = Shared::new(world, strands, rounds, processes, keeper);
+    let refused = run_all(rt, &shared, count, script, gate, handles);
     let Left {
         world,
         strands,
         keeper,
-    } = shared.finish(rt, refused, gate)?;
+    } = shared.finish(rt, refused, gate, &script.lines)?;
     // What the world promises: its history is legal.
     prove!({
         let _ = world.history();
@@ -170,8 +170,8 @@ fn run_from<O: Origin + Send + Sync, R: Threads + Wait + Sync, G: Gate, P: Pager
 // All memory that a run takes before its workers start, except the room in its world: a strand and a state for each
 // process, the pages of the flush rounds, and empty lists with room for each worker and each transcript.
 #[derive(Drop)]
-struct Start<'a> {
-    strands: Vec<Strand<'a>>,
+struct Start {
+    strands: Vec<Strand>,
     rounds: Vec<u32>,
     processes: Vec<ProcessState>,
     handles: Vec<WorkerHandle>,
@@ -179,11 +179,11 @@ struct Start<'a> {
 }
 
 // The start of a run. There is room for an event of each line.
-fn prepared<'a, P: Pager>(
+fn prepared<P: Pager>(
     alloc: Global,
     world: &mut World<P>,
-    script: &'a Script,
-) -> Result<Start<'a>, HostMemory>
+    script: &Script,
+) -> Result<Start, HostMemory>
     requires { IsOpened script.now world.old }
     ensures room { IfOk result (λ s. HaveRoom script.now.processes s.handles s.transcripts) }
     ensures running { IfOk result (λ s. IsRunning script.now world.new world.new s.strands.items 0) }
@@ -215,33 +215,33 @@ fn prepared<'a, P: Pager>(
 // returns the refusal.
 fn run_all<O: Origin + Send + Sync, R: Threads + Wait + Sync, G: Gate, P: Pager + Send>(
     rt: &R,
-    shared: &Shared<'_, P, O>,
+    shared: &Shared<P, O>,
     rounds: usize,
-    processes: &[Process],
+    script: &Script,
     gate: &G,
     handles: Vec<WorkerHandle>,
 ) -> Option<Refused>
     requires rounds { rounds ≡ length (rounds_of O.script.lines) }
-    requires processes { O.script.processes ≡ processes.now }
+    requires script { O.script ≡ script.now }
     requires gate { G.answers gate.now ≡ O.answers }
     requires none { handles.items ≡ [] }
-    requires room { length processes.now ≤ vec_capacity handles }
+    requires room { length script.now.processes ≤ vec_capacity handles }
 {
     thread::scope(
         thread::scope_env(),
         rt,
         move |scope| -> Option<Refused>
             requires rounds { rounds ≡ length (rounds_of O.script.lines) }
-            requires processes { O.script.processes ≡ processes.now }
+            requires script { O.script ≡ script.now }
             requires gate { G.answers gate.now ≡ O.answers }
             requires none { handles.items ≡ [] }
-            requires room { length processes.now ≤ vec_capacity handles }
+            requires room { length script.now.processes ≤ vec_capacity handles }
         {
             let flusher = match start_flusher(scope, rt, shared, gate, rounds) {
                 Ok(flusher) => flusher,
                 Err(refused) => return Some(refused),
             };
-            let (handles, refused) = start_all(scope, rt, shared, processes, gate, handles);
+            let (handles, refused) = start_all(scope, rt, shared, script, gate, handles);
             flusher.join(rt);
             for handle in handles {
                 handle.join(rt);
@@ -256,19 +256,24 @@ fn run_all<O: Origin + Send + Sync, R: Threads + Wait + Sync, G: Gate, P: Pager 
 fn start_all<'s, E, O: Origin + Send + Sync, R: Threads + Wait + Sync, G: Gate, P: Pager + Send>(
     scope: &Scope<'s, E>,
     rt: &'s R,
-    shared: &'s Shared<'_, P, O>,
-    processes: &[Process],
+    shared: &'s Shared<P, O>,
+    script: &'s Script,
     gate: &'s G,
     mut handles: Vec<WorkerHandle>,
 ) -> (Vec<WorkerHandle>, Option<Refused>)
-    requires script { O.script.processes ≡ processes.now }
+    requires script { O.script ≡ script.now }
     requires gate { G.answers gate.now ≡ O.answers }
     requires none { handles.items ≡ [] }
-    requires room { length processes.now ≤ vec_capacity handles }
+    requires room { length script.now.processes ≤ vec_capacity handles }
 {
+    let Script {
+        processes,
+        lines,
+        ..
+    } = script;
     for index in 0..processes.len() {
         let pid = processes[index].pid;
-        match start_worker(scope, rt, shared, gate, index, pid) {
+        match start_worker(scope, rt, shared, gate, index, pid, lines) {
             Ok(handle) => handles.push_reserved(handle),
             Err(refused) => {
                 for process in &processes[index..] {

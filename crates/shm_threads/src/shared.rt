@@ -4,7 +4,7 @@
 //! say whose turn it is. Noting a birth or an end returns news, which can only be used up by waking the waiting threads.
 ghost use Rattle.std.specs.Prelude.{◌≡◌, ◌≤◌, ◌<◌, ◌+◌, ◌⊎◌, [], length, map, option_map, position, true, false, ◌↔◌};
 ghost use Rattle.std.specs.Prelude.{All, Some, None, IfOk, IfErr, IfSome, OnOk, MatchBool, is_some, ℕ, vec_len, vec_capacity};
-ghost use Rattle.shm_threads.specs.Asked.{rounds_of};
+ghost use Rattle.shm_threads.specs.Asked.{IsNth, IsWithin, rounds_of};
 ghost use Rattle.shm_threads.specs.Births.{births_after, is_birth, with_end};
 ghost use Rattle.shm_threads.specs.Ends.{CanStop, HasCall, IsEnded, ended_by, least};
 ghost use Rattle.shm_threads.specs.Keepers.{IsKept, cell_of, stored_of, HasPublished};
@@ -16,6 +16,7 @@ ghost use Rattle.shm_threads.specs.Transcripts.{commands_of};
 
 use crate::births::{News, ProcessState, is_born, may_fork, note_birth, note_end};
 use crate::gate::Gate;
+use crate::lines::nth_command;
 use crate::origin::Origin;
 use crate::outcome::{RunError, comes_before, ended_by, least};
 use crate::start::Refused;
@@ -23,6 +24,7 @@ use crate::strand::{Made, Strand, make};
 use crate::transcript::Transcript;
 use shm_history::{Keeper, World};
 use shm_pager::Pager;
+use shm_text::{Command, Line};
 use std::marker::{Model, PhantomData};
 use std::sync::{Condvar, Mutex, MutexGuard, Wait};
 use std::thread::yield_now;
@@ -31,9 +33,9 @@ use std::thread::yield_now;
 /// which processes are born and have left, the keeper of a gauged run, and the least pid of a thread that
 /// the gate ended.
 #[derive(Drop)]
-pub(crate) struct RunState<'a, P: Pager, O: Origin> {
+pub(crate) struct RunState<P: Pager, O: Origin> {
     world: World<P>,
-    strands: Vec<Strand<'a>>,
+    strands: Vec<Strand>,
     rounds: Vec<u32>,
     made: usize,
     processes: Vec<ProcessState>,
@@ -42,7 +44,7 @@ pub(crate) struct RunState<'a, P: Pager, O: Origin> {
     of: PhantomData<O>,
 }
 
-impl<'a, P: Pager, O: Origin> Model for RunState<'a, P, O> {
+impl<P: Pager, O: Origin> Model for RunState<P, O> {
     ghost use Rattle.std.specs.Prelude.{◌≡◌, IfSome};
     ghost use Rattle.shm_threads.specs.Asked.{rounds_of};
     ghost use Rattle.shm_threads.specs.Ends.{IsEnded};
@@ -69,22 +71,21 @@ impl<'a, P: Pager, O: Origin> Model for RunState<'a, P, O> {
 }
 
 // Whether a strand can continue: its process is live, and has a line left.
-fn goes<P: Pager>(world: &World<P>, strand: &Strand<'_>) -> bool
+fn goes<P: Pager>(world: &World<P>, strand: &Strand) -> bool
     ensures { result ≡ can_go world.now.machine strand.now }
 {
-    strand.entries.len() < strand.commands.len()
-        && world.system().spaces().caller(strand.pid).is_some()
+    strand.entries.len() < strand.lines && world.system().spaces().caller(strand.pid).is_some()
 }
 
 // Whether a strand can continue, and comes before the thread that the gate ended, if it ended one.
-fn comes<P: Pager>(world: &World<P>, strand: &Strand<'_>, expired: Option<u32>) -> bool
+fn comes<P: Pager>(world: &World<P>, strand: &Strand, expired: Option<u32>) -> bool
     ensures { result ≡ can_come expired world.now.machine strand.now }
 {
     comes_before(strand.pid, expired) && goes(world, strand)
 }
 
 // Whether the next call of a strand is its n-th.
-fn is_next(strand: &Strand<'_>, n: u64) -> bool
+fn is_next(strand: &Strand, n: u64) -> bool
     ensures { result ≡ is_next strand.now n }
 {
     strand.entries.len() as u64 + 1 == n
@@ -103,13 +104,14 @@ struct Turn {
     news: Option<News>,
 }
 
-impl<P: Pager, O: Origin> RunState<'_, P, O> {
+impl<P: Pager, O: Origin> RunState<P, O> {
     // Makes the call of the next line of a process, if it can continue and this is its n-th call.
-    fn step(&mut self, index: usize, pid: u32, n: u64) -> Turn
+    fn step(&mut self, index: usize, pid: u32, n: u64, command: &Command) -> Turn
         requires process { IsProcessAt O.script.processes index pid }
         requires passed { O.answers pid n true ≡ true }
+        requires line { IsNth (commands_of pid O.script.lines) n command.now }
         ensures { IsIdle self.old index n result.goes_on (is_some result.news) self.new
-            ⊎ IsTurn self.old index result.goes_on (is_some result.news) self.new }
+            ⊎ IsTurn self.old index command.now result.goes_on (is_some result.news) self.new }
     {
         if index >= self.strands.len()
             || !is_next(&self.strands[index], n)
@@ -120,7 +122,7 @@ impl<P: Pager, O: Origin> RunState<'_, P, O> {
                 news: None,
             };
         }
-        let made = make(&mut self.world, &mut self.strands[index]);
+        let made = make(&mut self.world, &mut self.strands[index], command);
         Turn {
             goes_on: made != Made::End,
             news: born_by(&mut self.processes, made),
@@ -147,7 +149,8 @@ impl<P: Pager, O: Origin> RunState<'_, P, O> {
         ensures first { option_map (λ k. k.index) result
             ≡ position (can_come self.now.expired self.now.world.machine) self.now.strands }
         ensures process { IfSome result (λ k. IsProcessAt O.script.processes k.index k.pid) }
-        ensures call { IfSome result (λ k. HasCall O.script k.pid k.n) }
+        ensures line { IfSome result
+            (λ k. IsWithin k.n (length (commands_of k.pid O.script.lines))) }
         ensures running { IsRunning O.script O.start self.now.world self.now.strands self.now.made }
         ensures rounds { self.now.rounds ≡ rounds_of O.script.lines }
         ensures ended { IfSome self.now.expired (IsEnded O.answers O.script) }
@@ -162,14 +165,6 @@ impl<P: Pager, O: Origin> RunState<'_, P, O> {
             pid: strand.pid,
             n: strand.entries.len() as u64 + 1,
         })
-    }
-
-    // How many lines the process at an index has.
-    fn lines(&self, index: usize, pid: u32) -> usize
-        requires { IsProcessAt O.script.processes index pid }
-        ensures { result ≡ length (commands_of pid O.script.lines) }
-    {
-        self.strands[index].commands.len()
     }
 
     // Makes the next flush round, if it is the n-th. If there is a keeper, it publishes the counts afterwards.
@@ -215,8 +210,10 @@ impl<P: Pager, O: Origin> RunState<'_, P, O> {
         refused: Option<Refused>,
         gate: &G,
         changed: &Condvar,
+        lines: &[Line],
     ) -> Result<(), RunError>
-        requires { G.answers gate.now ≡ O.answers }
+        requires gate { G.answers gate.now ≡ O.answers }
+        requires lines { O.script.lines ≡ lines.now }
         ensures ended { result ≡ ended_by (is_some refused) self.new.expired }
         ensures kept { is_some refused ≡ true → self.new ≡ self.old }
         ensures error { IfErr result (CanStop O.answers O.script O.start) }
@@ -232,7 +229,8 @@ impl<P: Pager, O: Origin> RunState<'_, P, O> {
                     self.expire(pid, n);
                     continue;
                 }
-                let Turn { goes_on: _, news } = self.step(index, pid, n);
+                let command = nth_command(lines, pid, n);
+                let Turn { goes_on: _, news } = self.step(index, pid, n, command);
                 announce(news, changed);
                 gate.after(pid, n);
             } else if comes_before(0, self.expired) && self.made < self.rounds.len() {
@@ -275,8 +273,8 @@ fn born_by(processes: &mut Vec<ProcessState>, made: Made) -> Option<News>
 /// What the threads of a run share: the state under its lock, and a condition variable for forks and for processes that
 /// leave.
 #[derive(Drop)]
-pub(crate) struct Shared<'a, P: Pager, O: Origin> {
-    state: Mutex<RunState<'a, P, O>>,
+pub(crate) struct Shared<P: Pager, O: Origin> {
+    state: Mutex<RunState<P, O>>,
     changed: Condvar,
 }
 
@@ -293,14 +291,14 @@ fn let_others_run(times: u32) {
     }
 }
 
-impl<'a, P: Pager, O: Origin> Shared<'a, P, O> {
+impl<P: Pager, O: Origin> Shared<P, O> {
     pub(crate) fn new(
         world: World<P>,
-        strands: Vec<Strand<'a>>,
+        strands: Vec<Strand>,
         rounds: Vec<u32>,
         processes: Vec<ProcessState>,
         keeper: Option<Keeper>,
-    ) -> Shared<'a, P, O>
+    ) -> Shared<P, O>
         requires running { IsRunning O.script O.start world strands.items 0 }
         requires fresh { All (IsFresh O.script.lines) strands.items }
         requires rounds { rounds.items ≡ rounds_of O.script.lines }
@@ -324,7 +322,7 @@ impl<'a, P: Pager, O: Origin> Shared<'a, P, O> {
     // The lock. A call is short, so a thread that finds it taken lets others run before it tries again, longer
     // each time, and sleeps at last. A lock that moves to another processor brings what it guards along, which
     // takes longer than the call.
-    fn locked<R: Wait>(&self, rt: &R) -> MutexGuard<'_, RunState<'a, P, O>> {
+    fn locked<R: Wait>(&self, rt: &R) -> MutexGuard<'_, RunState<P, O>> {
         let mut yields = 1u32;
         for _ in 0..TRIES {
             if let Some(guard) = self.state.try_lock() {
@@ -337,11 +335,19 @@ impl<'a, P: Pager, O: Origin> Shared<'a, P, O> {
     }
 
     /// Makes the call of the next line of a process, its n-th, which the gate passed. False if it can't continue.
-    pub(crate) fn step<R: Wait>(&self, rt: &R, index: usize, pid: u32, n: u64) -> bool
+    pub(crate) fn step<R: Wait>(
+        &self,
+        rt: &R,
+        index: usize,
+        pid: u32,
+        n: u64,
+        command: &Command,
+    ) -> bool
         requires process { IsProcessAt O.script.processes index pid }
         requires passed { O.answers pid n true ≡ true }
+        requires line { IsNth (commands_of pid O.script.lines) n command.now }
     {
-        let Turn { goes_on, news } = self.locked(rt).step(index, pid, n);
+        let Turn { goes_on, news } = self.locked(rt).step(index, pid, n, command);
         announce(news, &self.changed);
         goes_on
     }
@@ -353,20 +359,12 @@ impl<'a, P: Pager, O: Origin> Shared<'a, P, O> {
         let _made = self.state.lock(rt).flush(rt, n);
     }
 
-    /// Waits until the process is born, or no process is left that could fork it. Returns how many lines it has, if it
-    /// is born.
-    pub(crate) fn wait_for_birth<R: Wait>(&self, rt: &R, index: usize, pid: u32) -> Option<usize>
-        requires { IsProcessAt O.script.processes index pid }
-        ensures { IfSome result (λ n. n ≡ length (commands_of pid O.script.lines)) }
-    {
+    /// Waits until the process is born, or no process is left that could fork it. False if it is not born.
+    pub(crate) fn wait_for_birth<R: Wait>(&self, rt: &R, pid: u32) -> bool {
         let state = self.changed.wait_while(rt, self.state.lock(rt), |state| {
             !is_born(&state.processes, pid) && may_fork(&state.processes)
         });
-        if is_born(&state.processes, pid) {
-            Some(state.lines(index, pid))
-        } else {
-            None
-        }
+        is_born(&state.processes, pid)
     }
 
     /// Notes that a process has left.
@@ -389,8 +387,10 @@ impl<'a, P: Pager, O: Origin> Shared<'a, P, O> {
         rt: &R,
         refused: Option<Refused>,
         gate: &G,
-    ) -> Result<Left<'a, P>, RunError>
-        requires { G.answers gate.now ≡ O.answers }
+        lines: &[Line],
+    ) -> Result<Left<P>, RunError>
+        requires gate { G.answers gate.now ≡ O.answers }
+        requires lines { O.script.lines ≡ lines.now }
         ensures over { IfOk result (λ l. (made : ℕ)
             × (IsOver O.script O.start l.world l.strands.items made None
             × ArePassed O.answers l.strands.items made)) }
@@ -401,7 +401,7 @@ impl<'a, P: Pager, O: Origin> Shared<'a, P, O> {
     {
         let Shared { state, changed } = self;
         let mut state = state.into_inner();
-        match state.complete(rt, refused, gate, &changed) {
+        match state.complete(rt, refused, gate, &changed, lines) {
             Ok(()) => {}
             Err(error) => return Err(error),
         }
@@ -421,9 +421,9 @@ impl<'a, P: Pager, O: Origin> Shared<'a, P, O> {
 
 /// What a run left: the world, the strands and the keeper.
 #[derive(Drop)]
-pub(crate) struct Left<'a, P: Pager> {
+pub(crate) struct Left<P: Pager> {
     pub(crate) world: World<P>,
-    pub(crate) strands: Vec<Strand<'a>>,
+    pub(crate) strands: Vec<Strand>,
     pub(crate) keeper: Option<Keeper>,
 }
 
@@ -436,12 +436,12 @@ fn announce(news: Option<News>, changed: &Condvar) {
 
 /// The transcripts of strands. The list has room for each.
 pub(crate) fn transcripts_of(
-    strands: Vec<Strand<'_>>,
+    strands: Vec<Strand>,
     mut transcripts: Vec<Transcript>,
 ) -> Vec<Transcript>
     requires none { transcripts.items ≡ [] }
     requires room { vec_len strands ≤ vec_capacity transcripts }
-    ensures { result.items ≡ map transcript_of strands.entry.items }
+    ensures { result.items ≡ map transcript_of strands.items }
 {
     for strand in strands {
         let Strand { pid, entries, .. } = strand;

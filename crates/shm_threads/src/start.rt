@@ -9,6 +9,7 @@ use crate::origin::Origin;
 use crate::outcome::RunError;
 use crate::shared::Shared;
 use shm_pager::Pager;
+use shm_text::Line;
 use std::sync::Wait;
 use std::thread::{JoinHandle, Scope, Threads};
 
@@ -41,19 +42,22 @@ pub(crate) fn start_worker<
 >(
     scope: &Scope<'s, E>,
     rt: &'s R,
-    shared: &'s Shared<'_, P, O>,
+    shared: &'s Shared<P, O>,
     gate: &'s G,
     index: usize,
     pid: u32,
+    lines: &'s [Line],
 ) -> Result<WorkerHandle, Refused>
     requires gate { G.answers gate.now ≡ O.answers }
     requires process { IsProcessAt O.script.processes index pid }
+    requires lines { O.script.lines ≡ lines.now }
 {
     match scope.spawn(
         move ||
             requires gate { G.answers gate.now ≡ O.answers }
             requires process { IsProcessAt O.script.processes index pid }
-        { run_process(rt, shared, gate, index, pid) },
+            requires lines { O.script.lines ≡ lines.now }
+        { run_process(rt, shared, gate, index, pid, lines) },
     ) {
         Ok(handle) => Ok(handle),
         Err(_refused) => Err(Refused { is_known: () }),
@@ -71,7 +75,7 @@ pub(crate) fn start_flusher<
 >(
     scope: &Scope<'s, E>,
     rt: &'s R,
-    shared: &'s Shared<'_, P, O>,
+    shared: &'s Shared<P, O>,
     gate: &'s G,
     rounds: usize,
 ) -> Result<WorkerHandle, Refused>

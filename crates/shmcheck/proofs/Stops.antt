@@ -1,14 +1,8 @@
 -- Why there is no answer, and why it is not written.
-use Rattle.std.proofs.Common.{◌≡◌, inl, inr, refl, subst, ℕ, List, Ok}
+use Rattle.std.proofs.Common.{◌≡◌, refl, subst, ℕ, List, Ok}
 use Rattle.shm_base.specs.State.{Machine}
-use Rattle.shm_life.specs.Start.{start_error, IsFirstError}
-use Rattle.shm_life.specs.declared.start.StartError.{StartError}
-use Rattle.shm_life.specs.declared.start.StartError.TheVariants as starts
 use Rattle.shm_text.specs.Script.{ScriptView}
-use Rattle.shm_program.specs.Faults.{stopped_as}
 use Rattle.shm_schedules.specs.Schedules.{fresh, start}
-use Rattle.shm_schedules.specs.declared.engine.EngineError.{EngineError}
-use Rattle.shm_schedules.specs.declared.engine.EngineError.TheVariants as engines
 use Rattle.shm_schedules.specs.declared.search_error.SearchError.{SearchError}
 use Rattle.shm_schedules.specs.declared.search_error.SearchError.TheVariants as searches
 use Rattle.shm_outcomes.specs.Merging.{IsCause as IsSearchCause}
@@ -17,32 +11,13 @@ use Rattle.shm_judge.specs.Logs.{Answer, Entry}
 use Rattle.shm_judge.specs.Reading.{entries_of, log_of}
 use Rattle.shmcheck.specs.Answers.{IsStopIn}
 use Rattle.shmcheck.specs.Judged.{doubt_of}
-use Rattle.shmcheck.specs.Stop.{engine_stop, stop_of}
-use Rattle.shmcheck.specs.declared.command.Asked.{Asked}
+use Rattle.shmcheck.specs.Stop.{stop_of}
 use Rattle.shmcheck.specs.declared.command.Asked.TheVariants.{Outcomes, Question, Judge}
 use Rattle.shmcheck.specs.declared.command.Options.{Options}
 use Rattle.shmcheck.specs.declared.command.Wish.{Wish}
-use Rattle.shmcheck.specs.declared.stop.Stop.TheVariants as stops
-
--- the machine was not opened
-pub refused_stop : (error : StartError) (asked : Asked) (log areas : List ℕ) (script : ScriptView) → IsFirstError error (start_error script.limits areas script.processes) → IsStopIn (stops.Fault (stopped_as error)) asked log areas script
-refused_stop starts.HostMemory asked log areas script h = tt
-refused_stop starts.Areas asked log areas script (inl first) = (starts.Areas, first, refl)
-refused_stop starts.Areas asked log areas script (inr (e, none)) = absurd (cc)
-refused_stop starts.AreaSize asked log areas script (inl first) = (starts.AreaSize, first, refl)
-refused_stop starts.AreaSize asked log areas script (inr (e, none)) = absurd (cc)
-refused_stop starts.Processes asked log areas script (inl first) = (starts.Processes, first, refl)
-refused_stop starts.Processes asked log areas script (inr (e, none)) = absurd (cc)
-refused_stop starts.Pid asked log areas script (inl first) = (starts.Pid, first, refl)
-refused_stop starts.Pid asked log areas script (inr (e, none)) = absurd (cc)
-
--- the machine gave no reply
-pub engine_cause : (error : EngineError) (asked : Asked) (log areas : List ℕ) (script : ScriptView) → IsStopIn (engine_stop error) asked log areas script
-engine_cause engines.HostMemory asked log areas script = tt
-engine_cause engines.PagerFailed asked log areas script = tt
 
 bound_from : (error : SearchError) (o : Options) (log areas : List ℕ) (script : ScriptView) → IsSearchCause script (start script areas) o.most error → IsStopIn (stop_of error o.most) (Outcomes o) log areas script
-bound_from (searches.Engine e) o log areas script h = engine_cause e (Outcomes o) log areas script
+bound_from searches.HostMemory o log areas script h = tt
 bound_from searches.Bound o log areas script h = (refl, h)
 
 -- a search from the machine as the script opens it has no result
@@ -51,7 +26,7 @@ pub bound_stop : (error : SearchError) (o : Options) (log areas : List ℕ) (scr
 bound_stop error o log areas script machine is h = bound_from error o log areas script (subst (λ (m : Machine). IsSearchCause script (fresh m) o.most error) is h)
 
 question_from : (error : SearchError) (wish : Wish) (o : Options) (log areas : List ℕ) (script : ScriptView) → IsSearchCause script (start script areas) o.most error → IsStopIn (stop_of error o.most) (Question wish o) log areas script
-question_from (searches.Engine e) wish o log areas script h = engine_cause e (Question wish o) log areas script
+question_from searches.HostMemory wish o log areas script h = tt
 question_from searches.Bound wish o log areas script h = (refl, h)
 
 -- the same for a question
@@ -61,7 +36,7 @@ question_stop error wish o log areas script machine is h = question_from error w
 
 doubt_from : (error : SearchError) (o : Options) (log areas : List ℕ) (script : ScriptView) (entries : List Entry)
     → entries_of script log ≡ Ok entries → IsDoubt script (log_of script entries) (start script areas) o.most error → IsStopIn (doubt_of error o.most) (Judge o) log areas script
-doubt_from (searches.Engine e) o log areas script entries read h = engine_cause e (Judge o) log areas script
+doubt_from searches.HostMemory o log areas script entries read h = tt
 doubt_from searches.Bound o log areas script entries read h = (refl, (entries, read, h))
 
 -- a judge that begins there has no verdict

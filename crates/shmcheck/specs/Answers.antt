@@ -25,7 +25,7 @@ use Rattle.shmcheck.specs.declared.command.Asked.{Asked}
 use Rattle.shmcheck.specs.declared.command.Asked.TheVariants.{Outcomes, Question, Judge, Sample}
 use Rattle.shmcheck.specs.declared.ruling.RuleSet.{RuleSet}
 use Rattle.shmcheck.specs.declared.stop.Stop.{Stop}
-use Rattle.shmcheck.specs.declared.stop.Stop.TheVariants.{Fault, PagerFailed, Bound, BadLog, Doubt, BadCondition}
+use Rattle.shmcheck.specs.declared.stop.Stop.TheVariants.{Fault, Bound, BadLog, Doubt, BadCondition}
 
 -- THE ANSWER
 
@@ -103,7 +103,6 @@ IsRefused _ areas script = ⊥
 -- why there is no answer about a script
 abbrev pub IsStopIn : Stop → Asked → List ℕ → List ℕ → ScriptView → Type 0
 IsStopIn (Fault fault) asked given areas script = IsRefused fault areas script
-IsStopIn PagerFailed asked given areas script = Unit {0}
 IsStopIn (Bound n) asked given areas script = IsOverBound asked n areas script
 IsStopIn (BadLog fault) asked given areas script = IsBadLog asked given fault script
 IsStopIn (Doubt n) asked given areas script = IsDoubtful asked given n areas script

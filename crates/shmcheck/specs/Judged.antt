@@ -13,7 +13,6 @@ use Rattle.shm_schedules.specs.declared.search_error.SearchError.{SearchError}
 use Rattle.shm_schedules.specs.declared.search_error.SearchError.TheVariants as searches
 use Rattle.shm_judge.specs.declared.verdict.Verdict.{Verdict}
 use Rattle.shm_judge.specs.declared.verdict.Verdict.TheVariants.{Legal, Illegal}
-use Rattle.shmcheck.specs.Stop.{engine_stop}
 use Rattle.shmcheck.specs.declared.stop.Stop.{Stop}
 use Rattle.shmcheck.specs.declared.stop.Stop.TheVariants.{Fault, BadLog, Doubt}
 
@@ -38,5 +37,5 @@ log_stop refusals.HostMemory = Fault HostMemory
 
 -- why there is no verdict, as a stop
 abbrev pub doubt_of : SearchError → ℕ → Stop
-doubt_of (searches.Engine e) most = engine_stop e
+doubt_of searches.HostMemory most = Fault HostMemory
 doubt_of searches.Bound most = Doubt most

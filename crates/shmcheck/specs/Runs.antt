@@ -1,13 +1,16 @@
 -- What the program reads and writes for its words.
-use Rattle.std.specs.Prelude.{◌≡◌, ◌⊎◌, ℕ, List, [], ◌∷◌, Option, Some, None, Result, Err, OnOk, IfOk, IfErr}
+use Rattle.std.specs.Prelude.{◌≡◌, ℕ, List, [], ◌∷◌, Option, Some, None, Result, Err, OnOk, IfOk, IfErr}
 use Rattle.std.specs.Io.KnownBytes.{IsAtEnd, Keeps}
 use Rattle.shm_program.specs.Runs.{IsTextFor}
-use Rattle.shm_program.specs.declared.fault.RunFault.TheVariants.{HostMemory}
 use Rattle.shmcheck.specs.Answers.{IsAnswered, IsAnyAnswer, IsStopOf, WritesNothing}
 use Rattle.shmcheck.specs.declared.command.Asked.{Asked}
 use Rattle.shmcheck.specs.declared.command.Asked.TheVariants.{Outcomes, Question, Judge, Sample}
 use Rattle.shmcheck.specs.declared.stop.Stop.{Stop}
-use Rattle.shmcheck.specs.declared.stop.Stop.TheVariants.{Usage, Fault}
+use Rattle.shmcheck.specs.declared.stop.Stop.TheVariants.{Usage}
+
+-- the sizes of the program's swap areas
+abbrev pub one_area : List ℕ
+one_area = 64 ∷ []
 
 -- the answer to what was asked about a script over swap areas of these sizes: the input before it and the rest after it, and the
 -- output
@@ -29,13 +32,7 @@ given_for (Question wish o) words log = condition_in words
 given_for (Judge o) words log = log
 given_for (Sample d) words log = []
 
--- the program ran out of memory before it wrote anything
-abbrev pub IsOut : Result ℕ Stop → Option (List ℕ) → Option (List ℕ) → Type 0
-IsOut result old new = (result ≡ Err (Fault HostMemory)) × Keeps old new
-
--- what the program does if its words ask for this, over one area of 64 slots; if they ask for nothing, it is a usage error, and
--- nothing is written
+-- what the program does if its words ask for this; if they ask for nothing, it is a usage error, and nothing is written
 abbrev pub IsAsked : Option Asked → List (List ℕ) → List ℕ → Result ℕ Stop → Option (List ℕ) → Option (List ℕ) → Option (List ℕ) → Option (List ℕ) → Type 0
 IsAsked None words log result input rest old new = (result ≡ Err Usage) × Keeps old new
-IsAsked (Some asked) words log result input rest old new =
-    IsOut result old new ⊎ IsAnswerOver asked (given_for asked words log) result input rest old new (64 ∷ [])
+IsAsked (Some asked) words log result input rest old new = IsAnswerOver asked (given_for asked words log) result input rest old new one_area

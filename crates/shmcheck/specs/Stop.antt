@@ -5,17 +5,14 @@ use Rattle.std.specs.declared.io.ErrorKind.{ErrorKind}
 use Rattle.std.specs.declared.io.ErrorKind.TheVariants.{OutOfMemory}
 use Rattle.shm_program.specs.Faults.{fault_text, exit_status}
 use Rattle.shm_program.specs.declared.fault.RunFault.TheVariants.{HostMemory}
-use Rattle.shm_schedules.specs.declared.engine.EngineError.{EngineError}
-use Rattle.shm_schedules.specs.declared.engine.EngineError.TheVariants as engines
 use Rattle.shm_schedules.specs.declared.search_error.SearchError.{SearchError}
-use Rattle.shm_schedules.specs.declared.search_error.SearchError.TheVariants.{Engine}
 use Rattle.shm_schedules.specs.declared.search_error.SearchError.TheVariants as searches
 use Rattle.shm_judge.specs.declared.fault.LogFaultKind.{LogFaultKind}
 use Rattle.shm_judge.specs.declared.fault.LogFaultKind.TheVariants.{BadLine, UnknownProcess}
 use Rattle.shm_conditions.specs.declared.fault.ConditionFaultKind.{ConditionFaultKind}
 use Rattle.shm_conditions.specs.declared.fault.ConditionFaultKind.TheVariants.{NoOperand, NoOperator, Unopened, Unclosed, BadWord, UnknownProcess, UnknownLine}
 use Rattle.shmcheck.specs.declared.stop.Stop.{Stop}
-use Rattle.shmcheck.specs.declared.stop.Stop.TheVariants.{Usage, Fault, PagerFailed, Bound, LogUnread, BadLog, Doubt, BadCondition}
+use Rattle.shmcheck.specs.declared.stop.Stop.TheVariants.{Usage, Fault, Bound, LogUnread, BadLog, Doubt, BadCondition}
 
 abbrev pub kind_name : LogFaultKind → List ℕ
 kind_name BadLine = codes "bad line"
@@ -33,7 +30,6 @@ condition_fault_name UnknownLine = codes "the process has no such line"
 abbrev pub stop_text : Stop → List ℕ
 stop_text Usage = codes "usage: shmcheck outcomes|judge LOG|sample SEED [--exists|--forbid CONDITION] [--rules profile|linux] [--at-most N] [--masked] [--runs N]"
 stop_text (Fault fault) = fault_text fault
-stop_text PagerFailed = codes "a pager failed"
 stop_text (Bound most) = codes "undecided: more than " ++ (decimal most ++ codes " runs, no two of them alike")
 stop_text LogUnread = codes "the log can't be read"
 stop_text (BadLog fault) = codes "log line " ++ (decimal fault.line ++ (codes ": " ++ kind_name fault.kind))
@@ -44,7 +40,6 @@ stop_text (Doubt most) = codes "undecided: more than " ++ (decimal most ++ codes
 abbrev pub stop_status : Stop → ℕ
 stop_status Usage = 2
 stop_status (Fault fault) = exit_status fault
-stop_status PagerFailed = 3
 stop_status (Bound most) = 5
 stop_status LogUnread = 3
 stop_status (BadLog fault) = 1
@@ -56,14 +51,9 @@ abbrev pub io_stop : ErrorKind → Stop
 io_stop OutOfMemory = Fault HostMemory
 io_stop _ = Usage
 
--- why a machine gave no reply, as a stop
-abbrev pub engine_stop : EngineError → Stop
-engine_stop engines.HostMemory = Fault HostMemory
-engine_stop engines.PagerFailed = PagerFailed
-
 -- why a search has no result, as a stop
 abbrev pub stop_of : SearchError → ℕ → Stop
-stop_of (Engine e) most = engine_stop e
+stop_of searches.HostMemory most = Fault HostMemory
 stop_of searches.Bound most = Bound most
 
 -- a log that can't be read: the host refused memory, or the file can't be

@@ -3,7 +3,7 @@ use Rattle.std.specs.Prelude.{ℕ, true, false, if◌then◌else◌, List, [], �
 use Rattle.std.specs.Str.{bytes_eq}
 use Rattle.shm_text.specs.Number.{decimal_of}
 use Rattle.shmcheck.specs.declared.ruling.RuleSet.{RuleSet}
-use Rattle.shmcheck.specs.declared.ruling.RuleSet.TheVariants.{Profile, Linux}
+use Rattle.shmcheck.specs.declared.ruling.RuleSet.TheVariants.{Own, Profile, Linux}
 use Rattle.shmcheck.specs.declared.command.Options.{Options}
 use Rattle.shmcheck.specs.declared.command.Draws.{Draws}
 use Rattle.shmcheck.specs.declared.command.Asked.{Asked}
@@ -18,7 +18,7 @@ rules_by w = if bytes_eq w (codes "profile") then Some Profile else if bytes_eq 
 
 -- without options
 abbrev pub plain : ℕ → Options
-plain most = record { most = most; rules = Profile; masked = false }
+plain most = record { most = most; rules = Own; masked = false }
 
 abbrev pub with_most : Options → ℕ → Options
 with_most o most = record o { most = most }
@@ -95,7 +95,7 @@ judge_of [] = None
 judge_of (log ∷ ws) = option_and_then judged_by (options_of ws (plain 1000000))
 
 abbrev pub one_run : ℕ → Draws
-one_run seed = record { seed = seed; runs = 1; rules = Profile }
+one_run seed = record { seed = seed; runs = 1; rules = Own }
 
 abbrev pub sampled_by : List (List ℕ) → ℕ → Option Asked
 sampled_by ws seed = option_map Sample (draws_of ws (one_run seed))

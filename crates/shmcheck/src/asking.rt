@@ -1,44 +1,43 @@
 //! Questions: whether a schedule of a script meets a condition.
-ghost use Rattle.std.specs.Prelude.{◌≡◌, length, map, IfErr, IfOk};
+ghost use Rattle.std.specs.Prelude.{◌≡◌, IfErr, IfOk};
 ghost use Rattle.shmcheck.specs.Answers.{IsAnswer, IsStopIn};
+ghost use Rattle.shmcheck.specs.Runs.{one_area};
 ghost use Rattle.shmcheck.specs.Questioned.{AreMet, answer_text, question_status};
 
 use crate::command::{Asked, Options, Wish};
-use crate::listing::{refused, stopped};
+use crate::listing::stopped;
+use crate::machine::open_machine;
 use crate::runs::Answer;
 use crate::stop::Stop;
 use shm_conditions::{Condition, read_condition};
 use shm_outcomes::{outcomes, outcomes_text};
-use shm_pager::ClonePager;
-use shm_schedules::{Finding, Simulated, put};
+use shm_schedules::{Finding, put};
 use shm_text::Script;
 use std::alloc::{AllocError, Global};
 
 /// The exit status if the answer is not as wished.
 const UNWISHED: u8 = 6;
 
-/// The answer to a question about a script, opened over swap areas with these pagers.
-pub(crate) fn answer_question<P: ClonePager>(
+/// The answer to a question about a script.
+pub(crate) fn answer_question(
     alloc: Global,
     script: &Script,
-    pagers: Vec<P>,
     wish: Wish,
     options: Options,
     words: &[u8],
 ) -> Result<Answer, Stop>
-    ensures ok { let areas = map (λ p. length (P.content p)) pagers.items in
-        let is = IsAnswer (Asked.Question wish options) words.now in
-        IfOk result (λ a. is a.status script.now areas a.text.items) }
-    ensures cause { let areas = map (λ p. length (P.content p)) pagers.items in
-        IfErr result (λ s. IsStopIn s (Asked.Question wish options) words.now areas script.now) }
+    ensures ok { let is = IsAnswer (Asked.Question wish options) words.now in
+        IfOk result (λ a. is a.status script.now one_area a.text.items) }
+    ensures cause { let asked = Asked.Question wish options in
+        IfErr result (λ s. IsStopIn s asked words.now one_area script.now) }
 {
     let condition = match read_condition(alloc, script, words)? {
         Ok(condition) => condition,
         Err(fault) => return Err(Stop::BadCondition(fault)),
     };
-    let machine = match Simulated::open(alloc, script, pagers) {
+    let machine = match open_machine(alloc, script) {
         Ok(machine) => machine,
-        Err(error) => return Err(Stop::Fault(refused(error))),
+        Err(stop) => return Err(stop),
     };
     let found = match outcomes(alloc, script, machine, options.most) {
         Ok(found) => found,

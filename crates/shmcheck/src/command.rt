@@ -135,7 +135,7 @@ fn read_sample(words: &[String]) -> Option<Asked>
     let draws = Draws {
         seed: read_number(seed.as_str())?,
         runs: 1,
-        rules: RuleSet::Profile,
+        rules: RuleSet::Own,
     };
     Some(Asked::Sample(read_draws(rest, draws)?))
 }
@@ -175,7 +175,7 @@ fn read_options(words: &[String], most: u64) -> Option<Options>
 {
     let mut options = Options {
         most,
-        rules: RuleSet::Profile,
+        rules: RuleSet::Own,
         masked: false,
     };
     let mut left = words;

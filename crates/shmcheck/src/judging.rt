@@ -1,44 +1,41 @@
 //! Judging: the verdict on a log of a system's replies to a script.
-ghost use Rattle.std.specs.Prelude.{◌≡◌, length, map, IfErr, IfOk};
+ghost use Rattle.std.specs.Prelude.{◌≡◌, IfErr, IfOk};
 ghost use Rattle.shmcheck.specs.Answers.{IsAnswer, IsStopIn, verdict_status};
+ghost use Rattle.shmcheck.specs.Runs.{one_area};
 ghost use Rattle.shmcheck.specs.Judged.{doubt_of, is_legal, log_stop};
 
 use crate::command::{Asked, Options};
-use crate::listing::refused;
+use crate::machine::open_machine;
 use crate::runs::Answer;
 use crate::stop::Stop;
 use shm_judge::{LogRefused, Verdict, judge_log, log_of, read_log, verdict_text};
-use shm_pager::ClonePager;
 use shm_program::RunFault;
-use shm_schedules::{SearchError, Simulated};
+use shm_schedules::SearchError;
 use shm_text::Script;
 use std::alloc::Global;
 
 /// The exit status if no schedule has the log's replies.
 const ILLEGAL: u8 = 6;
 
-/// A verdict on a log of a script, opened over swap areas with these pagers.
-pub(crate) fn judge_script<P: ClonePager>(
+/// A verdict on a log of a script.
+pub(crate) fn judge_script(
     alloc: Global,
     script: &Script,
-    pagers: Vec<P>,
     options: Options,
     log: &[u8],
 ) -> Result<Answer, Stop>
-    ensures ok { let areas = map (λ p. length (P.content p)) pagers.items in
-        let is = IsAnswer (Asked.Judge options) log.now in
-        IfOk result (λ a. is a.status script.now areas a.text.items) }
-    ensures cause { let areas = map (λ p. length (P.content p)) pagers.items in
-        IfErr result (λ s. IsStopIn s (Asked.Judge options) log.now areas script.now) }
+    ensures ok { let is = IsAnswer (Asked.Judge options) log.now in
+        IfOk result (λ a. is a.status script.now one_area a.text.items) }
+    ensures cause { IfErr result (λ s. IsStopIn s (Asked.Judge options) log.now one_area script.now) }
 {
     let entries = match read_log(alloc, script, log) {
         Ok(entries) => entries,
         Err(error) => return Err(unread(error)),
     };
     let answered = log_of(alloc, script, &entries)?;
-    let machine = match Simulated::open(alloc, script, pagers) {
+    let machine = match open_machine(alloc, script) {
         Ok(machine) => machine,
-        Err(error) => return Err(Stop::Fault(refused(error))),
+        Err(stop) => return Err(stop),
     };
     let verdict = match judge_log(alloc, script, &answered, &entries, machine, options.most) {
         Ok(verdict) => verdict,
@@ -79,7 +76,7 @@ fn doubted(error: SearchError, most: u64) -> Stop
     ensures { result ≡ doubt_of error most }
 {
     match error {
-        SearchError::Engine(error) => Stop::from(error),
+        SearchError::HostMemory => Stop::Fault(RunFault::HostMemory),
         SearchError::Bound => Stop::Doubt(most),
     }
 }

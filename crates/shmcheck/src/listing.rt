@@ -1,39 +1,35 @@
 //! Listing: every outcome that a script can have.
-ghost use Rattle.std.specs.Prelude.{◌≡◌, [], length, map, IfErr, IfOk};
-ghost use Rattle.shm_program.specs.Faults.{stopped_as};
+ghost use Rattle.std.specs.Prelude.{◌≡◌, [], IfErr, IfOk};
 ghost use Rattle.shm_schedules.specs.Schedules.{Run};
 ghost use Rattle.shm_outcomes.specs.Search.{AreOutcomes};
 ghost use Rattle.shmcheck.specs.Answers.{IsAnswer, IsStopIn};
+ghost use Rattle.shmcheck.specs.Runs.{one_area};
 ghost use Rattle.shmcheck.specs.Printed.{IsTextOf};
 ghost use Rattle.shmcheck.specs.Stop.{stop_of};
 
 use crate::command::{Asked, Options};
+use crate::machine::open_machine;
 use crate::runs::Answer;
 use crate::stop::Stop;
-use shm_life::StartError;
 use shm_outcomes::{masked_outcomes, outcomes, outcomes_text};
-use shm_pager::ClonePager;
 use shm_program::RunFault;
-use shm_schedules::{Finding, SearchError, Simulated};
+use shm_schedules::{Finding, SearchError};
 use shm_text::Script;
 use std::alloc::{AllocError, Global};
 
-/// The text of every outcome of a script, opened over swap areas with these pagers.
-pub(crate) fn list_outcomes<P: ClonePager>(
+/// The text of every outcome of a script.
+pub(crate) fn list_outcomes(
     alloc: Global,
     script: &Script,
-    pagers: Vec<P>,
     options: Options,
 ) -> Result<Answer, Stop>
-    ensures ok { let areas = map (λ p. length (P.content p)) pagers.items in
-        let is = IsAnswer (Asked.Outcomes options) [] in
-        IfOk result (λ a. is a.status script.now areas a.text.items) }
-    ensures cause { let areas = map (λ p. length (P.content p)) pagers.items in
-        IfErr result (λ s. IsStopIn s (Asked.Outcomes options) [] areas script.now) }
+    ensures ok { let is = IsAnswer (Asked.Outcomes options) [] in
+        IfOk result (λ a. is a.status script.now one_area a.text.items) }
+    ensures cause { IfErr result (λ s. IsStopIn s (Asked.Outcomes options) [] one_area script.now) }
 {
-    let machine = match Simulated::open(alloc, script, pagers) {
+    let machine = match open_machine(alloc, script) {
         Ok(machine) => machine,
-        Err(error) => return Err(Stop::Fault(refused(error))),
+        Err(stop) => return Err(stop),
     };
     let found = match outcomes(alloc, script, machine, options.most) {
         Ok(found) => found,
@@ -61,22 +57,12 @@ fn text_of(
     Ok(text)
 }
 
-// Why a script was not opened.
-pub(crate) fn refused(error: StartError) -> RunFault
-    ensures { result ≡ stopped_as error }
-{
-    match error {
-        StartError::HostMemory => RunFault::HostMemory,
-        _ => RunFault::StartRefused(error.number()),
-    }
-}
-
 // Why a search has no result.
 pub(crate) fn stopped(error: SearchError, most: u64) -> Stop
     ensures { result ≡ stop_of error most }
 {
     match error {
-        SearchError::Engine(error) => Stop::from(error),
+        SearchError::HostMemory => Stop::Fault(RunFault::HostMemory),
         SearchError::Bound => Stop::Bound(most),
     }
 }

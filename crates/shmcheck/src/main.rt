@@ -7,11 +7,11 @@ mod asking;
 mod command;
 mod judging;
 mod listing;
+mod machine;
 mod ruling;
 mod runs;
 mod sampling;
 mod stop;
-mod swap;
 
 use command::{Asked, read_words};
 use runs::run_words;

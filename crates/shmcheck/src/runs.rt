@@ -1,9 +1,9 @@
 //! A whole run: reads a script, answers what was asked about it, and writes the answer.
-ghost use Rattle.std.specs.Prelude.{◌≡◌, OnOk, IfErr, IfOk, length, map, string_bytes};
+ghost use Rattle.std.specs.Prelude.{◌≡◌, OnOk, IfErr, IfOk, map, string_bytes};
 ghost use Rattle.std.specs.Io.KnownBytes.{IsAtEnd};
 ghost use Rattle.shm_program.specs.Runs.{IsTextFor};
 ghost use Rattle.shmcheck.specs.Answers.{IsAnswer, IsAnswered, IsAnyAnswer, IsStopIn, IsStopOf, WritesNothing, rules_asked};
-ghost use Rattle.shmcheck.specs.Runs.{IsAsked, condition_in, given_for};
+ghost use Rattle.shmcheck.specs.Runs.{IsAsked, condition_in, given_for, one_area};
 ghost use Rattle.shmcheck.specs.Words.{asked_of};
 
 use crate::asking::answer_question;
@@ -13,9 +13,6 @@ use crate::listing::list_outcomes;
 use crate::ruling::{RuleSet, put_rules};
 use crate::sampling::sample_runs;
 use crate::stop::Stop;
-use crate::swap::swap_area;
-use shm_base::HostMemory;
-use shm_pager::ClonePager;
 use shm_program::{RunFault, whole_script, write_output};
 use shm_text::Script;
 use std::alloc::Global;
@@ -46,12 +43,8 @@ pub(crate) fn run_words<R: Read, W: Write>(
     let Some(asked) = read_words(words) else {
         return Err(Stop::Usage);
     };
-    let pagers = match swap_area(alloc) {
-        Ok(pagers) => pagers,
-        Err(HostMemory) => return Err(Stop::Fault(RunFault::HostMemory)),
-    };
     let given = given_for(asked, words, log);
-    run_over(alloc, reader, writer, pagers, asked, given)
+    run_asked(alloc, reader, writer, asked, given)
 }
 
 // What a question or a judge is given: the condition, which is the fourth word, or the contents of the log.
@@ -74,24 +67,20 @@ fn condition_in(words: &[String]) -> &[u8]
     }
 }
 
-// Answers what was asked about the script that the reader gives, opened over swap areas with these pagers, and
-// returns the exit status. A judge is given a log, and a question a condition. The answer is complete before its first byte is written.
-fn run_over<R: Read, W: Write, P: ClonePager>(
+// Answers what was asked about the script that the reader gives, and returns the exit status. A judge is given a
+// log, and a question a condition. The answer is complete before its first byte is written.
+fn run_asked<R: Read, W: Write>(
     alloc: Global,
     reader: &mut R,
     writer: &mut W,
-    pagers: Vec<P>,
     asked: Asked,
     given: &[u8],
 ) -> Result<u8, Stop>
-    ensures ok { let areas = map (λ p. length (P.content p)) pagers.items in
-        let answers = IsAnswered asked given.now areas (R.remaining reader.old) in
+    ensures ok { let answers = IsAnswered asked given.now one_area (R.remaining reader.old) in
         IfOk result (answers (W.contents writer.old) (W.contents writer.new)) }
     ensures whole { OnOk result (IsAtEnd (R.remaining reader.new)) }
-    ensures cause { let areas = map (λ p. length (P.content p)) pagers.items in
-        IfErr result (λ s. IsStopOf s asked given.now areas (R.remaining reader.old)) }
-    ensures silent { let areas = map (λ p. length (P.content p)) pagers.items in
-        let text = IsTextFor (IsAnyAnswer asked given.now) areas (R.remaining reader.old) in
+    ensures cause { IfErr result (λ s. IsStopOf s asked given.now one_area (R.remaining reader.old)) }
+    ensures silent { let text = IsTextFor (IsAnyAnswer asked given.now) one_area (R.remaining reader.old) in
         IfErr result (λ s. WritesNothing text s (W.contents writer.old) (W.contents writer.new)) }
 {
     let mut script = match whole_script(alloc, reader) {
@@ -99,7 +88,7 @@ fn run_over<R: Read, W: Write, P: ClonePager>(
         Err(fault) => return Err(Stop::Fault(fault)),
     };
     put_rules(&mut script, rules_asked(asked));
-    let answer = match answer_of(alloc, &script, pagers, asked, given) {
+    let answer = match answer_of(alloc, &script, asked, given) {
         Ok(answer) => answer,
         Err(stop) => return Err(stop),
     };
@@ -121,24 +110,14 @@ fn rules_asked(asked: Asked) -> RuleSet
 }
 
 // The answer about a script.
-fn answer_of<P: ClonePager>(
-    alloc: Global,
-    script: &Script,
-    pagers: Vec<P>,
-    asked: Asked,
-    given: &[u8],
-) -> Result<Answer, Stop>
-    ensures ok { let areas = map (λ p. length (P.content p)) pagers.items in
-        IfOk result (λ a. IsAnswer asked given.now a.status script.now areas a.text.items) }
-    ensures cause { let areas = map (λ p. length (P.content p)) pagers.items in
-        IfErr result (λ s. IsStopIn s asked given.now areas script.now) }
+fn answer_of(alloc: Global, script: &Script, asked: Asked, given: &[u8]) -> Result<Answer, Stop>
+    ensures ok { IfOk result (λ a. IsAnswer asked given.now a.status script.now one_area a.text.items) }
+    ensures cause { IfErr result (λ s. IsStopIn s asked given.now one_area script.now) }
 {
     match asked {
-        Asked::Outcomes(options) => list_outcomes(alloc, script, pagers, options),
-        Asked::Question(wish, options) => {
-            answer_question(alloc, script, pagers, wish, options, given)
-        }
-        Asked::Judge(options) => judge_script(alloc, script, pagers, options, given),
-        Asked::Sample(draws) => sample_runs(alloc, script, pagers, draws),
+        Asked::Outcomes(options) => list_outcomes(alloc, script, options),
+        Asked::Question(wish, options) => { answer_question(alloc, script, wish, options, given) }
+        Asked::Judge(options) => judge_script(alloc, script, options, given),
+        Asked::Sample(draws) => sample_runs(alloc, script, draws),
     }
 }

@@ -3,24 +3,22 @@ ghost use Rattle.std.specs.Prelude.{◌≡◌, Some};
 ghost use Rattle.std.specs.IoError.{error_kind};
 ghost use Rattle.shm_program.specs.declared.fault.RunFault.TheVariants as faults;
 ghost use Rattle.shmcheck.specs.declared.stop.Stop.TheVariants as stops;
-ghost use Rattle.shmcheck.specs.Stop.{condition_fault_name, engine_stop, kind_name, stop_text, stop_status, io_stop, log_unread};
+ghost use Rattle.shmcheck.specs.Stop.{condition_fault_name, kind_name, stop_text, stop_status, io_stop, log_unread};
 
 use shm_base::HostMemory;
 use shm_conditions::{ConditionFault, ConditionFaultKind};
 use shm_judge::{LogFault, LogFaultKind};
 use shm_program::RunFault;
-use shm_schedules::EngineError;
 use std::alloc::{AllocError, AllocFailed};
 use std::{fmt, io};
 
-/// Why the program stops: wrong words on the command line; a fault of the run; a pager that failed; or more
-/// schedules than the bound. For a log also: its file can't be read, a line has a fault, or it has more
-/// beginnings than the bound. For a question also: its condition has a fault.
+/// Why the program stops: wrong words on the command line; a fault of the run; or more schedules than the bound.
+/// For a log also: its file can't be read, a line has a fault, or it has more beginnings than the bound. For a
+/// question also: its condition has a fault.
 #[derive(Clone, Copy, Debug, PartialEq, Eq)]
 pub(crate) enum Stop {
     Usage,
     Fault(RunFault),
-    PagerFailed,
     Bound(u64),
     LogUnread,
     BadLog(LogFault),
@@ -29,15 +27,14 @@ pub(crate) enum Stop {
 }
 
 impl Stop {
-    /// The exit status: 1 for a fault of the log, 2 for usage and a fault of a condition, 5 at the bound, 3 for a pager or a file that
-    /// can't be read, otherwise that of the fault.
+    /// The exit status: 1 for a fault of the log, 2 for usage and a fault of a condition, 5 at the bound, 3 for a
+    /// file that can't be read, otherwise that of the fault.
     pub(crate) fn status(self) -> u8
         ensures { result ≡ stop_status self }
     {
         match self {
             Stop::Usage => 2,
             Stop::Fault(fault) => fault.status(),
-            Stop::PagerFailed => 3,
             Stop::Bound(_) | Stop::Doubt(_) => 5,
             Stop::LogUnread => 3,
             Stop::BadLog(_) => 1,
@@ -80,7 +77,6 @@ impl fmt::Display for Stop {
                 "usage: shmcheck outcomes|judge LOG|sample SEED [--exists|--forbid CONDITION] [--rules profile|linux] [--at-most N] [--masked] [--runs N]",
             ),
             Stop::Fault(fault) => write!(f, "{fault}"),
-            Stop::PagerFailed => f.write_str("a pager failed"),
             Stop::Bound(most) => {
                 write!(f, "undecided: more than {most} runs, no two of them alike")
             }
@@ -119,17 +115,6 @@ impl<T: Drop> From<AllocFailed<T>> for Stop {
 
     fn from(_e: AllocFailed<T>) -> Stop {
         Stop::Fault(RunFault::HostMemory)
-    }
-}
-
-impl From<EngineError> for Stop {
-    ghost from_gives = { λ e r. r ≡ engine_stop e };
-
-    fn from(error: EngineError) -> Stop {
-        match error {
-            EngineError::HostMemory => Stop::Fault(RunFault::HostMemory),
-            EngineError::PagerFailed => Stop::PagerFailed,
-        }
     }
 }
 

@@ -13,5 +13,5 @@ returns c =
       keys = (legal opening one_key (refl, (refl, (refl, (refl, (refl, (refl, refl)))))), refl, refl, refl);
       size = (refl, refl, refl);
       spaces = (legal opening one_remaps (refl, (refl, (refl, (refl, (refl, refl))))), refl);
-      writing = (legal opening two_write (refl, (refl, (refl, (refl, (refl, (refl, (refl, (refl, (refl, refl))))))))), (true, refl), (true, refl), (true, refl), refl, refl, refl, refl);
+      writing = (legal opening two_write (refl, (refl, (refl, (refl, (refl, (refl, (refl, (refl, (refl, (refl, (refl, (refl, (refl, refl))))))))))))), (true, refl), (true, refl), (true, refl), refl, refl, refl, refl, refl, refl);
     }

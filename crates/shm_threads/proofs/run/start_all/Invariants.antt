@@ -5,5 +5,5 @@ use Rattle.shm_threads.proofs.run.start_all.Given as goal
 abbrev pub invariant-loop-index : goal.invariant-loop-index
 invariant-loop-index g l = record {
   few : vec_len l.handles ≤ l.index;
-  room : length l.processes ≤ vec_capacity l.handles;
+  room : length l.processes.items ≤ vec_capacity l.handles;
 }

@@ -1,12 +1,17 @@
-use Rattle.std.proofs.Common.{◌≡◌, ◌+◌, ◌-◌, Bool, List}
+use Rattle.std.proofs.Common.{◌≡◌, ◌≤◌, ◌+◌, ◌++◌, Bool, List, length, drop}
+use Rattle.shm_text.specs.Form.{CommandView}
 use Rattle.shm_threads.specs.Asked.{Adds, GoTo, RunsLines, asks_of}
+use Rattle.shm_threads.specs.Transcripts.{commands_of}
 use Rattle.shm_threads.proofs.worker.run_lines.Given as goal
 
--- what is asked for the lines that are left makes, with what was asked, the whole
-abbrev pub invariant-loop-made : goal.invariant-loop-made
-invariant-loop-made g l = record {
-  same : g.C.Caller.lines l.caller ≡ l.lines;
-  asked : (steps : List Bool) (whole : Bool) (end : _) → GoTo (l.lines - l.made) steps whole
-      → Adds (g.C.Caller.asked l.caller) (asks_of (l.made + 1) (l.lines - l.made) steps) (g.C.Caller.asked end)
-      → RunsLines (g.C.Caller.asked l.fn.caller) (g.C.Caller.asked end) l.lines whole;
-}
+-- the commands so far and those of the lines that are left are all, and what is asked for these makes, with what was asked, the whole
+abbrev pub invariant-loop-line : goal.invariant-loop-line
+invariant-loop-line g l =
+    let left = commands_of l.pid (drop l.line-index l.lines) in record {
+      same : g.C.Caller.lines l.caller ≡ commands_of l.pid l.lines;
+      before : (before : List CommandView) × (length before ≡ l.n) × (before ++ left ≡ commands_of l.pid l.lines);
+      few : l.n ≤ l.line-index;
+      asked : (steps : List Bool) (whole : Bool) (end : _) → GoTo (length left) steps whole
+          → Adds (g.C.Caller.asked l.caller) (asks_of (l.n + 1) (length left) steps) (g.C.Caller.asked end)
+          → RunsLines (g.C.Caller.asked l.fn.caller) (g.C.Caller.asked end) (length (commands_of l.pid l.lines)) whole;
+    }

@@ -24,4 +24,4 @@ returns-clause-placed g c = access-one c.args.first.now c.args.self.now c.visit.
 
 pub returns-in_err-frame-clause-stopped : goal.returns-in_err-frame-clause-stopped
 returns-in_err-frame-clause-stopped g c = MatchResult-from_err _ _ _ c.from_residual.ensures.0 λ _.
-    stops-one c.args.first.now c.args.self.now c.visit.new.self (rw c.page_at-page.ensures.page at c.in_err-frame.ensures.stopped)
+    stops-one c.args.first.now c.args.self.now c.visit.new.self c.args.touched.now _ c.requires.none (rw c.page_at-page.ensures.page at c.in_err-frame.ensures.stopped)

@@ -1,8 +1,8 @@
 use Rattle.std.proofs.lemmas.Result.{MatchResult-from_err}
-use Rattle.shm_fault.proofs.Names.{◌≡◌, Bool, [], ◌∷◌, None, Some, true, false, is_ok, rules, ref_of, frame_by, Visited, Brings}
+use Rattle.shm_fault.proofs.Names.{refl, counted, ◌≡◌, Bool, [], ◌∷◌, None, Some, true, false, is_ok, rules, ref_of, frame_by, Visited, Brings}
 use Rattle.shm_fault.proofs.Bringing.{brings-two, brings-not, unmoved}
 use Rattle.shm_fault.specs.Placing.{places, after_visit}
-use Rattle.shm_fault.proofs.Places.{access-two, stops-first, stops-second}
+use Rattle.shm_fault.proofs.Places.{access-two, stops-first, stops-second, untouched-counted}
 use Rattle.shm_fault.proofs.store.PageStore.bring_two.Given as given
 use Rattle.shm_fault.proofs.store.PageStore.bring_two.Goals as goal
 use Rattle.shm_fault.proofs.store.PageStore.bring_two.Goals.{After-visit, After-visit-2}
@@ -27,7 +27,8 @@ far g c ok other =
     let at : frame_by t (ref_of p) ≡ Some f = rw c.page_at-page.ensures.page at c.in_ok-near.ensures.here.0 in
     let known : c.frame_now-known.result ≡ frame_by t c.page_at-page-2.result = c.frame_now-known.ensures in
     let two : Visited (ref_of q) (Some f) (frame_by t (ref_of q)) t c.visit-2.new.self c.visit.new.touched c.visit-2.new.touched ok = rw c.page_at-page-2.ensures.page at (rw known at other) in
-    brings-two p q c.args.self.now t c.visit-2.new.self f c.args.touched.now c.visit.new.touched c.visit-2.new.touched ok c.requires.none one at two
+    let first : places t ≡ after_visit (ref_of p) None (places c.args.self.now) = rw c.page_at-page.ensures.page at c.in_ok-near.ensures.placed in
+    brings-two p q c.args.self.now t c.visit-2.new.self f c.args.touched.now c.visit.new.touched c.visit-2.new.touched ok c.requires.none one at first two
 
 pub returns-in_err-near-clause-brings : goal.returns-in_err-near-clause-brings
 returns-in_err-near-clause-brings g c =
@@ -59,9 +60,11 @@ returns-clause-placed g c =
 
 pub returns-in_err-near-clause-stopped : goal.returns-in_err-near-clause-stopped
 returns-in_err-near-clause-stopped g c = MatchResult-from_err _ _ _ c.from_residual.ensures.0 λ _.
-    stops-first c.args.first c.args.second c.args.self.now c.visit.new.self (rw c.page_at-page.ensures.page at c.in_err-near.ensures.stopped)
+    stops-first c.args.first c.args.second c.args.self.now c.visit.new.self c.args.touched.now _ c.requires.none (rw c.page_at-page.ensures.page at c.in_err-near.ensures.stopped)
 
 pub returns-in_err-far-clause-stopped : goal.returns-in_err-far-clause-stopped
 returns-in_err-far-clause-stopped g c = MatchResult-from_err _ _ _ c.from_residual-in_err-far.ensures.0 λ _.
     let one = first g (goal.at.returns-in_err-far-clause-stopped g c).After-visit-2 in
-    stops-second c.args.first c.args.second c.args.self.now c.visit.new.self c.visit-2.new.self c.in_ok-near.near one.0 one.1 (rw c.page_at-page-2.ensures.page at c.in_err-far.ensures.stopped)
+    let seen = near g (goal.at.returns-in_err-far-clause-stopped g c).After-visit true c.in_ok-near.ensures.visited in
+    stops-second c.args.first c.args.second c.args.self.now c.visit.new.self c.visit-2.new.self c.in_ok-near.near one.0 one.1 (counted c.visit.new.touched) _
+    (rw (untouched-counted c.args.touched.now c.requires.none) at (seen.transfers refl)) (rw c.page_at-page-2.ensures.page at c.in_err-far.ensures.stopped)

@@ -1,4 +1,4 @@
-use Rattle.std.proofs.lemmas.Result.{MatchResult-from_err}
+use Rattle.std.proofs.lemmas.Result.{err_from_is_err_and, MatchResult-from_err}
 use Rattle.shm_fault.proofs.Names.{◌≡◌, None, Some, refl, ap, sym, HasSlot, owner_of, PageRec, rec_by, HasPage, SameOwned, with_rec}
 use Rattle.shm_fault.specs.Store.{frame_of}
 use Rattle.shm_fault.proofs.Seen.{seen}
@@ -85,3 +85,9 @@ returns-clause-placed g c =
 pub returns-in_err-to-clause-stopped : goal.returns-in_err-to-clause-stopped
 returns-in_err-to-clause-stopped g c = MatchResult-from_err _ _ _ c.from_residual.ensures.0 λ _.
     rw (← c.self.view_is) (places-swap (seen c.self.inside) c.relocate.new.swap c.in_err-to.ensures.same)
+
+pub returns-clause-failures : goal.returns-clause-failures
+returns-clause-failures g c = rw (← c.self.view_is) c.in_ok-to.ensures.none
+
+pub returns-in_err-to-clause-failures : goal.returns-in_err-to-clause-failures
+returns-in_err-to-clause-failures g c = rw ((err_from_is_err_and c.from_residual.result c.from_residual.ensures.1).1, ← c.self.view_is) c.in_err-to.ensures.failed

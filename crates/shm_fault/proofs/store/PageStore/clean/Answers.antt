@@ -1,4 +1,4 @@
-use Rattle.std.proofs.lemmas.Result.{MatchResult-from_err}
+use Rattle.std.proofs.lemmas.Result.{err_from_is_err_and, MatchResult-from_err}
 use Rattle.shm_fault.proofs.Names.{◌≡◌, ◌∙◌, arith, common_steps, true, false, refl, sym, frame_at}
 use Rattle.shm_fault.proofs.Changes.{dirty-same}
 use Rattle.shm_fault.proofs.Places.{clean-is, dirty-is}
@@ -27,6 +27,7 @@ returns-then-not-is_dirty g c =
       away = λ q e. refl;
       goes = grind (arith, common_steps);
       cause = tt;
+      failures = refl;
     }
 
 pub returns : goal.returns
@@ -48,6 +49,7 @@ returns g c =
       away = e.away;
       goes = e.goes;
       cause = tt;
+      failures = e.failures;
     }
 
 pub returns-in_err-page_out : goal.returns-in_err-page_out
@@ -70,4 +72,5 @@ returns-in_err-page_out g c =
       away = e.away;
       goes = e.goes;
       cause = MatchResult-from_err _ _ _ from λ _. e.cause;
+      failures = rw (err_from_is_err_and c.from_residual.result c.from_residual.ensures.1).1 e.failures;
     }

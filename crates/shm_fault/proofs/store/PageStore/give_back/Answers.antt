@@ -50,6 +50,9 @@ returns-clause-still g c =
     let new : PageRec = record { frame = Some c.args.frame; slot = None } in
     rw (c.set_page.ensures, ← c.self.view_is) (by-still s (record s { segs = with_rec s.segs c.args.page new; frames = c.set_dirty.new.self; swap = c.give_slot.new.self }) (still-with s.segs c.args.page new (has g o) (sym (ap (λ (p : PageRec). p.frame) (place g o)))))
 
+pub returns-clause-failures : goal.returns-clause-failures
+returns-clause-failures g c = rw (← c.self.view_is) c.give_slot.ensures.steady.failures
+
 pub returns-clause-sound : goal.returns-clause-sound
 returns-clause-sound g c = (kept g c).sound
 

@@ -1,5 +1,5 @@
-use Rattle.std.proofs.lemmas.Result.{MatchResult-from_err}
-use Rattle.shm_fault.proofs.Names.{ℕ, refl, arith, common_steps, nat_tests, frame_at, inl, unlocked}
+use Rattle.std.proofs.lemmas.Result.{err_from_is_err_and, MatchResult-from_err}
+use Rattle.shm_fault.proofs.Names.{ap, total, ℕ, refl, arith, common_steps, nat_tests, frame_at, inl, unlocked}
 use Rattle.shm_fault.proofs.Seen.{seen}
 use Rattle.shm_fault.proofs.Skipped.{skipped-set}
 use Rattle.shm_fault.proofs.Visits.{IsStep, step-load}
@@ -50,6 +50,7 @@ returns g c =
       slot = tt;
       visits = k.visits;
       cause = tt;
+      failures = ap total e.swap;
     })
 
 pub returns-in_err-fill_from : goal.returns-in_err-fill_from
@@ -70,4 +71,5 @@ returns-in_err-fill_from g c =
       slot = MatchResult-from_err _ _ _ from λ _. e.slot;
       visits = k.visits;
       cause = MatchResult-from_err _ _ _ from λ _. e.cause;
+      failures = rw (err_from_is_err_and c.from_residual.result c.from_residual.ensures.1).1 (λ unspent. e.failed c.self.invariant.0.swap unspent);
     })

@@ -1,9 +1,10 @@
-use Rattle.shm_fault.proofs.Names.{◌≡◌, refl, List, Option, None, ℕ, set, ap, length, ◌∙◌, arith, area_at, held, IsStoreSound, Still, StoreView, SwapView, common_steps, nat_tests}
+use Rattle.shm_fault.proofs.Names.{◌≡◌, false, refl, List, Option, None, ℕ, set, ap, length, ◌∙◌, arith, area_at, held, IsStoreSound, Still, StoreView, SwapView, common_steps, nat_tests}
 use Rattle.shm_fault.proofs.Counting.{uncounted-trans}
 use Rattle.shm_fault.specs.Store.{frame_of}
 use Rattle.shm_fault.proofs.Seen.{seen}
 use Rattle.shm_fault.proofs.Sound.{GoesOn-trans, cause-after}
 use Rattle.shm_fault.proofs.Bringing.{kept-locked}
+use Rattle.shm_fault.proofs.Failures.{failures-after}
 use Rattle.shm_fault.proofs.Areas.{IsCleaned, cleaned-more, cleaned-there, cleaned-room, cleaned-free, cleaned-off}
 use Rattle.shm_fault.proofs.Moves.{area-gone, stops-moving}
 use Rattle.shm_fault.proofs.Areas.{cleaned-none}
@@ -48,7 +49,7 @@ clear_slot-requires-clause-room g c =
 pub loop-slot-preserved : goal.loop-slot-preserved
 loop-slot-preserved g c =
     let e = c.clear_slot.ensures in
-    cleaned-more c.args.area c.loop-slot.slot c.args.self.now c.loop-slot.self c.clear_slot.new.self c.loop-slot.invariant e.sound e.goes e.still e.rest c.in-Ok.ensures.cleared c.in-Ok.ensures.placed
+    cleaned-more c.args.area c.loop-slot.slot c.args.self.now c.loop-slot.self c.clear_slot.new.self c.loop-slot.invariant e.sound e.goes e.still e.rest c.in-Ok.ensures.failures c.in-Ok.ensures.cleared c.in-Ok.ensures.placed
 
 pub turn_off-requires-clause-free : goal.turn_off-requires-clause-free
 turn_off-requires-clause-free g c =
@@ -78,6 +79,7 @@ returns-in_default g c =
       kept_sizes = e.goes.same_sizes ∙ before.goes.same_sizes;
       count = e.goes.size ∙ before.goes.size;
       cause = cause-after s c.loop-slot.self t before.goes e.goes c.in_default.ensures.cause;
+      failures = failures-after false s c.loop-slot.self t before.failures c.in_default.ensures.failures;
       moved = c.none.ensures.0;
       rest = uncounted-trans s c.loop-slot.self t before.rest e.rest;
       moves = tt;
@@ -105,6 +107,7 @@ returns g c =
       kept_sizes = tt;
       count = is.goes.size;
       cause = tt;
+      failures = e.failures ∙ is.failures;
       moved = tt;
       rest = record { ins = is.rest.ins; outs = is.rest.outs };
       moves = rw (← last) (area-gone s t u c.args.area c.loop-slot.slot (rw e.gone refl) is.placed);

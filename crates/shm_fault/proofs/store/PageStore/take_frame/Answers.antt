@@ -1,10 +1,10 @@
-use Rattle.std.proofs.lemmas.Result.{MatchResult-from_err}
-use Rattle.shm_fault.proofs.Names.{Gone, refl, sym, ap, ◌+◌, ◌∙◌, arith, common_steps, one_if}
+use Rattle.std.proofs.lemmas.Result.{err_from_is_err_and, MatchResult-from_err}
+use Rattle.shm_fault.proofs.Names.{counted, Gone, refl, sym, ap, ◌+◌, ◌∙◌, arith, common_steps, one_if}
 use Rattle.shm_fault.specs.Store.{frame_of}
 use Rattle.shm_fault.proofs.Seen.{seen}
 use Rattle.shm_fault.proofs.Visits.{moves-more, moves-still}
 use Rattle.shm_fault.proofs.Counting.{byte-one, counts-still, counts-more}
-use Rattle.shm_fault.proofs.Places.{room-free, room-made}
+use Rattle.shm_fault.proofs.Places.{evicted-counted, free-counted, room-free, room-made}
 use Rattle.shm_fault.proofs.store.PageStore.take_frame.Goals as goal
 
 pub evict-requires : goal.evict-requires
@@ -24,8 +24,11 @@ returns-in-Some g c =
       counts = rw (c.free_frame.ensures.same, c.self.view_is) (counts-still c.args.touched.now _ _ refl refl);
       placed = rw (c.free_frame.ensures.same, ← c.self.view_is) room.0;
       chosen = rw (← c.self.view_is) room.1;
+      transfers = rw (← c.self.view_is) (free-counted s c.args.pinned c.in-Some.frame (counted c.args.touched.now) (sym c.in-Some.ensures.value));
+      uncounted = tt;
       stopped = tt;
       cause = tt;
+      failures = rw (← c.self.view_is) refl;
     }
 
 pub returns : goal.returns
@@ -45,8 +48,12 @@ returns g c =
       counts = rw (← c.self.view_is) (counts-more u _ s t 0 (one_if gone.written) (omega arith) c.evict.ensures.ins (ap (λ n. u.outs + n) (c.from.ensures ∙ byte-one _)) c.in_ok-evicted.ensures.outs);
       placed = rw (← c.self.view_is) room.0;
       chosen = rw (← c.self.view_is) room.1;
+      transfers = rw (← c.self.view_is)
+          (evicted-counted s c.args.pinned gone.written (counted u) (u.outs + c.from.result) (sym c.in_default.ensures.value) (rw c.free_frame.ensures.same at c.in_ok-evicted.ensures.written) (ap (λ n. u.outs + n) (c.from.ensures ∙ byte-one _)));
+      uncounted = tt;
       stopped = tt;
       cause = tt;
+      failures = rw (← c.self.view_is) c.in_ok-evicted.ensures.failures;
     }
 
 pub returns-in_err-evicted : goal.returns-in_err-evicted
@@ -66,6 +73,9 @@ returns-in_err-evicted g c =
       counts = rw (← c.self.view_is) (counts-still u _ _ c.evict.ensures.ins c.in_err-evicted.ensures.outs);
       placed = grind (arith, common_steps);
       chosen = grind (arith, common_steps);
+      transfers = grind (arith, common_steps);
+      uncounted = MatchResult-from_err _ _ _ from λ _. refl;
       stopped = MatchResult-from_err _ _ _ from λ _. rw (← c.self.view_is) (rw c.free_frame.ensures.same at c.in_err-evicted.ensures.stopped);
       cause = MatchResult-from_err _ _ _ from λ _. rw (← c.self.view_is) c.in_err-evicted.ensures.cause;
+      failures = rw ((err_from_is_err_and c.from_residual.result c.from_residual.ensures.1).1, ← c.self.view_is) c.in_err-evicted.ensures.failures;
     }

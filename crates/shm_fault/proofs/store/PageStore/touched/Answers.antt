@@ -7,3 +7,6 @@ unfolding frame_of
 returns-clause-rest g c =
     let rest : NowhereFrom c.touched.result c.args.seg c.args.self.now.segs = rw (← c.self.view_is) c.touched.ensures.rest in
     λ page le. ap (λ (r : PageRec). r.frame) (rest page le)
+
+pub returns-clause-nowhere : goal.returns-clause-nowhere
+returns-clause-nowhere g c = rw (← c.self.view_is) c.touched.ensures.rest

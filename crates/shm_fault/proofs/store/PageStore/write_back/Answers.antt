@@ -86,7 +86,7 @@ returns g c =
       outs = grind (arith, nat_tests, common_steps);
       goes = k.goes;
       cause = tt;
-      counted = grind (arith, nat_tests, common_steps, at, c.write_slot.new.self, c.self.inside.swap, c.in_ok-write_slot.ensures.ok, total-written, c.args.slot);
+      failures = rw c.in_ok-write_slot.ensures.ok (total-written s.swap c.args.slot c.bytes.result.now at.0);
       placed = bit-set s t c.args.frame false refl refl (rw c.in_ok-write_slot.ensures.ok (owners-page s.swap c.args.slot c.bytes.result.now)) (rw c.set_dirty.ensures refl);
       sound = k.sound;
     })
@@ -106,7 +106,7 @@ returns-in_err-write_slot g c =
       outs = refl;
       goes = k.goes;
       cause = c.in_err-write_slot.ensures.cause;
-      counted = λ unspent. total-fault s.swap t.swap c.args.slot c.self.invariant.0.swap at c.write_slot.ensures.others c.in_err-write_slot.ensures.err unspent;
+      failures = λ unspent. total-fault s.swap t.swap c.args.slot c.self.invariant.0.swap at c.write_slot.ensures.others c.in_err-write_slot.ensures.err unspent;
       placed = bit-set s t c.args.frame true refl refl (owners-fault s.swap t.swap c.args.slot c.write_slot.ensures.others c.in_err-write_slot.ensures.err)
           (rw (dirty-same s.frames c.args.frame true dirty) refl);
       sound = k.sound;

@@ -43,3 +43,10 @@ returns-in-Err-stat-clause-served g c =
 
 pub returns-in-Err-xadd-clause-served : goal.returns-in-Err-xadd-clause-served
 returns-in-Err-xadd-clause-served g c = rw c.in-Xadd.is (rw c.in-Err-xadd.is at (c.xadd.ensures c.args.time))
+
+pub returns-in-Exchange-clause-served : goal.returns-in-Exchange-clause-served
+returns-in-Exchange-clause-served g c = rw c.in-Exchange.is (rw c.as_slice-in-Exchange.ensures.value at (c.exchange-served.ensures c.args.time))
+
+pub returns-in-CompareExchange-clause-served : goal.returns-in-CompareExchange-clause-served
+returns-in-CompareExchange-clause-served g c =
+    rw c.in-CompareExchange.is (rw (c.as_slice-expected.ensures.value, c.as_slice-desired.ensures.value) at (c.compare_exchange-served.ensures c.args.time))

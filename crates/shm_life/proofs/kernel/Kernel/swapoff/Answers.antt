@@ -2,7 +2,7 @@ use Rattle.shm_life.proofs.Names.{rules, ◌≡◌, None, sym, ap, refl, ◌∙�
 use Rattle.std.proofs.Common.{slice_set}
 use Rattle.shm_base.specs.Segments.{slots}
 use Rattle.shm_life.proofs.Swapping.{IsThere, is_there, off-few, off-done}
-use Rattle.shm_life.proofs.Running.{failing, granted, kept_refl, refused_as, ok_fact, err_fact}
+use Rattle.shm_life.proofs.Running.{failing, granted, kept_refl, refused_as, ok_fact, err_fact, none-failed, one-failed}
 use Rattle.shm_life.proofs.kernel.Kernel.swapoff.Given.{Over}
 use Rattle.shm_life.proofs.kernel.Kernel.swapoff.Goals as goal
 use Rattle.shm_life.proofs.kernel.Kernel.swapoff.Goals.{After-from, After-is_err}
@@ -33,11 +33,11 @@ returns-then-is_err g c = λ n.
     let at = goal.at.returns-then-is_err g c in
     let failed = sym c.is_err.ensures.value ∙ c.if-is_err.true in
     let e = c.move_off.ensures in
-    failing _ _ _ _ _ _ refl (record {
+    failing _ _ _ _ _ _ (record {
       instead = ap (λ (o : Outcome). is_refusal o.reply) (done g at.After-is_err (there g at.After-from));
       unchanged = rw (← c.self.view_is, err_fact c.move_off.result _ failed e.moves.kept_sizes, e.table) refl;
       cause = rw (← c.self.view_is) (err_fact c.move_off.result _ failed e.moves.cause);
-    }) (search (rules, kept_refl)) (rw (← c.self.view_is) (record { uncounted = e.moves.rest; stopped = err_fact c.move_off.result _ failed e.moves.stopped }))
+    }) (search (rules, kept_refl)) (rw (← c.self.view_is) (record { uncounted = e.moves.rest; failures = one-failed c.move_off.result _ _ failed e.moves.failures; stopped = err_fact c.move_off.result _ failed e.moves.stopped }))
 
 pub returns : goal.returns
 returns g c = λ n.
@@ -46,4 +46,4 @@ returns g c = λ n.
     let went = sym c.is_err.ensures.value ∙ c.if-is_err.false in
     let gone = ok_fact c.move_off.result _ went e.moves.gone in
     granted _ _ _ _ _ _ (done g at.After-is_err (there g at.After-from) ∙ rw (← c.self.view_is, gone, e.table) refl) refl (search (rules, kept_refl))
-    (rw (← c.self.view_is) (record { uncounted = e.moves.rest; places = ok_fact c.move_off.result _ went e.moves.moves }))
+    (rw (← c.self.view_is) (record { uncounted = e.moves.rest; failures = none-failed c.move_off.result _ _ went e.moves.failures; places = ok_fact c.move_off.result _ went e.moves.moves }))

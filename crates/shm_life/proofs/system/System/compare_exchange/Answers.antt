@@ -1,12 +1,15 @@
 use Rattle.shm_life.proofs.Names.{refl}
+use Rattle.shm_base.specs.declared.call.Call.TheVariants as call
+use Rattle.shm_life.specs.SystemState.{time_by}
 use Rattle.shm_life.proofs.Accessing.{compares, does-kept}
+use Rattle.shm_life.proofs.Running.{replied_as}
 use Rattle.shm_life.proofs.Lending.{keeps-loans}
 use Rattle.shm_life.proofs.system.System.compare_exchange.Goals as goal
 
-pub returns-clause-compared : goal.returns-clause-compared
-returns-clause-compared g c =
+pub returns-clause-replied : goal.returns-clause-replied
+returns-clause-replied g c =
     rw (← c.self.view_is)
-    (record { room = rw (← c.self.view_is) at c.requires.room; answered = compares _ _ 0 c.args.addr _ _ _ c.args.expected c.args.bytes _ c.requires.before c.access_by-compared.ensures; rest = refl })
+    (replied_as _ _ c.args.pid (call.CompareExchange c.args.expected.now c.args.bytes.now c.args.addr) _ (rw (← c.self.view_is) at c.requires.room) (compares _ _ (time_by c.self.inside.clock c.self.inside.calls) c.args.addr _ _ _ c.args.expected c.args.bytes _ c.requires.before c.access_by-compared.ensures) refl)
 
 pub returns-clause-kept : goal.returns-clause-kept
 returns-clause-kept g c = does-kept _ c.args.addr _ _ _ _ _ _ c.access_by-compared.ensures

@@ -8,4 +8,4 @@ from_array-requires c =
     let kept = c.load_into.auto.bytes in
     let read : c.args.len ≡ length c.load_into.new.bytes = grind (arith, common_steps) in
     let at : c.get.result ≡ length c.load_into.new.bytes = c.get.ensures.value ∙ read in
-    record { zeros = rw at (padded c.load_into.new.bytes c.load_into.new.bytes c.args.len read (rw c.get.ensures.value at c.get.ensures.range.1) refl).1 }
+    record { zeros = rw at (padded c.load_into.new.bytes c.load_into.new.bytes c.args.len 64 read (rw c.get.ensures.value at c.get.ensures.range.1) refl).1 }

@@ -1,11 +1,11 @@
-use Rattle.std.proofs.Common.{◌≡◌, ◌≤◌, ◌∙◌, ℕ, List, None, ap, arith, false, length, position, subst, sym, true, true≢false}
+use Rattle.std.proofs.Common.{◌≡◌, ◌≤◌, ◌∙◌, ℕ, List, None, ap, arith, false, inr, length, position, subst, sym, true≢false}
 use Rattle.std.specs.Prelude.{IfErr, OnOk, Result}
-use Rattle.shm_threads.specs.Asked.{rounds_of}
 use Rattle.shm_threads.specs.Ends.{CanStop, comes_before, ended_by}
 use Rattle.shm_threads.specs.Running.{IsOver, RunView, can_come}
 use Rattle.shm_threads.specs.declared.outcome.RunError.{RunError}
 use Rattle.shm_threads.proofs.Expiring.{ended-over, ended-stop}
 use Rattle.shm_threads.proofs.Idle.{no-first}
+use Rattle.shm_threads.proofs.Placing.{declared-at}
 use Rattle.shm_threads.proofs.shared.RunState.complete.Given as given
 use Rattle.shm_threads.proofs.shared.RunState.complete.Goals as goal
 use Rattle.shm_threads.proofs.shared.RunState.complete.Goals.{else-comes_before-via-then-comes_before+else-self-len, else-comes_before-via-else-comes_before}
@@ -47,3 +47,8 @@ returns-else-comes_before-clause-over g c =
     let Over : Type 0 = IsOver g.O.Origin.script g.O.Origin.start at.world at.strands at.made None in
     let done = ended-over g.O.Origin.script g.O.Origin.start at.world at.strands at.made at.expired (over g c) in
     subst (λ (r : Result (Unit {0}) RunError). OnOk r Over) (sym (ends g c)) done
+
+pub expire-requires-clause-has : goal.expire-requires-clause-has
+expire-requires-clause-has g c =
+    let known = c.next-in-loop.ensures in
+    inr (declared-at g.O.Origin.script.processes _ _ (rw c.in-Some-next.is at known.process), rw c.in-Some-next.is at known.line)

@@ -5,7 +5,7 @@ use Rattle.std.proofs.lemmas.List.Quantifiers.{position-Some}
 use Rattle.shm_threads.specs.Ends.{comes_before}
 use Rattle.shm_threads.specs.Running.{RunView, can_come}
 use Rattle.shm_threads.specs.Strands.{can_go}
-use Rattle.shm_threads.proofs.Nexts.{at-process, has-call}
+use Rattle.shm_threads.proofs.Nexts.{at-process, within-lines}
 use Rattle.shm_threads.proofs.shared.RunState.next.Goals as goal
 
 pub returns-clause-first : goal.returns-clause-first
@@ -20,8 +20,8 @@ returns-clause-process g c =
     let here : s ≡ get_or state.strands k s = subst (λ (v : RunView). s ≡ get_or v.strands k s) c.self.view_is c.index-strand.ensures in
     at-process g.O.Origin.script g.O.Origin.start state.world state.strands state.made k s c.first.ensures.running at.0 here
 
-pub returns-clause-call : goal.returns-clause-call
-returns-clause-call g c =
+pub returns-clause-line : goal.returns-clause-line
+returns-clause-line g c =
     let state = c.args.self.now in
     let s = c.index-strand.result.now in
     let k = c.in-Some.index in
@@ -30,4 +30,4 @@ returns-clause-call g c =
     let first = get_or state.strands k s in
     let go = (and_parts (comes_before first.pid state.expired) (can_go state.world.machine first) at.1).1 in
     let entries : c.len.result ≡ length s.entries.items = omega (arith, c.len.ensures, s.entries.ok.0) in
-    rw entries (has-call g.O.Origin.script g.O.Origin.start state.world state.strands state.made k s c.first.ensures.running at.0 here go)
+    rw entries (within-lines g.O.Origin.script g.O.Origin.start state.world state.strands state.made k s c.first.ensures.running at.0 here go)

@@ -8,7 +8,7 @@ use Rattle.shm_threads.specs.Strands.{can_go}
 use Rattle.shm_threads.specs.declared.births.ProcessState.{ProcessState}
 use Rattle.shm_threads.specs.declared.strand.Strand.{Strand}
 use Rattle.shm_threads.proofs.Passing.{passed-step}
-use Rattle.shm_threads.proofs.Turns.{has-place, pid-of, running-step}
+use Rattle.shm_threads.proofs.Turns.{has-place, nth-next, pid-of, running-step}
 use Rattle.shm_threads.proofs.shared.RunState.step.Goals as goal
 
 -- the strand at the index, which can continue
@@ -39,9 +39,11 @@ invariant_of-self g c =
     let lt : c.args.index < length items = omega (arith, c.if-index-len.false, c.len.ensures, c.self.inside.strands.ok.0) in
     let here = λ (d : Strand). sym (get_or_read items c.args.index s lt c.index_mut.ensures.value d) in
     let rest = c.self.invariant.1 in
-    let nth = next-is items c.args.index c.args.n s _ _ c.if-not-is_next.false c.is_next.ensures c.index.ensures here in (
-      running-step g.O.Origin.script g.O.Origin.start c.self.inside.world c.make-made.new.world items c.self.inside.made c.args.index s c.make-made.new.strand c.make-made.result
-          c.self.invariant.0 lt here (goes c.self.inside.world.machine items c.args.index s _ _ c.if-not-goes.false c.goes.ensures c.index-else-not-is_next.ensures here) c.make-made.ensures,
+    let nth = next-is items c.args.index c.args.n s _ _ c.if-not-is_next.false c.is_next.ensures c.index.ensures here in
+    let own = pid-of items g.O.Origin.script.processes c.self.invariant.0.listed c.args.index c.args.pid s lt here c.requires.process in
+    let next = nth-next g.O.Origin.script.lines c.args.pid c.args.n s c.args.command.now own nth c.requires.line in (
+      running-step g.O.Origin.script g.O.Origin.start c.self.inside.world c.make-made.new.world items c.self.inside.made c.args.index s c.make-made.new.strand c.args.command.now c.make-made.result
+          c.self.invariant.0 lt here (goes c.self.inside.world.machine items c.args.index s _ _ c.if-not-goes.false c.goes.ensures c.index-else-not-is_next.ensures here) next c.make-made.ensures,
       (
         rest.0,
         (
@@ -49,7 +51,7 @@ invariant_of-self g c =
           (
             rest.1.1.0,
             passed-step g.O.Origin.answers items c.self.inside.made c.args.index c.args.n c.args.pid s c.make-made.new.strand c.make-made.ensures.entry lt here
-                (pid-of items g.O.Origin.script.processes c.self.invariant.0.listed c.args.index c.args.pid s lt here c.requires.process) nth c.requires.passed c.make-made.ensures.pid c.make-made.ensures.entries rest.1.1.1,
+                own nth c.requires.passed c.make-made.ensures.pid c.make-made.ensures.entries rest.1.1.1,
           ),
         ),
       ),
@@ -63,7 +65,7 @@ returns g c =
     let here = λ (d : Strand). sym (get_or_read items c.args.index s lt c.index_mut.ensures.value d) in
     let more : c.ne.result ≡ goes_on_by c.make-made.result = search rules in
     let now : RunView = record { world = c.make-made.new.world; strands = slice_set items c.args.index c.make-made.new.strand; rounds = c.self.inside.rounds.items; made = c.self.inside.made; processes = c.born_by.new.processes.items; keeper = c.self.inside.keeper; expired = c.self.inside.expired } in
-    let Turned : RunView → Type 0 = λ v. IsTurn v c.args.index c.ne.result (is_some c.born_by.result) now in
+    let Turned : RunView → Type 0 = λ v. IsTurn v c.args.index c.args.command.now c.ne.result (is_some c.born_by.result) now in
     inr (subst Turned c.self.view_is (record {
       strand = s;
       next = c.make-made.new.strand;

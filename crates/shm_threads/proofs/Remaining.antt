@@ -1,0 +1,25 @@
+-- The command lines of a process that are left at a line.
+use Rattle.std.specs.Prelude.{◌≡◌, ◌<◌, ◌+◌, ◌++◌, ℕ, List, [], ◌∷◌, length, drop}
+use Rattle.std.proofs.Common.{ap, ◌∙◌, refl, inl, inr, eq-eqb, ne_eqb}
+use Rattle.std.proofs.Math.ListN.{get_or}
+use Rattle.std.proofs.lemmas.Bool.{cases_eq}
+use Rattle.std.proofs.lemmas.List.{drop_more}
+use Rattle.shm_text.specs.Form.{CommandView}
+use Rattle.shm_text.specs.declared.script.Line.{Line}
+use Rattle.shm_text.specs.declared.script.Line.TheVariants.{Command, Flush}
+use Rattle.shm_threads.specs.Transcripts.{commands_of}
+
+first : (pid : ℕ) (l : Line) (ls : List Line) → commands_of pid (l ∷ ls) ≡ commands_of pid (l ∷ []) ++ commands_of pid ls
+first pid (Flush n) ls = refl
+first pid (Command c) ls =
+    elim (cases_eq c.pid pid) [
+      | inl own ↦ rw (eq-eqb c.pid pid own) refl
+      | inr other ↦ rw (ne_eqb c.pid pid other) refl
+    ]
+
+module _ (pid : ℕ) (ls : List Line) (i : ℕ) (l : Line) (lt : i < length ls) (here : get_or ls i l ≡ l) (found : List CommandView) (is : commands_of pid (l ∷ []) ≡ found) where
+  -- those from this line on
+  pub from-line : commands_of pid (drop i ls) ≡ found ++ commands_of pid (drop (i + 1) ls)
+  from-line =
+      ap (commands_of pid) (drop_more ls i l lt ∙ ap (λ (x : Line). x ∷ drop (i + 1) ls) here)
+      ∙ first pid l (drop (i + 1) ls) ∙ ap (λ (cs : List CommandView). cs ++ commands_of pid (drop (i + 1) ls)) is

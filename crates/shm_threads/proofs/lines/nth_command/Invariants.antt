@@ -1,0 +1,12 @@
+use Rattle.std.proofs.Common.{◌≡◌, ◌≤◌, ◌+◌, ◌++◌, List, length, drop}
+use Rattle.shm_text.specs.Form.{CommandView}
+use Rattle.shm_threads.specs.Transcripts.{commands_of}
+use Rattle.shm_threads.proofs.lines.nth_command.Given as goal
+
+-- the commands before it so far, and those of the lines that are left, among which it is
+abbrev pub invariant-loop-line : goal.invariant-loop-line
+invariant-loop-line l =
+    (before : List CommandView)
+    × (before ++ commands_of l.pid (drop l.line-index l.lines) ≡ commands_of l.pid l.lines)
+    × (length before + l.left ≡ l.n)
+    × (1 ≤ l.left)
