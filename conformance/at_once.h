@@ -53,6 +53,10 @@ static struct request request_at_once(const struct command *c, const uint64_t *v
     case SHMSET: return (struct request){.task = CONTROL, .id = id, .flags = IPC_SET, .uid = (unsigned)v[1],
         .gid = (unsigned)v[2], .mode = (unsigned)v[3]};
     case RMID: return (struct request){.task = CONTROL, .id = id, .flags = IPC_RMID};
+    case MUNMAP: return (struct request){.task = UNMAPS, .address = v[0], .size = v[1], .reach = v[1]};
+    case MPROTECT: return (struct request){.task = PROTECTS, .address = v[0], .size = v[1], .reach = v[1],
+        .flags = v[2] ? PROT_READ | PROT_WRITE : PROT_READ};
+    case SETUID: return (struct request){.task = BECOMES, .uid = (unsigned)v[0], .gid = (unsigned)v[1]};
     default: return access_request(c, v);
     }
 }
@@ -116,7 +120,7 @@ static void require_at_once(void) {
         if (script.processes[i].is_child) fail(1, "at once there is no child");
     for (int i = 0; i < script.command_count; i++) {
         const struct command *c = &script.commands[i];
-        int is_made = (c->call <= RMID && !(c->call == SHMAT && c->operands[2].number & REMAP));
+        int is_made = (c->call <= RMID && !(c->call == SHMAT && c->operands[2].number & REMAP)) || c->call >= MUNMAP;
         script.line = c->line;
         if (!is_made) fail(1, "not made at once: %s", c->call == SHMAT ? "remap" : calls[c->call].name);
         for (int k = 0; calls[c->call].operands[k]; k++) require_operand(c, c->operands[k], calls[c->call].operands[k]);
@@ -127,6 +131,8 @@ static void require_at_once(void) {
         int has_user = is_root ? p->uid != UINT32_MAX && p->gid != UINT32_MAX : p->uid == processes[0].uid && p->gid == processes[0].gid;
         if (!has_user) fail(4, "skipped: no right to be user %u", p->uid);
     }
+    for (int i = 0; i < script.command_count && !is_root; i++)
+        if (script.commands[i].call == SETUID) fail(4, "skipped: no right to change the user");
     if (is_shared) fail(4, "skipped: at once needs an IPC namespace of its own");
     if (sizeof(void *) != sizeof(uint64_t)) fail(4, "skipped: at once needs 64 bits");
 }

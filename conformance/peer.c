@@ -32,7 +32,7 @@
 #include <sys/wait.h>
 #include <time.h>
 #include <unistd.h>
-#define HAS_MAPPINGS
+#define HAS_FLAGS
 #include "script.h"
 
 enum { PAGE = 4096, PIECES = 1024, OWN_RANGES = 64 };
@@ -42,7 +42,8 @@ enum { RECORD_FD = 98, ALIVE_FD = 99, FIRST_FD = 100 };
 _Static_assert(IPC_CREAT == CREAT && IPC_EXCL == EXCL && SHM_HUGETLB == HUGETLB && SHM_NORESERVE == NORESERVE &&
     SHM_RDONLY == RDONLY && SHM_RND == RND && SHM_REMAP == REMAP && SHM_EXEC == EXECUTE, "a script's flags are the system's");
 
-enum task { GET, ATTACH, DETACH, CONTROL, LOAD, STORE, ADD, EXCHANGE, COMPARE, FORK, EXEC, EXIT, MAPPED, UNMAPS, PROTECTS };
+enum task { GET, ATTACH, DETACH, CONTROL, LOAD, STORE, ADD, EXCHANGE, COMPARE, FORK, EXEC, EXIT, MAPPED, UNMAPS, PROTECTS,
+    BECOMES };
 
 /* a request to a worker: flags are also shmctl's command and mprotect's rights; at[] has the address of each byte of an access;
    reach is how far a call of a range may come */
@@ -69,6 +70,7 @@ static sigjmp_buf escape;
 static volatile sig_atomic_t is_accessing;
 static char *exec_words[WORDS + 1];
 static int runs_at_once;  /* 0: the director tells one worker at a time */
+static int has_changes;   /* the script has a setuid: workers keep user 0 as the saved one, to change again */
 
 static void on_fault(int signal) {
     if (is_accessing) siglongjmp(escape, signal);
@@ -176,6 +178,18 @@ static void access_memory(const struct request *q, struct answer *a) {
     is_accessing = 0;
 }
 
+/* real and effective ids are the user's; the capabilities of user 0 are in effect only for that user */
+static int take_user(unsigned uid, unsigned gid) {
+    return (has_changes && seteuid(0)) || setresgid(gid, gid, gid) || setresuid(uid, uid, has_changes ? 0 : uid) ? -1 : 0;
+}
+
+/* an exec takes the effective user as the saved one, so the real one keeps user 0 meanwhile */
+static void execute(struct answer *a) {
+    uid_t user = geteuid();
+    if (has_changes && setresuid(0, user, 0)) _exit(97);
+    settle(a, execvp(exec_words[0], exec_words));
+}
+
 static void serve(int index) __attribute__((noreturn));
 
 static void perform(const struct request *q, struct answer *a) {
@@ -186,7 +200,8 @@ static void perform(const struct request *q, struct answer *a) {
     case DETACH: settle(a, shmdt((void *)(uintptr_t)q->address)); break;
     case CONTROL: control(q, a); break;
     case FORK: if ((a->value = fork()) == 0) serve(q->child); else settle(a, a->value); break;
-    case EXEC: settle(a, execvp(exec_words[0], exec_words)); break;
+    case EXEC: execute(a); break;
+    case BECOMES: settle(a, q->is_placed ? 0 : take_user(q->uid, q->gid)); break;
     case EXIT: _exit(0);
     case UNMAPS:
     case PROTECTS: change_range(q, a); break;
@@ -204,6 +219,7 @@ static void serve(int index) {
     char number[16];
     sprintf(number, "%d", index);
     setenv("PEER_WORKER", number, 1);
+    if (has_changes) setenv("PEER_CHANGES", "1", 1);
     while (read_whole(FIRST_FD + 2 * index, &q, sizeof q)) {
         struct answer a = {0};
         perform(&q, &a);
@@ -229,6 +245,8 @@ static void choose_exec_words(void) {
 
 static void continue_worker(int index) {
     struct answer done = {0};
+    has_changes = getenv("PEER_CHANGES") != NULL;
+    if (has_changes && setresuid(geteuid(), geteuid(), 0)) _exit(97);
     prepare_worker();
     if (!write_whole(FIRST_FD + 2 * index + 1, &done, sizeof done)) _exit(1);
     serve(index);
@@ -263,6 +281,7 @@ __attribute__((noreturn, format(printf, 2, 3))) static void fail(int status, con
 }
 
 static void declare_processes(void) {
+    for (int i = 0; i < script.command_count; i++) has_changes |= script.commands[i].call == SETUID;
     for (int i = 0; i < script.process_count; i++) {
         const struct declared *d = &script.processes[i];
         processes[i] = (struct process){.pid = d->pid, .uid = d->uid, .gid = d->gid, .life = d->is_child ? UNBORN : LIVE};
@@ -512,18 +531,28 @@ static void run_detach(struct process *p, const uint64_t *v, char *reply) {
     }
 }
 
+/* user 2^32 - 1 is nobody in the system; without root there is one user */
+static void run_setuid(struct process *p, const uint64_t *v, char *reply) {
+    unsigned uid = (unsigned)v[0], gid = (unsigned)v[1];
+    int is_same = p->uid == uid && p->gid == gid;
+    if (!is_same && (!is_root || uid == UINT32_MAX || gid == UINT32_MAX)) return skip(reply, "no right to be this user");
+    struct request q = {.task = BECOMES, .uid = uid, .gid = gid, .is_placed = is_same};
+    struct answer a = ask(p, &q);
+    if (reply_plain(&a, reply)) p->uid = uid, p->gid = gid;
+}
+
 /* an mprotect ends at the first page without a piece */
 static void run_range(struct process *p, int call, const uint64_t *v, char *reply) {
     uint64_t page = v[0] - v[0] % PAGE, size = v[1] + (PAGE - v[1] % PAGE) % PAGE, reach = size;
     int is_none = page != v[0] || size == 0 || page + size < page;
-    struct request q = {.task = call == UNMAP ? UNMAPS : PROTECTS, .size = v[1]};
+    struct request q = {.task = call == MUNMAP ? UNMAPS : PROTECTS, .size = v[1]};
     q.flags = v[2] ? PROT_READ | PROT_WRITE : PROT_READ;
-    if (call == PROTECT && reach > run_of_pieces(p, page)) reach = run_of_pieces(p, page);
+    if (call == MPROTECT && reach > run_of_pieces(p, page)) reach = run_of_pieces(p, page);
     q.reach = is_none ? 0 : reach;
     q.address = real_address(p, page) + v[0] % PAGE;
     if (q.reach && !is_one_range(p, page, q.reach)) return skip(reply, "the range is not one range of the system");
     struct answer a = ask(p, &q);
-    if (reply_plain(&a, reply) && call == UNMAP) cut_pieces(p, page, page + size);
+    if (reply_plain(&a, reply) && call == MUNMAP) cut_pieces(p, page, page + size);
 }
 
 static void print_segment(char *reply, const struct shmid_ds *s, int place) {
@@ -599,7 +628,7 @@ static void run_end(struct process *p, int call, char *reply) {
 }
 
 static void run(struct process *p, const struct command *c, const uint64_t *v, char *reply, uint64_t *result) {
-    int is_range = c->call == UNMAP || c->call == PROTECT, is_sized = c->call == SHMGET || is_range;
+    int is_range = c->call == MUNMAP || c->call == MPROTECT, is_sized = c->call == SHMGET || is_range;
     int is_too_large = (is_sized && (size_t)v[1] != v[1]) || (c->call == SHMAT && (uintptr_t)v[1] != v[1]) ||
         (is_range && (uintptr_t)v[0] != v[0]);
     if (is_too_large) skip(reply, "this system has no such number");
@@ -616,6 +645,7 @@ static void run(struct process *p, const struct command *c, const uint64_t *v, c
     else if (c->call == SHMSTAT) run_stat(p, v, reply, (int)(c - script.commands) + 1);
     else if (c->call <= UNLOCK) run_control(p, c->call, v, reply);
     else if (c->call == FORKS) run_fork(p, v, reply);
+    else if (c->call == SETUID) run_setuid(p, v, reply);
     else run_end(p, c->call, reply);
 }
 
@@ -634,7 +664,7 @@ static void run_command(int place) {
 static int become_user(unsigned uid, unsigned gid) {
     struct rlimit locked = {script.limits[4] * PAGE, script.limits[4] * PAGE};
     setrlimit(RLIMIT_MEMLOCK, &locked);
-    return !is_root || (!setgroups(0, NULL) && !setresgid(gid, gid, gid) && !setresuid(uid, uid, uid));
+    return !is_root || (!setgroups(0, NULL) && !take_user(uid, gid));
 }
 
 /* pipes to a worker and from it: its own ends keep their numbers through forks and execs */
@@ -801,5 +831,6 @@ int main(int argc, char **argv) {
     read_script(&script, from);
     declare_processes();
     enter_namespace();
+    has_changes &= is_root;
     return guard();
 }

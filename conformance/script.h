@@ -1,7 +1,6 @@
 /* A script of docs/SCRIPT.md, read and printed by programs in C that make its calls. The file that includes this one
-   defines `fail`, which says what is wrong and ends the program. Not each fault of the language is found. `unmap` and
-   `protect`, and the flags `exec`, `hugetlb` and `noreserve`, are words of the kit alone: a file that reads them too defines
-   HAS_MAPPINGS above. */
+   defines `fail`, which says what is wrong and ends the program. Not each fault of the language is found. The flags `exec`,
+   `hugetlb` and `noreserve` are words of the kit alone: a file that reads them too defines HAS_FLAGS above. */
 #ifndef SCRIPT_H
 #define SCRIPT_H
 #include <errno.h>
@@ -16,21 +15,14 @@ enum { PROCESSES = 64, COMMANDS = 100000, WORDS = 8, OPERANDS = 4, BYTES = 64, M
 __attribute__((noreturn, format(printf, 2, 3))) static void fail(int status, const char *format, ...);
 
 enum call { SHMGET, SHMAT, SHMDT, ACCESS_LOAD, ACCESS_STORE, XADD, SWAP, CAS, SHMSTAT, SHMSET, RMID, LOCK, UNLOCK,
-    FORKS, EXECS, EXITS, SWAPOFF,
-#ifdef HAS_MAPPINGS
-    UNMAP, PROTECT,
-#endif
-    CALLS };
+    FORKS, EXECS, EXITS, SWAPOFF, MUNMAP, MPROTECT, SETUID, CALLS };
 
 /* each letter is an operand: key, number, get flags, identifier, address, attach flags, bytes, expected bytes, mode, child,
-   rights */
+   protection */
 static const struct { const char *name, *operands; } calls[CALLS] = {
     {"shmget", "kng"}, {"shmat", "iaf"}, {"shmdt", "a"}, {"load", "an"}, {"store", "ab"}, {"xadd", "an"},
     {"swap", "ab"}, {"cas", "aeb"}, {"stat", "i"}, {"set", "innm"}, {"rmid", "i"}, {"lock", "i"}, {"unlock", "i"}, {"fork", "c"}, {"exec", ""},
-    {"exit", ""}, {"swapoff", "n"},
-#ifdef HAS_MAPPINGS
-    {"unmap", "an"}, {"protect", "anr"},
-#endif
+    {"exit", ""}, {"swapoff", "n"}, {"munmap", "an"}, {"mprotect", "anp"}, {"setuid", "nn"},
 };
 
 /* as Linux numbers them: one of shmget may have the number of one of shmat */
@@ -38,11 +30,11 @@ enum { CREAT = 01000, EXCL = 02000, HUGETLB = 04000, NORESERVE = 010000 };
 enum { RDONLY = 010000, RND = 020000, REMAP = 040000, EXECUTE = 0100000 };
 static const struct { const char *name; unsigned flag; int is_of_get; } flag_names[] = {
     {"creat", CREAT, 1}, {"excl", EXCL, 1},
-#ifdef HAS_MAPPINGS
+#ifdef HAS_FLAGS
     {"hugetlb", HUGETLB, 1}, {"noreserve", NORESERVE, 1},
 #endif
     {"rnd", RND, 0}, {"remap", REMAP, 0}, {"rdonly", RDONLY, 0},
-#ifdef HAS_MAPPINGS
+#ifdef HAS_FLAGS
     {"exec", EXECUTE, 0},
 #endif
 };
@@ -102,10 +94,10 @@ static uint64_t flags_of(const char *word, int has_mode) {
     return flags;
 }
 
-/* whether bytes may be written too */
-static uint64_t rights_of(const char *word) {
+/* whether pages become writable */
+static uint64_t protection_of(const char *word) {
     int is_writable = strcmp(word, "rw") == 0;
-    if (!is_writable && strcmp(word, "r") != 0) fail(1, "bad rights: %s", word);
+    if (!is_writable && strcmp(word, "ro") != 0) fail(1, "bad protection: %s", word);
     return (uint64_t)is_writable;
 }
 
@@ -137,7 +129,7 @@ static void read_operand(const struct script *s, struct command *c, int i, char 
     else if (letter == 'm') c->operands[i].number = strtoul(word, NULL, 8);
     else if (letter == 'e') c->length = read_bytes(c->expected, MOST_COMPARED, word);
     else if (letter == 'b') read_new_bytes(c, word);
-    else if (letter == 'r') c->operands[i].number = rights_of(word);
+    else if (letter == 'p') c->operands[i].number = protection_of(word);
     else c->operands[i] = operand_of(word);
     if (letter == 'c') process_by_pid(s, c->operands[i].number);
 }
@@ -215,7 +207,7 @@ static void print_operand(const struct command *c, char letter, uint64_t value) 
     else if (letter == 'a') printf(value ? "0x%jx" : "null%.0jx", (uintmax_t)value);
     else if (letter == 'm') printf("%03" PRIo64, value);
     else if (letter == 'g' || letter == 'f') print_flags(value, letter == 'g');
-    else if (letter == 'r') printf("%s", value ? "rw" : "r");
+    else if (letter == 'p') printf("%s", value ? "rw" : "ro");
     else if (letter == 'b') print_hex(c->bytes, c->length);
     else if (letter == 'e') print_hex(c->expected, c->length);
     else if (letter == 'i' && value > INT32_MAX) printf("-1");

@@ -8,7 +8,8 @@
    and the user are printed as those of the script.
 
    A port may also have BECOME, which gives a process another user. Then a peer that user 0 starts has a process for each
-   user of the script; otherwise it is the script's first user, and the calls of the others are skipped.
+   user of the script; otherwise it is the script's first user, and the calls of the others are skipped. With MUNMAP and
+   MPROTECT it makes these two calls as well.
 
    Left out on purpose: a command that needs more than those calls (exec, swapoff), or that might end its process, is
    printed as skipped. A process that dies all the same leaves a line without a reply, which is the last one. */
@@ -48,6 +49,18 @@
 #define HAS_BECOME 0
 #define BECOME(uid, gid) ((void)(uid), (void)(gid), -1)
 #endif
+#ifdef MUNMAP
+#define HAS_MUNMAP 1
+#else
+#define HAS_MUNMAP 0
+#define MUNMAP(address, length) ((void)(address), (void)(length), -1)
+#endif
+#ifdef MPROTECT
+#define HAS_MPROTECT 1
+#else
+#define HAS_MPROTECT 0
+#define MPROTECT(address, length, is_writable) ((void)(address), (void)(length), (void)(is_writable), -1)
+#endif
 #ifndef SHM_LOCK
 #define SHM_LOCK -1
 #define SHM_UNLOCK -1
@@ -64,8 +77,8 @@ enum { PAGE = 4096, BYTES = 64, MOST_COMPARED = 16, OPERANDS = 4 };
 
 /* ---- a script as data: the numbers of 64 bits have 32 in each part ---- */
 
-enum call { GET, ATTACH, DETACH, LOAD, STORE, ADD, EXCHANGE, COMPARE, STAT, SET, REMOVE, LOCK, UNLOCK, FORK, EXEC, EXIT,
-    SWAPOFF };
+enum call { GET, ATTACH, DETACH, UNMAP, PROTECT, LOAD, STORE, ADD, EXCHANGE, COMPARE, STAT, SET, REMOVE, LOCK, UNLOCK, FORK,
+    EXEC, EXIT, SET_USER, SWAPOFF };
 enum { CREAT = 01000, EXCL = 02000, HUGETLB = 04000, NORESERVE = 010000 };
 enum { RDONLY = 010000, RND = 020000, REMAP = 040000, EXECUTE = 0100000 };
 struct number { unsigned long high, low; };
@@ -83,11 +96,11 @@ struct script {
 };
 #include "small_script.h"
 
-/* each letter is an operand: key, number, get flags, identifier, address, attach flags, bytes, expected bytes, mode */
-static const char *const names[] = { "shmget", "shmat", "shmdt", "load", "store", "xadd", "swap", "cas", "stat", "set", "rmid",
-    "lock", "unlock", "fork", "exec", "exit", "swapoff" };
-static const char *const kinds[] = { "kng", "iaf", "a", "an", "ab", "an", "ab", "aeb", "i", "innm", "i", "i", "i", "n", "", "",
-    "n" };
+/* each letter is an operand: key, number, get flags, identifier, address, attach flags, bytes, expected bytes, mode, protection */
+static const char *const names[] = { "shmget", "shmat", "shmdt", "munmap", "mprotect", "load", "store", "xadd", "swap", "cas",
+    "stat", "set", "rmid", "lock", "unlock", "fork", "exec", "exit", "setuid", "swapoff" };
+static const char *const kinds[] = { "kng", "iaf", "a", "an", "anp", "an", "ab", "an", "ab", "aeb", "i", "innm", "i", "i", "i",
+    "n", "", "", "nn", "n" };
 
 /* ---- printing ---- */
 
@@ -181,6 +194,7 @@ static void put_operand(const struct command *c, int kind, struct number n) {
     case 'm': put_digits(n, 3, 3); break;
     case 'g': put_get_flags(n.low); break;
     case 'f': put_attach_flags(n.low); break;
+    case 'p': put_text(n.low ? "rw" : "ro"); break;
     case 'b': for (i = 0; i < c->length; i++) put_byte(c->bytes[i]); break;
     case 'e': for (i = 0; i < c->length; i++) put_byte(c->expected[i]); break;
     case 'i': if (is_no_identifier(n)) put_text("-1"); else put_number(n); break;
@@ -190,7 +204,7 @@ static void put_operand(const struct command *c, int kind, struct number n) {
 
 /* ---- what goes through the pipes ---- */
 
-enum task { DO_GET, DO_ATTACH, DO_DETACH, DO_CONTROL, DO_ACCESS, DO_FORK, DO_WAIT, DO_EXIT };
+enum task { DO_GET, DO_ATTACH, DO_DETACH, DO_UNMAP, DO_PROTECT, DO_BECOME, DO_CONTROL, DO_ACCESS, DO_FORK, DO_WAIT, DO_EXIT };
 /* flags: those of the call, shmctl's command, or which access; at[]: its addresses, byte by byte */
 struct request {
     int task, id, flags, child, length;
@@ -303,6 +317,9 @@ static void perform(const struct request *q, struct answer *a) {
     case DO_GET: settle(a, shmget(q->key, q->size, get_flags(q->flags))); break;
     case DO_ATTACH: settle(a, (long)shmat(q->id, (void *)q->address, attach_flags(q->flags))); break;
     case DO_DETACH: settle(a, shmdt((void *)q->address)); break;
+    case DO_UNMAP: settle(a, MUNMAP((void *)q->address, q->size)); break;
+    case DO_PROTECT: settle(a, MPROTECT((void *)q->address, q->size, q->flags)); break;
+    case DO_BECOME: settle(a, BECOME(q->uid, q->gid) ? -1 : 0); break;
     case DO_CONTROL: control(q, a); break;
     case DO_ACCESS: access_bytes(q, a); break;
     case DO_WAIT: settle(a, wait((int *)0)); break;
@@ -328,9 +345,10 @@ static void serve(int index) {
 /* ---- the director: identifiers, pids, addresses and the user as the script has them ---- */
 
 enum life { UNBORN, LIVE, ENDED, OTHER_USER };
-struct piece { unsigned long base, size, real, origin; int segment, is_read_only; };
+/* is_for_reading: it was attached read-only, so no mprotect makes it writable */
+struct piece { unsigned long base, size, real, origin; int segment, is_read_only, is_for_reading; };
 /* parent: -1 for a child of the director */
-struct process { int life, parent, piece_count; unsigned long real; struct piece pieces[PIECES]; };
+struct process { int life, parent, piece_count; unsigned long real, uid, gid; struct piece pieces[PIECES]; };
 struct segment { int real, is_gone; unsigned long index, sequence, size; };
 
 static const struct script *script;
@@ -434,6 +452,7 @@ static void copy_piece(struct piece *to, const struct piece *from) {
     to->origin = from->origin;
     to->segment = from->segment;
     to->is_read_only = from->is_read_only;
+    to->is_for_reading = from->is_for_reading;
 }
 
 static void drop_piece(struct process *p, int i) { copy_piece(&p->pieces[i], &p->pieces[--p->piece_count]); }
@@ -449,32 +468,60 @@ static void add_part(struct process *p, const struct piece *of, unsigned long be
     p->piece_count++;
 }
 
-/* a new attach takes the place of what was in its range */
-static void replace_pieces(struct process *p, const struct piece *new_one) {
-    unsigned long end = new_one->base + new_one->size;
+/* takes a range away from the pieces */
+static void cut_pieces(struct process *p, unsigned long begin, unsigned long end) {
     int i;
     for (i = p->piece_count - 1; i >= 0; i--) {
         struct piece old;
         copy_piece(&old, &p->pieces[i]);
-        if (old.base >= end || new_one->base >= old.base + old.size) continue;
+        if (old.base >= end || begin >= old.base + old.size) continue;
         drop_piece(p, i);
-        add_part(p, &old, old.base, new_one->base);
+        add_part(p, &old, old.base, begin);
         add_part(p, &old, end, old.base + old.size);
     }
-    add_part(p, new_one, new_one->base, end);
+}
+
+/* a new attach takes the place of what was in its range */
+static void replace_pieces(struct process *p, const struct piece *new_one) {
+    cut_pieces(p, new_one->base, new_one->base + new_one->size);
+    add_part(p, new_one, new_one->base, new_one->base + new_one->size);
+}
+
+/* makes a range read-only or writable, as an mprotect does, which ends where nothing is attached or may be writable */
+static void protect_pieces(struct process *p, unsigned long begin, unsigned long end, int is_read_only) {
+    struct piece *found = piece_at(p, begin), part;
+    while (begin < end && found && (is_read_only || !found->is_for_reading)) {
+        unsigned long to = found->base + found->size;
+        if (to > end) to = end;
+        copy_piece(&part, found);
+        part.real += begin - part.base;
+        part.base = begin;
+        part.size = to - begin;
+        part.is_read_only = is_read_only;
+        replace_pieces(p, &part);
+        begin = to;
+        found = piece_at(p, begin);
+    }
+}
+
+/* how many bytes of a range a piece has */
+static unsigned long shared_bytes(const struct piece *q, unsigned long base, unsigned long size) {
+    unsigned long begin = base > q->base ? base : q->base, end = q->base + q->size;
+    if (end > base + size) end = base + size;
+    return begin < end ? end - begin : 0;
 }
 
 /* whether a range of the script is one range of the system, and holds no attach that the script has elsewhere */
 static int is_one_range(struct process *p, unsigned long base, unsigned long size) {
-    unsigned long real = real_address(p, base), at;
+    unsigned long real = real_address(p, base), held = 0;
     int i;
-    for (at = 0; at < size; at += PAGE)
-        if (real_address(p, base + at) != real + at) return 0;
     for (i = 0; i < p->piece_count; i++) {
         struct piece *q = &p->pieces[i];
-        if (q->real < real + size && real < q->real + q->size && q->real - real != q->base - base) return 0;
+        int is_met = q->real < real + size && real < q->real + q->size;
+        held += shared_bytes(q, base, size);
+        if ((is_met || shared_bytes(q, base, size)) && q->real - real != q->base - base) return 0;
     }
-    return 1;
+    return real == base || held == size;
 }
 
 /* ---- the director: one command ---- */
@@ -543,7 +590,7 @@ static void run_attach(int index, const struct number *v, struct number *result)
     if (!is_answered(&a)) return;
     piece.base = piece.origin = address ? page : chosen_name(p, piece.size);
     piece.real = a.value;
-    piece.is_read_only = (v[2].low & RDONLY) != 0;
+    piece.is_read_only = piece.is_for_reading = (v[2].low & RDONLY) != 0;
     replace_pieces(p, &piece);
     *result = number_of(piece.base);
     put_address(*result);
@@ -573,6 +620,54 @@ static void run_detach(int index, const struct number *v) {
     segment = first >= 0 ? p->pieces[first].segment : -1;
     for (i = p->piece_count - 1; i >= 0; i--)
         if (p->pieces[i].origin == address && p->pieces[i].segment == segment) drop_piece(p, i);
+}
+
+/* how far an mprotect comes: to the end of the first page that is not attached */
+static unsigned long reach_of(struct process *p, unsigned long page, unsigned long size) {
+    unsigned long at = page;
+    struct piece *piece;
+    for (piece = piece_at(p, at); piece && at - page < size; piece = piece_at(p, at)) at = piece->base + piece->size;
+    return at + PAGE - page < size ? at + PAGE - page : size;
+}
+
+static void run_range(int index, int call, const struct number *v) {
+    struct process *p = &processes[index];
+    struct request q;
+    struct answer a;
+    unsigned long page = value_of(v[0]), size = (value_of(v[1]) + PAGE - 1) / PAGE * PAGE, reach;
+    int is_whole = page % PAGE == 0 && size != 0 && page + size > page;
+    if (!(call == UNMAP ? HAS_MUNMAP : HAS_MPROTECT)) { skip("this system has no such call"); return; }
+    if (PIECES - p->piece_count < 2) { skip("more pieces than PIECES"); return; }
+    reach = !is_whole ? 0 : call == UNMAP ? size : reach_of(p, page, size);
+    if (reach && !is_free_range(page, reach)) { skip("the peer's own memory may be there"); return; }
+    if (reach && !is_one_range(p, page, reach)) { skip("the range is not one range of the system"); return; }
+    clear(&q, sizeof q);
+    q.task = call == UNMAP ? DO_UNMAP : DO_PROTECT;
+    q.address = reach ? real_address(p, page) : page;
+    q.size = value_of(v[1]);
+    q.flags = v[2].low != 0;
+    ask(index, &q, &a);
+    if (reach && call == UNMAP && !a.is_refused) cut_pieces(p, page, page + size);
+    if (reach && call == PROTECT) protect_pieces(p, page, page + reach, !q.flags);
+    if (is_answered(&a)) put_text("ok");
+}
+
+/* a process of user 0 may become another user, and no other process may */
+static void run_set_user(int index, const struct number *v) {
+    struct process *p = &processes[index];
+    struct request q;
+    struct answer a;
+    clear(&q, sizeof q);
+    q.task = DO_BECOME;
+    q.uid = v[0].low;
+    q.gid = v[1].low;
+    if (q.uid == p->uid && q.gid == p->gid) { put_text("ok"); return; }
+    if (!is_each_user || p->uid != 0) { skip("this process can't become another user"); return; }
+    ask(index, &q, &a);
+    if (!is_answered(&a)) return;
+    p->uid = q.uid;
+    p->gid = q.gid;
+    put_text("ok");
 }
 
 static void put_word(const char *name, unsigned long value) {
@@ -707,6 +802,8 @@ static void run_fork(int index, const struct number *v) {
     born->life = LIVE;
     born->parent = index;
     born->real = a.value;
+    born->uid = p->uid;
+    born->gid = p->gid;
     born->piece_count = p->piece_count;
     for (i = 0; i < p->piece_count; i++) copy_piece(&born->pieces[i], &p->pieces[i]);
 }
@@ -738,18 +835,21 @@ static void run_exit(int index) {
 
 static void run(const struct command *c, const struct number *v, struct number *result) {
     int index = c->process, life = why_none ? ENDED : processes[index].life;
-    if (((c->call == GET || c->call == ATTACH) && is_too_large(v[1])) ||
-        ((c->call == DETACH || (c->call >= LOAD && c->call <= COMPARE)) && is_too_large(v[0]))) skip("this system has no such number");
+    int is_range = c->call == UNMAP || c->call == PROTECT;
+    if (((c->call == GET || c->call == ATTACH || is_range) && is_too_large(v[1])) ||
+        ((c->call == DETACH || is_range || (c->call >= LOAD && c->call <= COMPARE)) && is_too_large(v[0]))) skip("this system has no such number");
     else if (why_none) skip(why_none);
     else if (life == OTHER_USER) skip("no right to be this user");
     else if (life != LIVE) skip("no process makes this call");
     else if (c->call == GET) run_get(index, v, result);
     else if (c->call == ATTACH) run_attach(index, v, result);
     else if (c->call == DETACH) run_detach(index, v);
+    else if (is_range) run_range(index, c->call, v);
     else if (c->call <= COMPARE) run_access(index, c, v, result);
     else if (c->call <= UNLOCK) run_control(index, c->call, v);
     else if (c->call == FORK) run_fork(index, v);
     else if (c->call == EXIT) run_exit(index);
+    else if (c->call == SET_USER) run_set_user(index, v);
     else skip(c->call == EXEC ? "this peer makes no exec" : "no swap area is the script's");
 }
 
@@ -812,6 +912,8 @@ static void start_worker(int index) {
     struct answer a;
     long pid;
     p->parent = -1;
+    p->uid = script->processes[index].uid;
+    p->gid = script->processes[index].gid;
     p->life = script->processes[index].is_child ? UNBORN : is_each_user || is_own_user(index) ? LIVE : OTHER_USER;
     if (p->life != LIVE) return;
     pid = fork();

@@ -14,23 +14,12 @@ static struct guest *space_with(struct call *call, uint64_t begin, uint64_t leng
 
 /* ---- munmap, and what takes its effect ---- */
 
-/* whether a part of the piece's attach is left */
-static bool is_left(const struct guest *guest, const nog_piece *piece) {
-    nog_piece other;
-    for (uint32_t i = piece_above(guest, origin_of(piece)); nog_piece_at(&machine, guest->pid, i, &other) == NOG_DONE; i++) {
-        if (origin_of(&other) == origin_of(piece) && other.segment == piece->segment) return true;
-        if (other.base > piece->base) break;
-    }
-    return false;
-}
-
 void forget_range(struct guest *guest, uint64_t begin, uint64_t end) {
     nog_piece piece;
     while (find_piece(guest, begin, end, &piece)) {
         uint64_t from = most(begin, piece.base), to = least(end, end_of(&piece));
         if (nog_unmap(&machine, guest->pid, from, to - from) != NOG_DONE) break;
-        if (is_left(guest, &piece)) note_left_out("a part of an attachment that was unmapped");
-        else record((struct event){.kind = DETACH, .pid = guest->pid, .address = origin_of(&piece)});
+        record((struct event){.kind = UNMAP, .pid = guest->pid, .address = from, .size = to - from});
         begin = to;
     }
 }
@@ -55,14 +44,18 @@ void do_map_fixed(struct call *call) { replace_range(call, call->args[0], pages_
 
 /* ---- mprotect ---- */
 
+static uint32_t protect(const struct guest *space, uint64_t begin, uint64_t end, uint32_t is_writable) {
+    uint32_t code = nog_protect(&machine, space->pid, begin, end - begin, is_writable);
+    record((struct event){.kind = PROTECT, .pid = space->pid, .address = begin, .size = end - begin, .is_writable = is_writable,
+                          .result = -(int64_t)code});
+    return code;
+}
+
 static void protect_pieces(struct guest *space, uint64_t begin, uint64_t end, uint32_t is_writable) {
     nog_piece piece;
-    while (find_piece(space, begin, end, &piece)) {
+    for (; find_piece(space, begin, end, &piece); begin = end_of(&piece)) {
         uint64_t from = most(begin, piece.base), to = least(end, end_of(&piece));
-        if (nog_protect(&machine, space->pid, from, to - from, is_writable) != NOG_DONE) return;
-        if (piece.is_writable != is_writable && (from != piece.base || to != end_of(&piece)))
-            note_left_out("a part of an attachment that was protected");
-        begin = to;
+        if (piece.is_writable != is_writable && protect(space, from, to, is_writable) != NOG_DONE) return;
     }
 }
 
@@ -132,13 +125,13 @@ void do_remap_pages(struct call *call) {
 static void enter_moved(const struct guest *space, const nog_piece *piece, uint64_t to) {
     uint64_t at;
     uint32_t flags = piece->may_write ? 0 : NOG_RDONLY;
-    nog_set_user(&machine, space->pid, 0, 0);
+    set_user(space->pid, 0, 0);
     uint32_t code = nog_attach(&machine, space->pid, (int32_t)piece->segment, to, flags, &at);
-    nog_set_user(&machine, space->pid, space->uid, space->gid);
     if (code != NOG_DONE) stop(CANNOT_GO_ON, "the machine does not attach segment %u again at %lx", piece->segment, to);
     record((struct event){.kind = ATTACH, .pid = space->pid, .id = (int32_t)piece->segment, .address = to, .flags = flags,
                           .result = (int64_t)at});
-    if (!piece->is_writable) nog_protect(&machine, space->pid, to, (uint64_t)piece->pages * PAGE, 0);
+    set_user(space->pid, space->uid, space->gid);
+    if (!piece->is_writable && piece->may_write) protect(space, to, to + (uint64_t)piece->pages * PAGE, 0);
 }
 
 /* Only a whole attachment moves or is doubled, and none becomes larger: the machine has attaches of whole segments. */

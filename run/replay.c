@@ -74,6 +74,9 @@ static int64_t make(const struct event *e, nog_segment *segment) {
     case FORK: code = nog_fork(&again, e->pid, e->child); break;
     case EXEC: code = nog_exec(&again, e->pid); break;
     case EXIT: code = nog_exit(&again, e->pid); break;
+    case UNMAP: code = nog_unmap(&again, e->pid, e->address, e->size); break;
+    case PROTECT: code = nog_protect(&again, e->pid, e->address, e->size, e->is_writable); break;
+    case SET_USER: code = nog_set_user(&again, e->pid, e->uid, e->gid); break;
     }
     return code ? -(int64_t)code : (int64_t)at + id;
 }

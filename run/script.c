@@ -6,7 +6,8 @@
 #include <string.h>
 
 enum { NEVER_ISSUED = 2147483647 };
-static const char *const words[] = {"shmget", "shmat", "shmdt", "stat", "set", "rmid", "lock", "unlock", "fork", "exec", "exit"};
+static const char *const words[] = {"shmget", "shmat", "shmdt", "stat", "set", "rmid", "lock", "unlock", "fork", "exec", "exit",
+                                    "munmap", "mprotect", "setuid"};
 static const struct { enum kind kind; uint32_t flag; const char *name; } flag_names[] = {
     {GET, NOG_CREAT, "creat"}, {GET, NOG_EXCL, "excl"}, {ATTACH, NOG_RND, "rnd"}, {ATTACH, NOG_REMAP, "remap"},
     {ATTACH, NOG_RDONLY, "rdonly"},
@@ -39,6 +40,9 @@ static void print_call(FILE *to, const struct event *e, bool is_log) {
         fprintf(to, " %d %s ", id, address);
         print_flags(to, e);
         break;
+    case UNMAP: fprintf(to, " %s %lu", address, e->size); break;
+    case PROTECT: fprintf(to, " %s %lu %s", address, e->size, e->is_writable ? "rw" : "ro"); break;
+    case SET_USER: fprintf(to, " %u %u", e->uid, e->gid); break;
     case DETACH: fprintf(to, " %s", address); break;
     case SET: fprintf(to, " %d %u %u %03o", id, e->uid, e->gid, e->mode); break;
     case FORK: fprintf(to, " %u", e->child); break;

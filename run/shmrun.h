@@ -107,6 +107,7 @@ struct guest *new_guest(uint32_t pid);
 void release_guest(struct guest *guest);
 /* The machine has the guest from now on, with the thread's user. */
 void enter(struct task *task, struct guest *guest);
+void set_user(uint32_t pid, uint32_t uid, uint32_t gid);
 /* A child that a fork made is in the machine with its parent's attachments, if there are any. */
 void inherit(struct task *maker, struct guest *parent, struct guest *child);
 bool has_pieces(const struct guest *guest);
@@ -238,8 +239,8 @@ int failure_of(const char *call);
 
 /* record.c */
 struct event {
-    enum kind { GET, ATTACH, DETACH, STAT, SET, REMOVE, LOCK, UNLOCK, FORK, EXEC, EXIT } kind;
-    uint32_t pid, key, mode, flags, uid, gid, child;
+    enum kind { GET, ATTACH, DETACH, STAT, SET, REMOVE, LOCK, UNLOCK, FORK, EXEC, EXIT, UNMAP, PROTECT, SET_USER } kind;
+    uint32_t pid, key, mode, flags, uid, gid, child, is_writable;
     int32_t id;
     uint64_t size, address;
     int64_t result;           /* as the program got it, or the negative number of an error */

@@ -56,6 +56,11 @@ static void admit(struct guest *guest, bool is_born) {
     record_process(guest, !is_born);
 }
 
+void set_user(uint32_t pid, uint32_t uid, uint32_t gid) {
+    reply_of(nog_set_user(&machine, pid, uid, gid));
+    record((struct event){.kind = SET_USER, .pid = pid, .uid = uid, .gid = gid});
+}
+
 void enter(struct task *task, struct guest *guest) {
     if (!task->is_user_known) read_user(task);
     bool is_same = guest->uid == task->uid && guest->gid == task->gid;
@@ -63,8 +68,7 @@ void enter(struct task *task, struct guest *guest) {
     guest->gid = task->gid;
     if (!guest->is_admitted) return admit(guest, true);
     if (is_same) return;
-    reply_of(nog_set_user(&machine, guest->pid, guest->uid, guest->gid));
-    end_record("a process changes its user after its first call");
+    set_user(guest->pid, guest->uid, guest->gid);
 }
 
 /* ---- attachments ---- */

@@ -173,8 +173,8 @@ class Paging:
 
 
 class Run:
-    """A run, line by line. A process has for each page of its addresses the segment's page, whether it may be
-    written, and where the attach began."""
+    """A run, line by line. A process has for each page of its addresses the segment's page, whether it is
+    writable, where the attach began, and whether an mprotect may make it writable."""
 
     def __init__(self, frames: Any, swaps: Any) -> None:
         self.paging = Paging(frames, [Area(word) for word in swaps])
@@ -186,7 +186,7 @@ class Run:
         """A marked segment is destroyed with its last piece."""
         if not self.marked:
             return
-        attached = {page[0] for space in self.spaces.values() for page, _, _ in space.values()}
+        attached = {page[0] for space in self.spaces.values() for page, *_ in space.values()}
         for segment in self.marked - attached:
             self.marked.remove(segment)
             del self.sizes[segment]
@@ -194,7 +194,7 @@ class Run:
 
     def attach(self, space: Any, segment: Any, base: Any, is_writable: Any) -> None:
         for n in range(-(-self.sizes[segment] // PAGE)):
-            space[base // PAGE + n] = (segment, n), is_writable, base
+            space[base // PAGE + n] = (segment, n), is_writable, base, is_writable
 
     def detach(self, space: Any, origin: Any) -> None:
         """The lowest piece with this origin names the segment, and all its pieces with this origin are
@@ -203,13 +203,26 @@ class Run:
         for n in [n for n in space if space[n][2] == origin and space[n][0][0] == segment]:
             del space[n]
 
+    def unmap(self, space: Any, address: Any, length: Any) -> None:
+        for n in [n for n in space if address <= n * PAGE < address + length]:
+            del space[n]
+
+    def protect(self, space: Any, address: Any, length: Any, is_writable: Any) -> None:
+        """Up to the first page that is not attached, or may not be writable. A range that reaches 2^64 is
+        refused whole."""
+        n, end = address // PAGE, -(-(address + length) // PAGE)
+        while end < 2 ** 52 and n < end and n in space and (space[n][3] or not is_writable):
+            page, _, base, may_write = space[n]
+            space[n] = page, is_writable, base, may_write
+            n += 1
+
     def access(self, space: Any, call: Any, address: Any, operand: Any, puts: Any) -> Any:
         """The reply of an access that fails or is outside of the pieces; None for any other."""
         size = int(operand) if call == "load" else 8 if call == "xadd" else len(operand) // 2
         found = [space.get(n) for n in range(address // PAGE, (address + size - 1) // PAGE + 1)]
-        if not all(found) or (call != "load" and not all(is_writable for _, is_writable, _ in found)):
+        if not all(found) or (call != "load" and not all(is_writable for _, is_writable, *_ in found)):
             return "SIGSEGV"
-        return "" if self.paging.access([page for page, _, _ in found], puts) else "SIGBUS"
+        return "" if self.paging.access([page for page, *_ in found], puts) else "SIGBUS"
 
     def event(self, line: str) -> Any:
         """Takes an event of the history. Returns what is wrong with its reply, nothing if it is allowed."""
@@ -226,6 +239,8 @@ class Run:
         if call == "swapoff" and reply in ("ok", "EIO"):
             went = self.paging.swapoff(int(words[0]))
             return "" if went == (reply == "ok") else f"{line}, where the rules have another end"
+        if call == "mprotect" and reply != "EINVAL":
+            self.protect(space, number(words[0]), int(words[1]), words[2] == "rw")
         if not re.match("E[A-Z]", reply):
             self.granted(space, call, words, reply)
             self.end_unattached()
@@ -238,6 +253,8 @@ class Run:
             self.attach(space, int(words[0]), number(reply), "rdonly" not in words[2])
         elif call == "shmdt":
             self.detach(space, number(words[0]))
+        elif call == "munmap":
+            self.unmap(space, number(words[0]), int(words[1]))
         elif call == "fork":
             self.spaces[int(words[0])] = dict(space)
         elif call in ("exec", "exit"):

@@ -27,7 +27,7 @@ def groups_of_cases() -> dict[Group, list[str]]:
     """The paths of all cases by what they need: shmmax, shmmni, shmall, slots, and the memlock of locks."""
     groups: dict[Group, list[str]] = {}
     for path in sorted(glob.glob(f"{CASES}/*.shm")) + sorted(glob.glob(f"{CASES}/rules/*.shm")):
-        case = read_case(path, text_of(path), has_mappings="/rules/" in path)
+        case = read_case(path, text_of(path), has_flags="/rules/" in path)
         locks = any(command.text.split()[1] == "lock" for command in case.commands)
         shmmax, shmmni, shmall, _frames, memlock = case.limits
         group = (shmmax, shmmni, shmall, slots_of(case.swap), memlock if locks else MEMLOCK)

@@ -1,7 +1,8 @@
 /* nogcuvema.h - the System V shared memory calls over simulated processes, for C99 and C++.
 
    A machine has limits, swap areas and processes. A program makes calls for these processes and names each by its pid.
-   The calls are those of shmget(2), shmop(2) and shmctl(2), accesses to attached memory, fork, exec, exit and swapoff.
+   The calls are those of shmget(2), shmop(2) and shmctl(2), munmap(2) and mprotect(2) of attached memory, accesses to
+   it, fork, exec, exit, setuid and swapoff.
    All of it is simulated: no memory, signal or process of the host takes part. An address is a number, and nog_load,
    nog_store and their like read and write the bytes at it. A piece is an attachment or a part of one: a range of
    addresses of a process that maps pages of a segment. A later attach, unmap or protect in its range may cut an
@@ -301,6 +302,27 @@ uint32_t nog_attach(nog_machine *machine, uint32_t pid, int32_t id, uint64_t add
    NOG_EINVAL: no segment was attached there. */
 uint32_t nog_detach(nog_machine *machine, uint32_t pid, uint64_t addr);
 
+/* munmap(2): detaches `len` bytes from `addr` on, rounded up to whole pages. Pieces in the range are detached, and
+   those that reach beyond it are cut. Each segment that lost pages gets the detach time and the last pid. A segment that is
+   marked for removal is destroyed with its last piece. With NOG_REST_IS_ATTACHED a segment of which a part of a piece
+   is left gets the attach time too. If nothing is attached in the range, nothing changes.
+   NOG_EINVAL: the address is not a multiple of 4096, the length is 0, or the range reaches beyond 0x7ffffffff000.
+   NOG_ENOMEM: the caller would have more pieces than the limits allow. */
+uint32_t nog_unmap(nog_machine *machine, uint32_t pid, uint64_t addr, uint64_t len);
+
+/* mprotect(2): makes `len` bytes from `addr` on, rounded up to whole pages, writable, or read-only if `is_writable` is
+   0. A part of a piece becomes a piece of its own, which counts in nattch, unless it touches a neighbour of the same
+   attachment that already has the protection: then it joins that. A whole piece never joins another, and a piece that
+   already has the protection stays as it is. No time changes without NOG_REST_IS_ATTACHED. With it a segment that has
+   more pieces than before gets the attach time and the last pid. A length of 0 changes nothing. Before anything
+   changes, the first of these is returned:
+   NOG_EINVAL: the address is not a multiple of 4096.
+   NOG_ENOMEM: the range reaches 2^64.
+   Then the pages are protected from the lowest on. The first of these ends that, and what lies below has changed:
+   NOG_ENOMEM: a page is not attached, or the caller would have more pieces than the limits allow.
+   NOG_EACCES: a piece that was attached with NOG_RDONLY would become writable. */
+uint32_t nog_protect(nog_machine *machine, uint32_t pid, uint64_t addr, uint64_t len, uint32_t is_writable);
+
 /* shmctl(2), IPC_STAT: shows a segment.
    NOG_EINVAL: no segment ever had the identifier.
    NOG_EIDRM: its segment is destroyed.
@@ -367,6 +389,10 @@ uint32_t nog_exec(nog_machine *machine, uint32_t pid);
 /* exit(2): detaches every piece of the caller and ends it. Its pid may be admitted again. */
 uint32_t nog_exit(nog_machine *machine, uint32_t pid);
 
+/* setuid(2), setgid(2) and the exec of a set-user-ID program: gives the caller another effective user and group. Its
+   pieces stay, and later tests of permission use the new user and group. Any caller may name any user and group. */
+uint32_t nog_set_user(nog_machine *machine, uint32_t pid, uint32_t uid, uint32_t gid);
+
 /* swapoff(2): moves the pages of an area to the others and removes the area.
    NOG_EPERM: the caller is not user 0.
    NOG_EINVAL: the area does not exist, or no longer.
@@ -376,8 +402,7 @@ uint32_t nog_swapoff(nog_machine *machine, uint32_t pid, uint32_t area);
 
 /* ---- changes of a machine by its host ---- */
 
-/* None of these is a call of a process: none is counted, and none moves a page, except that nog_unmap may destroy a
-   segment. */
+/* None of these is a call of a process: none is counted, and none moves a page. */
 
 /* A process joins: live with its user and group, or a child that a fork may begin. An ended process that has the pid
    gives its place to the new one. Otherwise the new one takes memory for its pieces.
@@ -390,11 +415,6 @@ uint32_t nog_admit(nog_machine *machine, const nog_process *process);
    NOG_DISMISS_NONE, NOG_DISMISS_LIVE: the first of these. */
 uint32_t nog_dismiss(nog_machine *machine, uint32_t pid);
 
-/* Sets the effective user and group of a live process, as setuid(2), setgid(2) and the exec of a set-user-ID program
-   do. Its pieces stay, and later tests of permission use the new user and group.
-   NOG_ESRCH: no live process has the pid. */
-uint32_t nog_set_user(nog_machine *machine, uint32_t pid, uint32_t uid, uint32_t gid);
-
 /* Calls set this number as their times from now on, until another is given. Before the first nog_set_time a time is the
    number of its call. */
 uint32_t nog_set_time(nog_machine *machine, uint64_t time);
@@ -406,33 +426,6 @@ uint32_t nog_set_time(nog_machine *machine, uint64_t time);
    NOG_BAD_SHMALL: all segments have more pages than `shmall`.
    NOG_BAD_MEMLOCK: the locked segments have more pages than `memlock`, without NOG_LOCKS_BY_USER. */
 uint32_t nog_set_limits(nog_machine *machine, uint64_t shmmax, uint64_t shmmni, uint64_t shmall, uint64_t memlock);
-
-/* munmap(2): unmaps `len` bytes from `addr` on, rounded up to whole pages, of a live process. Pieces in the range are
-   detached, and those that reach beyond it are cut. Each segment that lost pages gets a detach time, which is that of
-   the next call, and the process as its last pid. A segment that is marked for removal is destroyed with its last
-   piece.
-   With NOG_REST_IS_ATTACHED a segment of which a part of a piece is left gets an attach time too. If nothing is
-   attached in the range, nothing changes.
-   NOG_SPENT: 2^64 - 1 calls were counted.
-   NOG_ESRCH: no live process has the pid.
-   NOG_EINVAL: the address is not a multiple of 4096, the length is 0, or the range reaches beyond 0x7ffffffff000.
-   NOG_ENOMEM: the process would have more pieces than the limits allow. */
-uint32_t nog_unmap(nog_machine *machine, uint32_t pid, uint64_t addr, uint64_t len);
-
-/* mprotect(2): makes `len` bytes from `addr` on, rounded up to whole pages, of a live process writable, or read-only if
-   `is_writable` is 0. A part of a piece becomes a piece of its own, which counts in nattch, unless it touches a
-   neighbour of the same attachment that already has the protection: then it joins that. A whole piece never joins another,
-   and a piece that already has the protection stays as it is. No time changes without NOG_REST_IS_ATTACHED. With it a
-   segment that has more pieces than before gets an attach time, which is that of the next call, and the process as its
-   last pid. A length of 0 changes nothing. Before anything changes, the first of these is returned:
-   NOG_SPENT: 2^64 - 1 calls were counted.
-   NOG_ESRCH: no live process has the pid.
-   NOG_EINVAL: the address is not a multiple of 4096.
-   NOG_ENOMEM: the range reaches 2^64.
-   Then the pages are protected from the lowest on. The first of these ends that, and what lies below has changed:
-   NOG_ENOMEM: a page is not attached, or the process would have more pieces than the limits allow.
-   NOG_EACCES: a piece that was attached with NOG_RDONLY would become writable. */
-uint32_t nog_protect(nog_machine *machine, uint32_t pid, uint64_t addr, uint64_t len, uint32_t is_writable);
 
 /* Puts a snapshot into `copy`: a machine with the same state and memory, whose swap areas have the same pages and will
    fail at the same reads and writes. The two are independent from then on. A machine that was in `copy` is closed.

@@ -138,6 +138,21 @@ class Generator:
     def make_shmdt(self, own: list[int | str]) -> str:
         return f"shmdt {self.address(own)}"
 
+    def base(self, own: list[int | str]) -> int:
+        return self.random.choice([it for it in own if isinstance(it, int)] or [*BASES])
+
+    def make_munmap(self, own: list[int | str]) -> str:
+        """Of a whole attachment, which has at most two pages: Linux unmaps a part in several steps."""
+        return f"munmap {self.base(own):#x} 16384"
+
+    def make_mprotect(self, own: list[int | str]) -> str:
+        """Also of a whole attachment; if it is shorter, the page above it is refused."""
+        return f"mprotect {self.base(own):#x} {self.pick(8192, 16384)} {self.pick('ro', 'rw')}"
+
+    def make_setuid(self, _own: list[int | str]) -> str:
+        uid, gid = self.random.choice(self.users)
+        return f"setuid {uid} {gid}"
+
     def make_load(self, own: list[int | str]) -> str:
         return f"load {self.address(own, self.pick(0, 8))} {self.pick(1, 2, 4, 8, 8)}"
 
@@ -173,6 +188,8 @@ class Generator:
         for number in range(count):
             makes = ((self.make_shmget, 1), (self.make_stat, 3), (self.make_set, 1), (self.make_rmid, 2),
                      (self.make_shmat, 2 if own else 8), (self.make_shmdt, 2 if own else 0),
+                     (self.make_munmap, 1 if own else 0), (self.make_mprotect, 2 if own else 0),
+                     (self.make_setuid, 1 if len(self.users) > 1 else 0),
                      (self.make_load, 4 if own else 0),
                      (self.make_store, 4 if own else 0), (self.make_xadd, 4 if own else 0),
                      (self.make_swap, 2 if own else 0), (self.make_cas, 4 if own else 0))
@@ -324,10 +341,10 @@ def attachers(lines: list[str], but: str) -> set[str]:
 
 
 def has_removal(lines: list[str], but: str) -> bool:
-    """Whether another process may destroy a segment: by its rmid, or by a detach of a segment that any rmid
-    marked."""
+    """Whether another process may destroy a segment: by its rmid, or by a detach or a munmap of a segment that
+    any rmid marked."""
     others = {call_of(line) for line in lines if pid_of(line) != but}
-    return "rmid" in others or ("shmdt" in others and any(call_of(line) == "rmid" for line in lines))
+    return "rmid" in others or ({"shmdt", "munmap"} & others != set() and any(call_of(line) == "rmid" for line in lines))
 
 
 def with_fewer_attached(line: str, lines: list[str]) -> list[str]:

@@ -22,9 +22,9 @@ def list_cases(options: Options) -> int:
     """Prints the list; the status is 2 if a case is malformed."""
     listed: list[tuple[str, int, str]] = []
     faults: list[str] = []
-    for path in case_paths(options.names, options.has_mappings):
+    for path in case_paths(options.names, options.has_flags):
         try:
-            case = open_case(path, options.has_mappings)
+            case = open_case(path, options.has_flags)
             listed.append((case.name, len(case.commands), case.title))
         except BadInput as error:
             faults.append(f"conform: {error}")
@@ -63,9 +63,8 @@ def find_peer(options: Options, folder: str) -> tuple[Peer | None, str]:
     return Peer([build_peer(folder)], options.peer_options(), options.limit), ""
 
 
-def choose_program(options: Options, folder: str, is_random: bool) -> Machine | None:
-    """Builds the library's program, if the library is wanted; random scripts then have its calls, too.
-    Returns the machine that explains differences: that program, or shmsim."""
+def choose_program(options: Options, folder: str) -> Machine | None:
+    """Builds the library's program, if the library is wanted. Returns the machine that explains differences: that program, or shmsim."""
     if not options.library:
         words = options.program if is_own(options.program) else find_machine()
         return Machine(words, False, options.limit) if words else None
@@ -73,7 +72,7 @@ def choose_program(options: Options, folder: str, is_random: bool) -> Machine | 
     if options.is_linux and not has_rules:
         raise Stopped(f"the library in {options.library} has no rules: its header has no NOG_LINUX")
     options.program = [program] + ["--rules", "linux"] * options.is_linux
-    options.has_mappings = has_mappings or not is_random
+    options.has_mappings = has_mappings
     return Machine([program], True, options.limit) if has_rules else None
 
 
@@ -81,10 +80,10 @@ def run(options: Options, folder: str, results: Results) -> int:
     if options.kind == "at-once scripts":
         return race(options, folder)
     is_random = options.kind == "random scripts"
-    paths = [] if is_random else case_paths(options.names, options.has_mappings)
+    paths = [] if is_random else case_paths(options.names, options.has_flags)
     if options.peer:
         require_command(options.peer, "the peer")
-    machine = choose_program(options, folder, is_random)
+    machine = choose_program(options, folder)
     require_command(options.program, "the program")
     peer, lack = find_peer(options, folder)
     session = Session(options, peer, results, lack, machine)

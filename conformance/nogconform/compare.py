@@ -10,7 +10,7 @@ from nogconform.script import Case, Command, Event
 from .explain import Explainer, Machine, System
 from .script import has_form, is_expected, stat_words
 
-# refusals of a protect, which has then changed the pages below the refused one
+# refusals of an mprotect, which has then changed the pages below the refused one
 STOPS = ("ENOMEM", "EACCES")
 # calls that change nothing although they are not refused
 READS = ("load", "stat", "swapoff")
@@ -87,9 +87,9 @@ def against_peer(case: Case, events: list[Event], others: list[Event], machine: 
 
 
 def changes_nothing(event: Event) -> bool:
-    """Whether the call was refused and changed nothing; a refused protect has changed the pages below the
+    """Whether the call was refused and changed nothing; a refused mprotect has changed the pages below the
     refused one."""
-    return event.is_refused and not (event.word == "protect" and event.reply in STOPS)
+    return event.is_refused and not (event.word == "mprotect" and event.reply in STOPS)
 
 
 def compare_one(result: Result, known: Explainer, index: int) -> bool:

@@ -131,24 +131,27 @@ def number_of(word: str) -> int:
 
 
 def user_of(case: Case, events: list[Event], pid: int) -> int:
-    """The user of a process; a child has its parent's."""
-    parents = {int(it.operands[0]): it.pid for it in events if it.word == "fork" and not it.is_refused}
-    while pid not in case.users and pid in parents:
-        pid = parents[pid]
-    return case.users.get(pid, (0, 0))[0]
+    """The user of a process: that of its last setuid, or the declared one. A child has its parent's."""
+    users = {it: user for it, (user, _) in case.users.items()}
+    for event in events:
+        if event.word == "fork" and not event.is_refused:
+            users[int(event.operands[0])] = users.get(event.pid, 0)
+        elif event.word == "setuid" and not event.is_refused:
+            users[event.pid] = int(event.operands[0])
+    return users.get(pid, 0)
 
 
 def may_have_most_pieces(events: list[Event]) -> bool:
     """Whether so many pieces were made that a process may have as many as it may; a remap makes up to two
     more."""
-    made = {"shmat": 1, "unmap": 1, "protect": 2}
+    made = {"shmat": 1, "munmap": 1, "mprotect": 2}
     return sum(made.get(it.word, 0) + 2 * ("remap" in " ".join(it.operands))
                for it in events if not it.is_refused) >= PIECES
 
 
 def left(case: Case, before: list[Event], event: Event, other: Event) -> str:
     """The difference that no machine of a script shows; nothing if it is another one."""
-    if event.word not in ("shmat", "unmap", "protect"):
+    if event.word not in ("shmat", "munmap", "mprotect"):
         return ""
     address = number_of(event.operands[1]) if event.word == "shmat" else 0
     is_low = 0 < address < LOWEST

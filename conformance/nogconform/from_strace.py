@@ -34,6 +34,7 @@ import shlex
 import sys
 import tempfile
 from collections.abc import Callable, Iterator
+from dataclasses import replace
 from typing import Tuple
 
 from nogcuvema._ending import Parser, run_command
@@ -177,7 +178,7 @@ def script_of(commands: list[Command], limits: str, uid: int, gid: int) -> str:
         lines.append(f"child {process.pid}" if is_born else f"process {process.pid} {uid} {gid}")
     letters = {process.name: Letters([it for it in commands if it.process is process]) for process,
                _ in processes}
-    lines += [f"{it.process.pid} {letters[it.process.name].take(it)}" for it in commands]
+    lines += [f"{it.process.pid} {letters[it.process.name].take(with_user(it, uid, gid))}" for it in commands]
     text = "\n".join(lines) + "\n"
     if len(text) > MOST_BYTES:
         raise BadTrace(0, f"the script would have {len(text)} bytes, but at most {MOST_BYTES} are allowed")
@@ -201,12 +202,20 @@ def overlaps(commands: list[Command]) -> list[int]:
     return counts
 
 
-def log_of(commands: list[Command]) -> str:
+def with_user(command: Command, uid: int, gid: int) -> Command:
+    """The command with the user and group with which all processes begin."""
+    if command.word == "setuid":
+        named = command.shown.replace("UID", str(uid)).replace("GID", str(gid))
+        return replace(command, parts=[named], shown=named)
+    return command
+
+
+def log_of(commands: list[Command], uid: int, gid: int) -> str:
     lines = []
     for place, (command, count) in enumerate(zip(commands, overlaps(commands)), 1):
         if count:
             lines.append(f"# the next {count} overlap in time")
-        call = f"{command.word} {command.shown}".rstrip()
+        call = f"{command.word} {with_user(command, uid, gid).shown}".rstrip()
         lines.append(f"{place} {command.process.pid} {call} = {command.reply}")
     return "".join(line + "\n" for line in lines)
 
@@ -253,7 +262,7 @@ def user_of(found: Converter, words: argparse.Namespace) -> tuple[int, int]:
     if len(found.users) == 1 and None in (words.uid, words.gid):
         found.notes.add("assumed", f"user {uid} and group {gid}, whom stat shows", 0)
     if len(found.users) > 1:
-        found.notes.add("not known", f"stat shows {len(found.users)} creators, and the script has one user",
+        found.notes.add("not known", f"stat shows {len(found.users)} creators, and all processes begin as one user",
                         0)
     return uid if words.uid is None else words.uid, gid if words.gid is None else words.gid
 
@@ -347,9 +356,9 @@ def main(arguments: list[str]) -> int:
         found = converted(trace, words.slots)
         if words.verdict is not None:
             return judge_times(found.commands, words.verdict)
-        script = script_of(found.commands, words.limits or limits_for(found, words.slots),
-                           *user_of(found, words))
-        write_all([(words.script, script), (words.log, log_of(found.commands))])
+        user = user_of(found, words)
+        script = script_of(found.commands, words.limits or limits_for(found, words.slots), *user)
+        write_all([(words.script, script), (words.log, log_of(found.commands, *user))])
     except BadTrace as fault:
         print(f"from_strace: {fault}", file=sys.stderr)
         return 1

@@ -18,13 +18,15 @@ T = TypeVar("T")
 
 class Generator:
     """It keeps track of the live processes and of the segments that were asked for, but not of the calls'
-    answers. With mappings it also makes the words unmap and protect. With flags it makes the kit's flags:
-    exec if it makes no protect, because a piece with exec has a right that protect takes away; and hugetlb
-    never with noreserve, because Linux then makes a segment without pages."""
+    answers. Without mappings it makes no munmap, mprotect and setuid, which a library before 1.1 does not
+    count; in half of the scripts with them most calls are an mprotect. With flags it makes the kit's flags: exec
+    if it makes no mprotect, because a piece with exec has a right that mprotect takes away; and hugetlb never
+    with noreserve, because Linux then makes a segment without pages."""
 
-    def __init__(self, seed: str, has_mappings: bool = False, has_flags: bool = False) -> None:
+    def __init__(self, seed: str, has_mappings: bool = True, has_flags: bool = False) -> None:
         self.random = random.Random(seed)
         self.has_mappings = has_mappings
+        self.has_ranges = has_mappings and self.one_in(2)
         self.has_flags = has_flags
         self.has_exec = has_flags and self.one_in(2)
         count = self.random.randint(2, 5)
@@ -43,7 +45,7 @@ class Generator:
 
     def limits(self) -> str:
         pick = self.random.choice
-        if self.has_mappings:
+        if self.has_ranges:
             return f"limits 65536 16 64 16 {pick((0, 4, 14))}"
         return (f"limits {pick((8192, 16384, 65536))} {pick((3, 6, 16))} {pick((8, 16, 64))} 16 "
                 f"{pick((0, 2, 4, 14))}")
@@ -155,19 +157,24 @@ class Generator:
             return f"{self.random.choice(LETTERS) + self.pick('', '+4096', '+8192')} {length}"
         return f"{self.address()} {length}"
 
-    def make_unmap(self, _pid: int) -> str:
-        return f"unmap {self.range()}"
+    def make_munmap(self, _pid: int) -> str:
+        return f"munmap {self.range()}"
 
-    def make_protect(self, pid: int) -> str:
+    def make_setuid(self, pid: int) -> str:
+        uid, gid = self.random.choice(USERS)
+        self.roots = self.roots | {pid} if uid == 0 else self.roots - {pid}
+        return f"setuid {uid} {gid}"
+
+    def make_mprotect(self, pid: int) -> str:
         """Often next to the last one and with the same rights, because borders move there."""
         if pid not in self.protected or self.one_in(3):
-            self.protected[pid] = self.random.choice(BASES), self.pick(1, 1, 2, 3), self.pick("r", "r", "rw")
-            return f"protect {self.range()} {self.pick('r', 'rw')}"
+            self.protected[pid] = self.random.choice(BASES), self.pick(1, 1, 2, 3), self.pick("ro", "ro", "rw")
+            return f"mprotect {self.range()} {self.pick('ro', 'rw')}"
         base, pages, rights = self.protected[pid]
         count = self.pick(1, 1, 2)
         base = base + 4096 * pages if self.one_in(2) else base - 4096 * count
         self.protected[pid] = base, count, rights
-        return f"protect {base:#x} {4096 * count} {rights}"
+        return f"mprotect {base:#x} {4096 * count} {rights}"
 
     def make_process_event(self, pid: int) -> str:
         if self.unborn and not self.one_in(3):
@@ -187,16 +194,17 @@ class Generator:
                  (self.make_set, 5), (self.make_rmid, 5), (self.make_lock, 5), (self.make_load, 10),
                  (self.make_store, 10), (self.make_xadd, 3), (self.make_swap, 2), (self.make_cas, 3),
                  (self.make_process_event, 2))
-        makes += ((self.make_unmap, 5),) if self.has_mappings else ()
-        makes += ((self.make_protect, 40),) if self.has_mappings and not self.has_exec else ()
+        makes += ((self.make_munmap, 5), (self.make_setuid, 2)) if self.has_mappings else ()
+        often = 40 if self.has_ranges else 5
+        makes += ((self.make_mprotect, often),) if self.has_mappings and not self.has_exec else ()
         make = self.random.choices([m for m, _ in makes], [w for _, w in makes])[0]
         pid = self.random.choice(self.live)
         return f"{pid} {make(pid)}"
 
     def opening(self) -> None:
-        """A few segments, with attaches next to each other; with mappings also one that is long enough to be
+        """A few segments, with attaches next to each other; with many mprotects also one that is long enough to be
         split."""
-        if self.has_mappings:
+        if self.has_ranges:
             self.lines.append(f"{self.live[0]} shmget private 24576 666")
             self.lines += [f"{pid} shmat 0 {self.random.choice(BASES[:7]):#x} -" for pid in self.live]
         for _ in range(self.random.randint(2, 4)):
@@ -213,11 +221,11 @@ class Generator:
         for _ in range(self.random.randint(40, 120)):
             self.lines.append(self.command())
             pid, word, *_rest = self.lines[-1].split()
-            if word in ("unmap", "protect") and self.one_in(2):
+            if word in ("munmap", "mprotect") and self.one_in(2):
                 self.lines.append(f"{pid} stat {self.identifier(int(pid))}")
         return "\n".join(self.lines) + "\n"
 
 
-def make_script(seed: str, number: int, has_mappings: bool = False, has_flags: bool = False) -> str:
+def make_script(seed: str, number: int, has_mappings: bool = True, has_flags: bool = False) -> str:
     """The script with this number of this seed; it is the same at each run."""
     return Generator(f"{seed}/{number}", has_mappings, has_flags).script()

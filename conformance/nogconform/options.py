@@ -91,7 +91,8 @@ class Options:
     seed: str = ""
 
     def __post_init__(self) -> None:
-        self.has_mappings = self.library is not None
+        self.has_flags = self.library is not None
+        self.has_mappings = True    # a library before 1.1 does not count munmap, mprotect and setuid
 
     def peer_options(self) -> list[str]:
         return ["--limit", str(self.limit), *["--seconds"] * self.has_clock, *["--shared"] * self.is_shared]

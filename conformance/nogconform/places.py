@@ -7,7 +7,7 @@ TOP = os.path.dirname(KIT)
 CASES = os.path.join(KIT, "cases")
 PEER_SOURCE, LIBRARY_SOURCE = os.path.join(KIT, "peer.c"), os.path.join(KIT, "library.c")
 # the folders of the cases that only the library for C can run
-LIBRARY_CASES = ("mappings", "rules")
+LIBRARY_CASES = ("rules",)
 # ./install writes the version into this file
 INSTALLED = os.path.join(TOP, "installed")
 

@@ -87,8 +87,8 @@ def compile_program(path: str, words: list[str], whose: str) -> str:
 
 
 def build_library(folder: str, library: str) -> tuple[str, bool, bool]:
-    """The program over the C library whose archive and header are in a folder, and whether it has unmap,
-    protect and rules."""
+    """The program over the C library whose archive and header are in a folder, and whether the library counts
+    munmap, mprotect and setuid among the calls, and has rules."""
     archive, header = (os.path.join(library, name) for name in ("libnogcuvema.a", "nogcuvema.h"))
     missing = next((path for path in (archive, header) if not os.path.isfile(path)), None)
     if missing:
@@ -96,8 +96,9 @@ def build_library(folder: str, library: str) -> tuple[str, bool, bool]:
                       f"--library=FOLDER names another folder")
     with open(header, encoding="utf-8") as file:
         text = file.read()
-    has_mappings, has_rules = "nog_unmap(" in text, re.search(r"\bNOG_LINUX\b", text) is not None
-    words = ["-I", library] + ["-DNOG_HAS_UNMAP"] * has_mappings + ["-DNOG_HAS_RULES"] * has_rules
+    version, has_rules = re.search(r"NOG_VERSION (\d+)", text), re.search(r"\bNOG_LINUX\b", text) is not None
+    has_mappings = version is not None and int(version[1]) >= 10100
+    words = ["-I", library] + ["-DNOG_HAS_RULES"] * has_rules
     path = compile_program(os.path.join(folder, "library"), [*words, LIBRARY_SOURCE, archive],
                            "the library's program")
     return path, has_mappings, has_rules

@@ -4,8 +4,8 @@ A case is a script with more comments. Above each command is a comment with its 
 line `#= REPLY` has the reply of the rule; for `stat` only some words may be given. A line `#linux= REPLY`
 after that has the reply under Linux's rules if it differs. A line `#swap WORDS` names other swap areas.
 
-The kit has words that are not in the language of docs/SCRIPT.md: `unmap ADDRESS LENGTH` and `protect ADDRESS
-LENGTH r|rw`, the flag `exec` of shmat, and the flags `hugetlb` and `noreserve` of shmget.
+The kit has words that are not in the language of docs/SCRIPT.md: the flag `exec` of shmat, and the flags
+`hugetlb` and `noreserve` of shmget.
 """
 
 from __future__ import annotations
@@ -19,8 +19,8 @@ from typing import Any
 
 from nogcuvema.explain import nearest
 from nogcuvema.machine import Flag
-from nogcuvema.script import (ADDRESS, ATTACH_FLAGS, CALLS, GET_FLAGS, SIZE, NoForm, OperandKind, ScriptFault,
-                              number_of, read_script, words_of)
+from nogcuvema.script import (ATTACH_FLAGS, CALLS, GET_FLAGS, NoForm, OperandKind, ScriptFault, number_of,
+                              read_script, words_of)
 
 ERRORS = ("EPERM ENOENT ESRCH EIO EAGAIN ENOMEM EACCES EEXIST EINVAL EMFILE ENOSPC EIDRM SIGBUS SIGSEGV "
           "ENFILE ENOSYS EFAULT EOVERFLOW").split()
@@ -43,13 +43,6 @@ REPLY = {"shmget": re.compile(r"\d{1,10}"), "shmat": re.compile(r"null|0x[0-9a-f
          "xadd": re.compile(r"\d{1,20}"), "stat": STAT}
 
 
-def rights_of(text: str) -> bool:
-    """Whether the bytes may be written, too."""
-    if text not in ("r", "rw"):
-        raise NoForm
-    return text == "rw"
-
-
 def flags_of_kit(kind: OperandKind, names: tuple[Any, ...]) -> OperandKind:
     """Flags of the language, with the kit's other names among them, each at most once."""
     def flags_of(text: str) -> int | tuple[int, int]:
@@ -64,12 +57,22 @@ def flags_of_kit(kind: OperandKind, names: tuple[Any, ...]) -> OperandKind:
     return kind._replace(allowed=f"{kind.allowed}; with --library also {' and '.join(names)}", form=flags_of)
 
 
-RIGHTS = OperandKind("r, or rw", rights_of, 0, 1, lambda value: "rw" if value else "r")
-RANGE = (("address", ADDRESS), ("length", SIZE))
-MAPPINGS = {"unmap": RANGE, "protect": RANGE + (("rights", RIGHTS),)}
 FLAGS = {"shmget": ("hugetlb", "noreserve"), "shmat": ("exec",)}
 FLAGGED = {"shmget": (*CALLS["shmget"][:-1], ("flags", flags_of_kit(GET_FLAGS, FLAGS["shmget"]))),
            "shmat": (*CALLS["shmat"][:-1], ("flags", flags_of_kit(ATTACH_FLAGS, FLAGS["shmat"])))}
+
+
+# what two calls of the kit were called before they were calls of the language
+OLDER = ((re.compile(r"^([ \t]*\d+[ \t]+)unmap(?=[ \t])", re.M), r"\1munmap"),
+         (re.compile(r"^([ \t]*\d+[ \t]+)protect([ \t]+\S+[ \t]+\S+[ \t]+r)(?=\s|$)", re.M), r"\1mprotect\2o"),
+         (re.compile(r"^([ \t]*\d+[ \t]+)protect(?=[ \t]+\S+[ \t]+\S+[ \t]+rw)", re.M), r"\1mprotect"))
+
+
+def in_language(text: str) -> str:
+    """The text of a script with the words of the language for those of the kit before 1.1."""
+    for older, newer in OLDER:
+        text = older.sub(newer, text)
+    return text
 
 
 class BadInput(Exception):
@@ -156,13 +159,14 @@ def read_events(text: str, whose: str) -> list[Event]:
     return events
 
 
-def read_case(path: str, text: str, is_strict: bool = True, has_mappings: bool = False) -> Case:
-    """A case. A strict one needs a rule and a reply for each command. Without mappings it may not use the
-    kit's own words."""
+def read_case(path: str, text: str, is_strict: bool = True, has_flags: bool = False) -> Case:
+    """A case. A strict one needs a rule and a reply for each command. Without flags it may not use the kit's
+    own flags."""
+    text = in_language(text)
     case = Case(os.path.splitext(os.path.basename(path))[0], text)
-    if not has_mappings:
-        require_own_words(path, text)
-    require_language(path, text, has_mappings)
+    if not has_flags:
+        require_no_flags(path, text)
+    require_language(path, text, has_flags)
     comment: list[str] = []
     for number, line in enumerate(text.split("\n"), 1):
         words = line.split()
@@ -186,9 +190,9 @@ def read_case(path: str, text: str, is_strict: bool = True, has_mappings: bool =
 
 @contextlib.contextmanager
 def language_of_the_kit() -> Iterator[Any]:
-    """Lets the reader of scripts accept the kit's own words."""
+    """Lets the reader of scripts accept the kit's own flags."""
     before = dict(CALLS)
-    CALLS.update(MAPPINGS | FLAGGED)
+    CALLS.update(FLAGGED)
     try:
         yield
     finally:
@@ -196,9 +200,9 @@ def language_of_the_kit() -> Iterator[Any]:
         CALLS.update(before)
 
 
-def require_language(path: str, text: str, has_mappings: bool) -> None:
+def require_language(path: str, text: str, has_flags: bool) -> None:
     """Checks that the case is a script; a fault is reported as ./shmsim --explain does."""
-    with language_of_the_kit() if has_mappings else contextlib.nullcontext():
+    with language_of_the_kit() if has_flags else contextlib.nullcontext():
         try:
             read_script(text)
         except ScriptFault as fault:
@@ -209,14 +213,10 @@ def require_language(path: str, text: str, has_mappings: bool) -> None:
             raise BadCase(path, fault.line, fault.word, cause) from None
 
 
-def require_own_words(path: str, text: str) -> None:
-    """With ./shmsim as the program, checks that the case uses none of the kit's own words."""
+def require_no_flags(path: str, text: str) -> None:
+    """With ./shmsim as the program, checks that the case uses none of the kit's own flags."""
     for number, line in enumerate(text.split("\n"), 1):
         words = [] if line.lstrip().startswith("#") else [word.text for word in words_of(line)]
-        call = next((word for word in words[1:2] if word in MAPPINGS), "")
-        if call:
-            raise BadCase(path, number, call,
-                          "a call that only the C library has: run the case with --library")
         name = next((name for word in words if word in FLAGS
                      for name in words[-1].split(",") if name in FLAGS[word]), "")
         if name:

@@ -16,10 +16,10 @@ from .running import Peer, Stopped, run_program
 from .script import BadCase, BadInput, Case, Event, read_case, read_events
 
 
-def case_paths(names: list[str], has_mappings: bool) -> list[str]:
+def case_paths(names: list[str], has_flags: bool) -> list[str]:
     """The files of the named cases, or of all."""
     if not names:
-        folders = [CASES] + [os.path.join(CASES, name) for name in LIBRARY_CASES] * has_mappings
+        folders = [CASES] + [os.path.join(CASES, name) for name in LIBRARY_CASES] * has_flags
         return [path for folder in folders for path in names_in(folder)]
     paths = []
     for name in names:
@@ -31,10 +31,10 @@ def case_paths(names: list[str], has_mappings: bool) -> list[str]:
     return paths
 
 
-def open_case(path: str, has_mappings: bool) -> Case:
+def open_case(path: str, has_flags: bool) -> Case:
     try:
         with open(path, encoding="latin-1", newline="\n") as file:
-            return read_case(path, file.read(), has_mappings=has_mappings)
+            return read_case(path, file.read(), has_flags=has_flags)
     except OSError as error:
         raise BadCase(path, 0, "", f"can't be read: {error.strerror}") from None
 
@@ -133,7 +133,7 @@ def run_case(session: Session, case: Case) -> Outcome:
     """Runs one case. Returns its result."""
     events = run_program(session.options.program, case, session.options.limit)
     if any(event.is_skipped for event in events):
-        return Outcome(case.name, "skipped", "this library has no munmap and no mprotect")
+        return Outcome(case.name, "skipped", "this library does not count munmap, mprotect and setuid")
     wrong = against_rules(case, events, session.options.is_linux)
     if wrong:
         lines = [line.replace("        there ", "        case  ") for difference in wrong
@@ -156,7 +156,7 @@ def outcome_of(session: Session, path: str) -> Outcome:
     """The result of one case, or why it has none."""
     name = os.path.splitext(os.path.basename(path))[0]
     try:
-        return run_case(session, open_case(path, session.options.has_mappings))
+        return run_case(session, open_case(path, session.options.has_flags))
     except BadCase as error:
         return Outcome(name, "MALFORMED", str(error))
     except Stopped as error:
@@ -179,7 +179,7 @@ def run_cases(session: Session, paths: list[str]) -> int:
 
 def first_difference(session: Session, text: str, quiet: bool = True) -> Result:
     assert session.peer is not None
-    case = read_case("random", text, is_strict=False, has_mappings=session.options.has_mappings)
+    case = read_case("random", text, is_strict=False, has_flags=session.options.has_flags)
     events = run_program(session.options.program, case, session.options.limit)
     others = session.peer.run(text, len(case.commands))
     counted = Session(session.options, session.peer, session.results, machine=session.machine) if quiet else session

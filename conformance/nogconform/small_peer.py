@@ -103,8 +103,6 @@ def write_data(paths: list[str], is_linux: bool) -> None:
                              f"alone")
         if not script.processes or not any(isinstance(it, Command) for it in script.lines):
             raise SystemExit(f"small_peer: {path}: the script has no command")
-        if any(isinstance(it, Command) and it.call not in NAMES for it in script.lines):
-            raise SystemExit(f"small_peer: {path}: the peer knows neither unmap nor protect")
         arrays, row = data_of(index, name, script)
         texts.append(arrays)
         rows.append(row)

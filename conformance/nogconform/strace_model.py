@@ -3,7 +3,7 @@ machine."""
 
 from __future__ import annotations
 
-from dataclasses import dataclass, field
+from dataclasses import dataclass, field, replace
 
 PAGE = 4096
 FIRST_CHOSEN = 0x40000000       # the machine's first address if the caller names none
@@ -47,6 +47,7 @@ class Piece:
     attach: Attach
     first: int                  # bytes from the origin of the attach to where it begins
     end: int                    # and to where it ends
+    is_writable: bool = True
 
     @property
     def start(self) -> int:
@@ -73,10 +74,34 @@ def without(piece: Piece, start: int, stop: int) -> list[Piece]:
         return [piece]
     parts = []
     if piece.start < start:
-        parts.append(Piece(piece.attach, piece.first, start - piece.attach.address))
+        parts.append(replace(piece, end=start - piece.attach.address))
     if stop < piece.stop:
-        parts.append(Piece(piece.attach, stop - piece.attach.address, piece.end))
+        parts.append(replace(piece, first=stop - piece.attach.address))
     return parts
+
+
+def covering(pieces: list[Piece], address: int) -> Piece | None:
+    return next((it for it in pieces if it.start <= address < it.stop), None)
+
+
+def protected(pieces: list[Piece], start: int, stop: int, is_writable: bool) -> list[Piece]:
+    """The pieces after an mprotect of a range of the trace, by the rule of docs/MACHINE.md: a part joins a
+    neighbour of the same attachment that has the protection, and a whole piece joins none."""
+    def has(it: Piece | None, piece: Piece) -> bool:
+        return it is not None and it.attach is piece.attach and it.is_writable == is_writable
+    for piece in sorted(pieces, key=lambda it: it.start):
+        low, high = max(start, piece.start), min(stop, piece.stop)
+        if low >= high or piece.is_writable == is_writable:
+            continue
+        below, above = covering(pieces, low - 1), covering(pieces, high)
+        if low == piece.start and high < piece.stop and below and has(below, piece):
+            low = below.start
+        if piece.start < low and high == piece.stop and above and has(above, piece):
+            high = above.stop
+        origin = piece.attach.address
+        pieces = [part for it in pieces for part in without(it, low, high)]
+        pieces.append(Piece(piece.attach, low - origin, high - origin, is_writable))
+    return pieces
 
 
 @dataclass
@@ -130,6 +155,12 @@ class Memory:
         changes, self.changes = self.changes, []
         return [(segment, change) for segment, change in changes if not segment.out]
 
+    def keep_rises(self) -> None:
+        """Of the changes of an mprotect only that a segment has more pieces: no piece is detached."""
+        rises = {id(segment): segment for segment, _ in self.changes}
+        counts = {name: sum(it for segment, it in self.changes if id(segment) == name) for name in rises}
+        self.changes = [(segment, counts[name]) for name, segment in rises.items() if counts[name] > 0]
+
     def destroy_unattached(self, segment: Segment) -> None:
         if segment.is_marked and segment.pieces == 0:
             self.destroy(segment)
@@ -167,6 +198,8 @@ class Process:
     pieces: list[Piece] = field(default_factory=list)
     threads: set[str] = field(default_factory=set)
     program: str = ""
+    # the effective user and group; None: those with which all processes begin
+    user: tuple[int | None, int | None] = (None, None)
 
     def at(self, start: int, stop: int) -> Piece | None:
         """The first piece in a range of the trace."""

@@ -8,7 +8,7 @@ from dataclasses import dataclass, field
 from typing import Any, Union
 
 from .strace_lines import MADE_BY, Call, Thread, Trace
-from .strace_model import LAST, NEVER_ISSUED, PAGE, Attach, Memory, Piece, Process, Segment, pages_of, without
+from .strace_model import LAST, NEVER_ISSUED, PAGE, Attach, Memory, Piece, Process, Segment, pages_of, protected, without
 
 ERRORS = ("EPERM", "ENOENT", "EAGAIN", "ENOMEM", "EACCES", "EEXIST", "EINVAL", "EMFILE", "ENOSPC", "EIDRM")
 CALLS = ("shmget", "shmat", "shmdt", "shmctl")
@@ -23,6 +23,9 @@ HARMLESS_ADVICE = ("MADV_NORMAL", "MADV_WILLNEED", "MADV_POPULATE_READ", "MADV_P
                    "MADV_PAGEOUT")
 FLAGS_OF_GET = {"IPC_CREAT": "creat", "IPC_EXCL": "excl"}
 FLAGS_OF_ATTACH = {"SHM_RND": "rnd", "SHM_REMAP": "remap", "SHM_RDONLY": "rdonly"}
+PROTECTIONS = {"PROT_READ": "ro", "PROT_READ|PROT_WRITE": "rw"}
+# in a line setuid, the user and group with which all processes begin
+FIRST_USER = ("UID", "GID")
 DEST, LOCKED = 0o1000, 0o2000
 BEFORE, HUGE = "segments from before the trace", "segments of huge pages"
 # a part of the operands of a line
@@ -257,8 +260,7 @@ class Converter:
         elif call.name in MAPPINGS:
             self.take_mapping(process, call, place)
         elif CREDENTIALS.fullmatch(call.name):
-            if call.value == "0":
-                self.notes.add("left out", f"{call.name}: the script has one user", call.first)
+            self.take_user(process, call, place)
         elif call.name not in ("exit", "exit_group"):
             self.notes.add("left out", "calls that are not of shared memory", call.first)
 
@@ -417,7 +419,7 @@ class Converter:
             is_literal = where.piece is None or where.piece.attach.is_literal
         attach = Attach(segment, start, machine, is_literal)
         rest = [part for piece in process.pieces for part in without(piece, start, start + size)]
-        self.memory.put(process, [*rest, Piece(attach, 0, size)])
+        self.memory.put(process, [*rest, Piece(attach, 0, size, "SHM_RDONLY" not in call.words[2])])
         return attach, f"0x{machine:x}" if is_literal else "?"
 
     def take_shmdt(self, process: Process, call: Call, place: float) -> None:
@@ -516,7 +518,7 @@ class Converter:
                                call.first)
             return
         child = self.tree.processes[made]
-        child.program = process.program
+        child.program, child.user = process.program, process.user
         if kind == "vfork" and process.pieces:
             # it runs in its maker's memory until its exec, and inherits nothing
             self.notes.add("changed",
@@ -568,7 +570,8 @@ class Converter:
             self.put(process, call, place, word, [], "", "ok")
 
     def take_mapping(self, process: Process, call: Call, place: float) -> None:
-        """A call that may change attached memory; the language only has shmdt."""
+        """A call that may change attached memory. An munmap or mprotect has a line for each piece that it
+        reaches."""
         words = call.words
         if call.is_refused or len(words) < 2 or words[0] == "NULL" or not words[1].isdigit():
             return
@@ -584,6 +587,8 @@ class Converter:
             self.detach(process, call, piece.attach)
             self.put(process, call, place, "shmdt", [address_part(piece.attach)], shown_address(start), "ok")
             return
+        if call.name in ("munmap", "mprotect") and self.put_range(process, call, place):
+            return
         for it in process.pieces:
             if it.start < start + int(words[1]) and start < it.stop:
                 it.attach.segment.is_touched = True
@@ -591,6 +596,48 @@ class Converter:
                     it.attach.stays = words[-1] == "MADV_DONTFORK"
         advice = f" {words[-1]}" if call.name == "madvise" else ""
         raise LeftOut(f"{call.name}{advice} of attached memory; later replies may differ")
+
+
+    def put_range(self, process: Process, call: Call, place: float) -> bool:
+        """The lines of an munmap or mprotect; whether the script can have them."""
+        start, protection = number_of(call.words[0]), PROTECTIONS.get(call.words[-1])
+        stop = start + pages_of(int(call.words[1])) * PAGE
+        met = sorted((it for it in process.pieces if it.start < stop and start < it.stop), key=lambda it: it.start)
+        is_smaller = any(pages_of(it.attach.segment.size) != pages_of(it.attach.segment.real_size) for it in met)
+        if is_smaller or call.name == "mprotect" and protection is None:
+            return False
+        if call.name == "munmap":
+            self.memory.put(process, [part for it in process.pieces for part in without(it, start, stop)])
+        else:
+            self.memory.put(process, protected(process.pieces, start, stop, protection == "rw"))
+            self.memory.keep_rises()
+        for it in met:
+            if it.attach.segment.out:
+                continue
+            low, high = max(start, it.start), min(stop, it.stop)
+            rest = f" {high - low} {protection}" if protection and call.name == "mprotect" else f" {high - low}"
+            self.put(process, call, place, call.name, [address_part(it.attach, low - it.attach.address), rest],
+                     shown_address(low) + rest, "ok")
+        return True
+
+    def take_user(self, process: Process, call: Call, place: float) -> None:
+        """A process with another effective user or group has a line setuid, if it is in the script."""
+        if call.value != "0":
+            return
+        kind = re.fullmatch(r"set(re|res|)([ug])id(32)?", call.name)
+        if kind is None:
+            raise LeftOut(f"{call.name}, which a script does not have")
+        word = call.words[1 if kind[1] else 0]
+        if word == "-1" or int(word) == 2 ** 32 - 1:
+            return
+        uid, gid = process.user
+        user = (int(word), gid) if kind[2] == "u" else (uid, int(word))
+        if user == process.user:
+            return
+        process.user = user
+        parts: list[Part] = [" ".join(name if it is None else str(it) for name, it in zip(FIRST_USER, user))]
+        self.commands.append(Command(process, "setuid", parts, str(parts[0]), "ok", place, call.first,
+                                     call.last or call.first, call=call))
 
 
 @dataclass
@@ -611,8 +658,8 @@ def id_part(segment: Segment | None) -> Part:
     return segment if segment is not None else str(NEVER_ISSUED)
 
 
-def address_part(attach: Attach) -> Part:
-    return f"0x{attach.number:x}" if attach.is_literal else (attach, 0)
+def address_part(attach: Attach, offset: int = 0) -> Part:
+    return f"0x{attach.number + offset:x}" if attach.is_literal else (attach, offset)
 
 
 def shown_address(address: int) -> str:

@@ -3,6 +3,7 @@
 #include <errno.h>
 #include <grp.h>
 #include <stdlib.h>
+#include <sys/mman.h>
 #include <sys/shm.h>
 #include <sys/wait.h>
 #include <unistd.h>
@@ -16,6 +17,9 @@ static int become(unsigned uid, unsigned gid) {
     return setgroups(0, NULL) || setresgid(gid, gid, gid) || setresuid(uid, uid, uid) || getuid() != uid || getgid() != gid;
 }
 #define BECOME(uid, gid) become((unsigned)(uid), (unsigned)(gid))
+/* munmap(2) and mprotect(2), if the system has them */
+#define MUNMAP(address, length) munmap(address, length)
+#define MPROTECT(address, length, is_writable) mprotect(address, length, (is_writable) ? PROT_READ | PROT_WRITE : PROT_READ)
 /* the addresses where a script may attach: nothing of the peer's own is there */
 #define FREE_FROM 0x10000UL
 #define FREE_TO 0x500000000000UL

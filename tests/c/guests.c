@@ -36,7 +36,7 @@ static void test_closed(void) {
     ANSWER(nog_set_time(&machine, 1), NOG_CLOSED);
 }
 
-/* what is refused, the first that holds, and that it is no call */
+/* what is refused, the first that holds; nog_set_user is a call, the others are not */
 static void test_refusals(void) {
     uint64_t calls = 1;
     ANSWER(open_usual(&machine), NOG_DONE);
@@ -49,7 +49,7 @@ static void test_refusals(void) {
     ANSWER(nog_set_user(&machine, CHILD, 1, 1), NOG_ESRCH);
     ANSWER(nog_set_user(&machine, UNDECLARED, 1, 1), NOG_ESRCH);
     ANSWER(nog_calls(&machine, &calls), NOG_DONE);
-    TEST(calls == 0);
+    TEST(calls == 2);
 }
 
 /* as many as the limits allow: the ended count until they are dismissed, and give their place to their own pid alone */

@@ -86,7 +86,7 @@ static void test_unmap(void) {
     ANSWER(nog_stat(&machine, ROOT, id, &s), NOG_EIDRM);
     uint64_t after = 0;
     ANSWER(nog_calls(&machine, &after), NOG_DONE);
-    TEST(after == calls + 1);
+    TEST(after == calls + 2);
 }
 
 static void test_protect(void) {

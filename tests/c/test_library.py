@@ -15,6 +15,7 @@ import pytest
 from at_the_limits import NAMES as AT_THE_LIMITS, main as write_scripts_at_the_limits
 from commands import SECONDS, TOP, Conform, environment, run, text_of, write_file
 from conftest import libraries_of
+from crates import all_below, graph
 from nogconform.generator import make_script
 from nogcuvema.script import read_script
 
@@ -297,6 +298,12 @@ def test_unproved(unproved: str, folder: str) -> None:
     first = os.stat(made).st_mtime_ns
     assert "nothing is proved" in run([f"{TOP}/lib", "--unproved", "--to", unproved]).said
     assert os.stat(made).st_mtime_ns == first
+    # a newer source of a crate that the library does not use compiles nothing
+    own = ["nogcuvema", *all_below(graph(), "nogcuvema")]
+    sources = [HEADER, f"{TOP}/crates.txt", f"{TOP}/tools/unproved_library",
+               *(path for crate in own for path in glob.glob(f"{TOP}/crates/{crate}/src/*.rt"))]
+    os.utime(made, (newest := max(os.stat(path).st_mtime for path in sources), newest))
+    assert run([f"{TOP}/lib", "--unproved", "--to", unproved]).status == 0
     prefix = os.path.join(folder, "prefix")
     ended = run([f"{TOP}/install", "--library", unproved, "--prefix", prefix])
     assert ended.status == 125

@@ -81,6 +81,17 @@ def test_case(name: str, conform: Conform) -> None:
     assert said.startswith(f"{name}: as expected")
 
 
+@pytest.mark.parametrize("older, newer", [
+    ("1 unmap 0x40000000 4096", "1 munmap 0x40000000 4096"),
+    (" 1\tprotect a+4096 4096 r", " 1\tmprotect a+4096 4096 ro"),
+    ("1 protect 0x40000000 4096 rw", "1 mprotect 0x40000000 4096 rw"),
+    ("# 1 unmap and protect", "# 1 unmap and protect")])
+def test_older_words(older: str, newer: str) -> None:
+    """The words that the kit had before munmap and mprotect were calls of the language."""
+    head = "limits 65536 16 64 4 1\nprocess 1 100 100\n"
+    assert read_case("c", f"{head}{older}\n", is_strict=False).text == f"{head}{newer}\n"
+
+
 def test_all_cases(conform: Conform) -> None:
     status, said = conform("--no-peer")
     assert status == 0

@@ -60,7 +60,7 @@ def machine(library: Any, tmp_path_factory: Any) -> Machine:
 
 
 def case_of(text: str, swap: list[str] | None = None) -> Case:
-    return replace(read_case("one", text, is_strict=False, has_mappings=True), swap=swap or list(SWAP))
+    return replace(read_case("one", text, is_strict=False, has_flags=True), swap=swap or list(SWAP))
 
 
 def changed(others: list[Event], index: int, reply: str) -> list[Event]:
@@ -114,9 +114,9 @@ def test_another_call(machine: Machine) -> None:
 
 
 def test_rules_with_one_effect(machine: Machine) -> None:
-    """A fork and a protect set the same last pid, each by a rule: the first of them is named."""
+    """A fork and an mprotect set the same last pid, each by a rule: the first of them is named."""
     case = case_of(HEAD + "1 shmget private 8192 606\n1 shmat 0 null -\n2 shmat 0 null -\n1 fork 3\n"
-                          "1 protect 0x40000000 4096 r\n1 stat 0\n")
+                          "1 mprotect 0x40000000 4096 ro\n1 stat 0\n")
     others = [replace(it, reply=without_clock(it.reply)) for it in machine.events(case, Rules.LINUX)]
     assert against_peer(case, machine.events(case, 0), others, machine).by_rule == {"time of fork": 1}
 

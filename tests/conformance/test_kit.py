@@ -29,8 +29,7 @@ AREAS = "no swap area: ram:N, sparse:N, mirror:N, fuse:N:rK or fuse:N:wK, N from
 SWAP = "the line is #swap and 1 to 8 areas, as #swap ram:64 sparse:65536"
 NO_RULE = ("no comment above it names the rule and its source, as POSIX shmat(), POSIX.1-2017, page 1384, "
            "shmop(2) or profile")
-ALONE = "a call that only the C library has: run the case with --library"
-FLAG_ALONE = ALONE.replace("a call", "a flag")
+ALONE = "a flag that only the C library has: run the case with --library"
 NO_PEER = "the peer was not started: no such command: /nosuch/peer"
 NO_SOURCE = ("no comment above it names the source of Linux's reply, as observed on Linux 6.18, or Linux: "
              "shmget(2)")
@@ -71,23 +70,8 @@ MALFORMED = (
     (HEAD.replace("process", "rules linux\nprocess"),
      "c.shm: line 2: 'rules': the kit chooses the rules: --rules linux, or none of them"),
 )
-# the kit's own words: lines that are valid, and lines that are not
-MAPPED = (
-    (True, "1 unmap 0x50000000 8192", ""),
-    (True, "1 protect a+4096 0x1000 rw", ""),
-    (True, "1 protect null 18446744073709551615 r", ""),
-    (True, "1 unmap 0x50000000",
-     "c.shm: line 4: '0x50000000': bad line, "
-     "allowed here: unmap ADDRESS LENGTH: 2 operands, and 1 are there"),
-    (True, "1 protect 0x50000000 4096",
-     "allowed here: protect ADDRESS LENGTH RIGHTS: 3 operands, and 2 are there"),
-    (True, "1 protect 0x50000000 4096 w", "c.shm: line 4: 'w': bad line, allowed here: r, or rw"),
-    (True, "1 protect 0x50000000 4k r", "c.shm: line 4: '4k': bad line, allowed here: a number"),
-    (True, "1 unmap here 4096", "c.shm: line 4: 'here': bad line, allowed here: an address: null, "),
-    (True, "1 unmap 0 18446744073709551616", "c.shm: line 4: '18446744073709551616': bad number"),
-    (True, "x = unmap 0 1", "c.shm: line 4: 'x': bad line"),
-    (True, "1 x = unmap 0 1", "c.shm: line 4: 'unmap': bad line, allowed here: shmget, shmat, xadd, swap or cas"),
-    (True, "1 unmapp 0 1", "; nearest form: unmap"),
+# the kit's own flags: lines that are valid, and lines that are not
+FLAGGED = (
     (True, "1 shmat 0 null exec", ""),
     (True, "1 a = shmat 0 null rnd,exec,rdonly", ""),
     (True, "1 shmget private 1 600,hugetlb,creat,noreserve", ""),
@@ -99,16 +83,15 @@ MAPPED = (
     (True, "1 shmget private 1 600,exec", "c.shm: line 4: '600,exec': bad line"),
     (True, "1 shmget private 1 hugetlb,600", "; with --library also hugetlb and noreserve"),
     (True, "1 shmget private 1 hugetlb", "c.shm: line 4: 'hugetlb': bad line"),
-    (False, "1 shmat 0 null rnd,exec", "c.shm: line 4: 'exec': " + FLAG_ALONE),
-    (False, "1 s = shmget private 1 600,creat,noreserve", "c.shm: line 4: 'noreserve': " + FLAG_ALONE),
+    (False, "1 shmat 0 null rnd,exec", "c.shm: line 4: 'exec': " + ALONE),
+    (False, "1 s = shmget private 1 600,creat,noreserve", "c.shm: line 4: 'noreserve': " + ALONE),
     (False, "1 shmat 0 null hugetlb",
      "allowed here: -, or rnd, remap and rdonly with commas between them, each at most once"),
-    (False, "1 unmap 0x50000000 8192", "c.shm: line 4: 'unmap': " + ALONE),
-    (False, "1\tprotect null 4096 r", "c.shm: line 4: 'protect': " + ALONE),
-    (False, "# unmap is no call. profile\n1 exit", ""),
-    (False, "1 unmapp 0 1",
-     "allowed here: a call: shmget, shmat, shmdt, load, store, xadd, swap, cas, stat, set, rmid, lock, "
-     "unlock, fork, exec, exit, swapoff"),
+    (False, "# 1 shmat 0 null exec\n1 exit", ""),
+    (False, "1 mprotect null 4096 r", "c.shm: line 4: 'r': bad line, allowed here: ro or rw"),
+    (False, "1 unmaps 0 1",
+     "allowed here: a call: shmget, shmat, shmdt, munmap, mprotect, load, store, xadd, swap, cas, stat, set, "
+     "rmid, lock, unlock, fork, exec, exit, setuid, swapoff; nearest form: munmap"),
 )
 CITED = ("POSIX.1-2017, page 1384", "POSIX.1-2017 page 1384", "POSIX shmget()", "POSIX.1-2017, shmget()",
          "POSIX <sys/shm.h>",
@@ -138,9 +121,9 @@ JUNIT = (("right", None, ""), ("bad", "error", "MALFORMED"), ("other", "failure"
          ("missing", "skipped", None), ("undone", "skipped", None))
 # replies that no call can have, and some that one can
 
-def said_of(text: str, has_mappings: bool = False) -> str:
+def said_of(text: str, has_flags: bool = False) -> str:
     try:
-        read_case("c.shm", text, has_mappings=has_mappings)
+        read_case("c.shm", text, has_flags=has_flags)
     except BadInput as error:
         return str(error)
     return ""
@@ -152,9 +135,9 @@ def test_malformed(text: str, wanted: str) -> None:
     assert wanted in said_of(text)
 
 
-@pytest.mark.parametrize("has_mappings, line, wanted", MAPPED)
-def test_words_of_the_kit(has_mappings: bool, line: str, wanted: str) -> None:
-    said = said_of(HEAD + RULE + line + "\n#= ok\n", has_mappings)
+@pytest.mark.parametrize("has_flags, line, wanted", FLAGGED)
+def test_flags_of_the_kit(has_flags: bool, line: str, wanted: str) -> None:
+    said = said_of(HEAD + RULE + line + "\n#= ok\n", has_flags)
     assert (said == wanted == "" or wanted != "" and wanted in said
             and ("swapoff" not in wanted or said.endswith(wanted)))
 
@@ -401,24 +384,18 @@ def test_no_peer_here(folder: str) -> None:
 
 @pytest.mark.parametrize("reply, wanted, line", [
     ("ok", 0, "mapped: as expected (1 commands)"), ("EINVAL", 1, "mapped: FAILS: "),
-    ("skipped: no", 0, "mapped: skipped: this library has no munmap and no mprotect")
+    ("skipped: no", 0, "mapped: skipped: this library does not count munmap, mprotect and setuid")
 ])
 def test_mappings(folder: str, conform: Conform, reply: str, wanted: int, line: str) -> None:
-    """A case with the kit's own words runs only with --library; a library without these calls skips it."""
-    case = write_file(folder, "mapped.shm", HEAD + RULE + "1 unmap null 4096\n#= ok\n")
+    """A library that does not count munmap among the calls skips a case of it."""
+    case = write_file(folder, "mapped.shm", HEAD + RULE + "1 munmap null 4096\n#= ok\n")
     write_cases(folder)
-    status, said = conform("--program", os.path.join(folder, "one_reply"), case)
-    assert status == 2
-    assert said.startswith(f"mapped: MALFORMED: {case}: line 4: 'unmap': {ALONE}\n")
-    status, said = conform("--program", os.path.join(folder, "one_reply"), "mappings/unmap_cuts")
-    assert status == 2
-    assert ALONE in said
     write_file(folder, "nogcuvema.h", "#define NOG_HEADER\n")
     write_file(folder, "libnogcuvema.a", "")
     status, said = conform("--library=" + folder, "--no-peer", case)
     assert status == 3
     assert "the library's program was not built: " in said
-    status, said = over_library(folder, case, f"1 1 unmap null 4096 = {reply}")
+    status, said = over_library(folder, case, f"1 1 munmap null 4096 = {reply}")
     assert status == wanted
     assert said.startswith(line)
 
@@ -471,9 +448,9 @@ def test_rules(folder: str, conform: Conform) -> None:
 
 
 def test_flags_of_random_scripts() -> None:
-    """Only random scripts under Linux's rules have the kit's flags; exec never together with protect, hugetlb
-    never with noreserve."""
-    seen = {name: 0 for name in ("exec", "hugetlb", "noreserve", "protect")}
+    """Only random scripts under Linux's rules have the kit's flags; exec never together with mprotect, and
+    hugetlb never with noreserve."""
+    seen = {name: 0 for name in ("exec", "hugetlb", "noreserve", "mprotect")}
     for number in range(100):
         text, plain = (make_script("flags", number, True, has_flags) for has_flags in (True, False))
         lines = [(words, words[-1].split(","))
@@ -483,10 +460,10 @@ def test_flags_of_random_scripts() -> None:
         for name in found:
             seen[name] += 1
         assert not both
-        assert not {"exec", "protect"} <= found
-        assert read_case("c", text, is_strict=False, has_mappings=True)
+        assert not {"exec", "mprotect"} <= found
+        assert read_case("c", text, is_strict=False, has_flags=True)
         assert not re.search("[, ](exec|hugetlb|noreserve)[,\n]", plain.replace(" exec\n", ""))
-    assert all(20 <= it <= 100 for it in seen.values())
+    assert all(15 <= it <= 100 for it in seen.values())
 
 
 def test_said_once(folder: str, conform: Conform) -> None:
@@ -523,8 +500,8 @@ def test_list_of_own_cases(folder: str, conform: Conform) -> None:
 
 
 @pytest.mark.parametrize("words, folders", [
-    ("--list", [""]), ("--list --library", ["", "mappings", "rules"]),
-    ("--list --rules linux", ["", "mappings", "rules"])])
+    ("--list", [""]), ("--list --library", ["", "rules"]),
+    ("--list --rules linux", ["", "rules"])])
 def test_list(conform: Conform, words: str, folders: list[str]) -> None:
     status, said = conform(*words.split())
     names = [os.path.basename(path)[:-4] for it in folders for path in names_in(os.path.join(CASES, it))]

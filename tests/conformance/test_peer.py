@@ -17,10 +17,10 @@ from nogconform.running import FLAGS, Peer
 from nogconform.script import is_expected, read_case
 
 SEGMENTS = "/proc/sysvipc/shm"
-MAPPINGS = os.path.join(CASES, "mappings")
+MAPPINGS = re.compile(r"(mappings_in_a_child|mprotect_\w+|munmap_\w+|pieces_in_parts|splits_are_no_attaches|setuid)\.shm")
 # this project's replies to commands of those cases by its own rules: removed identifier, whole access, rest
 # is attached
-BY_RULE = {("unmap_of_marked", "EIDRM"), ("protect_middle", "0003"),
+BY_RULE = {("munmap_of_marked", "EIDRM"), ("mprotect_middle", "0003"),
            ("splits_are_no_attaches", "atime=set dtime=set lpid=2 nattch=3")}
 HEAD = "limits 65536 16 64 16 4\nprocess 1 {0} {1}\nchild 2\n".format(os.geteuid(), os.getegid())
 # more than a pipe holds: the peer waits until somebody reads it
@@ -187,17 +187,17 @@ def test_own_ranges(peer: str) -> None:
     made."""
     skip, end = "skipped: the peer's own memory is there", 0x7ffffffff000
     all_of_it = end - 0x10000
-    calls = ((f"unmap 0x10000 {all_of_it}", skip), (f"unmap 0x10000 {all_of_it + 1}", "EINVAL"),
-             ("unmap 0x10001 4096", "EINVAL"),
-             ("unmap 0x50000000 268435456", "ok"), ("shmat 0 0x50000000 -", "0x50000000"),
+    calls = ((f"munmap 0x10000 {all_of_it}", skip), (f"munmap 0x10000 {all_of_it + 1}", "EINVAL"),
+             ("munmap 0x10001 4096", "EINVAL"),
+             ("munmap 0x50000000 268435456", "ok"), ("shmat 0 0x50000000 -", "0x50000000"),
              # it ends at the first page that is not attached, which is not the peer's
-             (f"protect 0x50000000 {end - 0x50000000} r", "ENOMEM"), ("store 0x50000000 00", "SIGSEGV"),
-             (f"protect 0x10000 {all_of_it} rw", "ENOMEM"), (f"protect 0x10000 {2 ** 64 - 1} rw", "ENOMEM"),
+             (f"mprotect 0x50000000 {end - 0x50000000} ro", "ENOMEM"), ("store 0x50000000 00", "SIGSEGV"),
+             (f"mprotect 0x10000 {all_of_it} rw", "ENOMEM"), (f"mprotect 0x10000 {2 ** 64 - 1} rw", "ENOMEM"),
              # the second one has another address than in the script: the two are not one range
              ("shmat 0 0x3fffe000 -", "0x3fffe000"), ("shmat 0 null -", "0x40000000"),
-             ("unmap 0x3ffff000 8192", "skipped: the range is not one range of the system"),
-             ("protect 0x40000000 12288 r", "skipped: the range is not one range of the system"),
-             ("unmap 0x40000000 8192", "ok"), ("unmap 0x3ffff000 8192", "ok"), ("load 0x3fffe000 1", "00"))
+             ("munmap 0x3ffff000 8192", "skipped: the range is not one range of the system"),
+             ("mprotect 0x40000000 12288 ro", "skipped: the range is not one range of the system"),
+             ("munmap 0x40000000 8192", "ok"), ("munmap 0x3ffff000 8192", "ok"), ("load 0x3fffe000 1", "00"))
     text = HEAD + "1 shmget private 8192 600\n" + "".join(f"1 {call}\n" for call, _ in calls)
     done = subprocess.run([peer], input=text.encode(), capture_output=True, check=False)
     wanted = ["0", *(reply for _, reply in calls)]
@@ -205,12 +205,12 @@ def test_own_ranges(peer: str) -> None:
 
 
 def test_mappings(peer: str) -> None:
-    """The cases of munmap and mprotect without a library: the replies are those of the cases, except by this
+    """The cases of munmap, mprotect and setuid: the replies are those of the cases, except by this
     project's own rules."""
     found = set()
-    for name in sorted(os.listdir(MAPPINGS)):
-        with open(os.path.join(MAPPINGS, name), encoding="ascii") as file:
-            case = read_case(name, file.read(), has_mappings=True)
+    for name in sorted(filter(MAPPINGS.fullmatch, os.listdir(CASES))):
+        with open(os.path.join(CASES, name), encoding="ascii") as file:
+            case = read_case(name, file.read(), has_flags=True)
         events = Peer([peer]).run(case.text, len(case.commands))
         for command, event in zip(case.commands, events):
             told = re.sub("time=[1-9][0-9]*", "time=set", command.expected or "")

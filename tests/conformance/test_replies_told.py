@@ -16,7 +16,7 @@ CASES_OF_ALL = [path for folder in ("", *LIBRARY_CASES) for path in names_in(os.
 
 
 def case_of(path: str) -> Case:
-    return read_case(path, text_of(path), has_mappings=True)
+    return read_case(path, text_of(path), has_flags=True)
 
 
 def name_of(path: str) -> str:

@@ -147,19 +147,23 @@ static const struct command commands_0[] = {
 { -1, { 0x0UL, 0x0UL } } }, 0, "", "" },
     { 0, -1, 1, { { 18, { 0x0UL, 0x0UL } }, { -1, { 0x0UL, 0x0UL } }, { -1, { 0x0UL, 0x7000UL } }, \
 { -1, { 0x0UL, 0x0UL } } }, 0, "", "" },
-    { 0, -1, 4, { { 0, { 0x0UL, 0x1000UL } }, { -1, { 0x0UL, 0x0UL } }, { -1, { 0x0UL, 0x0UL } }, \
+    { 0, -1, 6, { { 0, { 0x0UL, 0x1000UL } }, { -1, { 0x0UL, 0x0UL } }, { -1, { 0x0UL, 0x0UL } }, \
 { -1, { 0x0UL, 0x0UL } } }, 2, "\\001\\377", "" },
-    { 0, 23, 7, { { 0, { 0x0UL, 0x0UL } }, { -1, { 0x0UL, 0x0UL } }, { -1, { 0x0UL, 0x0UL } }, \
+    { 0, 23, 9, { { 0, { 0x0UL, 0x0UL } }, { -1, { 0x0UL, 0x0UL } }, { -1, { 0x0UL, 0x0UL } }, \
 { -1, { 0x0UL, 0x0UL } } }, 1, "\\005", "\\000" },
-    { 0, -1, 9, { { -1, { 0x0UL, 0x0UL } }, { -1, { 0x0UL, 0x1UL } }, { -1, { 0x0UL, 0x2UL } }, \
-{ -1, { 0x0UL, 0x1c0UL } } }, 0, "", "" },
-    { 0, -1, 13, { { -1, { 0x0UL, 0x8UL } }, { -1, { 0x0UL, 0x0UL } }, { -1, { 0x0UL, 0x0UL } }, \
+    { 0, -1, 4, { { 0, { 0x0UL, 0x0UL } }, { -1, { 0x0UL, 0x1UL } }, { -1, { 0x0UL, 0x1UL } }, \
 { -1, { 0x0UL, 0x0UL } } }, 0, "", "" },
-    { 1, -1, 15, { { -1, { 0x0UL, 0x0UL } }, { -1, { 0x0UL, 0x0UL } }, { -1, { 0x0UL, 0x0UL } }, \
+    { 0, -1, 18, { { -1, { 0x0UL, 0x64UL } }, { -1, { 0x0UL, 0xffffffffUL } }, { -1, { 0x0UL, 0x0UL } }, \
+{ -1, { 0x0UL, 0x0UL } } }, 0, "", "" },
+    { 0, -1, 11, { { -1, { 0x0UL, 0x0UL } }, { -1, { 0x0UL, 0x1UL } }, { -1, { 0x0UL, 0x2UL } }, \
+{ -1, { 0x0UL, 0x1c0UL } } }, 0, "", "" },
+    { 0, -1, 15, { { -1, { 0x0UL, 0x8UL } }, { -1, { 0x0UL, 0x0UL } }, { -1, { 0x0UL, 0x0UL } }, \
+{ -1, { 0x0UL, 0x0UL } } }, 0, "", "" },
+    { 1, -1, 17, { { -1, { 0x0UL, 0x0UL } }, { -1, { 0x0UL, 0x0UL } }, { -1, { 0x0UL, 0x0UL } }, \
 { -1, { 0x0UL, 0x0UL } } }, 0, "", "" }
 };
 static const struct script scripts[] = {
-    { "data", processes_0, 2, commands_0, 7 }
+    { "data", processes_0, 2, commands_0, 9 }
 };
 """
 DATA_SCRIPT = """limits 4096 1 1 2 0
@@ -170,6 +174,8 @@ child 8
 0 flush 1
 7 store a+4096 01ff
 7 x = cas a 00 05
+7 mprotect a 1 rw
+7 setuid 100 4294967295
 7 set 0 1 2 700
 7 fork 8
 8 exit
@@ -182,7 +188,7 @@ RECORD = "boot: hello\r\nscript one\r\nnote: under the limits of this system\r\n
 NEVER_MADE = {"no process makes this call", "no such child can be", "no swap area is the script's",
               "the access may end its process",
               "the peer's own memory may be there", "this peer makes no exec",
-              "the range is not one range of the system",
+              "the range is not one range of the system", "this process can't become another user",
               "nobody here can wait for its end"}
 
 
@@ -296,7 +302,7 @@ def compare_case(case: Case, small: list[str], full: list[Event]) -> tuple[int, 
 def cases_in(folder: str, has_flags: bool = False) -> Iterator[tuple[str, Case]]:
     """The cases of a folder, with their paths."""
     for path in names_in(folder):
-        yield path, read_case(path, text_of(path), has_mappings=has_flags)
+        yield path, read_case(path, text_of(path), has_flags=has_flags)
 
 
 def groups_of_cases() -> dict[tuple[tuple[int, ...], bool, str], list[tuple[str, Case]]]:
@@ -321,7 +327,7 @@ def compare_by_kit(replies: str, conform: Conform, is_root: bool) -> None:
     assert re.search("^cases: agree \\d+, profile \\d+" + ("" if is_root else ", skipped \\d+") + "$", said,
                      re.M)
     assert "\nnote: under the limits of this system\n" in said
-    mostly = r"MOSTLY SKIPPED: \d+ of 1701 commands were not compared: no right to be this user \(\d+\), "
+    mostly = r"MOSTLY SKIPPED: \d+ of 2067 commands were not compared: no right to be this user \(\d+\), "
     assert bool(re.match(mostly, said.splitlines()[-1])) != is_root
     path = write_file(replies, "wide.shm", WIDE)
     for note, word in (("note: under the limits of this system\n", "profile (limits of the system 1)"),
@@ -432,7 +438,6 @@ def test_record(folder: str) -> None:
     ("replies record told more", 2, "more"), ("data /nosuch", 1, "can't be read"),
     ("data rules/nosuch", 1, "small_peer: rules/nosuch: can't be read"),
     (f"data {CASES}/rules/flags_of_shmget.shm", 1, "bad line: 600,creat,noreserve"),
-    (f"data --rules linux {CASES}/mappings/unmap_cuts.shm", 1, "the peer knows neither unmap nor protect"),
     ("data bad.shm", 1, "small_peer: bad.shm: line 3: bad line: nosuch, allowed here: a call"),
     ("replies /nosuch told", 3, "small_peer: /nosuch: No such file"),
     ("replies bad.shm told", 1, "has no line 'script NAME'")])

@@ -126,7 +126,9 @@ def test_alike(programs: Programs, subject: str) -> None:
     runner = [programs.shmrun] if subject == "end" else programs.sanitized
     status, out, said = run([*runner, "--record", f"{programs.folder}/{subject}", *words])
     assert status == 0, said
-    check_record(programs, subject, subject not in ("users", "thousand"))
+    check_record(programs, subject, subject != "thousand")
+    if subject == "users":
+        assert re.search(r"^\d+ setuid \d+ \d+$", text_of(f"{programs.folder}/users.shm"), re.M)
     if run(["unshare", "-i", "true"]).status != 0:
         pytest.skip("on the kernel: unshare -i needs root")
     wanted = run(["unshare", "-i", *words]).out
@@ -290,7 +292,7 @@ def is_running(pid: int | str) -> bool:
         return False
 
 
-def wait_until(condition: Callable[[], bool], seconds: float = 10.0) -> bool:
+def wait_until(condition: Callable[[], bool], seconds: float = 120.0) -> bool:
     end = time.monotonic() + seconds
     while not condition() and time.monotonic() < end:
         time.sleep(0.01)
@@ -351,7 +353,7 @@ def test_terminal(programs: Programs) -> None:
         nonlocal seen
         began, pressed = time.monotonic(), 0
         os.set_blocking(terminal, False)
-        while not (found := re.search(text, seen)) and time.monotonic() < began + 20:
+        while not (found := re.search(text, seen)) and time.monotonic() < began + 120:
             if key and time.monotonic() >= began + 2 * pressed:
                 os.write(terminal, key)
                 pressed += 1

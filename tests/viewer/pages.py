@@ -25,7 +25,7 @@ TASK = ("# task: ", "# goal: ", "# hint: ")
 EXAMPLES = ("memory_short", "failing_swap", "remap", "swap_taken_away", "deferred_removal")
 LESSONS = (*EXAMPLES, "fork", "permissions", "locks", "lost_update")
 SIZES = ((1280, 900), (390, 844))
-SCRIPTS = (*EXAMPLES, "other_changes", "ten_slots", "refused_accesses", "turns", "bytes")
+SCRIPTS = (*EXAMPLES, "other_changes", "ten_slots", "refused_accesses", "turns", "bytes", "mappings")
 
 
 def example(name: str) -> tuple[str, list[str]]:

@@ -22,6 +22,7 @@ class Step:
     # identifier: (pages, status, owner and permissions)
     segments: dict[str, Any] = field(default_factory=dict)
     processes: dict[str, Any] = field(default_factory=dict)   # pid: (state, set of pieces)
+    users: dict[str, str] = field(default_factory=dict)       # pid: the user and group of a live process
     # frame: (page, referenced, dirty)
     frames: dict[str, tuple[Page, bool, bool]] = field(default_factory=dict)
     frame_count: int = 0
@@ -62,6 +63,8 @@ def read_line(step: Step, line: str) -> None:
         step.action = line
     elif words[0] == "process":
         step.processes[words[1]] = (words[2], set())
+        if words[2] == "live":
+            step.users[words[1]] = f"user {words[3]} and group {words[4]}"
     elif words[0] == "piece":
         [*_, (_, pieces)] = step.processes.values()
         pieces.add(tuple(words[1:]))
@@ -136,10 +139,43 @@ def say_processes(before: Step, after: Step) -> Iterator[str]:
         was, had = before.processes[pid]
         if state != was:
             yield f"process {pid} was born" if state == "live" else f"process {pid} has ended"
+        elif before.users.get(pid) != after.users.get(pid):
+            yield f"process {pid} has {after.users[pid]}"
+        if after.words[3:4] == ["mprotect"]:
+            yield from say_protection(before, after, pid)
+            continue
         for piece in sorted(had - pieces, key=lambda it: int(it[0], 16)):
             yield f"process {pid} lost its attachment at {piece[0]}: {span(piece)}"
         for piece in sorted(pieces - had, key=lambda it: int(it[0], 16)):
             yield f"process {pid} has an attachment at {piece[0]}: {span(piece)}"
+
+
+def pages_in(pieces: set[tuple[str, ...]]) -> dict[int, tuple[Page, str]]:
+    """The page and its rights at each address of the pieces."""
+    return {int(base, 16) + 4096 * at: ((seg, str(int(first) + at)), rights)
+            for base, seg, first, pages, rights in pieces for at in range(int(pages))}
+
+
+def say_protection(before: Step, after: Step, pid: str) -> Iterator[str]:
+    """The pages of a process that have another protection, those of one segment that follow each other in one
+    sentence; and how many attachments, or parts of them, the process has if there are more or fewer."""
+    had, has = (before.processes[pid][1], after.processes[pid][1])
+    was = pages_in(had)
+    runs: list[list[Any]] = []
+    for address, (page, rights) in sorted(pages_in(has).items()):
+        if was[address][1] == rights:
+            continue
+        if runs and runs[-1][1:] == [address, page[0], rights]:
+            runs[-1][0].append(page[1])
+            runs[-1][1] += 4096
+        else:
+            runs.append([[page[1]], address + 4096, page[0], rights])
+    for numbers, _, seg, rights in runs:
+        which = f"page {numbers[0]}" if len(numbers) == 1 else f"pages {numbers[0]} to {numbers[-1]}"
+        yield f"process {pid} may {'only read' if rights == 'ro' else 'read and write'} {which} of segment {seg}"
+    if len(had) != len(has):
+        yield (f"process {pid} has {counted(len(has), 'attachment')} or parts of attachments, where it had "
+               f"{len(had)}")
 
 
 def left(page: tuple[str, str], before: Step, after: Step) -> str:
@@ -359,6 +395,12 @@ REASONS = {
     ("shmat", "EINVAL"): "there is no such segment, or this address may not be used",
     ("shmat", "ENOMEM"): "no gap between the attachments is large enough",
     ("shmdt", "EINVAL"): "no attachment begins at this address",
+    ("munmap", "EINVAL"): "the address is within a page, the length is 0, or the range is beyond the addresses",
+    ("munmap", "ENOMEM"): "the process would have more than 256 attachments or parts of them",
+    ("mprotect", "EINVAL"): "the address is within a page",
+    ("mprotect", "ENOMEM"): "a page of the range is not attached, or there would be too many attachments; pages "
+                            "below it may have changed",
+    ("mprotect", "EACCES"): "a page was attached for reading only; pages below it may have changed",
     ("lock", "ENOMEM"): "more pages would be locked than the limit allows",
     ("swapoff", "EINVAL"): "there is no such swap area",
     ("swapoff", "ENOMEM"): "the other areas have fewer slots than the segments have pages",
@@ -383,6 +425,9 @@ UNCHANGED = {
     "lock": "segment {of} was locked before",
     "unlock": "segment {of} was not locked",
     "exec": "process {pid} had no attachment",
+    "munmap": "process {pid} has no attachment in this range",
+    "mprotect": "no page of this range had another protection",
+    "setuid": "process {pid} had this user and group before",
 }
 
 
@@ -418,7 +463,7 @@ def say_times(before: Step, after: Step) -> Iterator[str]:
         return
     _, time, pid, name, *rest = words
     lost = {piece[1] for piece in before.processes[pid][1]
-            - after.processes[pid][1]} if name in ("shmdt", "exec", "exit") else set()
+            - after.processes[pid][1]} if name in ("shmdt", "munmap", "exec", "exit") else set()
     if name == "shmget" and after.reply not in before.segments or name == "set":
         yield f"segment {after.reply if name == 'shmget' else rest[0]} has change time {time}"
     if name == "shmat":

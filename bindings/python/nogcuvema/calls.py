@@ -31,6 +31,17 @@ RULES: Dict[str, Tuple[str, Tuple[Tuple[str, str], ...]]] = {
     "shmdt": ("Detaches the segment that was attached at the address. The last detach of a segment that is "
               "marked for removal destroys it.",
               (("EINVAL", "no segment was attached there"),)),
+    "munmap": ("Detaches a range, rounded up to whole pages. An attachment that reaches beyond the range is cut, "
+               "and its parts stay. If nothing is attached there, nothing changes.", (
+                   ("EINVAL", "an address inside a page, a length of 0, or a range out of bounds"),
+                   ("ENOMEM", "the process would have more than 256 attachments, or parts of them"))),
+    "mprotect": ("Makes a range, rounded up to whole pages, read-only (ro) or writable (rw). A part of an "
+                 "attachment that gets another protection counts as an attachment. If it fails with ENOMEM or "
+                 "EACCES, the pages below the refused one have changed.", (
+                     ("EINVAL", "an address inside a page"),
+                     ("ENOMEM", "a page is not attached, the range reaches 2^64, or the process would have more "
+                      "than 256 attachments, or parts of them"),
+                     ("EACCES", "pages that were attached with rdonly would become writable"))),
     "load": ("Reads 1 to 64 bytes in one step.", _READ),
     "store": ("Writes 1 to 64 bytes in one step.", _WRITE),
     "xadd": ("Adds to the eight-byte little-endian number at the address in one step; returns the number "
@@ -51,6 +62,8 @@ RULES: Dict[str, Tuple[str, Tuple[Tuple[str, str], ...]]] = {
              (("EAGAIN", "there is no such unborn child"),)),
     "exec": ("Detaches everything that the process has attached.", ()),
     "exit": ("Ends the process and detaches everything that it has attached. Its pid is not used again.", ()),
+    "setuid": ("Gives the process another effective user and group. Its attachments stay, and later tests of "
+               "permission use the new user and group.", ()),
     "swapoff": ("Moves the pages of a swap area elsewhere and takes the area away.", (
         ("EPERM", "the caller is not user 0"), ("EINVAL", "there is no such area, or it was taken away"),
         ("ENOMEM", "the other areas have fewer slots than all segments have pages"),

@@ -560,8 +560,7 @@ class Machine:
         self._call("nog_dismiss", _pid(pid))
 
     def set_user(self, pid: int, uid: int, gid: int) -> None:
-        """Sets the effective user and group of a live process, as setuid(2) and setgid(2) do. Its
-        attachments stay."""
+        """setuid: gives a process another effective user and group. Its attachments stay."""
         self._call("nog_set_user", _pid(pid), _number(uid, U32, "uid"), _number(gid, U32, "gid"))
 
     def set_time(self, time: int) -> None:
@@ -570,14 +569,13 @@ class Machine:
         self._call("nog_set_time", _number(time, U64, "time"))
 
     def unmap(self, pid: int, addr: int, length: int) -> None:
-        """munmap: unmaps a range of a process, rounded up to whole pages. Attachments that extend beyond
+        """munmap: detaches a range of a process, rounded up to whole pages. Attachments that extend beyond
         it are cut."""
         self._call("nog_unmap", _pid(pid), _number(addr, U64, "addr"), _number(length, U64, "length"))
 
     def protect(self, pid: int, addr: int, length: int, is_writable: bool) -> None:
         """mprotect: makes a range of a process, rounded up to whole pages, writable or read-only. If it
-        fails with ENOMEM or EACCES, pages below the one where it failed may have changed, as on Linux. Raises
-        `Spent` after 2^64 - 1 calls."""
+        fails with ENOMEM or EACCES, pages below the one where it failed may have changed, as on Linux."""
         self._call("nog_protect", _pid(pid), _number(addr, U64, "addr"), _number(length, U64, "length"),
                    _truth(is_writable, "is_writable"))
 

@@ -101,6 +101,13 @@ def mode_of(text: str) -> int:
     return int(text, 8)
 
 
+def protection_of(text: str) -> bool:
+    """Whether pages become writable."""
+    if text not in ("ro", "rw"):
+        raise NoForm
+    return text == "rw"
+
+
 def get_flags_of(text: str) -> Tuple[int, int]:
     behind = {"": 0, ",creat": Flag.CREAT, ",excl": Flag.EXCL, ",creat,excl": Flag.CREAT | Flag.EXCL,
               ",excl,creat": Flag.CREAT | Flag.EXCL}
@@ -170,6 +177,7 @@ ATTACH_FLAGS = OperandKind("-, or rnd, remap and rdonly with commas between them
                            show_attach_flags)
 RULE_NAMES = OperandKind("linux, or rules with commas between them, each at most once: "
                          + ", ".join(RULES), rules_of, 0, U64, str)
+PROTECTION = OperandKind("ro or rw", protection_of, 0, 1, lambda value: "rw" if value else "ro")
 BYTES = OperandKind("1 to 64 bytes: 2 to 128 hexadecimal digits, an even number", bytes_of, 0, U64, bytes.hex)
 WORD = OperandKind("1 to 16 bytes: 2 to 32 hexadecimal digits, an even number", word_of, 0, U64, bytes.hex)
 
@@ -178,6 +186,8 @@ CALLS: Dict[str, Sequence[Tuple[str, OperandKind]]] = {
     "shmget": (("key", KEY), ("size", SIZE), ("flags", GET_FLAGS)),
     "shmat": (("identifier", IDENTIFIER), ("address", ADDRESS), ("flags", ATTACH_FLAGS)),
     "shmdt": (("address", ADDRESS),),
+    "munmap": (("address", ADDRESS), ("length", SIZE)),
+    "mprotect": (("address", ADDRESS), ("length", SIZE), ("protection", PROTECTION)),
     "load": (("address", ADDRESS), ("length", LENGTH)),
     "store": (("address", ADDRESS), ("bytes", BYTES)),
     "xadd": (("address", ADDRESS), ("number", SIZE)),
@@ -191,6 +201,7 @@ CALLS: Dict[str, Sequence[Tuple[str, OperandKind]]] = {
     "fork": (("pid", PID),),
     "exec": (),
     "exit": (),
+    "setuid": (("uid", USER), ("gid", USER)),
     "swapoff": (("area", AREA),),
 }
 TAKEN = ("shmget", "shmat", "xadd", "swap", "cas")
@@ -507,7 +518,8 @@ class Run:
             "shmdt": machine.detach, "store": machine.store, "set": machine.set, "rmid": machine.remove,
             "lock": machine.lock,
             "unlock": machine.unlock, "fork": machine.fork, "exec": machine.exec, "exit": machine.exit,
-            "swapoff": machine.swapoff}
+            "swapoff": machine.swapoff, "munmap": machine.unmap, "mprotect": machine.protect,
+            "setuid": machine.set_user}
         others[line.call](pid, *values)
         return 0, "ok"
 

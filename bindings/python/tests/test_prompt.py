@@ -25,7 +25,8 @@ FUNCTIONS = {"shmget": "nog_get", "shmat": "nog_attach", "shmdt": "nog_detach", 
              "xadd": "nog_add", "swap": "nog_exchange", "cas": "nog_compare_exchange",
              "stat": "nog_stat", "set": "nog_set", "rmid": "nog_remove",
              "lock": "nog_lock", "unlock": "nog_unlock",
-             "fork": "nog_fork", "exec": "nog_exec", "exit": "nog_exit", "swapoff": "nog_swapoff"}
+             "fork": "nog_fork", "exec": "nog_exec", "exit": "nog_exit", "munmap": "nog_unmap",
+             "mprotect": "nog_protect", "setuid": "nog_set_user", "swapoff": "nog_swapoff"}
 LINES: tuple[tuple[str, list[str]], ...] = (
     ("1 s = shmget private 8192 600", ["1 1 shmget 0x00000000 8192 600 = 0"]),
     ("1 a = shmat s null -", ["2 1 shmat 0 null - = 0x40000000"]),

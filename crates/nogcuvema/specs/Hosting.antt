@@ -1,15 +1,12 @@
 -- Changes that the host of a guest makes, through a handle.
 use Rattle.std.specs.Prelude.{ℕ, ◌≡◌, ◌⊎◌, ◌+◌, Option, Some, None, Result, Ok, Err}
-use Rattle.shm_base.specs.Codes.{code_of}
 use Rattle.shm_base.specs.declared.call.Process.{Process}
-use Rattle.shm_base.specs.declared.errno.Errno.{Errno}
 use Rattle.shm_base.specs.declared.guest.AdmitRefusal.{AdmitRefusal}
 use Rattle.shm_base.specs.declared.guest.AdmitRefusal.TheVariants.{BadPid, PidTaken, TooManyProcesses}
 use Rattle.shm_base.specs.declared.guest.DismissRefusal.{DismissRefusal}
 use Rattle.shm_base.specs.declared.guest.DismissRefusal.TheVariants.{NoProcess, StillLive}
 use Rattle.shm_base.specs.declared.limits.BadLimits.{BadLimits}
-use Rattle.shm_base.specs.declared.owner.Cred.{Cred}
-use Rattle.shm_life.specs.Guest.{Admitted, Dismissed, IsChanged, Recredited, IsNotAdmitted}
+use Rattle.shm_life.specs.Guest.{Admitted, Dismissed, IsChanged, IsNotAdmitted}
 use Rattle.shm_life.specs.Limiting.{limits}
 use Rattle.shm_life.specs.declared.limiting.NewLimits.{NewLimits}
 use Rattle.shm_life.specs.SystemState.{SystemState}
@@ -43,12 +40,6 @@ abbrev pub DismissesBy : ℕ → Machine → ℕ → Machine → Type 0
 DismissesBy pid before code after =
     ((code ≡ 0) × Dismissed before.system pid (Ok tt) after.system)
     ⊎ ((refusal : DismissRefusal) × (code ≡ dismiss_code refusal) × Dismissed before.system pid (Err refusal) after.system)
-
--- the process has these credentials, or the code is the errno
-abbrev pub RecreditsBy : ℕ → Cred → Machine → ℕ → Machine → Type 0
-RecreditsBy pid cred before code after =
-    ((code ≡ 0) × Recredited before.system pid cred (Ok tt) after.system)
-    ⊎ ((errno : Errno) × (code ≡ code_of errno) × Recredited before.system pid cred (Err errno) after.system)
 
 -- calls note this time from now on
 abbrev pub TellsTime : ℕ → Machine → ℕ → Machine → Type 0

@@ -2,7 +2,7 @@
 use Rattle.std.specs.Prelude.{ℕ, ℤ, pos, negsuc, ◌≡◌, ◌⊎◌, ◌≤◌, ◌^◌, ◌||◌, ◌==◌, Bool, true, false, List, [], ◌∷◌, Option, Some, None, Result, Ok, Err}
 use Rattle.std.specs.Int.{from_bool}
 use Rattle.shm_base.specs.Codes.{code_of}
-use Rattle.shm_base.specs.Step.{caller_of}
+use Rattle.shm_base.specs.Callers.{caller_of}
 use Rattle.shm_base.specs.declared.errno.Errno.{Errno}
 use Rattle.shm_base.specs.declared.errno.Errno.TheVariants.{Einval, Sigbus}
 use Rattle.shm_base.specs.declared.paging.PageRef.{PageRef}

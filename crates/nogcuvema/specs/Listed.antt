@@ -4,7 +4,7 @@ use Rattle.shm_base.specs.Codes.{code_of}
 use Rattle.shm_base.specs.State.{Piece, Runner, Machine as Flat}
 use Rattle.shm_attach.specs.Failing.{first_absent, first_failed}
 use Rattle.shm_attach.specs.Spans.{pieces_by}
-use Rattle.shm_base.specs.Step.{Caller, caller_of}
+use Rattle.shm_base.specs.Callers.{Caller, caller_of}
 use Rattle.shm_fault.specs.Store.{frame_of}
 use Rattle.shm_base.specs.declared.call.ShmidDs.{ShmidDs}
 use Rattle.shm_base.specs.declared.errno.Errno.{Errno}

@@ -5,7 +5,7 @@ use Rattle.shm_base.specs.Bounds.{Bounds}
 use Rattle.shm_base.specs.Index.{index_of}
 use Rattle.shm_base.specs.Space.{covering}
 use Rattle.shm_base.specs.State.{Piece}
-use Rattle.shm_base.specs.Step.{Caller, caller_of}
+use Rattle.shm_base.specs.Callers.{Caller, caller_of}
 use Rattle.shm_base.specs.declared.call.ShmidDs.{ShmidDs}
 use Rattle.shm_base.specs.declared.errno.Errno.{Errno}
 use Rattle.shm_base.specs.declared.errno.Errno.TheVariants.{Esrch, Einval, Sigsegv}

@@ -1,13 +1,13 @@
-//! Changes that the host of a guest makes: processes join and leave, credentials change, and the time is set.
+//! Changes that the host of a guest makes: processes join and leave, and the time is set.
 ghost use Rattle.std.specs.Prelude.{◌≡◌};
-ghost use Rattle.nogcuvema.specs.Hosting.{admit_code, dismiss_code, HostedThrough, AdmitsBy, DismissesBy, LimitsBy, RecreditsBy, TellsTime};
+ghost use Rattle.nogcuvema.specs.Hosting.{admit_code, dismiss_code, HostedThrough, AdmitsBy, DismissesBy, LimitsBy, TellsTime};
 ghost use Rattle.nogcuvema.specs.Opens.{process_of};
 
 use crate::code::{DONE, NO_MEMORY};
 use crate::handle::{Handle, with_machine};
 use crate::open::{BAD_LIMITS, process_of};
 use crate::structs::NogProcess;
-use shm_base::{AdmitRefusal, Cred, DismissRefusal, Process};
+use shm_base::{AdmitRefusal, DismissRefusal, Process};
 use shm_life::NewLimits;
 use shm_machine::Machine;
 use std::alloc::Global;
@@ -50,15 +50,6 @@ fn dismissed(machine: &mut Machine, pid: u32) -> u32
     }
 }
 
-fn recredited(machine: &mut Machine, pid: u32, cred: Cred) -> u32
-    ensures { RecreditsBy pid cred machine.old result machine.new }
-{
-    match machine.system.set_cred(pid, cred) {
-        Ok(()) => DONE,
-        Err(errno) => errno.code(),
-    }
-}
-
 fn limited(machine: &mut Machine, limits: &NewLimits) -> u32
     ensures { LimitsBy limits.now machine.old result machine.new }
 {
@@ -89,25 +80,6 @@ pub extern "C" fn nog_dismiss(alloc: Global, handle: &mut Handle, pid: u32) -> u
     ensures { HostedThrough (DismissesBy pid) handle.old.kept.value result handle.new.kept.value }
 {
     with_machine!(alloc, handle, |machine| dismissed(machine, pid))
-}
-
-/// Gives a live process another effective user and group. Its pieces stay. Not counted as a call.
-#[unsafe(no_mangle)]
-pub extern "C" fn nog_set_user(
-    alloc: Global,
-    handle: &mut Handle,
-    pid: u32,
-    uid: u32,
-    gid: u32,
-) -> u32
-    ensures { HostedThrough (RecreditsBy pid (record { uid = uid; gid = gid }))
-        handle.old.kept.value result handle.new.kept.value }
-{
-    with_machine!(
-        alloc,
-        handle,
-        |machine| recredited(machine, pid, Cred { uid, gid })
-    )
 }
 
 /// Sets the time that calls note from now on. Not counted as a call.

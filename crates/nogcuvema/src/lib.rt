@@ -12,7 +12,6 @@ mod inspect;
 mod listing;
 mod loans;
 mod lookups;
-mod mapping;
 mod notices;
 mod open;
 mod owned;
@@ -27,20 +26,19 @@ pub use about::{nog_layout, nog_text, nog_version};
 pub use access::{nog_add, nog_load, nog_store};
 pub use exchange::{nog_compare_exchange, nog_exchange};
 pub use handle::Handle;
-pub use hosting::{nog_admit, nog_dismiss, nog_set_limits, nog_set_time, nog_set_user};
+pub use hosting::{nog_admit, nog_dismiss, nog_set_limits, nog_set_time};
 pub use inspect::{nog_calls, nog_flush, nog_indexes, nog_segment_at, nog_tally_of};
 pub use listing::{
     nog_absent_at, nog_failed_at, nog_info, nog_piece_at, nog_process_at, nog_stat_at,
 };
 pub use loans::{nog_frame_at, nog_give_back, nog_leaver, nog_lend, nog_page_at};
 pub use lookups::{nog_limits_of, nog_loans, nog_pages_of, nog_piece_of, nog_segment_of};
-pub use mapping::{nog_protect, nog_unmap};
 pub use notices::nog_gone;
 pub use open::{nog_close, nog_open};
 pub use owned::Kept;
 pub use perform::{
-    nog_detach, nog_exec, nog_exit, nog_fork, nog_lock, nog_remove, nog_set, nog_swapoff,
-    nog_unlock,
+    nog_detach, nog_exec, nog_exit, nog_fork, nog_lock, nog_protect, nog_remove, nog_set,
+    nog_set_user, nog_swapoff, nog_unlock, nog_unmap,
 };
 pub use segments::{nog_attach, nog_get, nog_stat};
 pub use snapshot::nog_snapshot;

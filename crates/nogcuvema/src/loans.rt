@@ -1,7 +1,7 @@
 //! Pages on loan to the host, such as an emulator or a kernel.
 ghost use Rattle.std.specs.Prelude.{◌≡◌, ◌≢◌, ◌==◌, true, length, option_map};
 ghost use Rattle.shm_base.specs.declared.paging.TheConstants.{PAGE_SIZE};
-ghost use Rattle.shm_base.specs.Step.{caller_of};
+ghost use Rattle.shm_base.specs.Callers.{caller_of};
 ghost use Rattle.shm_fault.specs.Loans.{frame_met};
 ghost use Rattle.shm_life.specs.Lending.{leaver_seen, page_seen};
 ghost use Rattle.nogcuvema.specs.Hosting.{HostedThrough};

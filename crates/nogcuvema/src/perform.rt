@@ -1,5 +1,5 @@
 //! The calls whose reply has no value.
-ghost use Rattle.std.specs.Prelude.{◌≡◌, true, nat_lt};
+ghost use Rattle.std.specs.Prelude.{◌≡◌, ◌==◌, not, true, nat_lt};
 ghost use Rattle.shm_base.specs.declared.call.Call.TheVariants as call;
 ghost use Rattle.shm_base.specs.declared.call.Reply.TheVariants as reply;
 ghost use Rattle.shm_machine.specs.Answered.{fits};
@@ -119,4 +119,61 @@ pub extern "C" fn nog_swapoff(alloc: Global, handle: &mut Handle, pid: u32, area
         result handle.new.kept.value }
 {
     perform(alloc, handle, pid, &Call::Swapoff { area })
+}
+
+/// munmap(2): removes the pieces in a range, and cuts those that reach beyond it.
+#[unsafe(no_mangle)]
+pub extern "C" fn nog_unmap(
+    alloc: Global,
+    handle: &mut Handle,
+    pid: u32,
+    addr: u64,
+    len: u64,
+) -> u32
+    ensures { AnswersThrough handle.old.kept.value pid (call.Munmap addr len) reply.Done
+        result handle.new.kept.value }
+{
+    perform(alloc, handle, pid, &Call::Munmap { addr, len })
+}
+
+/// mprotect(2): makes a range writable, or read-only if `is_writable` is 0. If it is refused, everything
+/// below the page that is refused has been changed.
+#[unsafe(no_mangle)]
+pub extern "C" fn nog_protect(
+    alloc: Global,
+    handle: &mut Handle,
+    pid: u32,
+    addr: u64,
+    len: u64,
+    is_writable: u32,
+) -> u32
+    ensures { let protect = call.Mprotect addr len (not (is_writable == 0)) in
+        AnswersThrough handle.old.kept.value pid protect reply.Done result handle.new.kept.value }
+{
+    let writable = is_writable != 0;
+    perform(
+        alloc,
+        handle,
+        pid,
+        &Call::Mprotect {
+            addr,
+            len,
+            writable,
+        },
+    )
+}
+
+/// setuid(2): the process has another effective user and group from now on. Its pieces stay.
+#[unsafe(no_mangle)]
+pub extern "C" fn nog_set_user(
+    alloc: Global,
+    handle: &mut Handle,
+    pid: u32,
+    uid: u32,
+    gid: u32,
+) -> u32
+    ensures { AnswersThrough handle.old.kept.value pid (call.Setuid uid gid) reply.Done
+        result handle.new.kept.value }
+{
+    perform(alloc, handle, pid, &Call::Setuid { uid, gid })
 }

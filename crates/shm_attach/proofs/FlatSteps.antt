@@ -1,7 +1,7 @@
 -- The flat machine's steps in terms of the address spaces, for the crates above.
 use Rattle.shm_attach.proofs.Names.{◌≡◌, ℕ, true, false, List, [], ◌∷◌, length, map, Option, Some, None, option_map, refl, ap, arith, common_steps, none-some, Bytes, Done, Machine, Place, places, writable_places, byte_at, with_byte, loaded, stored, origin_of, without_named, after_detach, caller_from, gives, with_pieces, shmdt, load, store, unmarked, wanted_in, pieces_by, pieces_of_caller}
 use Rattle.shm_base.specs.State.{Entry, Piece, Runner}
-use Rattle.shm_base.specs.Step.{Caller}
+use Rattle.shm_base.specs.Callers.{Caller}
 
 -- DETACHING
 

@@ -7,7 +7,7 @@ use Rattle.shm_base.specs.Mapping.{Protected, low_end, high_end, part_between, t
 use Rattle.shm_attach.specs.Mapping.{Grows, held, noted, split_in}
 use Rattle.shm_areas.proofs.Placing.{covering_low}
 use Rattle.shm_attach.proofs.Processes.{length-inserted}
-use Rattle.shm_attach.proofs.Renewed.{covers-found, not-here}
+use Rattle.shm_attach.proofs.Renewed.{covers-found, not-here, turned-cut}
 use Rattle.std.proofs.lemmas.List.Concat.{flat_map-cons}
 
 -- pieces above a range are unchanged
@@ -156,12 +156,14 @@ module _ (w : Bool) (at to : ℕ) (p : Piece) (ps : List Piece) (ar : Arranged l
             | inr h ↦ under r e h.0.0 h.0.1 h.1.0 h.1.1
           ]
 
-pub length-turned : (w : Bool) (at to : ℕ) (p : Piece) (ps : List Piece) → length (turned w at to p ps) ≡ length (cut (low_end w at to p ps) (high_end w at to p ps) ps) + 1
-length-turned w at to p ps = length-inserted (part_between w (low_end w at to p ps) (high_end w at to p ps) p) (cut (low_end w at to p ps) (high_end w at to p ps) ps)
+pub length-turned : (w : Bool) (at to : ℕ) (p : Piece) (ps : List Piece) → Arranged lowest_address ps → covering at ps ≡ Some p → at < to → length (turned w at to p ps) ≡ length (cut (low_end w at to p ps) (high_end w at to p ps) ps) + 1
+length-turned w at to p ps ar found order =
+    ap length (turned-cut w at to p ps ar found order)
+    ∙ length-inserted (part_between w (low_end w at to p ps) (high_end w at to p ps) p) (cut (low_end w at to p ps) (high_end w at to p ps) ps)
 
 -- a protect never makes fewer pieces
 pub never-fewer : (w : Bool) (at to : ℕ) (p : Piece) (ps : List Piece) → Arranged lowest_address ps → covering at ps ≡ Some p → at < to → length ps ≤ length (turned w at to p ps)
-never-fewer w at to p ps ar found order = omega (arith, kept-many w at to p ps ar found order, length-turned w at to p ps)
+never-fewer w at to p ps ar found order = omega (arith, kept-many w at to p ps ar found order, length-turned w at to p ps ar found order)
 
 -- a named segment has one more piece, for which there is room
 pub grows : (es fs : List (ℕ × Runner)) (i id : ℕ) (split : Option ℕ) (now : List Piece) → option_to_list split ≡ split_in id (length (held es i)) (length now) → held fs i ≡ now

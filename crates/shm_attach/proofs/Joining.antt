@@ -6,7 +6,8 @@ use Rattle.std.proofs.lemmas.List.{take-map, get_or-set_other}
 use Rattle.std.proofs.lemmas.Grind.{get_or-set_at}
 use Rattle.std.proofs.lemmas.Option.{slice_get_past}
 use Rattle.shm_attach.specs.Views.{most_in}
-use Rattle.shm_base.specs.Guest.{Standing, standing, standing_from, with_cred, joins}
+use Rattle.shm_base.specs.Callers.{with_cred}
+use Rattle.shm_base.specs.Guest.{Standing, standing, standing_from, joins}
 use Rattle.shm_base.specs.Bounds.{within}
 use Rattle.shm_attach.proofs.Names.{true, false, none-some, eq-eqb, ne_eqb, ◌≢◌, option_map, sum_by-set, Life, Live, Cred, Process, runner_at_start, with_life_at, caller_seen, IsCaller, All-nil, Piece, cases_Bool, sum_by-cons, get_or_from_slice_get, keys_of, ◌≡◌, ℕ, zero, suc, ◌+◌, ◌-◌, ◌<◌, ◌≤◌, nat_eq, ◌==◌, if◌then◌else◌, List, [], ◌∷◌, ◌++◌, length, get_or, set, take, Option, Some, None, slice_get, refl, ap, sym, ◌∙◌, subst, arith, common_steps, cases_eq, cases_lt, length-map, slice_get-map, length-take, length-set, get_or-map, get_or-take, map-set, slice_get-get_or, slice_get_within, sum_by-append, All, insert_entry, attach_count, pieces_of, bare_all, runner_view, runners_view, life_view, pieces_at, life_at, stored_in, HasTable, HaveRoom, AreTablesSound, no_reservations, is_live, Tables, Runner}
 use Rattle.shm_base.specs.State as flat

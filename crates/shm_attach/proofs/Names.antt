@@ -26,7 +26,9 @@ pub use Rattle.shm_base.specs.Segments.{after_detach, attach_count}
 pub use Rattle.shm_base.specs.Space.{covering, cut, cut_segments, inserted, end_address, lowest_address, meets, occupied, origin_of, part_above, part_below, parts, pieces_of, without_named}
 pub use Rattle.shm_base.specs.Spans.{page_of, run}
 pub use Rattle.shm_base.specs.State.{Machine, runner_at_start, Unborn}
-pub use Rattle.shm_base.specs.Step.{caller_by, caller_from, gives, is_unborn, load, shmdt, store, unborn_from, with_end, with_pieces, Caller as FlatCaller}
+pub use Rattle.shm_base.specs.Callers.{caller_by, caller_from, gives, with_end, with_pieces}
+pub use Rattle.shm_base.specs.Callers.{Caller as FlatCaller}
+pub use Rattle.shm_base.specs.Step.{is_unborn, load, shmdt, store, unborn_from}
 pub use Rattle.shm_base.specs.declared.call.Process.{Process}
 pub use Rattle.shm_base.specs.declared.call.Reply.TheVariants.{Bytes, Done}
 pub use Rattle.shm_base.specs.declared.bounds.TheConstants.{MOST_PIECES, MOST_PROCESSES, MOST_SHMALL}

@@ -2,11 +2,10 @@
 use Rattle.shm_attach.proofs.Names.{most_at, ◌≡◌, ◌≢◌, ◌==◌, ◌^◌, eq-eqb, ne_eqb, nat_le, ℕ, ◌+◌, ◌-◌, ◌*◌, ◌/◌, ◌%◌, ◌<◌, ◌≤◌, zero, suc, Bool, true, false, not, ◌&&◌, nat_lt, lt-ltb, le-ltb, lt-leb, le-leb, List, [], ◌∷◌, length, Option, Some, None, cases_Bool, inl, inr, refl, ap, ◌∙◌, arith, common_steps, none-some, All, All-nil, All-cons, All-head, All-tail, length-map, get, is_live, end_of, covering, cut, inserted, lowest_address, end_address, bare, bare_all, IsFit, Arranged, Tables, runner_view, runners_view, with_pieces_at, pieces_at, life_at, size_in, HasTable, OneTableEach, AreTablesSound, no_reservations, Piece, Runner, MOST_PIECES, MOST_SHMALL}
 use Rattle.shm_base.specs.State as flat
 use Rattle.shm_base.specs.State.{pages_of}
-use Rattle.shm_base.specs.Mapping.{has_protection, low_end, high_end, part_between, turned, replaced, Protected, stopped, ended, with_split, protects_piece, protects_from, protects_pieces, rounded}
+use Rattle.shm_base.specs.Mapping.{has_protection, low_end, high_end, part_between, turned, Protected, stopped, ended, with_split, protects_piece, protects_from, protects_pieces, rounded}
 use Rattle.shm_base.specs.declared.errno.Errno.TheVariants.{Enomem}
 use Rattle.shm_attach.specs.Mapping.{IsStretch, CanReplace, AreNow, noted, split_in}
 use Rattle.shm_attach.proofs.Accesses.{covering-passes}
-use Rattle.shm_attach.proofs.Processes.{length-inserted}
 use Rattle.shm_attach.proofs.Keeping.{life_at-changed, pieces_at-changed, with_pieces_at-same, with_pieces_at-twice}
 
 -- THE PIECES THAT A PROCESS HAS NOW
@@ -133,10 +132,9 @@ may-test false p may = refl
 
 -- it is refused if there would be too many pieces
 pub protects-refused : (most : ℕ) (w : Bool) (at to : ℕ) (p : flat.Piece) (ps : List flat.Piece) (next : ℕ → List flat.Piece → Protected) → IsTurnable w at p ps
-    → most ≤ length (cut (low_end w at to p ps) (high_end w at to p ps) ps) → protects_piece most w at to ps next (covering at ps) ≡ stopped ps Enomem
+    → most < length (turned w at to p ps) → protects_piece most w at to ps next (covering at ps) ≡ stopped ps Enomem
 protects-refused most w at to p ps next t many =
-    let long = length-inserted (part_between w (low_end w at to p ps) (high_end w at to p ps) p) (cut (low_end w at to p ps) (high_end w at to p ps) ps) in
-    let over : nat_lt most (length (turned w at to p ps)) ≡ true = lt-ltb most (length (turned w at to p ps)) (omega (arith, long, many)) in
+    let over : nat_lt most (length (turned w at to p ps)) ≡ true = lt-ltb most (length (turned w at to p ps)) many in
     rw (t.found, t.lacks, over, may-test w p t.may) refl
 
 -- the segment of a split piece comes before those after it
@@ -144,15 +142,14 @@ split-noted : (id : ℕ) (before after : List flat.Piece) (x : Protected) → wi
 split-noted id before after x = elim (cases_Bool (nat_lt (length before) (length after))) [ inl h ↦ rw h refl | inr h ↦ rw h refl ]
 
 pub protects-turned : (most : ℕ) (w : Bool) (at to : ℕ) (p : flat.Piece) (ps : List flat.Piece) (next : ℕ → List flat.Piece → Protected) → IsTurnable w at p ps
-    → length (cut (low_end w at to p ps) (high_end w at to p ps) ps) < most → protects_piece most w at to ps next (covering at ps) ≡ noted (split_in p.seg (length ps) (length (turned w at to p ps))) (next (end_of p) (turned w at to p ps))
+    → length (turned w at to p ps) ≤ most → protects_piece most w at to ps next (covering at ps) ≡ noted (split_in p.seg (length ps) (length (turned w at to p ps))) (next (end_of p) (turned w at to p ps))
 protects-turned most w at to p ps next t room =
-    let long = length-inserted (part_between w (low_end w at to p ps) (high_end w at to p ps) p) (cut (low_end w at to p ps) (high_end w at to p ps) ps) in
-    let fits : nat_lt most (length (turned w at to p ps)) ≡ false = le-ltb most (length (turned w at to p ps)) (omega (arith, long, room)) in
+    let fits : nat_lt most (length (turned w at to p ps)) ≡ false = le-ltb most (length (turned w at to p ps)) room in
     rw (t.found, t.lacks, fits, may-test w p t.may) (split-noted p.seg ps (turned w at to p ps) (next (end_of p) (turned w at to p ps)))
 
 -- the pieces after the part is in
 pub replaced_by : (p q : flat.Piece) (w : Bool) (size at low high : ℕ) (ps : List flat.Piece) → q ≡ part_between w low high p → IsLow p at low → IsHigh p size at high
-    → inserted q (cut q.base (end_of q) ps) ≡ replaced w low high p ps
+    → inserted q (cut q.base (end_of q) ps) ≡ inserted (part_between w low high p) (cut low high ps)
 replaced_by p q w size at low high ps is l h =
     let ends : end_of q ≡ high = ap end_of is ∙ part_ends p size at low high w l h in
     let begins : q.base ≡ low = ap (λ (x : flat.Piece). x.base) is in

@@ -4,7 +4,8 @@ use Rattle.std.proofs.lemmas.List.Elements.{All-weaker}
 use Rattle.shm_attach.proofs.Names.{◌≡◌, ℕ, ◌+◌, ◌-◌, ◌*◌, ◌/◌, ◌%◌, ◌<◌, ◌≤◌, Bool, true, false, List, [], ◌∷◌, filter, cases_eq, cases_Bool, cases_lt, Option, Some, None, refl, ap, sym, subst, ◌∙◌, inl, inr, arith, common_steps, none-some, All, All-nil, All-cons, All-head, All-tail, All-append, nat_lt, if◌then◌else◌, ◌++◌, end_of, covers, meets, parts, part_below, part_above, covering, cut, inserted, pieces_of, lowest_address, IsFit, Arranged}
 use Rattle.std.specs.Prelude.{max, ◌≢◌, ◌⊎◌}
 use Rattle.shm_base.specs.State.{Piece}
-use Rattle.shm_base.specs.Mapping.{low_end, high_end, part_between}
+use Rattle.std.proofs.lemmas.List.Concat.{flat_map-cons}
+use Rattle.shm_base.specs.Mapping.{low_end, high_end, part_between, own_cut, turned}
 use Rattle.shm_areas.proofs.Placing.{covering_whole}
 use Rattle.shm_attach.specs.Spans.{HasPages}
 use Rattle.shm_attach.specs.Mapping.{KeepsOwn}
@@ -98,6 +99,21 @@ module _ (w : Bool) (at to : ℕ) (p : Piece) (ps : List Piece) (ar : Arranged l
   own =
       All-weaker (IsCovered low high ps) (λ (q : Piece). meets low high q ≡ true → q.seg ≡ p.seg)
       (λ q h m. from-place q (max low q.base) (omega arith) (grind (arith, common_steps, m, order)) (h m)) ps (all-covered lowest_address low high ps ar)
+
+-- so the cut of its segment's pieces is the cut of all
+pub own_cut-is : (id low high : ℕ) (ps : List Piece) → All (λ (q : Piece). meets low high q ≡ true → q.seg ≡ id) ps → own_cut id low high ps ≡ cut low high ps
+own_cut-is id low high [] all = refl
+own_cut-is id low high (p ∷ ps) all =
+    let first = All-head (λ (q : Piece). meets low high q ≡ true → q.seg ≡ id) p ps all in
+    let rest = own_cut-is id low high ps (All-tail (λ (q : Piece). meets low high q ≡ true → q.seg ≡ id) p ps all) in
+    grind (arith, common_steps, flat_map-cons, first, rest)
+
+pub turned-cut : (w : Bool) (at to : ℕ) (p : Piece) (ps : List Piece) → Arranged lowest_address ps → covering at ps ≡ Some p → at < to
+    → turned w at to p ps ≡ inserted (part_between w (low_end w at to p ps) (high_end w at to p ps) p) (cut (low_end w at to p ps) (high_end w at to p ps) ps)
+turned-cut w at to p ps ar found order =
+    let low = low_end w at to p ps in
+    let high = high_end w at to p ps in
+    ap (inserted (part_between w low high p)) (own_cut-is p.seg low high ps (own w at to p ps ar found order))
 
 -- EACH SEGMENT KEEPS A PIECE
 

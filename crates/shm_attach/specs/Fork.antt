@@ -1,7 +1,7 @@
 -- The processes after a fork.
 use Rattle.std.specs.Prelude.{List, slice_set}
 use Rattle.shm_base.specs.State.{Runner, Live}
-use Rattle.shm_base.specs.Step.{Caller}
+use Rattle.shm_base.specs.Callers.{Caller}
 use Rattle.shm_attach.specs.declared.process.Child.{Child}
 
 -- the child is live with the caller's credentials and pieces

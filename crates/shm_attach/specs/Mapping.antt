@@ -2,7 +2,7 @@
 use Rattle.std.specs.Prelude.{◌≡◌, ℕ, ◌+◌, ◌*◌, ◌/◌, ◌-◌, ◌%◌, ◌<◌, ◌≤◌, Bool, nat_lt, if◌then◌else◌, List, [], ◌∷◌, ◌++◌, length, Option, Some, None, option_to_list, IfSome, Result, Ok, Err, true, All}
 use Rattle.shm_base.specs.State as flat
 use Rattle.shm_base.specs.State.{Piece}
-use Rattle.shm_base.specs.Step.{with_pieces}
+use Rattle.shm_base.specs.Callers.{with_pieces}
 use Rattle.shm_base.specs.Access.{end_of}
 use Rattle.shm_base.specs.Space.{lowest_address, end_address, covering, inserted, cut, new_piece, pieces_of}
 use Rattle.shm_attach.specs.Spans.{HasPages}

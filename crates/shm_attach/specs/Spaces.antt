@@ -2,7 +2,8 @@
 use Rattle.std.specs.Prelude.{◌≡◌, ◌≢◌, ◌%◌, ℕ, List, [], Option, Some, None, slice_get, All}
 use Rattle.shm_base.specs.State.{Piece, Life, Unborn, Runner}
 use Rattle.shm_base.specs.declared.bounds.TheConstants.{INDEXES}
-use Rattle.shm_base.specs.Step.{Caller as FlatCaller, caller_from}
+use Rattle.shm_base.specs.Callers.{caller_from}
+use Rattle.shm_base.specs.Callers.{Caller as FlatCaller}
 use Rattle.shm_fault.specs.Store.{StoreView, frame_of}
 use Rattle.shm_attach.specs.declared.process.Caller.{Caller}
 

@@ -3,7 +3,7 @@ use Rattle.std.specs.Prelude.{ℕ, ◌≡◌, ◌+◌, ◌<◌, ◌≤◌, ◌^�
 use Rattle.shm_base.specs.State.{Piece, Runner}
 use Rattle.shm_base.specs.Access.{Place, places, writable_places}
 use Rattle.shm_base.specs.Processes.{pieces_of_caller}
-use Rattle.shm_base.specs.Step.{caller_from}
+use Rattle.shm_base.specs.Callers.{caller_from}
 use Rattle.shm_base.specs.Spans.{run, span_places, InPage, page_of}
 use Rattle.shm_base.specs.declared.paging.Span.{Span}
 use Rattle.slab.specs.Slab.{Slab}

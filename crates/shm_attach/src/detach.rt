@@ -1,7 +1,8 @@
 //! Detaches pieces: those of one attach by shmdt, all of them by exec and exit.
 ghost use Rattle.std.specs.Prelude.{◌≡◌, [], IfNone, IfSome};
 ghost use Rattle.shm_base.specs.Space.{without_named};
-ghost use Rattle.shm_base.specs.Step.{with_end, segments_of};
+ghost use Rattle.shm_base.specs.Callers.{with_end};
+ghost use Rattle.shm_base.specs.Step.{segments_of};
 ghost use Rattle.shm_attach.specs.Changes.{attached_at};
 ghost use Rattle.shm_attach.specs.Mapping.{own_pieces, with_own_pieces};
 ghost use Rattle.shm_attach.specs.Spaces.{caller_seen, IsCaller, KeepTrue};

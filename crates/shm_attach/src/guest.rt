@@ -1,12 +1,14 @@
 //! Processes that join and leave between calls, and changes of credentials.
 ghost use Rattle.std.specs.Prelude.{◌≡◌, ℕ, ◌≤◌, true, None, Some, IfSome, IfNone, IfOk, OnErr, IsOk, is_ok, is_some};
-ghost use Rattle.shm_base.specs.Guest.{standing, joins, joins_beside, leaves, becomes, left_by};
+ghost use Rattle.shm_base.specs.Callers.{with_cred};
+ghost use Rattle.shm_base.specs.Guest.{standing, joins, joins_beside, leaves, left_by};
 ghost use Rattle.shm_base.specs.Segments.{attach_count};
 ghost use Rattle.shm_base.specs.declared.bounds.TheConstants.{MOST_PROCESSES};
 ghost use Rattle.shm_attach.specs.Guest.{found_as};
+ghost use Rattle.shm_attach.specs.Spaces.{IsCaller, caller_seen};
 
 use crate::changes::set_life_at;
-use crate::process::{Life, Runner};
+use crate::process::{Caller, Life, Runner};
 use crate::spaces::{Spaces, born};
 use shm_areas::Space;
 use shm_base::{AdmitRefusal, Cred, DismissRefusal, Errno, HostMemory, LAST_PID, Process};
@@ -104,17 +106,14 @@ impl Spaces {
         Ok(())
     }
 
-    /// Gives a live process other credentials. Its pieces stay. Esrch: the process is not live.
-    pub fn set_cred(&mut self, pid: u32, cred: Cred) -> Result<(), Errno>
-        ensures becomes { becomes pid cred self.old.runners ≡ left_by result self.new.runners }
-        ensures refused { OnErr result (self.new ≡ self.old) }
+    /// Gives a live process other credentials. Its pieces stay.
+    pub fn set_cred(&mut self, caller: &Caller, cred: Cred)
+        requires { IsCaller caller.now self.old.runners }
+        ensures runners { self.new.runners
+            ≡ with_cred self.old.runners (caller_seen caller.now self.old.runners) cred }
         ensures rest { self.new ≡ record self.old { runners = self.new.runners } }
         ensures counts { (id : ℕ) → attach_count self.new.runners id ≡ attach_count self.old.runners id }
     {
-        let Some(caller) = self.caller(pid) else {
-            return Err(Errno::Esrch);
-        };
         set_life_at(&mut self.processes, caller.index, Life::Live(cred));
-        Ok(())
     }
 }

@@ -1,5 +1,5 @@
-//! What a process does to its attached memory without a call of this interface: it unmaps a range
-//! (munmap(2)), or protects one (mprotect(2)). Neither takes memory.
+//! What a process does to a range of its attached memory: it unmaps it (munmap(2)), or protects it
+//! (mprotect(2)). Neither takes memory.
 ghost use Rattle.std.specs.Prelude.{◌≡◌, ◌+◌, ◌%◌, ◌^◌, ◌<◌, ◌≤◌, [], Some, length, option_to_list, SomeIff, IfOk, OnOk, OnErr};
 ghost use Rattle.shm_base.specs.Access as access;
 ghost use Rattle.shm_base.specs.Mapping as flat;

@@ -2,7 +2,8 @@
 ghost use Rattle.std.specs.Prelude.{◌≡◌, ◌≢◌, ◌↔◌, ◌≤◌, length, true, map, [], None, Some, IfSome, IfNone, IfOk, OnErr, All, AllPairs};
 ghost use Rattle.shm_base.specs.State.{life_at_start, runner_at_start};
 ghost use Rattle.shm_base.specs.Segments.{attach_count};
-ghost use Rattle.shm_base.specs.Step.{caller_from, unborn_from};
+ghost use Rattle.shm_base.specs.Callers.{caller_from};
+ghost use Rattle.shm_base.specs.Step.{unborn_from};
 ghost use Rattle.shm_base.specs.declared.call.Process.{Process as Declared};
 ghost use Rattle.shm_base.specs.declared.bounds.TheConstants.{MOST_PIECES, MOST_PROCESSES};
 ghost use Rattle.shm_attach.specs.Views.{life_view};

@@ -1,13 +1,9 @@
--- Changes that the host makes between calls: a process joins, leaves, or gets other credentials. They are not calls.
+-- Changes that the host makes between calls: a process joins, or leaves. They are not calls.
 use Rattle.std.specs.Prelude.{ℕ, ◌+◌, ◌==◌, Bool, true, false, not, nat_le, if◌then◌else◌, List, [], ◌∷◌, ◌++◌, length, Option, Some, None, Result, Ok, Err, slice_set, swap_remove}
 use Rattle.shm_base.specs.Bounds.{within}
 use Rattle.shm_base.specs.State.{Life, Unborn, Live, Ended, Runner, Machine, runner_at_start}
-use Rattle.shm_base.specs.Step.{Caller, caller_from}
 use Rattle.shm_base.specs.declared.bounds.TheConstants.{LAST_PID}
 use Rattle.shm_base.specs.declared.call.Process.{Process}
-use Rattle.shm_base.specs.declared.owner.Cred.{Cred}
-use Rattle.shm_base.specs.declared.errno.Errno.{Errno}
-use Rattle.shm_base.specs.declared.errno.Errno.TheVariants.{Esrch}
 use Rattle.shm_base.specs.declared.guest.AdmitRefusal.{AdmitRefusal}
 use Rattle.shm_base.specs.declared.guest.AdmitRefusal.TheVariants.{BadPid, PidTaken, TooManyProcesses}
 use Rattle.shm_base.specs.declared.guest.DismissRefusal.{DismissRefusal}
@@ -57,20 +53,6 @@ leaves_found rs (Some x) = if is_live x.runner.life then Err StillLive else Ok (
 abbrev pub leaves : ℕ → List Runner → Result (List Runner) DismissRefusal
 leaves pid rs = leaves_found rs (standing pid rs)
 
--- A PROCESS HAS OTHER CREDENTIALS
-
--- the processes, with other credentials for a caller, who keeps its pieces
-abbrev pub with_cred : List Runner → Caller → Cred → List Runner
-with_cred rs c cred = slice_set rs c.index (record { pid = c.pid; life = Live cred; pieces = c.pieces })
-
-abbrev pub becomes_by : Cred → List Runner → Option Caller → Result (List Runner) Errno
-becomes_by cred rs None = Err Esrch
-becomes_by cred rs (Some c) = Ok (with_cred rs c cred)
-
--- a live process has these credentials from now on
-abbrev pub becomes : ℕ → Cred → List Runner → Result (List Runner) Errno
-becomes pid cred rs = becomes_by cred rs (caller_from 0 pid rs)
-
 -- THE MACHINE
 
 -- the second value if the first is a success, else the first one's refusal
@@ -87,6 +69,3 @@ admits s p = with_runners s (joins s.limits.most_processes p s.runners)
 
 abbrev pub dismisses : Machine → ℕ → Result Machine DismissRefusal
 dismisses s pid = with_runners s (leaves pid s.runners)
-
-abbrev pub recredits : Machine → ℕ → Cred → Result Machine Errno
-recredits s pid cred = with_runners s (becomes pid cred s.runners)

@@ -1,11 +1,9 @@
 -- Worked rows: changes that a host makes between calls, and the replies that calls give afterwards.
-use Rattle.std.specs.Prelude.{pos, ◌≡◌, ℕ, ◌*◌, ◌-◌, ◌^◌, Bool, true, false, List, [], ◌∷◌, Option, Some, None, Result, Ok, Err}
-use Rattle.shm_base.specs.declared.owner.Cred.{Cred}
-use Rattle.shm_base.specs.declared.errno.Errno.{Errno}
+use Rattle.std.specs.Prelude.{pos, ◌≡◌, ℕ, ◌*◌, ◌-◌, ◌^◌, true, false, List, [], ◌∷◌, Option, Some, None, Result, Ok, Err}
 use Rattle.shm_base.specs.declared.errno.Errno.TheVariants.{Esrch, Eacces, Eagain, Einval, Enomem, Eidrm, Sigsegv}
 use Rattle.shm_base.specs.declared.call.Event.{Event}
 use Rattle.shm_base.specs.declared.call.Process.{Process}
-use Rattle.shm_base.specs.declared.call.Call.TheVariants.{Shmdt, Rmid, Fork, Exit, Load, Store}
+use Rattle.shm_base.specs.declared.call.Call.TheVariants.{Shmdt, Rmid, Fork, Exit, Load, Store, Munmap, Mprotect, Setuid}
 use Rattle.shm_base.specs.declared.call.Reply.TheVariants.{Addr, Bytes, Done, Refused}
 use Rattle.shm_base.specs.declared.guest.AdmitRefusal.{AdmitRefusal}
 use Rattle.shm_base.specs.declared.guest.AdmitRefusal.TheVariants.{BadPid, PidTaken, TooManyProcesses}
@@ -14,8 +12,7 @@ use Rattle.shm_base.specs.declared.guest.DismissRefusal.TheVariants.{NoProcess, 
 use Rattle.shm_base.specs.Bounds.{profile}
 use Rattle.shm_base.specs.State.{Machine, start_of}
 use Rattle.shm_base.specs.Step.{step}
-use Rattle.shm_base.specs.Guest.{admits, dismisses, recredits}
-use Rattle.shm_base.specs.Mapping.{unmaps, protects}
+use Rattle.shm_base.specs.Guest.{admits, dismisses}
 use Rattle.shm_base.specs.Rows.{does, id, mode, rdonly, shmget, shmat, stat, shows, process, child, of_processes}
 
 -- a call at its time, or a change by the host, with its reply or its refusal
@@ -23,9 +20,6 @@ pub data Deed : Type 0 where
   At : (n : ℕ) → (event : Event) → Deed
   Admits : (process : Process) → (refusal : Option AdmitRefusal) → Deed
   Dismisses : (pid : ℕ) → (refusal : Option DismissRefusal) → Deed
-  Becomes : (pid : ℕ) → (cred : Cred) → (refusal : Option Errno) → Deed
-  Unmaps : (n : ℕ) → (pid : ℕ) → (addr : ℕ) → (len : ℕ) → (refusal : Option Errno) → Deed
-  Protects : (n : ℕ) → (pid : ℕ) → (addr : ℕ) → (len : ℕ) → (w : Bool) → (refusal : Option Errno) → Deed
 
 abbrev pub refusal_of : {E : Type 0} → Result Machine E → Option E
 refusal_of (Ok s) = None
@@ -40,17 +34,11 @@ abbrev pub answered : Machine → Deed → Deed
 answered s (At n e) = At n (record e { reply = (step s n e.pid e.call).reply })
 answered s (Admits p refusal) = Admits p (refusal_of (admits s p))
 answered s (Dismisses pid refusal) = Dismisses pid (refusal_of (dismisses s pid))
-answered s (Becomes pid cred refusal) = Becomes pid cred (refusal_of (recredits s pid cred))
-answered s (Unmaps n pid addr len refusal) = Unmaps n pid addr len (refusal_of (unmaps s n pid addr len))
-answered s (Protects n pid addr len w refusal) = Protects n pid addr len w (protects s n pid addr len w).refusal
 
 abbrev pub after : Machine → Deed → Machine
 after s (At n e) = (step s n e.pid e.call).state
 after s (Admits p refusal) = state_of s (admits s p)
 after s (Dismisses pid refusal) = state_of s (dismisses s pid)
-after s (Becomes pid cred refusal) = state_of s (recredits s pid cred)
-after s (Unmaps n pid addr len refusal) = state_of s (unmaps s n pid addr len)
-after s (Protects n pid addr len w refusal) = (protects s n pid addr len w).state
 
 abbrev pub all_answered : Machine → List Deed → List Deed
 all_answered s [] = []
@@ -59,9 +47,6 @@ all_answered s (d ∷ ds) = answered s d ∷ all_answered (after s d) ds
 -- the machine answers each deed as the row says
 abbrev pub Go : Machine → List Deed → Type 0
 Go s ds = all_answered s ds ≡ ds
-
-abbrev pub cred : ℕ → ℕ → Cred
-cred uid gid = record { uid = uid; gid = gid }
 
 -- a machine that has at most two processes
 abbrev pub of_two : List Process → Machine
@@ -125,14 +110,14 @@ UserRow =
     Go (of_processes (process 1 100 100 ∷ process 2 200 200 ∷ child 3 ∷ []))
     (At 1 (does 1 (shmget 0 4096 (mode 6 0 0) 0) (id 0))
     ∷ At 2 (does 2 (stat 0) (Refused Eacces))
-    ∷ Becomes 2 (cred 100 100) None
+    ∷ At 0 (does 2 (Setuid 100 100) Done)
     ∷ At 3 (does 2 (shmat 0 0 0) (Addr 0x40000000))
     ∷ At 4 (does 2 (stat 0) (shows 0 4096 2 1 3 0))
-    ∷ Becomes 2 (cred 200 200) None
+    ∷ At 0 (does 2 (Setuid 200 200) Done)
     ∷ At 5 (does 2 (Load 0x40000000 1) (Bytes (0 ∷ [])))
     ∷ At 6 (does 2 (shmat 0 0 0) (Refused Eacces))
-    ∷ Becomes 3 (cred 0 0) (Some Esrch)
-    ∷ Becomes 4 (cred 0 0) (Some Esrch)
+    ∷ At 0 (does 3 (Setuid 0 0) (Refused Esrch))
+    ∷ At 0 (does 4 (Setuid 0 0) (Refused Esrch))
     ∷ [])
 
 -- times come from the host's clock, and several calls may have the same one
@@ -164,24 +149,24 @@ eight_pages most =
 abbrev pub ProtectRow : Type 0
 ProtectRow =
     Go (eight_pages 256)
-    (Protects 1 1 0x50001000 (bytes_in 2) false None
+    (At 1 (does 1 (Mprotect 0x50001000 (bytes_in 2) false) Done)
     ∷ At 3 (does 1 (stat 0) (shows 0 32768 1 3 2 0))
     ∷ At 4 (does 1 (Store (7 ∷ []) 0x50001000) (Refused Sigsegv))
     ∷ At 5 (does 1 (Load 0x50001000 1) (Bytes (0 ∷ [])))
-    ∷ Protects 1 1 0x50001000 (bytes_in 1) true None
+    ∷ At 1 (does 1 (Mprotect 0x50001000 (bytes_in 1) true) Done)
     ∷ At 6 (does 1 (stat 0) (shows 0 32768 1 3 2 0))
     ∷ At 7 (does 1 (Store (7 ∷ []) 0x50001FFF) Done)
     ∷ At 8 (does 1 (Store (7 ∷ []) 0x50002000) (Refused Sigsegv))
-    ∷ Protects 1 1 0x50001000 (bytes_in 2) true None
+    ∷ At 1 (does 1 (Mprotect 0x50001000 (bytes_in 2) true) Done)
     ∷ At 9 (does 1 (stat 0) (shows 0 32768 1 3 2 0))
     ∷ At 10 (does 1 (Store (7 ∷ []) 0x50002000) Done)
-    ∷ Protects 1 1 0x50000000 (bytes_in 8) false None
+    ∷ At 1 (does 1 (Mprotect 0x50000000 (bytes_in 8) false) Done)
     ∷ At 11 (does 1 (stat 0) (shows 0 32768 1 3 2 0))
-    ∷ Protects 1 1 0x50006000 1 true None
+    ∷ At 1 (does 1 (Mprotect 0x50006000 1 true) Done)
     ∷ At 12 (does 1 (stat 0) (shows 0 32768 1 5 2 0))
-    ∷ Protects 1 1 0x50005000 (bytes_in 1) true None
+    ∷ At 1 (does 1 (Mprotect 0x50005000 (bytes_in 1) true) Done)
     ∷ At 13 (does 1 (stat 0) (shows 0 32768 1 5 2 0))
-    ∷ Protects 1 1 0x50007000 (bytes_in 1) false None
+    ∷ At 1 (does 1 (Mprotect 0x50007000 (bytes_in 1) false) Done)
     ∷ At 14 (does 1 (Shmdt 0x50000000) Done)
     ∷ At 15 (does 1 (stat 0) (shows 0 32768 1 0 2 14))
     ∷ [])
@@ -190,19 +175,19 @@ ProtectRow =
 abbrev pub StoppedRow : Type 0
 StoppedRow =
     Go (eight_pages 256)
-    (Protects 1 1 0x50000800 0 false (Some Einval)
-    ∷ Protects 1 1 0x50000000 0 false None
-    ∷ Protects 1 1 0x60000000 1 false (Some Enomem)
-    ∷ Protects 1 1 0x50000000 (2 ^ 64 - 1) false (Some Enomem)
-    ∷ Protects 1 2 0x50000000 1 false (Some Esrch)
+    (At 1 (does 1 (Mprotect 0x50000800 0 false) (Refused Einval))
+    ∷ At 1 (does 1 (Mprotect 0x50000000 0 false) Done)
+    ∷ At 1 (does 1 (Mprotect 0x60000000 1 false) (Refused Enomem))
+    ∷ At 1 (does 1 (Mprotect 0x50000000 (2 ^ 64 - 1) false) (Refused Enomem))
+    ∷ At 1 (does 2 (Mprotect 0x50000000 1 false) (Refused Esrch))
     ∷ At 3 (does 1 (stat 0) (shows 0 32768 1 1 2 0))
-    ∷ Protects 1 1 0x50000000 (bytes_in 9) false (Some Enomem)
+    ∷ At 1 (does 1 (Mprotect 0x50000000 (bytes_in 9) false) (Refused Enomem))
     ∷ At 4 (does 1 (Store (7 ∷ []) 0x50007000) (Refused Sigsegv))
-    ∷ Protects 1 1 0x50000000 (bytes_in 8) true None
-    ∷ Protects 1 1 0x50004000 (bytes_in 4) false None
+    ∷ At 1 (does 1 (Mprotect 0x50000000 (bytes_in 8) true) Done)
+    ∷ At 1 (does 1 (Mprotect 0x50004000 (bytes_in 4) false) Done)
     ∷ At 5 (does 1 (shmat 0 0x50008000 rdonly) (Addr 0x50008000))
     ∷ At 6 (does 1 (stat 0) (shows 0 32768 1 3 5 0))
-    ∷ Protects 1 1 0x50006000 (bytes_in 4) true (Some Eacces)
+    ∷ At 1 (does 1 (Mprotect 0x50006000 (bytes_in 4) true) (Refused Eacces))
     ∷ At 7 (does 1 (stat 0) (shows 0 32768 1 4 5 0))
     ∷ At 8 (does 1 (Store (7 ∷ []) 0x50005FFF) (Refused Sigsegv))
     ∷ At 9 (does 1 (Store (7 ∷ []) 0x50006000) Done)
@@ -213,21 +198,21 @@ StoppedRow =
 abbrev pub UnmapRow : Type 0
 UnmapRow =
     Go (eight_pages 256)
-    (Unmaps 3 1 0x50000800 4096 (Some Einval)
-    ∷ Unmaps 4 1 0x50000000 0 (Some Einval)
-    ∷ Unmaps 5 1 0x7FFFFFFFE000 8192 (Some Einval)
-    ∷ Unmaps 6 2 0x50000000 4096 (Some Esrch)
-    ∷ Unmaps 7 1 0x60000000 4096 None
+    (At 3 (does 1 (Munmap 0x50000800 4096) (Refused Einval))
+    ∷ At 4 (does 1 (Munmap 0x50000000 0) (Refused Einval))
+    ∷ At 5 (does 1 (Munmap 0x7FFFFFFFE000 8192) (Refused Einval))
+    ∷ At 6 (does 2 (Munmap 0x50000000 4096) (Refused Esrch))
+    ∷ At 7 (does 1 (Munmap 0x60000000 4096) Done)
     ∷ At 8 (does 1 (stat 0) (shows 0 32768 1 1 2 0))
-    ∷ Unmaps 9 1 0x50001000 1 None
+    ∷ At 9 (does 1 (Munmap 0x50001000 1) Done)
     ∷ At 10 (does 1 (stat 0) (shows 0 32768 1 2 2 9))
     ∷ At 11 (does 1 (Load 0x50001000 1) (Refused Sigsegv))
     ∷ At 12 (does 1 (Load 0x50002000 1) (Bytes (0 ∷ [])))
     ∷ At 13 (does 1 (Rmid (pos 0)) Done)
-    ∷ Unmaps 14 1 0x4FFFF000 (bytes_in 2) None
+    ∷ At 14 (does 1 (Munmap 0x4FFFF000 (bytes_in 2)) Done)
     ∷ At 15 (does 1 (stat 0) (shows 512 32768 1 1 2 14))
-    ∷ Unmaps 16 1 0x50001001 4096 (Some Einval)
-    ∷ Unmaps 16 1 0x50001000 (bytes_in 7) None
+    ∷ At 16 (does 1 (Munmap 0x50001001 4096) (Refused Einval))
+    ∷ At 16 (does 1 (Munmap 0x50001000 (bytes_in 7)) Done)
     ∷ At 17 (does 1 (stat 0) (Refused Eidrm))
     ∷ [])
 
@@ -235,10 +220,10 @@ UnmapRow =
 abbrev pub FewPiecesRow : Type 0
 FewPiecesRow =
     Go (eight_pages 2)
-    (Protects 1 1 0x50001000 (bytes_in 1) false (Some Enomem)
+    (At 1 (does 1 (Mprotect 0x50001000 (bytes_in 1) false) (Refused Enomem))
     ∷ At 3 (does 1 (stat 0) (shows 0 32768 1 1 2 0))
     ∷ At 4 (does 1 (Store (7 ∷ []) 0x50001000) Done)
-    ∷ Unmaps 5 1 0x50001000 (bytes_in 1) None
-    ∷ Unmaps 6 1 0x50003000 (bytes_in 1) (Some Enomem)
+    ∷ At 5 (does 1 (Munmap 0x50001000 (bytes_in 1)) Done)
+    ∷ At 6 (does 1 (Munmap 0x50003000 (bytes_in 1)) (Refused Enomem))
     ∷ At 7 (does 1 (stat 0) (shows 0 32768 1 2 2 5))
     ∷ [])

@@ -1,20 +1,26 @@
--- What a process does to attached memory without a call of this interface: it unmaps a range of its addresses (munmap(2)), or
--- protects one (mprotect(2)). Lengths are rounded up to whole pages.
+-- A process unmaps a range of its addresses (munmap(2)), or protects one (mprotect(2)). Lengths are rounded up to whole pages.
 use Rattle.std.specs.Prelude.{ℕ, zero, suc, ◌+◌, ◌-◌, ◌*◌, ◌/◌, ◌%◌, ◌^◌, Bool, not, ◌&&◌, ◌==◌, nat_le, nat_lt, min, if◌then◌else◌, List, [], ◌∷◌, length, Option, Some, None, Result, Ok, Err}
+use Rattle.std.specs.List.{flat_map}
 use Rattle.shm_base.specs.State.{Entry, Piece, Machine, pages_of}
 use Rattle.shm_base.specs.Access.{end_of}
-use Rattle.shm_base.specs.Space.{end_address, covering, inserted, cut, cut_segments}
+use Rattle.shm_base.specs.Space.{end_address, covering, inserted, parts, cut, cut_segments, rest_segments}
 use Rattle.shm_base.specs.Rules.{rest_is_attached}
 use Rattle.shm_base.specs.Segments.{attach_all, detach_all, swept}
-use Rattle.shm_base.specs.Step.{Caller, caller_of, rests, with_pieces}
+use Rattle.shm_base.specs.Callers.{Outcome, gives, refuses, Caller, with_pieces}
 use Rattle.shm_base.specs.declared.errno.Errno.{Errno}
-use Rattle.shm_base.specs.declared.errno.Errno.TheVariants.{Esrch, Einval, Enomem, Eacces}
+use Rattle.shm_base.specs.declared.errno.Errno.TheVariants.{Einval, Enomem, Eacces}
+use Rattle.shm_base.specs.declared.call.Reply.{Reply}
+use Rattle.shm_base.specs.declared.call.Reply.TheVariants.{Done, Refused}
 use Rattle.shm_base.specs.declared.paging.TheConstants.{PAGE_SIZE}
 
 abbrev pub rounded : ℕ → ℕ
 rounded len = PAGE_SIZE * pages_of len
 
 -- UNMAP
+
+-- the segments that lost a part of a piece to the range, if a rule attaches the rest anew
+abbrev pub rests : Machine → ℕ → ℕ → List Piece → List ℕ
+rests s from to ps = if rest_is_attached s.limits.rules then rest_segments from to ps else []
 
 -- the address at which the unmapped range ends, or the refusal
 abbrev pub unmapped_to : ℕ → ℕ → Result ℕ Errno
@@ -30,20 +36,15 @@ after_cut s n c from to =
     attach_all n c.pid (detach_all n c.pid s.table (cut_segments from to c.pieces)) (rests s from to c.pieces)
 
 -- takes the range out, as a remap does; refused if too many pieces would be left
-abbrev pub unmaps_range : Machine → ℕ → Caller → ℕ → Result ℕ Errno → Result Machine Errno
-unmaps_range s n c from (Err e) = Err e
-unmaps_range s n c from (Ok to) =
-    if nat_lt s.limits.most_pieces (length (cut from to c.pieces)) then Err Enomem else
+abbrev pub unmaps : Machine → ℕ → Caller → ℕ → Result ℕ Errno → Outcome
+unmaps s n c from (Err e) = refuses s e
+unmaps s n c from (Ok to) =
+    if nat_lt s.limits.most_pieces (length (cut from to c.pieces)) then refuses s Enomem else
     let rs = with_pieces s.runners c (cut from to c.pieces) in
-    Ok (record s { table = swept rs (after_cut s n c from to); runners = rs })
+    gives (record s { table = swept rs (after_cut s n c from to); runners = rs }) Done
 
-abbrev pub unmaps_of : Machine → ℕ → ℕ → ℕ → Option Caller → Result Machine Errno
-unmaps_of s n addr len None = Err Esrch
-unmaps_of s n addr len (Some c) = unmaps_range s n c addr (unmapped_to addr len)
-
--- a live process unmaps a range at time n
-abbrev pub unmaps : Machine → ℕ → ℕ → ℕ → ℕ → Result Machine Errno
-unmaps s n pid addr len = unmaps_of s n addr len (caller_of s pid)
+abbrev pub munmap : Machine → ℕ → Caller → ℕ → ℕ → Outcome
+munmap s n c addr len = unmaps s n c addr (unmapped_to addr len)
 
 -- PROTECT
 
@@ -83,8 +84,12 @@ part_between w low high p =
       writable = w;
     }
 
+-- the pieces without the range; only those of one segment are cut
+abbrev pub own_cut : ℕ → ℕ → ℕ → List Piece → List Piece
+own_cut id low high ps = flat_map (λ (p : Piece). if p.seg == id then parts low high p else p ∷ []) ps
+
 abbrev pub replaced : Bool → ℕ → ℕ → Piece → List Piece → List Piece
-replaced w low high p ps = inserted (part_between w low high p) (cut low high ps)
+replaced w low high p ps = inserted (part_between w low high p) (own_cut p.seg low high ps)
 
 abbrev pub turned : Bool → ℕ → ℕ → Piece → List Piece → List Piece
 turned w at to p ps = replaced w (low_end w at to p ps) (high_end w at to p ps) p ps
@@ -128,26 +133,21 @@ protects_pieces most w addr len ps =
     if nat_le (2 ^ 64) (addr + rounded len) then stopped ps Enomem else
     protects_from (pages_of len) most w (addr + rounded len) addr ps
 
--- a machine after a change, and the refusal at which the change stopped
-pub record Protection : Type 0 where
-  pub state : Machine
-  pub refusal : Option Errno
-
 -- the table after pieces were split; a rule may attach their segments anew
 abbrev pub after_split : Machine → ℕ → Caller → List ℕ → List Entry
 after_split s n c ids = if rest_is_attached s.limits.rules then attach_all n c.pid s.table ids else s.table
 
-abbrev pub with_protected : Machine → ℕ → Caller → Protected → Protection
-with_protected s n c x =
+abbrev pub done_or : Option Errno → Reply
+done_or None = Done
+done_or (Some e) = Refused e
+
+-- the one call that changes something when it is refused: the pieces below the refusal keep their new protection
+abbrev pub protects : Machine → ℕ → Caller → Protected → Outcome
+protects s n c x =
     record {
+      reply = done_or x.refusal;
       state = record s { table = after_split s n c x.split; runners = with_pieces s.runners c x.pieces };
-      refusal = x.refusal;
     }
 
-abbrev pub protects_of : Machine → ℕ → Bool → ℕ → ℕ → Option Caller → Protection
-protects_of s n w addr len None = record { state = s; refusal = Some Esrch }
-protects_of s n w addr len (Some c) = with_protected s n c (protects_pieces s.limits.most_pieces w addr len c.pieces)
-
--- a live process makes a range writable or read-only at time n
-abbrev pub protects : Machine → ℕ → ℕ → ℕ → ℕ → Bool → Protection
-protects s n pid addr len w = protects_of s n w addr len (caller_of s pid)
+abbrev pub mprotect : Machine → ℕ → Caller → ℕ → ℕ → Bool → Outcome
+mprotect s n c addr len w = protects s n c (protects_pieces s.limits.most_pieces w addr len c.pieces)

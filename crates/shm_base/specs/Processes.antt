@@ -3,7 +3,7 @@ use Rattle.std.specs.Prelude.{ℕ, Bool, ◌==◌, List, [], Option, Some, None}
 use Rattle.std.specs.List.{list_any}
 use Rattle.shm_base.specs.declared.call.Process.{Process}
 use Rattle.shm_base.specs.State.{Piece}
-use Rattle.shm_base.specs.Step.{Caller}
+use Rattle.shm_base.specs.Callers.{Caller}
 
 -- one of the processes has this pid
 abbrev pub has_pid : ℕ → List Process → Bool

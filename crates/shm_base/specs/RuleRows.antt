@@ -1,12 +1,12 @@
 -- Worked rows: what each rule of Linux changes, next to the profile's replies.
-use Rattle.std.specs.Prelude.{ℕ, ◌+◌, ◌-◌, ◌^◌, pos, true, false, List, [], ◌∷◌, None}
+use Rattle.std.specs.Prelude.{ℕ, ◌+◌, ◌-◌, ◌^◌, pos, true, false, List, [], ◌∷◌}
 use Rattle.shm_base.specs.declared.errno.Errno.TheVariants.{Eperm, Enomem, Eacces, Einval, Emfile}
-use Rattle.shm_base.specs.declared.call.Call.TheVariants.{Set, Rmid, Lock, Unlock, Fork}
+use Rattle.shm_base.specs.declared.call.Call.TheVariants.{Set, Rmid, Lock, Unlock, Fork, Munmap, Mprotect}
 use Rattle.shm_base.specs.declared.call.Reply.TheVariants.{Addr, Done, Refused}
 use Rattle.shm_base.specs.declared.call.Process.{Process}
 use Rattle.shm_base.specs.State.{Machine, start_of}
 use Rattle.shm_base.specs.Bounds.{profile}
-use Rattle.shm_base.specs.GuestRows.{Go, At, Unmaps, Protects}
+use Rattle.shm_base.specs.GuestRows.{Go, At}
 use Rattle.shm_base.specs.Rows.{Answers, does, id, mode, creat, rdonly, rnd, remap, shmget, shmat, stat, shows, process, child}
 
 -- the machine of the other rows, with these rules, this memlock and this limit of pieces
@@ -84,13 +84,13 @@ RestOfMappingsRule =
     Go (with_rules 8 (process 1 100 100 ∷ []))
     (At 1 (does 1 (shmget 0 8192 (mode 6 0 0) 0) (id 0))
     ∷ At 2 (does 1 (shmat 0 0x50000000 0) (Addr 0x50000000))
-    ∷ Protects 3 1 0x50000000 8192 false None
+    ∷ At 3 (does 1 (Mprotect 0x50000000 8192 false) Done)
     ∷ At 4 (does 1 (stat 0) (shows 0 8192 1 1 2 0))
-    ∷ Protects 5 1 0x50000000 4096 true None
+    ∷ At 5 (does 1 (Mprotect 0x50000000 4096 true) Done)
     ∷ At 6 (does 1 (stat 0) (shows 0 8192 1 2 5 0))
-    ∷ Protects 7 1 0x50001000 4096 true None
+    ∷ At 7 (does 1 (Mprotect 0x50001000 4096 true) Done)
     ∷ At 8 (does 1 (stat 0) (shows 0 8192 1 2 5 0))
-    ∷ Unmaps 9 1 0x50001000 4096 None
+    ∷ At 9 (does 1 (Munmap 0x50001000 4096) Done)
     ∷ At 10 (does 1 (stat 0) (shows 0 8192 1 1 5 9))
     ∷ [])
 

@@ -36,7 +36,7 @@ pub fn has_pid(processes: &[Process], pid: u32) -> bool
 }
 
 /// A call of a process: the shared memory calls (shmget(2), shmop(2), shmctl(2)), accesses to attached
-/// memory, fork, exec and exit, and swapoff. An exchange, and a compare and exchange, are locked
+/// memory, munmap(2) and mprotect(2) of it, fork, exec and exit, setuid(2) and swapoff(2). An exchange, and a compare and exchange, are locked
 /// instructions, as an xadd is: they read and write in one step. A compare and exchange stores the desired
 /// bytes only if the bytes there are the expected ones. Only the low nine bits of a mode count. A line of a
 /// script has other identifiers and addresses, which may be variables.
@@ -103,6 +103,19 @@ pub enum Call<I = ShmId, A = u64> {
     Exit,
     Swapoff {
         area: u32,
+    },
+    Munmap {
+        addr: A,
+        len: u64,
+    },
+    Mprotect {
+        addr: A,
+        len: u64,
+        writable: bool,
+    },
+    Setuid {
+        uid: u32,
+        gid: u32,
     },
 }
 

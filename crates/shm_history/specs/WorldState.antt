@@ -9,7 +9,8 @@ use Rattle.shm_base.specs.declared.call.Reply.{Reply}
 use Rattle.shm_base.specs.declared.call.Event.{Event}
 use Rattle.shm_base.specs.declared.paging.FlushReport.{FlushReport}
 use Rattle.shm_base.specs.History.{IsMove, is_failure, is_refusal}
-use Rattle.shm_base.specs.Step.{caller_of, step}
+use Rattle.shm_base.specs.Callers.{caller_of}
+use Rattle.shm_base.specs.Step.{step}
 use Rattle.shm_base.specs.State.{Opening, Machine}
 use Rattle.shm_base.specs.Segments.{segment_count, reserved, locked}
 use Rattle.shm_base.specs.declared.paging.Tally.{Tally}

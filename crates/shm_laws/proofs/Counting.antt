@@ -1,8 +1,10 @@
 -- By how much each move changes how many pieces there are.
-use Rattle.shm_laws.proofs.Names.{◌≡◌, ◌≢◌, ◌⊎◌, ℕ, ◌+◌, ◌*◌, ◌%◌, ◌<◌, ◌==◌, ℤ, pos, Bool, true, false, not, if◌then◌else◌, List, [], ◌∷◌, Option, Some, slice_set, refl, sym, ap, ◌∙◌, inl, inr, arith, common_steps, filter, subst, flat_map-cons, none-some, ShmidDs, ProcessCall, Shmat, Shmdt, Fork, Exec, Exit, Addr, Done, Event, AtFlags, Segment, Piece, Live, Runner, Machine, Look, look, occupied, cut, origin_of, is_named, without_named, pieces_of, attach_count, Caller, Outcome, caller_of, acts, step_by, is_remap, stat, gives, is_refusal, IsMove, one_more, pieces_of-inserted, pieces_of-filter, sum-set, piece_count, hands_pieces, CountsPieces, IsFreeFor, Stands, pages_in, Found, pieces_of_caller}
+use Rattle.shm_laws.proofs.Names.{ChangesItsOwn, Cred, Mprotect, Munmap, ◌≤◌, occupied-cut, protects_pieces, rounded, stops_midway, ◌≡◌, ◌≢◌, ◌⊎◌, ℕ, ◌+◌, ◌*◌, ◌%◌, ◌<◌, ◌==◌, ℤ, pos, Bool, true, false, not, if◌then◌else◌, List, [], ◌∷◌, Option, Some, slice_set, refl, sym, ap, ◌∙◌, inl, inr, arith, common_steps, filter, subst, flat_map-cons, none-some, ShmidDs, ProcessCall, Shmat, Shmdt, Fork, Exec, Exit, Addr, Done, Event, AtFlags, Segment, Piece, Live, Runner, Machine, Look, look, occupied, cut, origin_of, is_named, without_named, pieces_of, attach_count, Caller, Outcome, caller_of, acts, step_by, is_remap, stat, gives, is_refusal, IsMove, one_more, pieces_of-inserted, pieces_of-filter, sum-set, piece_count, hands_pieces, CountsPieces, IsFreeFor, Stands, pages_in, Found, pieces_of_caller}
 use Rattle.shm_base.specs.declared.call.Call.TheVariants as calls
 use Rattle.shm_base.specs.declared.call.Reply.TheVariants as replies
-use Rattle.shm_laws.proofs.Handing.{Takes, caller-at, Rests, Attaches, Leaves, Forks, Hands, none-stay, hands-acts}
+use Rattle.shm_laws.proofs.Callers.{caller-at, caller-set, caller-there, kept-set}
+use Rattle.shm_laws.proofs.Protecting.{protected-keeps}
+use Rattle.shm_laws.proofs.Handing.{Takes, Rests, Attaches, Leaves, Forks, Unmaps, Protects, Credits, Hands, none-stay, hands-acts}
 use Rattle.shm_laws.proofs.Looks.{found-own}
 use Rattle.shm_laws.proofs.Refusing.{by-move}
 use Rattle.shm_laws.proofs.Stepping.{Bare, unborn-bare}
@@ -44,8 +46,25 @@ no-attach c call stays id addr flags taken asked = grind arith
 all-hands : (call : ProcessCall) → (call ≡ Exec) ⊎ (call ≡ Exit) → hands_pieces call ≡ true
 all-hands call which = grind arith
 
-no-quiet : (s : Machine) (c : Caller) (call : ProcessCall) (o : Outcome) → Attaches s c call o ⊎ (Leaves s c call o ⊎ Forks s c call o) → (hands_pieces call ≡ false) ⊎ (is_refusal o.reply ≡ true) → ⊥
+no-quiet : (s : Machine) (c : Caller) (call : ProcessCall) (o : Outcome) → Attaches s c call o ⊎ (Leaves s c call o ⊎ (Forks s c call o ⊎ (Unmaps s c call o ⊎ Protects s c call o)))
+    → (hands_pieces call ≡ false) ⊎ ((is_refusal o.reply ≡ true) × (stops_midway call ≡ false)) → ⊥
 no-quiet s c call o k why = grind arith
+
+-- an mprotect is no other call
+no-protect : (s : Machine) (c : Caller) (call : ProcessCall) (o : Outcome) (addr len : ℕ) (w : Bool) → call ≡ Mprotect addr len w
+    → Rests s call o ⊎ (Attaches s c call o ⊎ (Leaves s c call o ⊎ (Forks s c call o ⊎ (Unmaps s c call o ⊎ Credits s c call o)))) → ⊥
+no-protect s c call o addr len w asked k = grind arith
+
+no-unmap : (s : Machine) (c : Caller) (call : ProcessCall) (o : Outcome) (addr len : ℕ) → call ≡ Munmap addr len → o.reply ≡ Done
+    → Rests s call o ⊎ (Attaches s c call o ⊎ (Leaves s c call o ⊎ (Forks s c call o ⊎ (Protects s c call o ⊎ Credits s c call o)))) → ⊥
+no-unmap s c call o addr len asked answer k = grind arith
+
+no-attached : (s : Machine) (c : Caller) (call : ProcessCall) (o : Outcome) (id addr : ℕ) (flags : AtFlags) → call ≡ Shmat (pos id) addr flags
+    → Forks s c call o ⊎ (Unmaps s c call o ⊎ (Protects s c call o ⊎ Credits s c call o)) → ⊥
+no-attached s c call o id addr flags asked k = grind arith
+
+no-detached : (s : Machine) (c : Caller) (call : ProcessCall) (o : Outcome) (addr : ℕ) → call ≡ Shmdt addr → Forks s c call o ⊎ (Unmaps s c call o ⊎ (Protects s c call o ⊎ Credits s c call o)) → ⊥
+no-detached s c call o addr asked k = grind arith
 
 module _ (s : Machine) (pid : ℕ) (c : Caller) (live : caller_of s pid ≡ Some c) (bare : Bare s.runners) (call : ProcessCall) (o : Outcome) where
   -- the caller's pieces go and others come
@@ -84,7 +103,7 @@ module _ (s : Machine) (pid : ℕ) (c : Caller) (live : caller_of s pid ≡ Some
       rw named (attached-counts k (range-free k id addr base flags asked answer free) j)
   attach-counts (inl k) id addr base flags asked answer free j = absurd (no-rest s call o k (ap hands_pieces asked) (ap is_refusal answer))
   attach-counts (inr (inr (inl k))) id addr base flags asked answer free j = absurd (no-attach c call k.stays id addr flags k.taken asked)
-  attach-counts (inr (inr (inr k))) id addr base flags asked answer free j = absurd (cc)
+  attach-counts (inr (inr (inr k))) id addr base flags asked answer free j = absurd (no-attached s c call o id addr flags asked k)
 
   fork-counts : Hands s c call o → (child : ℕ) → call ≡ Fork child → o.reply ≡ Done → (j : ℕ) → attach_count o.state.runners j ≡ attach_count s.runners j + piece_count s pid j
   fork-counts h1 child asked answer j = grind (arith, common_steps, unborn-bare, sum-set, mine, no-rest, no-fork)
@@ -110,10 +129,65 @@ module _ (s : Machine) (pid : ℕ) (c : Caller) (live : caller_of s pid ≡ Some
           )
   detach-counts (inl k) addr asked answer = absurd (no-rest s call o k (ap hands_pieces asked) (ap is_refusal answer))
   detach-counts (inr (inl k)) addr asked answer = absurd (cc)
-  detach-counts (inr (inr (inr k))) addr asked answer = absurd (cc)
+  detach-counts (inr (inr (inr k))) addr asked answer = absurd (no-detached s c call o addr asked k)
 
-  quiet-counts : Hands s c call o → (hands_pieces call ≡ false) ⊎ (is_refusal o.reply ≡ true) → (j : ℕ) → attach_count o.state.runners j ≡ attach_count s.runners j
-  quiet-counts h1 why j = grind (arith, common_steps, no-quiet)
+  -- only the caller's pieces change, and it has these
+  own-change : (cred : Cred) (ps : List Piece) → o.state.runners ≡ slice_set s.runners c.index (record { pid = c.pid; life = Live cred; pieces = ps })
+      → ChangesItsOwn s pid o.state × (pieces_of_caller (caller_of o.state pid) ≡ ps)
+  own-change cred ps is =
+      let after : caller_of o.state pid ≡ Some (record { index = c.index; pid = c.pid; cred = cred; pieces = ps }) = rw is (caller-set 0 pid s.runners c c.index cred ps live (omega arith)) in
+      let pieces : pieces_of_caller (caller_of o.state pid) ≡ ps = ap pieces_of_caller after in (
+        λ j.
+            let all = swap (record { pid = c.pid; life = Live cred; pieces = ps }) j in
+            let before = mine j in
+            let now : piece_count o.state pid j ≡ pieces_of j ps = ap (pieces_of j) pieces in
+            let there : attach_count o.state.runners j ≡ attach_count (slice_set s.runners c.index (record { pid = c.pid; life = Live cred; pieces = ps })) j = ap (λ rs. attach_count rs j) is in
+            omega (arith, all, before, now, there),
+        pieces,
+      )
+
+  unmap-counts : Hands s c call o → (addr len : ℕ) → call ≡ Munmap addr len → o.reply ≡ Done
+      → ChangesItsOwn s pid o.state × (occupied (pieces_of_caller (caller_of o.state pid)) addr (addr + rounded len) ≡ false)
+  unmap-counts (inr (inr (inr (inr (inl k))))) addr len asked answer =
+      let change = own-change c.cred (cut k.addr (k.addr + rounded k.len) c.pieces) k.runners in
+      let from : k.addr ≡ addr = cc (k.asked, asked) in
+      let long : k.len ≡ len = cc (k.asked, asked) in (
+        change.0,
+        subst (λ a. occupied (pieces_of_caller (caller_of o.state pid)) a (a + rounded len) ≡ false) from
+            (subst (λ b. occupied (pieces_of_caller (caller_of o.state pid)) k.addr (k.addr + rounded b) ≡ false) long (rw change.1 (occupied-cut k.addr (k.addr + rounded k.len) c.pieces))),
+      )
+  unmap-counts (inl k) addr len asked answer = absurd (no-unmap s c call o addr len asked answer (inl k))
+  unmap-counts (inr (inl k)) addr len asked answer = absurd (no-unmap s c call o addr len asked answer (inr (inl k)))
+  unmap-counts (inr (inr (inl k))) addr len asked answer = absurd (no-unmap s c call o addr len asked answer (inr (inr (inl k))))
+  unmap-counts (inr (inr (inr (inl k)))) addr len asked answer = absurd (no-unmap s c call o addr len asked answer (inr (inr (inr (inl k)))))
+  unmap-counts (inr (inr (inr (inr (inr k))))) addr len asked answer = absurd (no-unmap s c call o addr len asked answer (inr (inr (inr (inr k)))))
+
+  protect-counts : Hands s c call o → (addr len : ℕ) (w : Bool) → call ≡ Mprotect addr len w
+      → ChangesItsOwn s pid o.state × ((j : ℕ) → 1 ≤ attach_count s.runners j → 1 ≤ attach_count o.state.runners j)
+  protect-counts (inr (inr (inr (inr (inr (inl k)))))) addr len w asked =
+      let ps = (protects_pieces s.limits.most_pieces k.writable k.addr k.len c.pieces).pieces in (
+        (own-change c.cred ps k.runners).0,
+        λ j some. rw k.runners (kept-set s.runners c.index (record { pid = c.pid; life = Live c.cred; pieces = c.pieces }) (record { pid = c.pid; life = Live c.cred; pieces = ps }) (caller-there s pid c live)
+            (λ id had. protected-keeps s.limits.most_pieces k.writable k.addr k.len id c.pieces had) j some),
+      )
+  protect-counts (inl k) addr len w asked = absurd (no-protect s c call o addr len w asked (inl k))
+  protect-counts (inr (inl k)) addr len w asked = absurd (no-protect s c call o addr len w asked (inr (inl k)))
+  protect-counts (inr (inr (inl k))) addr len w asked = absurd (no-protect s c call o addr len w asked (inr (inr (inl k))))
+  protect-counts (inr (inr (inr (inl k)))) addr len w asked = absurd (no-protect s c call o addr len w asked (inr (inr (inr (inl k)))))
+  protect-counts (inr (inr (inr (inr (inl k))))) addr len w asked = absurd (no-protect s c call o addr len w asked (inr (inr (inr (inr (inl k))))))
+  protect-counts (inr (inr (inr (inr (inr (inr k)))))) addr len w asked = absurd (no-protect s c call o addr len w asked (inr (inr (inr (inr (inr k))))))
+
+  quiet-counts : Hands s c call o → (hands_pieces call ≡ false) ⊎ ((is_refusal o.reply ≡ true) × (stops_midway call ≡ false)) → (j : ℕ) → attach_count o.state.runners j ≡ attach_count s.runners j
+  quiet-counts (inl k) why j = ap (λ rs. attach_count rs j) k.runners
+  quiet-counts (inr (inr (inr (inr (inr (inr k)))))) why j =
+      let all = swap (record { pid = c.pid; life = Live k.cred; pieces = c.pieces }) j in
+      let there = ap (λ rs. attach_count rs j) k.runners in
+      omega (arith, all, there)
+  quiet-counts (inr (inl k)) why j = absurd (no-quiet s c call o (inl k) why)
+  quiet-counts (inr (inr (inl k))) why j = absurd (no-quiet s c call o (inr (inl k)) why)
+  quiet-counts (inr (inr (inr (inl k)))) why j = absurd (no-quiet s c call o (inr (inr (inl k))) why)
+  quiet-counts (inr (inr (inr (inr (inl k))))) why j = absurd (no-quiet s c call o (inr (inr (inr (inl k)))) why)
+  quiet-counts (inr (inr (inr (inr (inr (inl k)))))) why j = absurd (no-quiet s c call o (inr (inr (inr (inr k)))) why)
 
 -- WHAT STAT SHOWS
 
@@ -144,6 +218,8 @@ counts-move s n e t bare =
       forked = fork-counts s e.pid c is bare e.call o k;
       left = left-counts s e.pid c is bare e.call o k;
       detached = detach-counts s e.pid c is bare e.call o k;
+      unmapped = unmap-counts s e.pid c is bare e.call o k;
+      protected = protect-counts s e.pid c is bare e.call o k;
       quiet = quiet-counts s e.pid c is bare e.call o k;
     })
     (λ r no. counts-refused s _ s no refl)

@@ -1,12 +1,13 @@
--- No move gives a process other credentials.
-use Rattle.shm_laws.proofs.Names.{◌≡◌, ◌≢◌, ◌⊎◌, ℕ, List, get_or, Some, slice_get, slice_set, refl, sym, ap, ◌∙◌, inl, inr, arith, cases_eq, slice_get-get_or, Fork, Event, Unborn, Live, Ended, Runner, Machine, Cred, Caller, Outcome, caller_of, acts, pieces_with, filter, IsMove, child_at, first_runner, life_in, get-set_other, IsBornWith, KeepsCredentials}
-use Rattle.shm_laws.proofs.Handing.{CallerAt, caller-at, Hands, hands-acts}
+-- No move gives a process other credentials than it asked for.
+use Rattle.shm_laws.proofs.Names.{IsAskedFor, Setuid, cut, protects_pieces, rounded, subst, ◌+◌, ◌≡◌, ◌≢◌, ◌⊎◌, ℕ, List, get_or, Some, slice_get, slice_set, refl, sym, ap, ◌∙◌, inl, inr, arith, cases_eq, slice_get-get_or, Fork, Event, Unborn, Live, Ended, Runner, Machine, Cred, Caller, Outcome, caller_of, acts, pieces_with, filter, IsMove, child_at, first_runner, life_in, get-set_other, IsBornWith, KeepsCredentials}
+use Rattle.shm_laws.proofs.Callers.{CallerAt, caller-at, caller-there}
+use Rattle.shm_laws.proofs.Handing.{Hands, hands-acts}
 use Rattle.shm_laws.proofs.Refusing.{by-move}
 use Rattle.shm_laws.proofs.Turning.{set-got}
 
 -- a process that had the credentials, or is born with them
 abbrev Had : Machine → Event → ℕ → ℕ → Cred → Type 0
-Had s e k pid cred = (old : Runner) × (slice_get s.runners k ≡ Some old) × (old.pid ≡ pid) × ((old.life ≡ Live cred) ⊎ IsBornWith s e old cred)
+Had s e k pid cred = (old : Runner) × (slice_get s.runners k ≡ Some old) × (old.pid ≡ pid) × ((old.life ≡ Live cred) ⊎ (IsAskedFor e old cred ⊎ IsBornWith s e old cred))
 
 abbrev KeepsIn : Machine → Event → List Runner → Type 0
 KeepsIn s e rs = (k : ℕ) (now : Runner) (cred : Cred) → slice_get rs k ≡ Some now → now.life ≡ Live cred → Had s e k now.pid cred
@@ -44,7 +45,24 @@ module _ (s : Machine) (pid : ℕ) (c : Caller) (live : caller_of s pid ≡ Some
       left : (cred : Cred) → k.life ≡ Live cred → (k.life ≡ Live c.cred) ⊎ (k.life ≡ Ended) → Had s e c.index c.pid cred
       left cred lives (inl h) = mine cred (sym h ∙ lives)
       left cred lives (inr h) = absurd (cc (sym h ∙ lives))
-  had-hands o (inr (inr (inr k))) told = rw k.runners (had-set s e k.index (record { pid = k.child; life = Live c.cred; pieces = c.pieces }) born)
+  had-hands o (inr (inr (inr (inr (inl k))))) told = rw k.runners (had-set s e c.index (record { pid = c.pid; life = Live c.cred; pieces = cut k.addr (k.addr + rounded k.len) c.pieces }) mine)
+  had-hands o (inr (inr (inr (inr (inr (inl k)))))) told =
+      rw k.runners (had-set s e c.index (record { pid = c.pid; life = Live c.cred; pieces = (protects_pieces s.limits.most_pieces k.writable k.addr k.len c.pieces).pieces }) mine)
+  had-hands o (inr (inr (inr (inr (inr (inr k)))))) told = rw k.runners (had-set s e c.index (record { pid = c.pid; life = Live k.cred; pieces = c.pieces }) asks)
+    where
+      asks : (cred : Cred) → Live k.cred ≡ Live cred → Had s e c.index c.pid cred
+      asks cred same =
+          let same : k.cred ≡ cred = cc same in (
+            record { pid = c.pid; life = Live c.cred; pieces = c.pieces },
+            caller-there s pid c live,
+            refl,
+            inr (inl (record {
+              own = own ∙ sym at.own;
+              call = subst (λ (x : Cred). e.call ≡ Setuid x.uid x.gid) same k.asked;
+              reply = told ∙ k.answer;
+            })),
+          )
+  had-hands o (inr (inr (inr (inl k)))) told = rw k.runners (had-set s e k.index (record { pid = k.child; life = Live c.cred; pieces = c.pieces }) born)
     where
       old : Runner
       old = get_or s.runners k.index first_runner
@@ -63,14 +81,14 @@ module _ (s : Machine) (pid : ℕ) (c : Caller) (live : caller_of s pid ≡ Some
         get_or s.runners k.index first_runner,
         there,
         named,
-        inr (record {
+        inr (inr (record {
           life = life;
           call = k.asked ∙ ap Fork (sym named);
           reply = told ∙ k.answer;
           parent = c;
           live = ap (caller_of s) own ∙ live;
           inherits = cc (sym same);
-        }),
+        })),
       )
 
 pub keeps-credentials : (s : Machine) (n : ℕ) (e : Event) (t : Machine) → IsMove s n e t → KeepsCredentials s e t

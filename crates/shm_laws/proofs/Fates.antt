@@ -3,6 +3,7 @@ use Rattle.shm_laws.proofs.Names.{length-replicate, if◌then◌else◌, ◌≡�
 use Rattle.shm_laws.proofs.Turning.{same_refl, set_in-here, set_in-there, swept_entry, swept-get, Turned, unchanged, turned-over, turned-as, entry-none}
 use Rattle.shm_laws.proofs.Fresh.{IsEmpty, made-at, free-small}
 use Rattle.shm_laws.proofs.Looks.{holds, stands-at}
+use Rattle.shm_laws.proofs.Callers.{caller-there}
 use Rattle.shm_laws.proofs.Refusing.{by-move, refused-removed, refused-put}
 use Rattle.shm_laws.proofs.Stepping.{Bare, SweepTo, MakeTo, RemoveTo, IsIdle, Kind, over_put, overlay, MadeBy, made_by, Moved, removed, kind-acts, still}
 
@@ -11,7 +12,7 @@ use Rattle.shm_laws.proofs.Stepping.{Bare, SweepTo, MakeTo, RemoveTo, IsIdle, Ki
 pub kind-move : (s : Machine) (n : ℕ) (e : Event) (t : Machine) → Bare s.runners → IsMove s n e t → Moved s e t
 kind-move s n e t bare =
     by-move s n e t (λ r u. Kind (over_put (pieces_of_caller (caller_of s e.pid)) (put e.call r)) (made_by s.table (caller_of s e.pid) e.call) s (removed e.call r) r u)
-    (λ c is. rw is (kind-acts (MadeBy s.table c e.call) s n c e.call bare
+    (λ c is. rw is (kind-acts (MadeBy s.table c e.call) s n c (caller-there s e.pid c is) e.call bare
     (λ key size mode flags asked free some. record { mode = mode; flags = flags; asked = asked; free = free; some = some; pages = length-replicate _ 0; process = refl; user = refl; group = refl })))
     (λ r no. rw (refused-removed e.call r no, refused-put e.call r no) (still (made_by s.table (caller_of s e.pid) e.call) s r))
 
@@ -84,8 +85,8 @@ module _ (over : ℕ → List ℕ → List ℕ) (like : Segment → Type 0) (r :
   abbrev Fate : Bool → Type 0
   Fate b = Goes (over i) i t.runners b (slice_get s.table i) (slice_get t.table i) ⊎ Comes like i reply (slice_get s.table i) (slice_get t.table i)
 
-  fate-still : Turned (over i) s.table t.table i → ((id : ℕ) → attach_count s.runners id ≤ attach_count t.runners id) → Fate false
-  fate-still u grows = grind (arith, common_steps)
+  fate-still : Turned (over i) s.table t.table i → ((id : ℕ) → 1 ≤ attach_count s.runners id → 1 ≤ attach_count t.runners id) → Fate false
+  fate-still u kept = grind (arith, common_steps)
 
   -- it is swept, after a change of its entry
   fate-turned : (b : Bool) (f : Segment → Segment) (middle : List Entry) → IsIdle over → ((x : Segment) → IsSame x (f x)) → ((x : Segment) → (f x).dest ≡ (b || x.dest)) → ((x : Segment) → (f x).key ≡ key_after b x)

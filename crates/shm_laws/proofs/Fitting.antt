@@ -1,9 +1,9 @@
 -- Each piece is within a segment that exists.
-use Rattle.shm_laws.proofs.Names.{◌≡◌, ℕ, ◌+◌, ◌*◌, ◌%◌, ◌≤◌, true, length, get_or, Option, Some, None, refl, arith, common_steps, none-some, All-contains, Contains-get_or, Event, Segment, Piece, Runner, Machine, Opening, start_of, Place, covers, place_by, place, attach_count, Caller, caller_of, IsMove, Stands, HasPiece, EachPiece, pieces_of_caller}
+use Rattle.shm_laws.proofs.Names.{subst, sym, inr, ◌≡◌, ℕ, ◌+◌, ◌*◌, ◌%◌, ◌≤◌, true, length, get_or, Option, Some, None, refl, arith, common_steps, none-some, All-contains, Contains-get_or, Event, Segment, Piece, Runner, Machine, Opening, start_of, Place, covers, place_by, place, attach_count, Caller, caller_of, IsMove, Stands, HasPiece, EachPiece, pieces_of_caller}
 use Rattle.shm_laws.proofs.Fates.{kind-move}
 use Rattle.shm_laws.proofs.Accessing.{lies-in}
 use Rattle.shm_laws.proofs.Granting.{IsPieceGiven, Aligned, each-has, has-own, mine, each-start, given-move, aligned-move}
-use Rattle.shm_laws.proofs.Handing.{IsAligned}
+use Rattle.shm_laws.proofs.Parting.{IsAligned}
 use Rattle.shm_laws.proofs.Naming.{Before, came-from}
 use Rattle.shm_laws.proofs.Piecing.{IsWhole, whole-move, whole-start}
 use Rattle.shm_laws.proofs.Putting.{over-length}
@@ -33,6 +33,10 @@ abbrev pub AllFit : Machine → Type 0
 AllFit s = EachPiece (λ pid p. Fits s p) s
 
 fits-given : (s : Machine) (e : Event) (pid : ℕ) (p : Piece) → AllFit s → IsPieceGiven s e pid p → Fits s p
+fits-given s e pid p all (inr (inr (inr h))) =
+    let r = h.reach in
+    let f = each-has (λ pid q. Fits s q) s pid r.0 all r.1 in
+    record { segment = f.segment; stands = subst (λ id. Stands s id f.segment) (sym r.2.seg) f.stands; within = omega (arith, f.within, r.3) }
 fits-given s e pid p all h2 = grind (arith, each-has)
 
 -- a piece that fitted fits if its segment still exists

@@ -1,7 +1,10 @@
 -- Each piece descends from a shmat that had permission, and each move refuses processes without it.
-use Rattle.shm_laws.proofs.Names.{new_piece, ◌≡◌, ◌⊎◌, ℕ, ◌+◌, ◌*◌, ◌%◌, ◌<◌, ℤ, Bool, true, false, not, List, [], ◌∷◌, ◌++◌, length, get_or, Option, Some, None, slice_get, slice_set, refl, sym, ap, subst, ◌∙◌, inl, inr, arith, true≢false, All, Contains, none-some, slice_get_within, get_or_from_slice_get, All-nil, All-append, All-filter, All-map, All-weaker, All-contains, Contains-get_or, flat_map-cons, common_steps, ProcessCall, Load, Store, Xadd, Done, Event, Place, covers, places, writable_places, Segment, Piece, Live, Runner, Machine, Opening, start_of, runner_at_start, pages_in, look, meets, part_below, part_above, parts, cut, inserted, Caller, Outcome, caller_of, acts, pieces_with, is_rdonly, controls, load, store, xadd, is_refusal, IsMove, IsHistory, all-cons, all-head, all-tail, all-slice_set, HasPiece, EachPiece, IsPart, IsGranted, IsInherited, GoesBack, Granted, Kept, Inherited, Reach, StaysInside, controlled, OwnerAsks, KeepsOut, KeepsCredentials, MayAsk, NoWayIn, ShmidDs, pos, negsuc, stat, wish_of, grants, not-false, Look, Found, Removed, Invalid, Stands, IsCreated, Swapoff, swapoff, IsUserZero, ◌==◌, Set, Rmid, Lock, Unlock, sets, removes, locks, unlocks, Exchange, CompareExchange, exchange, compare_exchange}
+use Rattle.shm_laws.proofs.Names.{IsProtected, Protected, ShareTheirPages, protects_pieces, rounded, ◌≤◌, new_piece, ◌≡◌, ◌⊎◌, ℕ, ◌+◌, ◌*◌, ◌%◌, ◌<◌, ℤ, Bool, true, false, not, List, [], ◌∷◌, ◌++◌, length, get_or, Option, Some, None, slice_get, slice_set, refl, sym, ap, subst, ◌∙◌, inl, inr, arith, true≢false, All, Contains, none-some, slice_get_within, get_or_from_slice_get, All-nil, All-filter, All-map, All-weaker, All-contains, Contains-get_or, common_steps, ProcessCall, Load, Store, Xadd, Done, Event, Place, covers, places, writable_places, Segment, Piece, Live, Runner, Machine, Opening, start_of, runner_at_start, pages_in, look, parts, cut, Caller, Outcome, caller_of, acts, pieces_with, is_rdonly, controls, load, store, xadd, is_refusal, IsMove, IsHistory, all-slice_set, HasPiece, EachPiece, IsPart, IsGranted, IsInherited, GoesBack, Granted, Kept, Inherited, Reach, StaysInside, controlled, OwnerAsks, KeepsOut, KeepsCredentials, MayAsk, NoWayIn, ShmidDs, pos, negsuc, stat, wish_of, grants, not-false, Look, Found, Removed, Invalid, Stands, IsCreated, Swapoff, swapoff, IsUserZero, ◌==◌, Set, Rmid, Lock, Unlock, sets, removes, locks, unlocks, Exchange, CompareExchange, exchange, compare_exchange}
 use Rattle.shm_laws.proofs.Accessing.{lies-in, place-of, writable-at, writable-parts}
-use Rattle.shm_laws.proofs.Handing.{CallerAt, caller-at, IsAligned, Attaches, Leaves, Forks, Hands, hands-acts}
+use Rattle.shm_laws.proofs.Callers.{CallerAt, caller-at}
+use Rattle.shm_laws.proofs.Handing.{Attaches, Leaves, Forks, Unmaps, Protects, Credits, Hands, hands-acts}
+use Rattle.shm_laws.proofs.Protecting.{Comes, protected-comes}
+use Rattle.shm_laws.proofs.Parting.{IsAligned, part_refl, all-parts, all-cut, all-inserted}
 use Rattle.shm_laws.proofs.Inducting.{each_move, at_all_times}
 use Rattle.shm_laws.proofs.Looks.{found-own}
 use Rattle.shm_laws.proofs.Refusing.{by-move}
@@ -12,31 +15,6 @@ use Rattle.shm_laws.proofs.Getting.{IsGot, GetsBy, gets-move}
 use Rattle.shm_laws.proofs.Crediting.{keeps-credentials}
 use Rattle.shm_base.specs.declared.call.Call.TheVariants as calls
 use Rattle.shm_base.specs.declared.call.Reply.TheVariants as replies
-
--- PARTS
-
-part_refl : (p : Piece) → IsPart p p
-part_refl p = record { seg = refl; writable = refl; may_write = refl; pages = refl; from = omega arith; to = omega arith }
-
-module _ (from to : ℕ) (page_from : from % 4096 ≡ 0) (page_to : to % 4096 ≡ 0) where
-  below-parts : (p : Piece) → IsAligned p → meets from to p ≡ true → All (λ q. IsPart q p) (part_below from p)
-  below-parts p page m = grind (arith, common_steps)
-
-  above-parts : (p : Piece) → IsAligned p → meets from to p ≡ true → All (λ q. IsPart q p) (part_above to p)
-  above-parts p page m = grind (arith, common_steps)
-
-  all-parts : (p : Piece) → IsAligned p → All (λ q. IsPart q p) (parts from to p)
-  all-parts p page = grind (arith, below-parts, above-parts, all-cons, part_refl)
-
-all-cut : (P Q : Piece → Type 0) (from to : ℕ) → ((p : Piece) → P p → All Q (parts from to p)) → (ps : List Piece) → All P ps → All Q (cut from to ps)
-all-cut P Q from to each [] h = All-nil Q
-all-cut P Q from to each (p ∷ ps) h =
-    rw (flat_map-cons (parts from to) p ps)
-    (All-append Q (parts from to p) (cut from to ps) (each p (all-head P p ps h)) (all-cut P Q from to each ps (all-tail P p ps h)))
-
-all-inserted : (P : Piece → Type 0) (p : Piece) (ps : List Piece) → P p → All P ps → All P (inserted p ps)
-all-inserted P p [] h hs = all-cons P p [] h hs
-all-inserted P p (q ∷ qs) h hs = grind (arith, common_steps, all-cons, all-head, all-tail, all-inserted P p qs h (all-tail P q qs hs))
 
 -- WHERE A PIECE COMES FROM IN A MOVE
 
@@ -49,8 +27,15 @@ has-own s r is = λ k d lt. record { process = r; is = is; named = refl; has = C
 abbrev pub IsPieceKept : Machine → ℕ → Piece → Type 0
 IsPieceKept s pid p = (q : Piece) × HasPiece s pid q × IsPart p q
 
+-- and no page of it lies beyond those of a piece that the process had
+pub record IsPieceProtected (s : Machine) (e : Event) (pid : ℕ) (p : Piece) : Type 0 where
+  pub of : Piece
+  pub has : HasPiece s pid of
+  pub protected : IsProtected s e pid p of
+  pub reach : (r : Piece) × HasPiece s pid r × ShareTheirPages p r × (p.first_page + p.pages ≤ r.first_page + r.pages)
+
 abbrev pub IsPieceGiven : Machine → Event → ℕ → Piece → Type 0
-IsPieceGiven s e pid p = IsPieceKept s pid p ⊎ (IsInherited s e pid p ⊎ IsGranted s e pid p)
+IsPieceGiven s e pid p = IsPieceKept s pid p ⊎ (IsInherited s e pid p ⊎ (IsGranted s e pid p ⊎ IsPieceProtected s e pid p))
 
 abbrev AllGiven : Machine → Event → List Runner → Type 0
 AllGiven s e rs = All (λ (r : Runner). All (IsPieceGiven s e r.pid) r.pieces) rs
@@ -91,7 +76,7 @@ module _ (s : Machine) (pid : ℕ) (c : Caller) (is : caller_of s pid ≡ Some c
       where
         new : IsPieceGiven s e pid (new_piece k.seg k.base (pages_in k.segment) (not (is_rdonly k.flags)))
         new =
-            inr (inr (record {
+            inr (inr (inl (record {
               own = refl;
               addr = k.addr;
               flags = k.flags;
@@ -106,7 +91,7 @@ module _ (s : Machine) (pid : ℕ) (c : Caller) (is : caller_of s pid ≡ Some c
               permitted = k.permitted;
               page = k.page pages;
               whole = (refl, refl);
-            }))
+            })))
 
         to : ℕ
         to = k.base + 4096 * pages_in k.segment
@@ -133,11 +118,58 @@ module _ (s : Machine) (pid : ℕ) (c : Caller) (is : caller_of s pid ≡ Some c
     given-forks : Forks s c call o → AllGiven s e o.state.runners
     given-forks k = grind (arith, common_steps, given-set, mine)
 
+    given-unmaps : Unmaps s c call o → AllGiven s e o.state.runners
+    given-unmaps k = rw k.runners (given-set c.index (record { pid = c.pid; life = Live c.cred; pieces = _ }) (rw there.own left))
+      where
+        left : All (IsPieceGiven s e pid) (cut k.addr (k.addr + rounded k.len) c.pieces)
+        left =
+            all-cut (λ p. HasPiece s pid p × IsAligned p) (IsPieceGiven s e pid) k.addr (k.addr + rounded k.len)
+            (λ p h. All-weaker (λ q. IsPart q p) (IsPieceGiven s e pid) (λ q part. inl (p, h.0, part)) (parts k.addr (k.addr + rounded k.len) p)
+            (all-parts k.addr (k.addr + rounded k.len) k.page (omega (arith, k.page)) p h.1))
+            c.pieces (λ j d lt. (mine j d lt, pages j d lt))
+
+    given-protects : Protects s c call o → AllGiven s e o.state.runners
+    given-protects k = rw k.runners (given-set c.index (record { pid = c.pid; life = Live c.cred; pieces = _ }) (rw there.own all))
+      where
+        has : (p : Piece) → Contains c.pieces p → HasPiece s pid p
+        has p h = All-contains (HasPiece s pid) c.pieces p mine h
+
+        from : (p : Piece) → Comes c.pieces p → IsPieceGiven s e pid p
+        from p x =
+            inr (inr (inr (record {
+              of = x.of;
+              has = has x.of x.is;
+              protected = record {
+                own = refl;
+                addr = k.addr;
+                len = k.len;
+                writable = k.writable;
+                call = k.asked;
+                attach = x.attach;
+                may_write = x.may_write;
+                limited = x.limited;
+                there = λ a h. let r = x.there a h in (r.0, has r.0 r.1, r.2, r.3);
+              };
+              reach = (x.reach.0, has x.reach.0 x.reach.1, x.reach.2, x.reach.3);
+            })))
+
+        all : All (IsPieceGiven s e pid) (protects_pieces s.limits.most_pieces k.writable k.addr k.len c.pieces).pieces
+        all = All-weaker (Comes c.pieces) (IsPieceGiven s e pid) from _ (protected-comes s.limits.most_pieces k.writable k.addr k.len c.pieces pages)
+
+    given-credits : Credits s c call o → AllGiven s e o.state.runners
+    given-credits k =
+        rw k.runners
+        (given-set c.index (record { pid = c.pid; life = Live k.cred; pieces = c.pieces })
+        (rw there.own (All-weaker (HasPiece s pid) (IsPieceGiven s e pid) (λ p h. inl (p, h, part_refl p)) c.pieces mine)))
+
     given-hands : Hands s c call o → AllGiven s e o.state.runners
     given-hands (inl k) = rw k.runners (kept-all s e)
     given-hands (inr (inl k)) = given-attaches k
     given-hands (inr (inr (inl k))) = given-leaves k
-    given-hands (inr (inr (inr k))) = given-forks k
+    given-hands (inr (inr (inr (inl k)))) = given-forks k
+    given-hands (inr (inr (inr (inr (inl k))))) = given-unmaps k
+    given-hands (inr (inr (inr (inr (inr (inl k)))))) = given-protects k
+    given-hands (inr (inr (inr (inr (inr (inr k)))))) = given-credits k
 
 pub given-move : (s : Machine) (n : ℕ) (e : Event) (t : Machine) → Aligned s → IsMove s n e t → EachPiece (IsPieceGiven s e) t
 given-move s n e t aligned =
@@ -158,7 +190,8 @@ aligned-move s n e t aligned m = each-given (λ pid p. IsAligned p) (λ pid p. I
     page : (pid : ℕ) (p : Piece) → IsPieceGiven s e pid p → IsAligned p
     page pid p (inl h) = part-page p h.0 h.2 (each-has (λ pid q. IsAligned q) s pid h.0 aligned h.1)
     page pid p (inr (inl h)) = each-has (λ pid q. IsAligned q) s e.pid p aligned h.parent
-    page pid p (inr (inr h)) = h.page
+    page pid p (inr (inr (inl h))) = h.page
+    page pid p (inr (inr (inr h))) = let own = each-has (λ pid q. IsAligned q) s pid h.of aligned h.has in let same = h.protected.attach.pages in omega (arith, own, same)
 
 -- WHOLE HISTORIES
 
@@ -180,7 +213,8 @@ goes_on o before s e t h now m =
     back : (pid : ℕ) (p : Piece) → IsPieceGiven s e pid p → GoesBack o (before ++ e ∷ []) pid p
     back pid p (inl k) = Kept before s e pid p k.0 h k.1 k.2 (each-has (GoesBack o before) s pid k.0 now.back k.1)
     back pid p (inr (inl k)) = Inherited before s e pid p h k (each-has (GoesBack o before) s e.pid p now.back k.parent)
-    back pid p (inr (inr k)) = Granted before s e pid p h k
+    back pid p (inr (inr (inl k))) = Granted before s e pid p h k
+    back pid p (inr (inr (inr k))) = Protected before s e pid p k.of h k.has k.protected (each-has (GoesBack o before) s pid k.of now.back k.has)
 
 -- WHO IS KEPT OUT
 

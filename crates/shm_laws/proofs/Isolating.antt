@@ -1,6 +1,8 @@
 -- A call sees no byte that is hidden from its process.
 use Rattle.shm_laws.proofs.Stepping.{pick}
-use Rattle.shm_laws.proofs.Names.{◌≡◌, ◌⊎◌, ℕ, ◌+◌, ◌*◌, ◌/◌, ◌%◌, ◌^◌, ◌==◌, ℤ, Bool, true, false, not, nat_lt, if◌then◌else◌, List, [], ◌∷◌, length, Option, Some, None, slice_get, refl, sym, ap, subst, ◌∙◌, inl, inr, arith, common_steps, w64, to_le_bytes, from_le_bytes, length-replicate, none-some, slice_get_within, Errno, Eperm, GetFlags, AtFlags, ProcessCall, Shmget, Shmat, Shmdt, Stat, Set, Rmid, Lock, Unlock, Load, Store, Xadd, Fork, Exec, Exit, Swapoff, Addr, Number, Done, Event, Place, place, places, writable_places, stored, Segment, Entry, Piece, Runner, Machine, Opening, pages_in, Look, identifier, destroyed_in, destroyed_at, find_key, look, cut_segments, origin_of, change, attached, detach_all, swept, after_detach, Outcome, gives, refuses, Caller, caller_of, with_pieces, with_end, segments_of, new_segment, creates, shmget, pieces_with, attaches, attaches_chosen, attaches_fixed, attaches_found, shmat, detaches, forks, unborn_from, stat, controls, sets, removes, locks, unlocks, load, store, xadd, number_at, takes_away, acts, step_by, step, is_failure, IsMove, IsHistory, HasPiece, Reach, reach, veiled, veiled_from, veil, DifferIn, HasNone, IsPrivate, IsAsked, IsBlindOn, IsIsolated, pieces_of_caller, clear_step, first_clear, rest_clear, Einval, Enospc, Enomem, creates_small, huge_errno, within, reserved, pages_of, rests, attach_all, pieces_errno, inherited, fork_marks, slice_set, Live, may_not_lock, passes_limit, locks_as, unlocked, is_no_owner, ◌&&◌, Eexist, Eacces, grants, wish_of, wants_no_other, wants_creation, Found, Removed, Invalid, Id, pos, remaps_null, is_rnd, Exchange, CompareExchange, exchange, compare_exchange, same_bytes, loaded, Bytes}
+use Rattle.shm_laws.proofs.Names.{Mprotect, Munmap, Setuid, cut, mprotect, protects_pieces, rest_is_attached, unmapped_to, unmaps, ◌≡◌, ◌⊎◌, ℕ, ◌+◌, ◌*◌, ◌/◌, ◌%◌, ◌^◌, ◌==◌, ℤ, Bool, true, false, not, nat_lt, if◌then◌else◌, List, [], ◌∷◌, length, Option, Some, None, slice_get, refl, sym, ap, subst, ◌∙◌, inl, inr, arith, common_steps, w64, to_le_bytes, from_le_bytes, length-replicate, none-some, slice_get_within, Errno, Eperm, GetFlags, AtFlags, ProcessCall, Shmget, Shmat, Shmdt, Stat, Set, Rmid, Lock, Unlock, Load, Store, Xadd, Fork, Exec, Exit, Swapoff, Addr, Number, Done, Event, Place, place, places, writable_places, stored, Segment, Entry, Piece, Runner, Machine, Opening, pages_in, Look, identifier, destroyed_in, destroyed_at, find_key, look, cut_segments, origin_of, change, attached, detach_all, swept, after_detach, Outcome, gives, refuses, Caller, caller_of, with_pieces, with_end, segments_of, new_segment, creates, shmget, pieces_with, attaches, attaches_chosen, attaches_fixed, attaches_found, shmat, detaches, forks, unborn_from, stat, controls, sets, removes, locks, unlocks, load, store, xadd, number_at, takes_away, acts, step_by, step, is_failure, IsMove, IsHistory, HasPiece, Reach, reach, veiled, veiled_from, veil, DifferIn, HasNone, IsPrivate, IsAsked, IsBlindOn, IsIsolated, pieces_of_caller, clear_step, first_clear, rest_clear, Einval, Enospc, Enomem, creates_small, huge_errno, within, reserved, pages_of, rests, attach_all, pieces_errno, inherited, fork_marks, slice_set, Live, may_not_lock, passes_limit, locks_as, unlocked, is_no_owner, ◌&&◌, Eexist, Eacces, grants, wish_of, wants_no_other, wants_creation, Found, Removed, Invalid, Id, pos, remaps_null, is_rnd, Exchange, CompareExchange, exchange, compare_exchange, same_bytes, loaded, Bytes}
+use Rattle.std.specs.Prelude.{Result, Ok, Err}
+use Rattle.shm_base.specs.Mapping.{done_or}
 use Rattle.shm_laws.proofs.Refusing.{by-move}
 use Rattle.shm_base.specs.Step.{gets}
 use Rattle.shm_laws.proofs.Accessing.{place-of, places-length, writable-parts}
@@ -117,6 +119,32 @@ module _ (hidden : ℕ → Bool) (s : Machine) (n : ℕ) (c : Caller) where
   out-after : (rs : List Runner) (lost : List ℕ) → gives (after_detach B n c.pid rs lost) Done ≡ out hidden (gives (after_detach s n c.pid rs lost) Done)
   out-after rs lost = grind (arith, common_steps, detach-veiled, swept-veiled, arith)
 
+  out-unmaps : (addr : ℕ) (r : Result ℕ Errno) → unmaps B n c addr r ≡ out hidden (unmaps s n c addr r)
+  out-unmaps addr (Err e) = refl
+  out-unmaps addr (Ok to) =
+      tests Enomem (nat_lt s.limits.most_pieces (length (cut addr to c.pieces))) _ _ _ refl (λ j. record { reply = Done; state = record s { table = table j; runners = rs } })
+    where
+      rs : List Runner
+      rs = with_pieces s.runners c (cut addr to c.pieces)
+
+      lost : List ℕ
+      lost = cut_segments addr to c.pieces
+
+      kept : List ℕ
+      kept = rests s addr to c.pieces
+
+      table : swept rs (attach_all n c.pid (detach_all n c.pid (V T) lost) kept) ≡ V (swept rs (attach_all n c.pid (detach_all n c.pid T lost) kept))
+      table =
+          ap (λ t. swept rs (attach_all n c.pid t kept)) (detach-veiled hidden n c.pid lost T)
+          ∙ ap (swept rs) (attach-veiled hidden n c.pid kept (detach_all n c.pid T lost))
+          ∙ swept-veiled hidden 0 rs (attach_all n c.pid (detach_all n c.pid T lost) kept)
+
+  out-mprotect : (addr len : ℕ) (w : Bool) → mprotect B n c addr len w ≡ out hidden (mprotect s n c addr len w)
+  out-mprotect addr len w =
+      let x = protects_pieces s.limits.most_pieces w addr len c.pieces in
+      let table = either-veiled (rest_is_attached s.limits.rules) _ _ _ _ (attach-veiled hidden n c.pid x.split T) refl in
+      λ j. record { reply = done_or x.refusal; state = record s { table = table j; runners = with_pieces s.runners c x.pieces } }
+
   out-detaches : (addr : ℕ) (o : Option Piece) → detaches B n c addr o ≡ out hidden (detaches s n c addr o)
   out-detaches addr None = refl
   out-detaches addr (Some p) = out-after _ (p.seg ∷ [])
@@ -220,6 +248,9 @@ module _ (hidden : ℕ → Bool) (s : Machine) (n : ℕ) (c : Caller) where
     out-acts (Fork child) = out-forks child (unborn_from 0 child s.runners)
     out-acts Exec = out-after (with_pieces s.runners c []) (segments_of c)
     out-acts Exit = out-after (with_end s.runners c) (segments_of c)
+    out-acts (Munmap addr len) = out-unmaps addr (unmapped_to addr len)
+    out-acts (Mprotect addr len w) = out-mprotect addr len w
+    out-acts (Setuid uid gid) = refl
     out-acts (Swapoff area) = tests Eperm (not (c.cred.uid == 0)) _ _ _ refl (out-takes area (slice_get s.areas area))
 
 -- ONE TURN

@@ -18,6 +18,9 @@ pub mod Spacing
 pub mod Crediting
 pub mod Piecing
 pub mod Inducting
+pub mod Callers
+pub mod Parting
+pub mod Protecting
 pub mod Handing
 pub mod Accessing
 pub mod Granting

@@ -1,5 +1,6 @@
 -- No call changes the limits of a machine.
-use Rattle.shm_laws.proofs.Names.{◌≡◌, ◌%◌, ◌==◌, ◌&&◌, ℕ, ℤ, not, nat_lt, List, length, Option, Some, None, refl, common_steps, arith, AtFlags, ProcessCall, Shmget, Shmat, Shmdt, Stat, Set, Rmid, Lock, Unlock, Load, Store, Xadd, Fork, Exec, Exit, Swapoff, Event, Place, Segment, Piece, Machine, pages_in, Look, Found, Removed, Invalid, look, places, writable_places, inside, origin_of, Outcome, Caller, pieces_with, attaches, attaches_chosen, attaches_fixed, attaches_found, shmat, detaches, forks, unborn_from, stat, controls, sets, removes, locks, unlocks, load, store, xadd, takes_away, acts, is_rnd, at_wish, grants, owns, IsMove, is_taken, is_full, is_no_owner, remaps_null, may_not_lock, passes_limit, Exchange, CompareExchange, exchange, compare_exchange, same_bytes, loaded}
+use Rattle.shm_laws.proofs.Names.{Errno, Mprotect, Munmap, Setuid, cut, unmapped_to, unmaps, ◌≡◌, ◌%◌, ◌==◌, ◌&&◌, ℕ, ℤ, not, nat_lt, List, length, Option, Some, None, refl, common_steps, arith, AtFlags, ProcessCall, Shmget, Shmat, Shmdt, Stat, Set, Rmid, Lock, Unlock, Load, Store, Xadd, Fork, Exec, Exit, Swapoff, Event, Place, Segment, Piece, Machine, pages_in, Look, Found, Removed, Invalid, look, places, writable_places, inside, origin_of, Outcome, Caller, pieces_with, attaches, attaches_chosen, attaches_fixed, attaches_found, shmat, detaches, forks, unborn_from, stat, controls, sets, removes, locks, unlocks, load, store, xadd, takes_away, acts, is_rnd, at_wish, grants, owns, IsMove, is_taken, is_full, is_no_owner, remaps_null, may_not_lock, passes_limit, Exchange, CompareExchange, exchange, compare_exchange, same_bytes, loaded}
+use Rattle.std.specs.Prelude.{Result, Ok, Err}
 use Rattle.shm_base.specs.Step.{creates_at}
 use Rattle.shm_laws.proofs.Asking.{by-shmget}
 use Rattle.shm_laws.proofs.Refusing.{by-move}
@@ -83,6 +84,10 @@ module _ (s : Machine) (n : ℕ) (c : Caller) where
   limited-takes : (area : ℕ) (o : Option (Option ℕ)) → Limited (takes_away s area o)
   limited-takes area o = grind (arith, common_steps)
 
+  limited-unmaps : (addr : ℕ) (r : Result ℕ Errno) → Limited (unmaps s n c addr r)
+  limited-unmaps addr (Err e) = refl
+  limited-unmaps addr (Ok to) = pick Limited (nat_lt s.limits.most_pieces (length (cut addr to c.pieces))) _ _ refl refl
+
   pub limited-acts : (call : ProcessCall) → Limited (acts s n c call)
   limited-acts (Shmget key size mode flags) = by-shmget s n c Limited (λ r. refl) limited-creates_at key size mode flags
   limited-acts (Shmat id addr flags) = limited-shmat id addr flags
@@ -100,6 +105,9 @@ module _ (s : Machine) (n : ℕ) (c : Caller) where
   limited-acts (Fork child) = limited-forks child (unborn_from 0 child s.runners)
   limited-acts Exec = refl
   limited-acts Exit = refl
+  limited-acts (Munmap addr len) = limited-unmaps addr (unmapped_to addr len)
+  limited-acts (Mprotect addr len w) = refl
+  limited-acts (Setuid uid gid) = refl
   limited-acts (Swapoff area) = pick Limited (not (c.cred.uid == 0)) _ _ refl (limited-takes area _)
 
 pub limits-stay : (s : Machine) (n : ℕ) (e : Event) (t : Machine) → IsMove s n e t → t.limits ≡ s.limits

@@ -24,10 +24,12 @@ pub use Rattle.shm_base.specs.Rules.{fork_marks, pieces_errno, removed_errno, re
 pub use Rattle.shm_base.specs.Segments.{after_detach, attach_all, attach_count, attached, change, change_all, detach_all, detached, locked, marked, pages_held, pages_locked, reserved, locked_by_user, pages_locked_by, segment_count, slots, swept, swept_at, swept_from, with_entry}
 pub use Rattle.shm_base.specs.Space.{choose, cut, cut_segments, first_chosen, inserted, inside, is_gap, is_named, new_piece, end_address, lowest_address, meets, occupied, origin_of, part_above, part_below, parts, pieces_of, without_named}
 pub use Rattle.shm_base.specs.State.{Ended, Entry, Life, Live, Machine, Opening, Piece, Runner, Segment, Unborn, pages_in, pages_of, runner_at_start, start_of}
-pub use Rattle.shm_base.specs.Step.{Caller, Outcome, acts, at_wish, compare_exchange, exchange, creates_small, huge_errno, inherited, is_full, is_no_owner, is_taken, outside_errno, remaps_null, rests, attaches, attaches_chosen, attaches_fixed, attaches_found, caller_from, caller_of, controls, creates, creates_at, detaches, forks, gives, is_rdonly, is_remap, is_rnd, load, locks, new_segment, number_at, pieces_with, refuses, removes, segments_of, sets, shmat, shmget, stat, step, step_by, store, swapoff, takes_away, unborn_from, unlocks, wants_creation, wants_no_other, with_end, with_pieces, xadd}
+pub use Rattle.shm_base.specs.Callers.{Caller, Outcome, caller_from, caller_of, gives, refuses, with_cred, with_end, with_pieces}
+pub use Rattle.shm_base.specs.Mapping.{munmap, mprotect, protects, protects_pieces, rests, rounded, unmaps, unmapped_to}
+pub use Rattle.shm_base.specs.Step.{acts, at_wish, compare_exchange, exchange, creates_small, huge_errno, inherited, is_full, is_no_owner, is_taken, outside_errno, remaps_null, attaches, attaches_chosen, attaches_fixed, attaches_found, controls, creates, creates_at, detaches, forks, is_rdonly, is_remap, is_rnd, load, locks, new_segment, number_at, pieces_with, removes, segments_of, sets, shmat, shmget, stat, step, setuid, step_by, store, swapoff, takes_away, unborn_from, unlocks, wants_creation, wants_no_other, xadd}
 pub use Rattle.shm_base.specs.declared.owner.Cred.{Cred}
 pub use Rattle.shm_base.specs.Calls.{ProcessCall}
-pub use Rattle.shm_base.specs.declared.call.Call.TheVariants.{CompareExchange, Exchange, Exec, Exit, Fork, Load, Lock, Rmid, Set, Shmat, Shmdt, Shmget, Stat, Store, Swapoff, Unlock, Xadd}
+pub use Rattle.shm_base.specs.declared.call.Call.TheVariants.{CompareExchange, Exchange, Exec, Exit, Fork, Load, Lock, Mprotect, Munmap, Rmid, Set, Setuid, Shmat, Shmdt, Shmget, Stat, Store, Swapoff, Unlock, Xadd}
 pub use Rattle.shm_base.specs.declared.call.Event.{Event}
 pub use Rattle.shm_base.specs.declared.call.Process.{Process}
 pub use Rattle.shm_base.specs.declared.call.Reply.{Reply}
@@ -40,7 +42,6 @@ pub use Rattle.shm_base.specs.declared.flags.GetFlags.{GetFlags}
 pub use Rattle.shm_history.proofs.Clear.{clear_step, failures-cons, first_clear, rest_clear}
 pub use Rattle.shm_history.proofs.Histories.{history_more}
 pub use Rattle.shm_history.specs.WorldState.{calls_of, failures_in}
-pub use Rattle.shm_life.proofs.Leaving.{keeps-set}
 pub use Rattle.shm_life.proofs.Pieces.{all-cons, all-head, all-slice_set, all-tail}
 pub use Rattle.shm_segments.proofs.Entries.{get-set_other, get-set_same, length-slice_set, sum-set}
 pub use Rattle.shm_segments.specs.Orphan.{orphan, orphan_in}
@@ -49,8 +50,8 @@ pub use Rattle.shm_laws.specs.Identity.{AreNamesKept, IsMadeBy, IsSame, KeepsNam
 pub use Rattle.shm_laws.specs.Isolation.{DifferIn, HasNone, IsAsked, IsBlindOn, IsIsolated, IsPrivate, veil, veiled, veiled_entry, veiled_from}
 pub use Rattle.shm_laws.specs.Keys.{FindsByKey, HasKey, IsCreated, KeepsKeys, KeysAreApart, KeysLeadToOne}
 pub use Rattle.shm_laws.specs.Lawful.{IsLawful}
-pub use Rattle.shm_laws.specs.Permission.{GoesBack, Granted, Inherited, IsBornWith, IsGranted, IsInherited, IsPart, IsUserZero, KeepsCredentials, KeepsOut, Kept, MayAsk, NoWayIn, OwnerAsks, Reach, StaysInside, controlled, reach}
-pub use Rattle.shm_laws.specs.Pieces.{CountsPieces, GivesPieces, IsFreeFor, PiecesAreOfSegments, PiecesNameWhatStands, hands_pieces, piece_count}
+pub use Rattle.shm_laws.specs.Permission.{GoesBack, Granted, Inherited, IsBornWith, IsGranted, IsInherited, IsAskedFor, IsPart, IsProtected, IsUserZero, KeepsCredentials, KeepsOut, Kept, MayAsk, NoWayIn, OwnerAsks, Protected, Reach, ShareTheirPages, StaysInside, controlled, reach}
+pub use Rattle.shm_laws.specs.Pieces.{ChangesItsOwn, CountsPieces, GivesPieces, IsFreeFor, PiecesAreOfSegments, PiecesNameWhatStands, hands_pieces, piece_count, stops_midway}
 pub use Rattle.shm_laws.specs.Removal.{AreRemoved, DestroysWhatIsDue, GoesWhenItMust, IsDue, IsMarked, IsRemoval, KeepsMarks, MarkedHavePieces, Removes}
 pub use Rattle.shm_laws.specs.Replay.{IsReplayed, undone, without_failures}
 pub use Rattle.shm_laws.specs.Size.{AllFillPages, FillsPages, HaveTheirPages, KeepsSizes}

@@ -3,7 +3,7 @@ use Rattle.shm_laws.proofs.Names.{◌≡◌, ◌⊎◌, ℕ, ◌+◌, ◌/◌, �
 use Rattle.shm_laws.specs.Identity.{AreMade}
 use Rattle.shm_laws.proofs.Fresh.{IsEmpty, never}
 use Rattle.shm_laws.proofs.Turning.{same_refl, same_trans}
-use Rattle.shm_laws.proofs.Handing.{caller-at}
+use Rattle.shm_laws.proofs.Callers.{caller-at}
 use Rattle.shm_laws.proofs.Inducting.{GoesOn, each_move, each_moment, at_all_times, since-map}
 use Rattle.shm_laws.proofs.Looks.{holds, bare_entry, stands-at, at-stands, at-gone, entry-gone}
 use Rattle.shm_laws.proofs.Stepping.{overlay, made_by, Moved, removed}

@@ -1,8 +1,10 @@
 -- A segment with a piece exists.
-use Rattle.shm_laws.proofs.Names.{new_piece, ◌≡◌, ◌⊎◌, ℕ, suc, zero, ◌+◌, ◌*◌, ◌≤◌, not, List, [], ◌∷◌, map, Some, slice_get, slice_set, refl, ap, subst, inl, inr, arith, common_steps, cases_eq, filter, sum_by-cons, ProcessCall, Event, Process, Segment, Piece, Live, Runner, Machine, Opening, start_of, runner_at_start, pages_in, cut, pieces_of, attach_count, Caller, Outcome, caller_of, acts, is_rdonly, pieces_with, IsMove, IsHistory, one_more, pieces_of-inserted, pieces_of-cut_cons, pieces_of-filter, sum-set, Stands, IsDue, PiecesNameWhatStands, GivesPieces, CountsPieces, PiecesAreOfSegments}
+use Rattle.shm_laws.proofs.Names.{protects_pieces, rounded, new_piece, ◌≡◌, ◌⊎◌, ℕ, suc, zero, ◌+◌, ◌*◌, ◌≤◌, not, List, [], ◌∷◌, map, Some, slice_set, refl, ap, subst, inl, inr, arith, common_steps, cases_eq, filter, sum_by-cons, ProcessCall, Event, Process, Segment, Piece, Live, Runner, Machine, Opening, start_of, runner_at_start, pages_in, cut, pieces_of, attach_count, Caller, Outcome, caller_of, acts, is_rdonly, pieces_with, IsMove, IsHistory, one_more, pieces_of-inserted, pieces_of-cut_cons, pieces_of-filter, Stands, IsDue, PiecesNameWhatStands, GivesPieces, CountsPieces, PiecesAreOfSegments}
+use Rattle.shm_laws.proofs.Protecting.{protected-none}
 use Rattle.shm_laws.proofs.Refusing.{by-move}
 use Rattle.shm_laws.proofs.Counting.{counts-move}
-use Rattle.shm_laws.proofs.Handing.{Attaches, Hands, caller-at, hands-acts}
+use Rattle.shm_laws.proofs.Callers.{caller-at, runner-count}
+use Rattle.shm_laws.proofs.Handing.{Attaches, Hands, hands-acts}
 use Rattle.shm_laws.proofs.Inducting.{Keeps, each_move}
 use Rattle.shm_laws.proofs.Stepping.{Moved, removed}
 use Rattle.shm_laws.proofs.Fates.{IsMachineSound, sound-after, kind-move}
@@ -15,13 +17,6 @@ count-set : (rs : List Runner) (i : ℕ) (r : Runner) (id : ℕ) → attach_coun
 count-set [] i r id = omega arith
 count-set (x ∷ xs) zero r id = grind (arith, common_steps, sum_by-cons)
 count-set (x ∷ xs) (suc i) r id = grind (arith, common_steps, sum_by-cons, count-set xs i r id)
-
--- a process's pieces are counted
-pub runner-count : (rs : List Runner) (i : ℕ) (r : Runner) (id : ℕ) → slice_get rs i ≡ Some r → pieces_of id r.pieces ≤ attach_count rs id
-runner-count rs i r id is =
-    let none : Runner = record { pid = r.pid; life = r.life; pieces = [] } in
-    let sum = sum-set (λ (y : Runner). pieces_of id y.pieces) rs i none r is in
-    omega (arith, sum)
 
 caller-count : (s : Machine) (pid : ℕ) (c : Caller) (id : ℕ) → caller_of s pid ≡ Some c → pieces_of id c.pieces ≤ attach_count s.runners id
 caller-count s pid c id found = let at = caller-at 0 pid s.runners c found in runner-count s.runners at.place _ id at.there
@@ -68,7 +63,17 @@ module _ (s : Machine) (c : Caller) (mine : (id : ℕ) → attach_count s.runner
       rw k.runners
       (set-first c.index (record { pid = c.pid; life = k.life; pieces = filter k.stays c.pieces })
       (λ id none. inl (let le = pieces_of-filter id k.stays c.pieces in let z = mine id none in omega (arith, le, z))))
-  first-hands call o (inr (inr (inr k))) = rw k.runners (set-first k.index (record { pid = k.child; life = Live c.cred; pieces = c.pieces }) (λ id none. inl (mine id none)))
+  first-hands call o (inr (inr (inr (inr (inl k))))) =
+      rw k.runners
+      (set-first c.index (record { pid = c.pid; life = Live c.cred; pieces = cut k.addr (k.addr + rounded k.len) c.pieces })
+      (λ id none. inl (cut-none id k.addr (k.addr + rounded k.len) c.pieces (mine id none))))
+  first-hands call o (inr (inr (inr (inr (inr (inl k)))))) =
+      rw k.runners
+      (set-first c.index (record { pid = c.pid; life = Live c.cred; pieces = (protects_pieces s.limits.most_pieces k.writable k.addr k.len c.pieces).pieces })
+      (λ id none. inl (protected-none s.limits.most_pieces k.writable k.addr k.len id c.pieces (mine id none))))
+  first-hands call o (inr (inr (inr (inr (inr (inr k)))))) =
+      rw k.runners (set-first c.index (record { pid = c.pid; life = Live k.cred; pieces = c.pieces }) (λ id none. inl (mine id none)))
+  first-hands call o (inr (inr (inr (inl k)))) = rw k.runners (set-first k.index (record { pid = k.child; life = Live c.cred; pieces = c.pieces }) (λ id none. inl (mine id none)))
 
 first-move : (s : Machine) (n : ℕ) (e : Event) (t : Machine) → IsMove s n e t → First s t.runners
 first-move s n e t =

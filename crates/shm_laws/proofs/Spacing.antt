@@ -1,9 +1,15 @@
 -- The pieces of a process lie apart, inside the addresses, and are few.
-use Rattle.shm_laws.proofs.Names.{new_piece, ◌≡◌, ◌⊎◌, ℕ, zero, suc, ◌+◌, ◌-◌, ◌*◌, ◌/◌, ◌%◌, ◌≤◌, ◌<◌, Bool, true, false, not, List, [], ◌∷◌, ◌++◌, length, Some, slice_get, slice_set, refl, ap, subst, inl, inr, arith, common_steps, All, All-contains, All-map, All-nil, All-weaker, filter, none-some, or_parts, both_ways, ⊤, ProcessCall, Event, Segment, Piece, Live, Runner, Machine, Opening, start_of, runner_at_start, pages_in, end_of, covers, meets, occupied, parts, cut, inserted, lowest_address, end_address, occupied-cut, shorter_filter, all-cons, all-slice_set, Caller, Outcome, caller_of, acts, is_rdonly, pieces_with, IsMove, IsHistory, FillsPages, LieApart, LiesInside, AreLaidOut, SpacesAreLaidOut, sym, ◌∙◌}
+use Rattle.shm_laws.proofs.Names.{Contains, Contains-get_or, get_or, protects_pieces, rounded, slice_get-get_or, new_piece, ◌≡◌, ◌⊎◌, ℕ, zero, suc, ◌+◌, ◌-◌, ◌*◌, ◌/◌, ◌%◌, ◌≤◌, ◌<◌, Bool, true, false, not, List, [], ◌∷◌, ◌++◌, length, Some, slice_get, slice_set, refl, ap, subst, inl, inr, arith, common_steps, All, All-contains, All-map, All-nil, All-weaker, filter, none-some, or_parts, both_ways, ⊤, ProcessCall, Event, Segment, Piece, Live, Runner, Machine, Opening, start_of, runner_at_start, pages_in, end_of, covers, meets, occupied, parts, cut, inserted, lowest_address, end_address, occupied-cut, shorter_filter, all-cons, all-slice_set, Caller, Outcome, caller_of, acts, is_rdonly, pieces_with, IsMove, IsHistory, FillsPages, LieApart, LiesInside, AreLaidOut, SpacesAreLaidOut, sym, ◌∙◌}
 use Rattle.shm_base.specs.Bounds.{Bounds}
+use Rattle.std.specs.Prelude.{max}
+use Rattle.shm_attach.proofs.Renewed.{own_cut-is}
+use Rattle.shm_base.specs.Space.{covering}
+use Rattle.shm_base.specs.Mapping.{low_end, high_end, part_between, turned}
+use Rattle.shm_laws.proofs.Protecting.{CanTurn, found-in, holds-protected, low-page, high-page, low-under, high-over, part-end, part-there}
 use Rattle.shm_laws.proofs.Limiting.{limits-stay}
 use Rattle.shm_laws.proofs.Inducting.{Keeps, held_always}
-use Rattle.shm_laws.proofs.Handing.{IsAligned, Attaches, Hands, hands-acts}
+use Rattle.shm_laws.proofs.Handing.{Attaches, Hands, hands-acts}
+use Rattle.shm_laws.proofs.Parting.{IsAligned}
 use Rattle.shm_laws.proofs.Granting.{me-is}
 use Rattle.shm_laws.proofs.Refusing.{by-move}
 use Rattle.shm_laws.proofs.Sizing.{IsFilled, filled-move, filled-start}
@@ -120,6 +126,135 @@ laid-out most ps s = record { apart = laid-apart lowest_address ps s.laid; insid
 some-pages : (x : Segment) → FillsPages x → 1 ≤ pages_in x
 some-pages x f = omega (arith, f.some, f.whole, f.enough)
 
+-- A PART WITH ANOTHER PROTECTION
+
+contained : (ps : List Piece) (p : Piece) → Contains ps p → (k : ℕ) × (slice_get ps k ≡ Some p)
+contained ps p h = (h.0, slice_get-get_or ps h.0 p h.1 ∙ ap Some h.2)
+
+-- two pieces with one address are one
+one-piece : (a : ℕ) (ps : List Piece) (p q : Piece) → LieApart ps → Contains ps p → Contains ps q → covers p a ≡ true → covers q a ≡ true → p ≡ q
+one-piece a ps p q apart isp isq h k =
+    let i = contained ps p isp in
+    let j = contained ps q isq in
+    let same = apart a i.0 j.0 p q i.1 j.1 h k in
+    let there : slice_get ps i.0 ≡ Some q = subst (λ n. slice_get ps n ≡ Some q) (sym same) j.1 in
+    cc (i.1, there)
+
+inside-low : (low : ℕ) (ps : List Piece) (p : Piece) → lowest_address ≤ low → Laid low ps → Contains ps p → LiesInside p
+inside-low low ps p le laid has = All-contains LiesInside ps p (laid-inside low ps le laid) has
+
+pages-some : (p : Piece) → LiesInside p → p.base < end_of p
+pages-some p h = omega (arith, h.some)
+
+met-here : (low high : ℕ) (q : Piece) → meets low high q ≡ true → (q.base < high) × (low < end_of q)
+met-here low high q h = grind (arith, common_steps)
+
+covers-at : (p : Piece) (a : ℕ) → p.base ≤ a → a < end_of p → covers p a ≡ true
+covers-at p a from to = grind (arith, common_steps)
+
+module _ (most : ℕ) (w : Bool) (to at : ℕ) (ps : List Piece) (p : Piece) (page : at % 4096 ≡ 0) (last : to % 4096 ≡ 0) (space : IsSpace most ps) (can : CanTurn most w to at ps p) where
+  all-inside : All LiesInside ps
+  all-inside = laid-inside lowest_address ps (omega arith) space.laid
+
+  aligned : All IsAligned ps
+  aligned = All-weaker LiesInside IsAligned (λ q h. h.page) ps all-inside
+
+  abbrev low : ℕ
+  low = low_end w at to p ps
+
+  abbrev high : ℕ
+  high = high_end w at to p ps
+
+  abbrev part : Piece
+  part = part_between w low high p
+
+  ends : end_of part ≡ high
+  ends = part-end w at to p ps aligned can.found page last can.order
+
+  under : low ≤ at
+  under = low-under w at to p ps aligned can.found page last can.order
+
+  over : at < high
+  over = high-over w at to p ps aligned can.found page last can.order
+
+  -- what the part meets belongs to its segment
+  met-own : (q : Piece) → Contains ps q → meets low high q ≡ true → q.seg ≡ p.seg
+  met-own q has m =
+      let met = met-here low high q m in
+      let some = pages-some q (inside-low lowest_address ps q (omega arith) space.laid has) in
+      let a = max low q.base in
+      let from : q.base ≤ a = omega arith in
+      let within : a < end_of q = omega (arith, met.1, some) in
+      let in-part : covers part a ≡ true = covers-at part a (omega arith) (let e = ends in let u = under in let o = over in omega (arith, met.0, e, u, o)) in
+      let r = part-there w at to p ps aligned can.found page last can.order a in-part in
+      let same = one-piece a ps q r.0 (laid-apart lowest_address ps space.laid) has r.1 (covers-at q a from within) r.2 in
+      ap (λ (x : Piece). x.seg) same ∙ sym r.3.seg
+
+  in_its_place : turned w at to p ps ≡ inserted part (cut low high ps)
+  in_its_place = ap (inserted part) (own_cut-is p.seg low high ps (λ k d lt. met-own (get_or ps k d) (Contains-get_or ps k d lt)))
+
+  -- some address of it lies in a piece
+  part-set : IsSet part
+  part-set =
+      let e = ends in
+      let u = under in
+      let o = over in
+      let a = low-page w at to p ps aligned can.found page last can.order in
+      let some : 1 ≤ part.pages = omega (arith, e, u, o) in
+      let end = end_of part - 1 in
+      let r = part-there w at to p ps aligned can.found page last can.order end (covers-at part end (omega (arith, some)) (omega (arith, some))) in
+      let inside = inside-low lowest_address ps r.0 (omega arith) space.laid r.1 in
+      let past = covered-to r.0 end r.2 in
+      let to-page = inside.page in
+      let to-end = inside.to in
+      record { page = a; some = some; to = omega (arith, past, to-page, to-end, some, a) }
+
+  part-low : lowest_address ≤ low
+  part-low =
+      let e = ends in
+      let u = under in
+      let o = over in
+      let r = part-there w at to p ps aligned can.found page last can.order low (covers-at part low (omega arith) (omega (arith, e, u, o))) in
+      let inside = inside-low lowest_address ps r.0 (omega arith) space.laid r.1 in
+      let from = covered-from r.0 low r.2 in
+      let first = inside.from in
+      omega (arith, from, first)
+
+  turned-space : IsSpace most (turned w at to p ps)
+  turned-space =
+      record {
+        laid =
+            subst (Laid lowest_address) (sym in_its_place)
+            (laid-inserted lowest_address part (cut low high ps)
+            (laid-cut lowest_address low high ps space.laid (low-page w at to p ps aligned can.found page last can.order) (high-page w at to p ps aligned can.found page last can.order) (let u = under in let o = over in omega (arith, u, o)))
+            part-low part-set (rw ends (occupied-cut low high ps)));
+        few = can.few;
+      }
+
+record Turning (most at : ℕ) (ps : List Piece) : Type 0 where
+  page : at % 4096 ≡ 0
+  space : IsSpace most ps
+
+piece-end : (most at : ℕ) (ps : List Piece) (p : Piece) → IsSpace most ps → covering at ps ≡ Some p → end_of p % 4096 ≡ 0
+piece-end most at ps p space found =
+    let inside = inside-low lowest_address ps p (omega arith) space.laid (found-in at ps p found).0 in
+    let page = inside.page in
+    omega (arith, page)
+
+protected-space : (most : ℕ) (w : Bool) (addr len : ℕ) (ps : List Piece) → IsSpace most ps → IsSpace most (protects_pieces most w addr len ps).pieces
+protected-space most w addr len ps space =
+    holds-protected (Turning most) (IsSpace most) (λ at qs h. h.space) most w addr len ps
+    (λ page.
+    record {
+      passes = λ at qs p is h. record { page = piece-end most at qs p h.space is; space = h.space };
+      turns = λ at qs p can h.
+          record {
+            page = piece-end most at qs p h.space can.found;
+            space = turned-space most w (addr + rounded len) at qs p h.page (omega (arith, page)) h.space can;
+          };
+    })
+    (λ page. record { page = page; space = space }) space
+
 module _ (s : Machine) (pid : ℕ) (c : Caller) (is : caller_of s pid ≡ Some c) (filled : IsFilled s) (spaces : Spaces s.limits.most_pieces s.runners) where
   own : IsSpace s.limits.most_pieces c.pieces
   own = All-contains (λ (r : Runner). IsSpace s.limits.most_pieces r.pieces) s.runners (record { pid = pid; life = Live c.cred; pieces = c.pieces }) spaces (me-is s pid c is)
@@ -160,7 +295,16 @@ module _ (s : Machine) (pid : ℕ) (c : Caller) (is : caller_of s pid ≡ Some c
       rw k.runners
       (set-one c.index (record { pid = c.pid; life = k.life; pieces = filter k.stays c.pieces })
       (record { laid = laid-filter k.stays lowest_address c.pieces own.laid; few = let le = shorter_filter k.stays c.pieces in omega (arith, le, own.few) }))
-  hands-spaces call o (inr (inr (inr k))) = rw k.runners (set-one k.index (record { pid = k.child; life = Live c.cred; pieces = c.pieces }) own)
+  hands-spaces call o (inr (inr (inr (inr (inl k))))) =
+      rw k.runners
+      (set-one c.index (record { pid = c.pid; life = Live c.cred; pieces = cut k.addr (k.addr + rounded k.len) c.pieces })
+      (record { laid = laid-cut lowest_address k.addr (k.addr + rounded k.len) c.pieces own.laid k.page (omega (arith, k.page)) (omega arith); few = k.few }))
+  hands-spaces call o (inr (inr (inr (inr (inr (inl k)))))) =
+      rw k.runners
+      (set-one c.index (record { pid = c.pid; life = Live c.cred; pieces = (protects_pieces s.limits.most_pieces k.writable k.addr k.len c.pieces).pieces })
+      (protected-space s.limits.most_pieces k.writable k.addr k.len c.pieces own))
+  hands-spaces call o (inr (inr (inr (inr (inr (inr k)))))) = rw k.runners (set-one c.index (record { pid = c.pid; life = Live k.cred; pieces = c.pieces }) own)
+  hands-spaces call o (inr (inr (inr (inl k)))) = rw k.runners (set-one k.index (record { pid = k.child; life = Live c.cred; pieces = c.pieces }) own)
 
 spaces-move : (s : Machine) (n : ℕ) (e : Event) (t : Machine) → IsFilled s → Spaces s.limits.most_pieces s.runners → IsMove s n e t → Spaces s.limits.most_pieces t.runners
 spaces-move s n e t filled spaces =

@@ -1,6 +1,9 @@
 -- The four kinds of step on the segments: still, a sweep after a detach, a creation, a removal.
-use Rattle.shm_laws.proofs.Names.{◌≡◌, ◌⊎◌, ℕ, ◌+◌, ◌*◌, ◌%◌, ◌^◌, ◌≤◌, ◌==◌, ◌&&◌, ℤ, pos, negsuc, Bool, true, false, not, nat_lt, nat_le, within, if◌then◌else◌, List, [], ◌∷◌, length, replicate, get_or, Option, Some, None, slice_get, slice_set, refl, sym, ap, subst, ◌∙◌, inl, inr, arith, common_steps, get-set_other, w64, to_le_bytes, slice_get-get_or, GetFlags, AtFlags, ProcessCall, Shmget, Shmat, Shmdt, Stat, Set, Rmid, Lock, Unlock, Load, Store, Xadd, Exchange, CompareExchange, Fork, Exec, Exit, Swapoff, Reply, Id, Done, Addr, Event, grants, owns, wish_of, Place, places, writable_places, stored, Segment, Entry, Piece, Unborn, Live, Ended, Runner, Machine, pages_in, pages_of, Look, Found, Removed, Invalid, identifier, destroyed_at, free_index, with_segment, look, find_key, inside, cut_segments, origin_of, attach_count, reserved, segment_count, change, attached, marked, detach_all, swept, Outcome, gives, refuses, segments_of, Caller, caller_of, acts, new_segment, creates, creates_at, shmget, wants_creation, wants_no_other, is_rnd, at_wish, attaches, attaches_chosen, attaches_fixed, attaches_found, shmat, pieces_with, with_pieces, detaches, forks, unborn_from, stat, controls, sets, removes, locks, unlocks, load, store, xadd, number_at, takes_away, swapoff, first_runner, child_at, life_in, keeps-set, IsSame, Put, put, pieces_of_caller, Errno, creates_small, huge_errno, rests, attach_all, is_taken, is_full, remaps_null, pieces_errno, inherited, fork_marks, may_not_lock, passes_limit, locks_as, unlocked, is_no_owner, exchange, compare_exchange, same_bytes, loaded, Bytes}
+use Rattle.shm_laws.proofs.Names.{pieces_of, Cred, Mprotect, Munmap, Setuid, cut, mprotect, protects_pieces, rest_is_attached, unmapped_to, unmaps, with_cred, ◌≡◌, ◌⊎◌, ℕ, ◌+◌, ◌*◌, ◌%◌, ◌^◌, ◌≤◌, ◌==◌, ◌&&◌, ℤ, pos, negsuc, Bool, true, false, not, nat_lt, nat_le, within, if◌then◌else◌, List, [], ◌∷◌, length, replicate, get_or, Option, Some, None, slice_get, slice_set, refl, sym, ap, subst, ◌∙◌, inl, inr, arith, common_steps, get-set_other, w64, to_le_bytes, slice_get-get_or, GetFlags, AtFlags, ProcessCall, Shmget, Shmat, Shmdt, Stat, Set, Rmid, Lock, Unlock, Load, Store, Xadd, Exchange, CompareExchange, Fork, Exec, Exit, Swapoff, Reply, Id, Done, Addr, Event, grants, owns, wish_of, Place, places, writable_places, stored, Segment, Entry, Piece, Unborn, Live, Ended, Runner, Machine, pages_in, pages_of, Look, Found, Removed, Invalid, identifier, destroyed_at, free_index, with_segment, look, find_key, inside, cut_segments, origin_of, attach_count, reserved, segment_count, change, attached, marked, detach_all, swept, Outcome, gives, refuses, segments_of, Caller, caller_of, acts, new_segment, creates, creates_at, shmget, wants_creation, wants_no_other, is_rnd, at_wish, attaches, attaches_chosen, attaches_fixed, attaches_found, shmat, pieces_with, with_pieces, detaches, forks, unborn_from, stat, controls, sets, removes, locks, unlocks, load, store, xadd, number_at, takes_away, swapoff, first_runner, child_at, life_in, IsSame, Put, put, pieces_of_caller, Errno, creates_small, huge_errno, rests, attach_all, is_taken, is_full, remaps_null, pieces_errno, inherited, fork_marks, may_not_lock, passes_limit, locks_as, unlocked, is_no_owner, exchange, compare_exchange, same_bytes, loaded, Bytes}
+use Rattle.std.specs.Prelude.{Result, Ok, Err}
 use Rattle.shm_base.specs.Step.{gets}
+use Rattle.shm_laws.proofs.Callers.{kept-set}
+use Rattle.shm_laws.proofs.Protecting.{protected-keeps}
 use Rattle.shm_laws.proofs.Accessing.{writable-parts}
 use Rattle.shm_laws.proofs.Turning.{IsAlike, Turned, unchanged, puts_in, turned-refl, turned-trans, turned-change, turned-attach, turned-detach, turned-stored, set-got}
 use Rattle.shm_laws.proofs.Looks.{entry-found}
@@ -22,10 +25,10 @@ unborn-bare child i rs found bare =
 
 -- THE KINDS
 
--- no segment is made or destroyed, and none loses a piece; the bytes at each index become these
+-- no segment is made or destroyed, and none loses its last piece; the bytes at each index become these
 pub record StillTo (over : ℕ → List ℕ → List ℕ) (s t : Machine) : Type 0 where
   pub turned : (i : ℕ) → Turned (over i) s.table t.table i
-  pub grows : (id : ℕ) → attach_count s.runners id ≤ attach_count t.runners id
+  pub kept : (id : ℕ) → 1 ≤ attach_count s.runners id → 1 ≤ attach_count t.runners id
   pub bare : Bare s.runners → Bare t.runners
 
 pub record SweepTo (s t : Machine) : Type 0 where
@@ -119,11 +122,11 @@ Moved s e t = Kind (overlay s e) (made_by s.table (caller_of s e.pid) e.call) s 
 -- WHERE NO SEGMENT IS REMOVED
 
 pub still : (like : Segment → Type 0) (s : Machine) (reply : Reply) → Kind idle like s None reply s
-still like s reply = inl (refl, inl (record { turned = turned-refl s.table; grows = λ id. omega arith; bare = λ h. h }))
+still like s reply = inl (refl, inl (record { turned = turned-refl s.table; kept = λ id some. some; bare = λ h. h }))
 
 quiet : (over : ℕ → List ℕ → List ℕ) (like : Segment → Type 0) (s : Machine) (reply : Reply) (t : Machine) → ((i : ℕ) → Turned (over i) s.table t.table i) → t.runners ≡ s.runners → Kind over like s None reply t
 quiet over like s reply t turned same =
-    inl (refl, inl (record { turned = turned; grows = λ id. rw same (omega arith); bare = λ h. rw same h }))
+    inl (refl, inl (record { turned = turned; kept = λ id some. rw same some; bare = λ h. rw same h }))
 
 sweeps : (like : Segment → Type 0) (s : Machine) (reply : Reply) (t : Machine) (middle : List Entry) → ((i : ℕ) → Turned unchanged s.table middle i) → t.table ≡ swept t.runners middle
     → (Bare s.runners → Bare t.runners) → Kind idle like s None reply t
@@ -244,7 +247,7 @@ module _ (like : Segment → Type 0) (s : Machine) (n : ℕ) (c : Caller) where
         refl,
         inl (record {
           turned = turned-inherited;
-          grows = λ id. keeps-set [] s.runners i new old.0 old.1 (λ j other. rw old.2 (omega arith)) id refl;
+          kept = kept-set s.runners i old.0 new old.1 (λ j some. absurd (let none = ap (pieces_of j) old.2 in omega (arith, none, some)));
           bare = λ h. bare-set s.runners i new h (λ (e : Live c.cred ≡ Unborn). cc e);
         }),
       )
@@ -323,28 +326,72 @@ module _ (like : Segment → Type 0) (s : Machine) (n : ℕ) (c : Caller) where
   kind-swapoff : (area : ℕ) → Plain s (swapoff s c area)
   kind-swapoff area = pick (Plain s) (not (c.cred.uid == 0)) _ _ (still like s _) (kind-takes area (slice_get s.areas area))
 
+  kind-unmaps : (addr : ℕ) (r : Result ℕ Errno) → Plain s (unmaps s n c addr r)
+  kind-unmaps addr (Err e) = still like s _
+  kind-unmaps addr (Ok to) =
+      let lost : List ℕ = cut_segments addr to c.pieces in
+      let gone : List Entry = detach_all n c.pid s.table lost in
+      let kept : List ℕ = rests s addr to c.pieces in
+      let middle : List Entry = attach_all n c.pid gone kept in
+      let rs : List Runner = with_pieces s.runners c (cut addr to c.pieces) in
+      pick (Plain s) (nat_lt s.limits.most_pieces (length (cut addr to c.pieces))) _ _ (still like s _)
+      (sweeps like s Done (record s { table = swept rs middle; runners = rs }) middle
+      (λ i. turned-trans unchanged unchanged s.table gone middle i (turned-detach n c.pid lost s.table i) (turned-attach n c.pid kept gone i))
+      refl (living c (cut addr to c.pieces) s.runners))
+
+  abbrev There : Type 0
+  There = slice_get s.runners c.index ≡ Some (record { pid = c.pid; life = Live c.cred; pieces = c.pieces })
+
+  kind-protects : There → (w : Bool) (addr len : ℕ) → Plain s (mprotect s n c addr len w)
+  kind-protects there w addr len =
+      let x = protects_pieces s.limits.most_pieces w addr len c.pieces in
+      let new : Runner = record { pid = c.pid; life = Live c.cred; pieces = x.pieces } in
+      inl (
+        refl,
+        inl (record {
+          turned = λ i. pick_table (λ t. Turned unchanged s.table t i) (rest_is_attached s.limits.rules) _ _ (turned-attach n c.pid x.split s.table i) (turned-refl s.table i);
+          kept = kept-set s.runners c.index _ new there (λ id some. protected-keeps s.limits.most_pieces w addr len id c.pieces some);
+          bare = living c x.pieces s.runners;
+        }),
+      )
+
+  kind-setuid : There → (cred : Cred) → Plain s (gives (record s { runners = with_cred s.runners c cred }) Done)
+  kind-setuid there cred =
+      let new : Runner = record { pid = c.pid; life = Live cred; pieces = c.pieces } in
+      inl (
+        refl,
+        inl (record {
+          turned = turned-refl s.table;
+          kept = kept-set s.runners c.index _ new there (λ id some. some);
+          bare = λ h. bare-set s.runners c.index new h (λ (e : Live cred ≡ Unborn). cc e);
+        }),
+      )
+
   -- a removal
   kind-rmid : (id : ℕ) (l : Look) → look s.table (pos id) ≡ l → let o = controls s c (removes s) l in Kind idle like s (removed_by o.reply (pos id)) o.reply o.state
   kind-rmid id l is = grind (arith, common_steps, still, entry-found, pick)
 
   -- each call
-  pub kind-acts : (call : ProcessCall) → Bare s.runners → ((key size mode : ℕ) (flags : GetFlags) → call ≡ Shmget key size mode flags → (key ≡ 0) ⊎ IsFree s.table key → Likes key size mode)
+  pub kind-acts : There → (call : ProcessCall) → Bare s.runners → ((key size mode : ℕ) (flags : GetFlags) → call ≡ Shmget key size mode flags → (key ≡ 0) ⊎ IsFree s.table key → Likes key size mode)
       → let o = acts s n c call in Kind (over_put c.pieces (put call o.reply)) like s (removed call o.reply) o.reply o.state
-  kind-acts (Shmget key size mode flags) bare made = kind-shmget key size mode flags (made key size mode flags refl)
-  kind-acts (Shmat id addr flags) bare made = kind-shmat id addr flags
-  kind-acts (Shmdt addr) bare made = kind-detaches addr (origin_of addr c.pieces)
-  kind-acts (Stat id) bare made = kind-stat (look s.table id)
-  kind-acts (Set id uid gid mode) bare made = kind-controls (sets s n uid gid mode) (kind-sets uid gid mode) (look s.table id)
-  kind-acts (Rmid (pos id)) bare made = kind-rmid id (look s.table (pos id)) refl
-  kind-acts (Rmid (negsuc id)) bare made = still like s _
-  kind-acts (Lock id) bare made = kind-controls (locks s c) kind-locks (look s.table id)
-  kind-acts (Unlock id) bare made = kind-controls (unlocks s) kind-unlocks (look s.table id)
-  kind-acts (Load a len) bare made = kind-load (places c.pieces a len)
-  kind-acts (Store bytes a) bare made = kind-store a bytes (writable_places c.pieces a (length bytes)) refl
-  kind-acts (Xadd a add) bare made = kind-xadd a add (writable_places c.pieces a 8) refl
-  kind-acts (Exchange bytes a) bare made = kind-exchange a bytes (writable_places c.pieces a (length bytes)) refl
-  kind-acts (CompareExchange expected desired a) bare made = kind-compare a expected desired (writable_places c.pieces a (length desired)) refl
-  kind-acts (Fork child) bare made = kind-forks child (unborn_from 0 child s.runners) bare refl
-  kind-acts Exec bare made = sweeps like s _ _ _ (turned-detach n c.pid (segments_of c) s.table) refl (living c [] s.runners)
-  kind-acts Exit bare made = sweeps like s _ _ _ (turned-detach n c.pid (segments_of c) s.table) refl (λ h. bare-set s.runners c.index (record { pid = c.pid; life = Ended; pieces = [] }) h (λ (e : Ended ≡ Unborn). cc e))
-  kind-acts (Swapoff area) bare made = kind-swapoff area
+  kind-acts there (Shmget key size mode flags) bare made = kind-shmget key size mode flags (made key size mode flags refl)
+  kind-acts there (Shmat id addr flags) bare made = kind-shmat id addr flags
+  kind-acts there (Shmdt addr) bare made = kind-detaches addr (origin_of addr c.pieces)
+  kind-acts there (Stat id) bare made = kind-stat (look s.table id)
+  kind-acts there (Set id uid gid mode) bare made = kind-controls (sets s n uid gid mode) (kind-sets uid gid mode) (look s.table id)
+  kind-acts there (Rmid (pos id)) bare made = kind-rmid id (look s.table (pos id)) refl
+  kind-acts there (Rmid (negsuc id)) bare made = still like s _
+  kind-acts there (Lock id) bare made = kind-controls (locks s c) kind-locks (look s.table id)
+  kind-acts there (Unlock id) bare made = kind-controls (unlocks s) kind-unlocks (look s.table id)
+  kind-acts there (Load a len) bare made = kind-load (places c.pieces a len)
+  kind-acts there (Store bytes a) bare made = kind-store a bytes (writable_places c.pieces a (length bytes)) refl
+  kind-acts there (Xadd a add) bare made = kind-xadd a add (writable_places c.pieces a 8) refl
+  kind-acts there (Exchange bytes a) bare made = kind-exchange a bytes (writable_places c.pieces a (length bytes)) refl
+  kind-acts there (CompareExchange expected desired a) bare made = kind-compare a expected desired (writable_places c.pieces a (length desired)) refl
+  kind-acts there (Fork child) bare made = kind-forks child (unborn_from 0 child s.runners) bare refl
+  kind-acts there Exec bare made = sweeps like s _ _ _ (turned-detach n c.pid (segments_of c) s.table) refl (living c [] s.runners)
+  kind-acts there Exit bare made = sweeps like s _ _ _ (turned-detach n c.pid (segments_of c) s.table) refl (λ h. bare-set s.runners c.index (record { pid = c.pid; life = Ended; pieces = [] }) h (λ (e : Ended ≡ Unborn). cc e))
+  kind-acts there (Swapoff area) bare made = kind-swapoff area
+  kind-acts there (Munmap addr len) bare made = kind-unmaps addr (unmapped_to addr len)
+  kind-acts there (Mprotect addr len w) bare made = kind-protects there w addr len
+  kind-acts there (Setuid uid gid) bare made = kind-setuid there (record { uid = uid; gid = gid })

@@ -6,7 +6,7 @@ use Rattle.shm_base.specs.declared.call.Reply.TheVariants.{Id}
 use Rattle.shm_base.specs.declared.call.Event.{Event}
 use Rattle.shm_base.specs.State.{Segment, Machine, Opening}
 use Rattle.shm_base.specs.Identifier.{Invalid, look}
-use Rattle.shm_base.specs.Step.{Caller, caller_of}
+use Rattle.shm_base.specs.Callers.{Caller, caller_of}
 use Rattle.shm_laws.specs.Standing.{Stands, IsGone, EachMove, EachMoment, Always, Since}
 
 -- the same segment: of the same size, and made by the same process of the same user

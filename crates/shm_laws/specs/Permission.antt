@@ -6,7 +6,7 @@ use Rattle.shm_base.specs.declared.owner.Want.{Want}
 use Rattle.shm_base.specs.declared.flags.GetFlags.{GetFlags}
 use Rattle.shm_base.specs.declared.flags.AtFlags.{AtFlags}
 use Rattle.shm_base.specs.Calls.{ProcessCall}
-use Rattle.shm_base.specs.declared.call.Call.TheVariants.{Shmget, Shmat, Set, Rmid, Lock, Unlock, Load, Store, Xadd, Exchange, CompareExchange, Fork, Swapoff}
+use Rattle.shm_base.specs.declared.call.Call.TheVariants.{Shmget, Shmat, Set, Rmid, Lock, Unlock, Load, Store, Xadd, Exchange, CompareExchange, Fork, Swapoff, Mprotect, Setuid}
 use Rattle.shm_base.specs.declared.call.Call.TheVariants as calls
 use Rattle.shm_base.specs.declared.call.ShmidDs.{ShmidDs}
 use Rattle.shm_base.specs.declared.call.Reply.TheVariants.{Id, Addr, Done}
@@ -15,7 +15,8 @@ use Rattle.shm_base.specs.declared.call.Event.{Event}
 use Rattle.shm_base.specs.State.{Segment, Piece, Unborn, Live, Runner, Machine, Opening, pages_in}
 use Rattle.shm_base.specs.Permission.{grants, wish_of}
 use Rattle.shm_base.specs.Access.{end_of, covers}
-use Rattle.shm_base.specs.Step.{at_wish, Caller, caller_of, is_rdonly}
+use Rattle.shm_base.specs.Callers.{Caller, caller_of}
+use Rattle.shm_base.specs.Step.{at_wish, is_rdonly}
 use Rattle.shm_base.specs.History.{is_refusal, IsHistory}
 use Rattle.shm_laws.specs.Standing.{Stands, HasPiece, EachPiece, EachMove, Always}
 use Rattle.shm_base.specs.declared.paging.TheConstants.{PAGE_SIZE}
@@ -49,6 +50,26 @@ pub record IsGranted (s : Machine) (e : Event) (pid : ℕ) (p : Piece) : Type 0 
   pub page : p.base % PAGE_SIZE ≡ 0
   pub whole : (p.first_page ≡ 0) × (p.pages ≡ pages_in segment)
 
+-- both pieces have the same page of one segment at each address that is in both
+pub record ShareTheirPages (p q : Piece) : Type 0 where
+  pub seg : p.seg ≡ q.seg
+  pub pages : p.base + PAGE_SIZE * q.first_page ≡ q.base + PAGE_SIZE * p.first_page
+
+-- The event is an mprotect of the process, and the piece is of the attach of q: it may be writable under the same condition, and
+-- it is writable only if it may be or q was. At each of its addresses the process had the same page before
+pub record IsProtected (s : Machine) (e : Event) (pid : ℕ) (p q : Piece) : Type 0 where
+  pub own : e.pid ≡ pid
+  pub addr : ℕ
+  pub len : ℕ
+  pub writable : Bool
+  pub call : e.call ≡ Mprotect addr len writable
+  pub attach : ShareTheirPages p q
+  pub may_write : p.may_write ≡ q.may_write
+  pub limited : p.writable ≡ true → (p.may_write ≡ true) ⊎ (q.writable ≡ true)
+  pub there :
+      (address : ℕ) → covers p address ≡ true
+      → (r : Piece) × HasPiece s pid r × (covers r address ≡ true) × ShareTheirPages p r
+
 -- the event is a fork that created the process as a child, and its parent had the piece
 pub record IsInherited (s : Machine) (e : Event) (pid : ℕ) (p : Piece) : Type 0 where
   pub call : e.call ≡ Fork pid
@@ -56,7 +77,8 @@ pub record IsInherited (s : Machine) (e : Event) (pid : ℕ) (p : Piece) : Type 
   pub parent : HasPiece s e.pid p
 
 -- Where a piece comes from, after these events: the last event granted it; or the process had it, or a piece that it is a part
--- of, before; or the process was born of one that had it. A piece from before has an origin of the same kind
+-- of, before; or the last event protected a part of an attach of the process; or the process was born of one that had it. A
+-- piece from before has an origin of the same kind
 pub data GoesBack (o : Opening) : List Event → ℕ → Piece → Type 0 where
   Granted :
       (before : List Event) (s : Machine) (e : Event) (pid : ℕ) (p : Piece) → IsHistory o before s
@@ -64,6 +86,9 @@ pub data GoesBack (o : Opening) : List Event → ℕ → Piece → Type 0 where
   Kept :
       (before : List Event) (s : Machine) (e : Event) (pid : ℕ) (p q : Piece) → IsHistory o before s
       → HasPiece s pid q → IsPart p q → GoesBack o before pid q → GoesBack o (before ++ e ∷ []) pid p
+  Protected :
+      (before : List Event) (s : Machine) (e : Event) (pid : ℕ) (p q : Piece) → IsHistory o before s
+      → HasPiece s pid q → IsProtected s e pid p q → GoesBack o before pid q → GoesBack o (before ++ e ∷ []) pid p
   Inherited :
       (before : List Event) (s : Machine) (e : Event) (pid : ℕ) (p : Piece) → IsHistory o before s
       → IsInherited s e pid p → GoesBack o before e.pid p → GoesBack o (before ++ e ∷ []) pid p
@@ -146,15 +171,21 @@ pub record IsBornWith (s : Machine) (e : Event) (unborn : Runner) (cred : Cred) 
   pub live : caller_of s e.pid ≡ Some parent
   pub inherits : cred ≡ parent.cred
 
--- a process that is live after an event had the same credentials before it, or is born with them
+-- the event is a setuid of the process, which asked for these credentials
+pub record IsAskedFor (e : Event) (process : Runner) (cred : Cred) : Type 0 where
+  pub own : e.pid ≡ process.pid
+  pub call : e.call ≡ Setuid cred.uid cred.gid
+  pub reply : e.reply ≡ Done
+
+-- a process that is live after an event had the same credentials before it, or asked for them, or is born with them
 abbrev pub KeepsCredentials : Machine → Event → Machine → Type 0
 KeepsCredentials s e t =
     (k : ℕ) (now : Runner) (cred : Cred) → slice_get t.runners k ≡ Some now → now.life ≡ Live cred
     → (old : Runner) × (slice_get s.runners k ≡ Some old) × (old.pid ≡ now.pid)
-    × ((old.life ≡ Live cred) ⊎ IsBornWith s e old cred)
+    × ((old.life ≡ Live cred) ⊎ (IsAskedFor e old cred ⊎ IsBornWith s e old cred))
 
 -- THE LAW. At each moment each piece descends from a shmat that had permission; each event keeps out those
--- without permission, and gives no process other credentials
+-- without permission, and gives no process other credentials than it asked for
 pub record NoWayIn (o : Opening) (events : List Event) (end : Machine) : Type 0 where
   pub pieces : Always (λ before s. EachPiece (GoesBack o before) s) o events
   pub moves : EachMove KeepsOut o events end

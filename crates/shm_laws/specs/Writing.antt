@@ -10,7 +10,7 @@ use Rattle.shm_base.specs.State.{Segment, Machine, Opening}
 use Rattle.shm_base.specs.Access.{place, same_bytes}
 use Rattle.shm_base.specs.Identifier.{Invalid, look}
 use Rattle.shm_base.specs.Processes.{pieces_of_caller}
-use Rattle.shm_base.specs.Step.{caller_of}
+use Rattle.shm_base.specs.Callers.{caller_of}
 use Rattle.shm_laws.specs.Standing.{Stands, Since, Always, EachTurn}
 
 -- WHAT AN EVENT WRITES

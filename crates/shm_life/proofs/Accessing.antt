@@ -6,7 +6,8 @@ use Rattle.std.specs.Prelude.{◌^◌, is_some, map, Option, Result, Ok, Err, If
 use Rattle.std.specs.Result.{result_and, result_or}
 use Rattle.std.proofs.lemmas.Result.{IfOk-weaker}
 use Rattle.shm_base.specs.Access.{places, same_bytes, stored, writable_places}
-use Rattle.shm_base.specs.Step.{Caller, caller_of, compare_exchange, exchange, load, step_by, store, xadd}
+use Rattle.shm_base.specs.Callers.{Caller, caller_of}
+use Rattle.shm_base.specs.Step.{compare_exchange, exchange, load, step_by, store, xadd}
 use Rattle.shm_base.specs.History.{is_failure, is_refusal}
 use Rattle.shm_base.specs.declared.call.Call.TheVariants as call
 use Rattle.shm_base.specs.declared.call.Reply.{Reply}

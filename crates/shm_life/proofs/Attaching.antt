@@ -4,7 +4,8 @@ use Rattle.std.proofs.Common.{Option, Result, Ok, Err}
 use Rattle.shm_base.specs.Rules.{pieces_errno}
 use Rattle.shm_base.specs.State.{pages_in}
 use Rattle.shm_base.specs.Identifier.{Found}
-use Rattle.shm_base.specs.Step.{Caller, Outcome, is_taken, is_full, outside_errno}
+use Rattle.shm_base.specs.Callers.{Caller, Outcome}
+use Rattle.shm_base.specs.Step.{is_taken, is_full, outside_errno}
 use Rattle.shm_base.specs.Space.{inside}
 use Rattle.shm_base.specs.declared.errno.Errno.{Errno}
 use Rattle.shm_base.specs.declared.errno.Errno.TheVariants.{Einval, Enomem}

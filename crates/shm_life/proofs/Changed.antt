@@ -11,7 +11,7 @@ use Rattle.shm_life.proofs.Names.{none-some, gives, refuses, Outcome, Done, lock
 use Rattle.shm_base.specs.State.{Machine as FlatMachine}
 use Rattle.shm_base.specs.State.{Segment}
 use Rattle.shm_base.specs.State.{pages_in}
-use Rattle.shm_base.specs.Step.{Caller as FlatCaller}
+use Rattle.shm_base.specs.Callers.{Caller as FlatCaller}
 use Rattle.shm_attach.specs.Spans.{AreSpans}
 use Rattle.shm_attach.specs.declared.process.Caller.{Caller}
 use Rattle.shm_segments.specs.declared.head.Found.{Found}

@@ -3,6 +3,7 @@
 use Rattle.shm_life.proofs.Names.{◌≡◌, ◌≤◌, ℕ, ◌+◌, ◌*◌, ◌%◌, false, List, [], ◌∷◌, zero, suc, Some, None, refl, sym, ap, ◌∙◌, arith, All-nil, All, set_in, Bounds, Piece, Life, Live, Entry, Runner, cut, pieces_of, origin_of, without_named, change, with_entry, attached, attach_all, attach_all-same, detached, detach_all, same-refl, same-trans, segments_of, AtFlags, StoreView, Translation, AreTrue, IsCaller, caller_seen, pieces_at, rest_segments, IsLive, SameTable, change-same, Placed, piece_for, pieces_after, lost_to, PieceFits, is_among, IsTableSound, IsTableSoundBut, IsWell, IsWellBut}
 use Rattle.std.proofs.Common.{slice_get, slice_set, Option, option_map, Bool, true, if◌then◌else◌}
 use Rattle.shm_base.specs.Rules.{rest_is_attached}
+use Rattle.shm_base.specs.declared.owner.Cred.{Cred}
 use Rattle.shm_attach.specs.declared.process.Caller.{Caller}
 use Rattle.shm_life.specs.Sound.{AreProcesses}
 use Rattle.shm_base.specs.Space.{cut_segments}
@@ -60,7 +61,7 @@ module _ (limits : Bounds) (t : List Entry) (rs : List Runner) (c : Caller) (k :
         kept = going (Live c.cred) (without_named addr seg ps) (seg ∷ []) (pass-without t addr seg ps own) (keeps-without addr seg ps);
       }
 
-  -- unmap
+  -- munmap
   pub range-goes : (from to : ℕ) → Goes limits t (replaced rs c (Live c.cred) (cut from to (pieces_at rs c.index))) (cut_segments from to (pieces_at rs c.index))
   range-goes from to =
       let ps = pieces_at rs c.index in
@@ -69,12 +70,16 @@ module _ (limits : Bounds) (t : List Entry) (rs : List Runner) (c : Caller) (k :
         kept = going (Live c.cred) (cut from to ps) (cut_segments from to ps) (pass-cut t from to ps own) (keeps-rest from to ps);
       }
 
-  -- protect
+  -- mprotect
   pub renewed-kept : (qs : List Piece) → KeepsOwn (pieces_at rs c.index) qs → IsTableSound limits t (replaced rs c (Live c.cred) qs)
   renewed-kept qs keeps =
       let r : Runner = record { pid = c.pid; life = Live c.cred; pieces = qs } in
       kept-by limits t t rs (replaced rs c (Live c.cred) qs) k (omega arith) (omega arith) k.locked (fit-set t rs c.index r k.pieces (keeps.pages (λ id. is_some (live t id)) (page_there t) own))
       (orphans-named rs (replaced rs c (Live c.cred) qs) t k.orphans (count-named rs c.index r (record { pid = c.pid; life = Live c.cred; pieces = pieces_at rs c.index }) (caller-runner c rs is) keeps.named)) (same-processes (Live c.cred) qs)
+
+  -- setuid
+  pub recredited-kept : (cred : Cred) → IsTableSound limits t (replaced rs c (Live cred) (pieces_at rs c.index))
+  recredited-kept cred = going (Live cred) (pieces_at rs c.index) [] own (λ id _. omega arith)
 
   -- shmat
   pub place-goes : (flags : AtFlags) (p : Placed) → PieceFits t (piece_for flags p)

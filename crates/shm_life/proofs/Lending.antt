@@ -6,7 +6,7 @@ use Rattle.std.proofs.lemmas.List.Elements.{All-cons}
 use Rattle.std.specs.Prelude.{◌&&◌, ◌++◌, count_by, nat_eq, slice_index_or, Option, Result, Ok, Err, IsSome, is_err, is_none, is_some, map, option_map}
 use Rattle.shm_base.specs.declared.errno.Errno.{Errno}
 use Rattle.shm_base.specs.Spans.{run}
-use Rattle.shm_base.specs.Step.{Caller}
+use Rattle.shm_base.specs.Callers.{Caller}
 use Rattle.shm_attach.specs.declared.process.Caller.{Caller as Called}
 use Rattle.shm_frames.specs.Frame.{Frame, frame_at, is_lent, lent_of, no_frame}
 use Rattle.shm_fault.proofs.Lending.{loans-set, stay-refl, stay-same, stay-stops, stay-trans, stay-visit}

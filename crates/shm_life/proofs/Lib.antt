@@ -12,6 +12,7 @@ pub mod Created
 pub mod Changed
 pub mod Inheriting
 pub mod Splitting
+pub mod Protected
 pub mod Going
 pub mod Attaching
 pub mod Reserved

@@ -29,7 +29,9 @@ pub use Rattle.shm_base.specs.Segments.{attach_all, attach_count, attached, chan
 pub use Rattle.shm_base.specs.Space.{choose, cut, cut_segments, leaves_rest, rest_segments, has_origin, inserted, is_named, meets, origin_of, part_above, part_below, parts, pieces_of, without_named}
 pub use Rattle.shm_base.specs.Spans.{InPage, page_of, span_places}
 pub use Rattle.shm_base.specs.State.{Entry, Life, Live, Machine, Piece, Runner, Segment, pages_of, runner_at_start}
-pub use Rattle.shm_base.specs.Step.{Outcome, rests, at_wish, attaches, attaches_chosen, attaches_fixed, attaches_found, gives, locks, refuses, segments_of, shmat, swapoff}
+pub use Rattle.shm_base.specs.Callers.{Outcome, gives, refuses}
+pub use Rattle.shm_base.specs.Mapping.{rests}
+pub use Rattle.shm_base.specs.Step.{at_wish, attaches, attaches_chosen, attaches_fixed, attaches_found, locks, segments_of, shmat, swapoff}
 pub use Rattle.shm_base.specs.declared.call.Process.{Process}
 pub use Rattle.shm_base.specs.declared.call.Reply.TheVariants.{Bytes, Done}
 pub use Rattle.shm_base.specs.declared.errno.Errno.TheVariants.{Enomem}

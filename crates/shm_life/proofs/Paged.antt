@@ -3,7 +3,7 @@ use Rattle.shm_life.proofs.Names.{◌≡◌, ◌≤◌, ◌∙◌, ◌∷◌, []
 use Rattle.std.proofs.Common.{suc, zero}
 use Rattle.std.specs.Prelude.{◌++◌, slice_index_or, Option, Result, Ok, Err, IfOk, IfErr, is_ok, is_some}
 use Rattle.shm_base.specs.Spans.{run}
-use Rattle.shm_base.specs.Step.{caller_of}
+use Rattle.shm_base.specs.Callers.{caller_of}
 use Rattle.shm_base.specs.declared.errno.Errno.{Errno}
 use Rattle.shm_base.specs.declared.errno.Errno.TheVariants.{Sigsegv}
 use Rattle.shm_attach.specs.declared.process.Caller.{Caller as Called}

@@ -6,18 +6,17 @@ use Rattle.std.proofs.lemmas.List.Quantifiers.{all_pairs_push}
 use Rattle.std.proofs.lemmas.List.{get_or-take, get_or-set_other, get_or_default, get_or-map, length-map, length-set, length-take, length_push}
 use Rattle.std.proofs.lemmas.Grind.{get_or-set_at}
 use Rattle.std.proofs.lemmas.Option.{slice_get_within, slice_get-get_or}
-use Rattle.shm_base.specs.State.{Piece, Life, Unborn, Live, Ended, Runner, runner_at_start}
+use Rattle.shm_base.specs.State.{Live, Runner, runner_at_start}
 use Rattle.shm_base.specs.Bounds.{within}
-use Rattle.shm_base.specs.Step.{Caller, caller_by, caller_from, unborn_from}
-use Rattle.shm_base.specs.Guest.{Standing, standing, standing_from, joins, joins_beside, leaves, leaves_found, becomes, becomes_by, with_cred, left_by, is_live, is_ended}
+use Rattle.shm_base.specs.Callers.{Caller}
+use Rattle.shm_base.specs.Step.{unborn_from}
+use Rattle.shm_base.specs.Guest.{Standing, standing, standing_from, joins, joins_beside, leaves, leaves_found, left_by, is_live, is_ended}
 use Rattle.shm_base.specs.declared.bounds.TheConstants.{LAST_PID}
 use Rattle.shm_base.specs.declared.call.Process.{Process}
-use Rattle.shm_base.specs.declared.errno.Errno.{Errno}
 use Rattle.shm_base.specs.declared.guest.AdmitRefusal.{AdmitRefusal}
 use Rattle.shm_base.specs.declared.guest.AdmitRefusal.TheVariants.{BadPid, PidTaken, TooManyProcesses}
 use Rattle.shm_base.specs.declared.guest.DismissRefusal.{DismissRefusal}
 use Rattle.shm_base.specs.declared.guest.DismissRefusal.TheVariants.{StillLive}
-use Rattle.shm_base.specs.declared.owner.Cred.{Cred}
 use Rattle.shm_base.specs.declared.memory.HostMemory.{HostMemory}
 use Rattle.shm_attach.specs.Spaces.{SpacesView}
 use Rattle.shm_attach.specs.declared.process.Child.{Child}
@@ -176,45 +175,6 @@ leaves-there most pid rs after (Some x) is gone k = by (is_live x.runner.life) g
 pub dismissed-apart : (most pid : ℕ) (a b : SpacesView) (r : Result (Unit {0}) DismissRefusal) → leaves pid a.runners ≡ left_by r b.runners → OnErr r (b ≡ a) → AreProcesses most a.runners → AreProcesses most b.runners
 dismissed-apart most pid a b (Ok done) gone refused k = leaves-there most pid a.runners b.runners (standing pid a.runners) refl gone k
 dismissed-apart most pid a b (Err e) gone refused k = subst (λ (v : SpacesView). AreProcesses most v.runners) (sym refused) k
-
--- A PROCESS HAS OTHER CREDENTIALS
-
-record IsAt (n : ℕ) (rs : List Runner) (c : Caller) : Type 0 where
-  runner : Runner
-  place : ℕ
-  index : c.index ≡ n + place
-  there : slice_get rs place ≡ Some runner
-  named : runner.pid ≡ c.pid
-
-by-life : (n pid : ℕ) (ps : List Piece) (l : Life) (c : Caller) → caller_by n pid ps l ≡ Some c → (c.index ≡ n) × (c.pid ≡ pid)
-by-life n pid ps Unborn c is = absurd (cc is)
-by-life n pid ps (Live cred) c is =
-    let it : record { index = n; pid = pid; cred = cred; pieces = ps } ≡ c = cc is in
-    (ap (λ (k : Caller). k.index) (sym it), ap (λ (k : Caller). k.pid) (sym it))
-by-life n pid ps Ended c is = absurd (cc is)
-
-caller-at : (n pid : ℕ) (rs : List Runner) (c : Caller) → caller_from n pid rs ≡ Some c → IsAt n rs c
-caller-at n pid [] c is = absurd (cc is)
-caller-at n pid (r ∷ rs) c is = elim (cases_eq r.pid pid) [
-  | inl same ↦
-      let it = by-life n pid r.pieces r.life c (rw (eq-eqb r.pid pid same) at is) in
-      record { runner = r; place = 0; index = omega (arith, it.0); there = refl; named = same ∙ sym it.1 }
-  | inr other ↦
-      let k = caller-at (n + 1) pid rs c (rw (ne_eqb r.pid pid other) at is) in
-      record { runner = k.runner; place = suc k.place; index = omega (arith, k.index); there = k.there; named = k.named }
-]
-
-becomes-there : (most pid : ℕ) (cred : Cred) (rs after : List Runner) (o : Option Caller) → caller_from 0 pid rs ≡ o → becomes_by cred rs o ≡ Ok after → AreProcesses most rs → AreProcesses most after
-becomes-there most pid cred rs after None is out k = absurd (cc out)
-becomes-there most pid cred rs after (Some c) is out k =
-    let same : with_cred rs c cred ≡ after = cc out in
-    let at = caller-at 0 pid rs c is in
-    let place : at.place ≡ c.index = omega (arith, at.index) in
-    subst (AreProcesses most) same (set-apart most rs c.index (record { pid = c.pid; life = Live cred; pieces = c.pieces }) at.runner (subst (λ (j : ℕ). slice_get rs j ≡ Some at.runner) place at.there) at.named k)
-
-pub recredited-apart : (most pid : ℕ) (cred : Cred) (a b : SpacesView) (r : Result (Unit {0}) Errno) → becomes pid cred a.runners ≡ left_by r b.runners → OnErr r (b ≡ a) → AreProcesses most a.runners → AreProcesses most b.runners
-recredited-apart most pid cred a b (Ok done) is refused k = becomes-there most pid cred a.runners b.runners (caller_from 0 pid a.runners) refl is k
-recredited-apart most pid cred a b (Err e) is refused k = subst (λ (v : SpacesView). AreProcesses most v.runners) (sym refused) k
 
 -- A CHILD IS BORN
 

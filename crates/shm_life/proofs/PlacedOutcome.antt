@@ -6,7 +6,8 @@ use Rattle.shm_base.specs.declared.call.Reply.TheVariants.{Addr}
 use Rattle.shm_base.specs.State.{Piece, Machine}
 use Rattle.shm_base.specs.Segments.{attach_all, change, attached, detach_all, swept}
 use Rattle.shm_base.specs.Space.{inserted, cut, cut_segments}
-use Rattle.shm_base.specs.Step.{Caller, Outcome, gives, refuses, rests, with_pieces}
+use Rattle.shm_base.specs.Callers.{Caller, Outcome, gives, refuses, with_pieces}
+use Rattle.shm_base.specs.Mapping.{rests}
 use Rattle.shm_life.specs.Placing.{piece_for}
 use Rattle.shm_life.specs.declared.shmat.Placed.{Placed}
 

@@ -5,7 +5,7 @@ use Rattle.shm_fault.specs.Store.{held, Still}
 use Rattle.shm_fault.specs.Segs.{with_seg_lock}
 use Rattle.shm_fault.specs.Held.{holds_locked}
 use Rattle.shm_segments.proofs.Remembered.{memory-refl}
-use Rattle.shm_base.specs.Step.{Outcome}
+use Rattle.shm_base.specs.Callers.{Outcome}
 use Rattle.shm_base.specs.History.{is_refusal}
 use Rattle.shm_base.specs.declared.call.Reply.{Reply}
 use Rattle.shm_base.specs.declared.call.Reply.TheVariants.{Refused}
@@ -15,7 +15,7 @@ use Rattle.shm_life.specs.MachineView.{MachineView, Answered, IsFailed}
 use Rattle.shm_life.specs.Paging.{Did, DidUpTo, Pages, Paging}
 use Rattle.shm_life.specs.Paging.Paging.{Rests}
 use Rattle.shm_segments.specs.Staying.{Ends, MovesNone}
-use Rattle.shm_segments.proofs.Staying.{ends-refl, moves-refl}
+use Rattle.shm_segments.proofs.Staying.{moves-refl}
 use Rattle.std.specs.Prelude.{Result, Ok, Err, is_ok}
 use Rattle.shm_fault.specs.Goes.{CountsFailure}
 use Rattle.shm_base.specs.Calls.{ProcessCall}
@@ -54,9 +54,6 @@ pages_moved reply m n moves = pages_done Rests reply m n moves
 
 pub pages_ended : (reply : Reply) (m n : StoreView) → Ends m n → Pages Rests false reply m n
 pages_ended reply m n ends = pages_done Rests reply m n ends.moves
-
-pub ends_refl : (m : StoreView) → Ends m m
-ends_refl m = ends-refl m
 
 -- WHAT STAYS LOCKED
 
@@ -105,6 +102,17 @@ answered_with o does reply locks s step paged = record { step = λ _. step; fail
 
 pub answered_as : (o : Outcome) (reply : Reply) (locks : Bool) (s : MachineView) → o ≡ record { reply = reply; state = s.flat } → Answered o Rests false locks reply s s
 answered_as o reply locks s step = answered_with o Rests reply locks s step (pages_rest reply s.memory)
+
+-- an answer, maybe a refusal, for which the flat machine changed and the memory did not
+pub unmoved : (o : Outcome) (reply : Reply) (locks : Bool) (s t : MachineView) → o ≡ record { reply = reply; state = t.flat } → t.memory ≡ s.memory → Answered o Rests false locks reply s t
+unmoved o reply locks s t step same = record {
+  step = λ _. step;
+  failed = λ e. absurd (true≢false (sym e));
+  keeps = rw same (keeps_refl s.memory);
+  locked = λ _ seg. rw same (λ is. is);
+  still = λ _ _. same;
+  paged = rw same (pages_rest reply s.memory);
+}
 
 -- a refusal
 pub refused_as : (o : Outcome) (does : Paging) (errno : Errno) (locks : Bool) (s : MachineView) → o ≡ record { reply = Refused errno; state = s.flat } → Answered o does false locks (Refused errno) s s

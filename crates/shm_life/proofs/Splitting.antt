@@ -5,7 +5,7 @@ use Rattle.std.specs.Prelude.{nat_le, ◌&&◌, ◌==◌, ◌%◌, ◌^◌, ◌+
 use Rattle.shm_base.specs.Space.{covering}
 use Rattle.shm_base.specs.Access.{covers}
 use Rattle.shm_base.specs.State.{pages_of}
-use Rattle.shm_base.specs.Mapping.{Protected, stopped, ended, with_split, has_protection, low_end, high_end, part_between, turned, protects_piece, protects_from, protects_pieces, rounded}
+use Rattle.shm_base.specs.Mapping.{Protected, stopped, ended, with_split, has_protection, low_end, high_end, part_between, own_cut, turned, protects_piece, protects_from, protects_pieces, rounded}
 use Rattle.shm_base.specs.declared.errno.Errno.TheVariants.{Eacces, Einval, Enomem}
 use Rattle.shm_life.proofs.Pieces.{all-cons, all-head, all-tail, all-if}
 use Rattle.shm_life.proofs.Settled.{found-all}
@@ -21,11 +21,6 @@ module _ (P : ℕ → Type 0) where
       by true = All-append OfPiece (part_below from p) (part_above to p) (all-if OfPiece (nat_lt p.base from) _ (λ e. h)) (all-if OfPiece (nat_lt to (end_of p)) _ (λ e. h))
       by false = all-cons OfPiece p [] h (All-nil OfPiece)
 
-  cut-own : (from to : ℕ) (ps : List Piece) → All OfPiece ps → All OfPiece (cut from to ps)
-  cut-own from to [] h = h
-  cut-own from to (p ∷ ps) h =
-      rw (flat_map-cons (parts from to) p ps) (All-append OfPiece (parts from to p) (cut from to ps) (parts-own from to p (all-head OfPiece p ps h)) (cut-own from to ps (all-tail OfPiece p ps h)))
-
   inserted-own : (p : Piece) (ps : List Piece) → P p.seg → All OfPiece ps → All OfPiece (inserted p ps)
   inserted-own p [] h hs = all-cons OfPiece p [] h hs
   inserted-own p (q ∷ qs) h hs = by (nat_lt p.base q.base) (inserted-own p qs h (all-tail OfPiece q qs hs))
@@ -34,11 +29,20 @@ module _ (P : ℕ → Type 0) where
       by true more = all-cons OfPiece p (q ∷ qs) h hs
       by false more = all-cons OfPiece q (inserted p qs) (all-head OfPiece q qs hs) more
 
+  own_cut-own : (id from to : ℕ) (ps : List Piece) → All OfPiece ps → All OfPiece (own_cut id from to ps)
+  own_cut-own id from to [] h = h
+  own_cut-own id from to (p ∷ ps) h =
+      rw (flat_map-cons (λ (q : Piece). if q.seg == id then parts from to q else q ∷ []) p ps) (All-append OfPiece _ (own_cut id from to ps) (by (p.seg == id)) (own_cut-own id from to ps (all-tail OfPiece p ps h)))
+    where
+      by : (b : Bool) → All OfPiece (if b then parts from to p else p ∷ [])
+      by true = parts-own from to p (all-head OfPiece p ps h)
+      by false = all-cons OfPiece p [] (all-head OfPiece p ps h) (All-nil OfPiece)
+
   turned-own : (w : Bool) (at to : ℕ) (p : Piece) (ps : List Piece) → P p.seg → All OfPiece ps → All OfPiece (turned w at to p ps)
   turned-own w at to p ps h own =
       let low = low_end w at to p ps in
       let high = high_end w at to p ps in
-      inserted-own (part_between w low high p) (cut low high ps) h (cut-own low high ps own)
+      inserted-own (part_between w low high p) (own_cut p.seg low high ps) h (own_cut-own p.seg low high ps own)
 
   pick-split : (b : Bool) (x y : Protected) → All P x.split → All P y.split → All P (if b then x else y).split
   pick-split true x y h k = h

@@ -1,7 +1,7 @@
 -- Accesses of bytes by a process.
 use Rattle.std.specs.Prelude.{ℕ, ◌≡◌, Bool, true, if◌then◌else◌, List, [], ◌∷◌, length, replicate, Option, Some, None, Result, Err, is_some, IfErr, OnOk, OnErr}
 use Rattle.shm_base.specs.Access.{Place, loaded}
-use Rattle.shm_base.specs.Step.{Caller}
+use Rattle.shm_base.specs.Callers.{Caller}
 use Rattle.shm_base.specs.declared.call.Reply.{Reply}
 use Rattle.shm_base.specs.declared.call.Reply.TheVariants.{Bytes}
 use Rattle.shm_base.specs.declared.errno.Errno.{Errno}

@@ -1,12 +1,10 @@
--- What a host does to a system between calls: it admits and dismisses processes, and sets credentials.
+-- What a host does to a system between calls: it admits and dismisses processes.
 use Rattle.std.specs.Prelude.{ℕ, ◌≡◌, true, false, Result, OnErr, is_ok, is_some}
 use Rattle.shm_base.specs.declared.call.Process.{Process}
-use Rattle.shm_base.specs.declared.errno.Errno.{Errno}
 use Rattle.shm_base.specs.declared.guest.AdmitRefusal.{AdmitRefusal}
 use Rattle.shm_base.specs.declared.guest.DismissRefusal.{DismissRefusal}
-use Rattle.shm_base.specs.declared.owner.Cred.{Cred}
 use Rattle.shm_base.specs.State.{Machine}
-use Rattle.shm_base.specs.Guest.{admits, dismisses, recredits, standing, left_by}
+use Rattle.shm_base.specs.Guest.{admits, dismisses, standing, left_by}
 use Rattle.shm_life.specs.SystemState.{SystemState}
 
 -- the machine is changed, or everything is unchanged if that is refused. It is not a call: memory, opening and clock are
@@ -23,9 +21,6 @@ Admitted before process result after = IsChanged before (admits before.machine p
 
 abbrev pub Dismissed : SystemState → ℕ → Result (Unit {0}) DismissRefusal → SystemState → Type 0
 Dismissed before pid result after = IsChanged before (dismisses before.machine pid) result after
-
-abbrev pub Recredited : SystemState → ℕ → Cred → Result (Unit {0}) Errno → SystemState → Type 0
-Recredited before pid cred result after = IsChanged before (recredits before.machine pid cred) result after
 
 -- the host refused memory for a process whose pid no process has: nothing changed
 pub record IsNotAdmitted (before : SystemState) (process : Process) (after : SystemState) : Type 0 where

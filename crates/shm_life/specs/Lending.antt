@@ -3,7 +3,7 @@ use Rattle.std.specs.Prelude.{ℕ, ◌≡◌, ◌⊎◌, Bool, true, false, not,
 use Rattle.shm_base.specs.Access.{Place, loaded}
 use Rattle.shm_base.specs.Spans.{span_places}
 use Rattle.shm_base.specs.State.{Entry, Machine}
-use Rattle.shm_base.specs.Step.{Caller, caller_of}
+use Rattle.shm_base.specs.Callers.{Caller, caller_of}
 use Rattle.shm_base.specs.declared.errno.Errno.{Errno}
 use Rattle.shm_base.specs.declared.errno.Errno.TheVariants.{Esrch, Sigsegv}
 use Rattle.shm_base.specs.declared.paging.PageRef.{PageRef}

@@ -11,7 +11,6 @@ pub mod SystemState
 pub mod MachineView
 pub mod Counts
 pub mod Guest
-pub mod Mapped
 pub mod Paging
 pub mod PagingRows
 pub mod Accessing

@@ -7,7 +7,8 @@ use Rattle.shm_base.specs.State.{Segment, Entry, Machine}
 use Rattle.shm_base.specs.Identifier.{Look, Found, Removed, Invalid, destroyed_at, identifier, look}
 use Rattle.shm_base.specs.Permission.{grants}
 use Rattle.shm_base.specs.Segments.{segment_count, reserved}
-use Rattle.shm_base.specs.Step.{Caller, caller_of, shown}
+use Rattle.shm_base.specs.Callers.{Caller, caller_of}
+use Rattle.shm_base.specs.Step.{shown}
 use Rattle.shm_segments.specs.Table.{segment_in}
 use Rattle.shm_fault.specs.Store.{StoreView}
 use Rattle.shm_fault.specs.Store as store

@@ -7,7 +7,8 @@ use Rattle.shm_base.specs.declared.call.Reply.TheVariants.{Done, Refused}
 use Rattle.shm_base.specs.declared.errno.Errno.{Errno}
 use Rattle.shm_base.specs.Bounds.{lockable}
 use Rattle.shm_base.specs.State.{Machine}
-use Rattle.shm_base.specs.Step.{Caller as FlatCaller, Outcome, acts, caller_of, step}
+use Rattle.shm_base.specs.Callers.{Outcome, Caller as FlatCaller, caller_of}
+use Rattle.shm_base.specs.Step.{acts, step}
 use Rattle.shm_base.specs.History.{is_failure, is_refusal}
 use Rattle.shm_base.specs.Segments as flat
 use Rattle.shm_fault.specs.Held.{holds_locked}

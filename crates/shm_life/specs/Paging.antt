@@ -4,7 +4,7 @@ use Rattle.shm_base.specs.Access.{Place, loaded, same_bytes}
 use Rattle.shm_base.specs.Calls.{ProcessCall}
 use Rattle.shm_base.specs.History.{is_refusal}
 use Rattle.shm_base.specs.State.{Entry}
-use Rattle.shm_base.specs.Step.{Caller}
+use Rattle.shm_base.specs.Callers.{Caller}
 use Rattle.shm_base.specs.declared.call.Call.TheVariants.{Load, Store, Xadd, Exchange, CompareExchange, Swapoff}
 use Rattle.shm_base.specs.declared.call.Reply.{Reply}
 use Rattle.shm_base.specs.declared.paging.PageRef.{PageRef}

@@ -9,7 +9,8 @@ use Rattle.shm_base.specs.State.{Segment, Piece, Machine, pages_in}
 use Rattle.shm_base.specs.Identifier.{Look, Invalid, Removed, Found, look, identifier, destroyed_at}
 use Rattle.shm_base.specs.Permission.{grants}
 use Rattle.shm_base.specs.Space.{inside, choose, cut, new_piece}
-use Rattle.shm_base.specs.Step.{Caller, is_rdonly, is_taken, is_full, outside_errno, at_wish}
+use Rattle.shm_base.specs.Callers.{Caller}
+use Rattle.shm_base.specs.Step.{is_rdonly, is_taken, is_full, outside_errno, at_wish}
 use Rattle.shm_life.specs.Address.{misplaced}
 use Rattle.shm_life.specs.declared.shmat.Placed.{Placed}
 use Rattle.shm_base.specs.declared.paging.TheConstants.{PAGE_SIZE}

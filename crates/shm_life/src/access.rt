@@ -1,7 +1,7 @@
 //! Accesses: acts at the bytes from an address on, and the calls of scripts that do them.
 ghost use Rattle.std.specs.Prelude.{◌≡◌, ◌∷◌, [], ◌≤◌, ℕ, None, Some, false, length, IfErr, IfOk, IfSome, OnErr};
 ghost use Rattle.shm_base.specs.Spans.{span_places};
-ghost use Rattle.shm_base.specs.Step.{caller_of};
+ghost use Rattle.shm_base.specs.Callers.{caller_of};
 ghost use Rattle.shm_base.specs.declared.call.Call.TheVariants as call;
 ghost use Rattle.shm_base.specs.declared.call.Reply.TheVariants.{Number};
 ghost use Rattle.shm_base.specs.declared.paging.TheConstants.{PAGE_SIZE};
@@ -187,7 +187,9 @@ impl<P: Pager> Kernel<P> {
         self.reply_old(caller, addr, Act::Nothing, len, reply)
     }
 
-    /// Replaces bytes, and replies with the old ones; refused as [`Kernel::access`] is.
+    /// Replaces bytes, and replies with the old ones; refused as [`Kernel::access`] is. Kept out of line, so
+    /// that other calls do not pay for its stack frame.
+    #[inline(never)]
     pub(crate) fn exchange(
         &mut self,
         caller: &Caller,
@@ -204,6 +206,7 @@ impl<P: Pager> Kernel<P> {
     }
 
     /// As [`Kernel::exchange`], but replaces the bytes only if they equal the expected ones.
+    #[inline(never)]
     pub(crate) fn compare_exchange(
         &mut self,
         caller: &Caller,

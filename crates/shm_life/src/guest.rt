@@ -1,12 +1,12 @@
-//! Changes that a machine's host makes between calls: it admits and dismisses processes, sets the credentials
-//! of a live one, and gives the time. These are not calls, and move no page.
+//! Changes that a machine's host makes between calls: it admits and dismisses processes, and gives the time.
+//! These are not calls, and move no page.
 ghost use Rattle.std.specs.Prelude.{◌≡◌, Option, true, false, IfOk, OnErr, is_ok, is_some};
-ghost use Rattle.shm_base.specs.Guest.{admits, dismisses, recredits, standing, left_by};
-ghost use Rattle.shm_life.specs.Guest.{Admitted, Dismissed, Recredited, IsNotAdmitted};
+ghost use Rattle.shm_base.specs.Guest.{admits, dismisses, standing, left_by};
+ghost use Rattle.shm_life.specs.Guest.{Admitted, Dismissed, IsNotAdmitted};
 
 use crate::kernel::Kernel;
 use crate::system::System;
-use shm_base::{AdmitRefusal, Cred, DismissRefusal, Errno, HostMemory, Process};
+use shm_base::{AdmitRefusal, DismissRefusal, HostMemory, Process};
 use shm_pager::Pager;
 use std::alloc::Global;
 
@@ -33,14 +33,6 @@ impl<P: Pager> Kernel<P> {
         ensures memory { self.new.memory ≡ self.old.memory }
     {
         self.spaces.dismiss(pid)
-    }
-
-    fn set_cred(&mut self, pid: u32, cred: Cred) -> Result<(), Errno>
-        ensures outcome { recredits self.old.flat pid cred ≡ left_by result self.new.flat }
-        ensures refused { OnErr result (self.new ≡ self.old) }
-        ensures memory { self.new.memory ≡ self.old.memory }
-    {
-        self.spaces.set_cred(pid, cred)
     }
 }
 
@@ -69,15 +61,6 @@ impl<P: Pager> System<P> {
         ensures { Dismissed self.old pid result self.new }
     {
         self.kernel.dismiss(pid)?;
-        Ok(())
-    }
-
-    /// Gives a live process other credentials (setuid(2), setgid(2), exec of a set-user-ID program). Its
-    /// pieces stay; later permission tests use the new ones. Esrch: the process is not live.
-    pub fn set_cred(&mut self, pid: u32, cred: Cred) -> Result<(), Errno>
-        ensures { Recredited self.old pid cred result self.new }
-    {
-        self.kernel.set_cred(pid, cred)?;
         Ok(())
     }
 

@@ -157,6 +157,16 @@ impl<P: Pager> Kernel<P> {
                 Ok(())
             }
             Call::Swapoff { area } => self.swapoff(caller, *area),
+            Call::Munmap { addr, len } => self.munmap(time, caller, *addr, *len),
+            Call::Mprotect {
+                addr,
+                len,
+                writable,
+            } => self.mprotect(time, caller, *addr, *len, *writable),
+            Call::Setuid { uid, gid } => {
+                self.setuid(caller, *uid, *gid);
+                Ok(())
+            }
         };
         Ok(served)
     }

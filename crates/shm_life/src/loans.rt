@@ -5,7 +5,7 @@
 //! a host that lends pages asks [`System::make_ready`] before each of them.
 ghost use Rattle.std.specs.Prelude.{◌≡◌, ◌≤◌, ◌∷◌, [], length, true, false, None, Some, OnErr, OnOk, IfSome, IsOk, IsSome, option_map};
 ghost use Rattle.shm_base.specs.Access.{loaded};
-ghost use Rattle.shm_base.specs.Step.{caller_of};
+ghost use Rattle.shm_base.specs.Callers.{caller_of};
 ghost use Rattle.shm_base.specs.declared.paging.TheConstants.{PAGE_SIZE};
 ghost use Rattle.shm_frames.specs.Frame.{lent_of};
 ghost use Rattle.shm_fault.specs.Goes.{frame_by};

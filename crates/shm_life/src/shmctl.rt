@@ -1,5 +1,6 @@
 //! shmctl: stat, set, rmid, lock and unlock.
 ghost use Rattle.std.specs.Prelude.{◌≡◌, ℕ, ◌%◌, [], Some, IfOk, IfErr};
+ghost use Rattle.shm_base.specs.Callers.{Outcome};
 ghost use Rattle.shm_base.specs.Identifier as flat_ids;
 ghost use Rattle.shm_base.specs.Locking as locking;
 ghost use Rattle.shm_base.specs.Permission as permission;
@@ -99,11 +100,11 @@ impl<P: Pager> Kernel<P> {
     fn controlled(&self, caller: &Caller, id: ShmId) -> Result<Found, Errno>
         ensures found { IfOk result (IsFound self.now.flat.table) }
         ensures ok { let s = self.now.flat in
-            IfOk result (λ f. (act : ℕ → Segment → flat.Outcome)
+            IfOk result (λ f. (act : ℕ → Segment → Outcome)
             → flat.controls s (caller_seen caller.now s.runners) act (flat_ids.look s.table id)
             ≡ act (f.seg % 32768) (segment_seen s.table f)) }
         ensures err { let s = self.now.flat in
-            IfErr result (λ e. (act : ℕ → Segment → flat.Outcome)
+            IfErr result (λ e. (act : ℕ → Segment → Outcome)
             → flat.controls s (caller_seen caller.now s.runners) act (flat_ids.look s.table id)
             ≡ record { reply = Refused e; state = s }) }
     {

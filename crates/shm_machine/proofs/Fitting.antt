@@ -20,7 +20,8 @@ use Rattle.std.specs.Prelude.{nat_le, nat_lt, pos, not, ◌&&◌, ◌==◌, ◌*
 use Rattle.shm_base.specs.Identifier.{Look, Found, Removed, Invalid, destroyed_at, find_key, free_index, identifier, look}
 use Rattle.shm_base.specs.Access.{Place, places, writable_places}
 use Rattle.shm_base.specs.History.{is_refusal, is_failure, IsMove}
-use Rattle.shm_base.specs.Step.{Outcome, Caller, acts, step_by, caller_of, gives, refuses, pieces_with, at_wish, is_full, is_rnd, is_taken, outside_errno, remaps_null, wants_creation, wants_no_other, creates, creates_at, creates_small, huge_errno, gets, shmget, attaches, attaches_chosen, attaches_fixed, attaches_found, shmat}
+use Rattle.shm_base.specs.Callers.{Outcome, Caller, caller_of, gives, refuses}
+use Rattle.shm_base.specs.Step.{acts, step_by, pieces_with, at_wish, is_full, is_rnd, is_taken, outside_errno, remaps_null, wants_creation, wants_no_other, creates, creates_at, creates_small, huge_errno, gets, shmget, attaches, attaches_chosen, attaches_fixed, attaches_found, shmat}
 use Rattle.shm_machine.specs.Answered.{fits}
 
 record Fine (call : ProcessCall) (o : Outcome) : Type 0 where

@@ -33,7 +33,8 @@ use Rattle.shm_base.specs.declared.call.Reply.TheVariants.{Bytes, Done}
 use Rattle.shm_base.specs.State.{Entry, Piece, Machine}
 use Rattle.shm_base.specs.Access.{Place, places, all_writable, writable_places, byte_at, with_byte, loaded, stored}
 use Rattle.shm_base.specs.History.{IsMove, is_refusal}
-use Rattle.shm_base.specs.Step.{Caller, step, caller_of}
+use Rattle.shm_base.specs.Callers.{Caller, caller_of}
+use Rattle.shm_base.specs.Step.{step}
 use Rattle.shm_machine.proofs.Fitting.{places-length}
 
 -- PLACES

@@ -1,7 +1,7 @@
 -- The answer to a call and the machine afterwards, for all calls at once.
 use Rattle.std.specs.Prelude.{ℕ, ◌≡◌, ◌==◌, Bool, true, false, length, Result, Ok, Err}
 use Rattle.shm_base.specs.Calls.{ProcessCall}
-use Rattle.shm_base.specs.declared.call.Call.TheVariants.{Shmget, Shmat, Shmdt, Stat, Set, Rmid, Lock, Unlock, Load, Store, Xadd, Exchange, CompareExchange, Fork, Exec, Exit, Swapoff}
+use Rattle.shm_base.specs.declared.call.Call.TheVariants.{Shmget, Shmat, Shmdt, Stat, Set, Rmid, Lock, Unlock, Load, Store, Xadd, Exchange, CompareExchange, Fork, Exec, Exit, Swapoff, Munmap, Mprotect, Setuid}
 use Rattle.shm_base.specs.declared.call.Reply.{Reply}
 use Rattle.shm_base.specs.declared.call.Reply.TheVariants as replies
 use Rattle.shm_base.specs.declared.call.Reply.TheVariants.{Id, Addr, Bytes, Number, Done}
@@ -39,6 +39,9 @@ fits (Fork child) Done = true
 fits Exec Done = true
 fits Exit Done = true
 fits (Swapoff area) Done = true
+fits (Munmap addr len) Done = true
+fits (Mprotect addr len writable) Done = true
+fits (Setuid uid gid) Done = true
 fits _ _ = false
 
 -- the reply from which a result was taken, if there is one

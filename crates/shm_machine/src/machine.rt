@@ -92,7 +92,7 @@ impl Machine {
     }
 
     /// Makes one of the calls whose reply has no value: shmdt(2), the changes of shmctl(2), a store, fork,
-    /// exec, exit, and swapoff(2).
+    /// exec, exit, swapoff(2), munmap(2), mprotect(2) and setuid(2).
     pub fn perform(&mut self, pid: u32, call: &Call) -> Result<(), Refusal>
         requires { fits call.now replies.Done ≡ true }
         ensures { Answered self.old.system pid call.now (as_reply done result) self.new.system }

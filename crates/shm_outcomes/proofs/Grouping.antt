@@ -230,6 +230,14 @@ no-all-moves script g moves none = (ap (λ (l : List (List (Option Move))). leng
 pub one-from : (script : ScriptView) (b : Branch) (pid : ℕ) (call : ProcessCall) (x : Branch) → next script b.run pid ≡ Some call → x ≡ grown script b pid call → IsFrom script (b ∷ []) x
 one-from script b pid call x then is = (b, pid, call, (0, omega arith, refl), then, is)
 
+-- the move by a process that makes this call next
+pub move-some : (script : ScriptView) (nexts : Groups) (b : Branch) (pid : ℕ) (call : ProcessCall) (x : Branch) (m : Move) → next script b.run pid ≡ Some call → x ≡ grown script b pid call
+    → m.event ≡ slice_index_or x.run.events (length b.run.events) m.event → IsAt nexts.marks m.group (mark_at script x) → IsMove script nexts b pid (Some m)
+move-some script nexts b pid call x m then is event at =
+    let e = event_after b.run pid call in
+    let last : m.event ≡ e = event ∙ ap (λ (y : Branch). slice_index_or y.run.events (length b.run.events) m.event) is ∙ get_or_push b.run.events e m.event (length b.run.events) refl in
+    subst (λ (o : Option ProcessCall). IsMoveBy script nexts b pid o (Some m)) (sym then) (m, refl, last, subst (λ (y : Branch). IsAt nexts.marks m.group (mark_at script y)) is at)
+
 -- A RUN OF A GROUP
 
 -- the run is of the member's group, and each process has the member's replies

@@ -5,10 +5,9 @@ use Rattle.std.proofs.lemmas.Bool.{cases_Bool, cases_eq}
 use Rattle.std.proofs.lemmas.Grind.{common_steps}
 use Rattle.std.proofs.Math.Seq.{drop-cons}
 use Rattle.std.proofs.lemmas.List.{append-nil, append_assoc}
-use Rattle.shm_base.specs.History.{is_refusal}
 use Rattle.shm_base.specs.Processes.{has_pid}
 use Rattle.shm_base.specs.State.{Machine}
-use Rattle.shm_base.specs.Step.{Outcome, caller_of}
+use Rattle.shm_base.specs.Callers.{Outcome, caller_of}
 use Rattle.shm_base.specs.Calls.{ProcessCall}
 use Rattle.shm_base.specs.declared.call.Event.{Event}
 use Rattle.shm_base.specs.declared.call.Process.{Process}
@@ -18,7 +17,7 @@ use Rattle.shm_text.specs.Form.{CommandView}
 use Rattle.shm_text.specs.Variables.{no_values, values_after}
 use Rattle.shm_text.specs.declared.script.Line.{Line}
 use Rattle.shm_text.specs.declared.script.Line.TheVariants.{Command, Flush}
-use Rattle.shm_schedules.specs.Alike.{is_change, looks}
+use Rattle.shm_schedules.specs.Alike.{is_change, is_void, looks}
 use Rattle.shm_outcomes.specs.Branches.{event_after}
 use Rattle.shm_outcomes.specs.Changes.{Trail, noted, patch_by, trail_after, trail_of, all_changes}
 use Rattle.shm_outcomes.specs.Groups.{kept, kept_all, kept_reply, mark_of}
@@ -168,8 +167,8 @@ all-kept-more script es fs e f pid same (p ∷ ps) h =
 
 -- THE TRAIL OF ONE CALL
 
-refusal-masked : (r : Reply) → is_refusal (masked r) ≡ is_refusal r
-refusal-masked r = grind (arith, common_steps)
+void-masked : (call : ProcessCall) (r : Reply) → is_void call (masked r) ≡ is_void call r
+void-masked call r = grind (arith, common_steps)
 
 looks-masked : (call : ProcessCall) (r : Reply) → looks call (masked r) ≡ looks call r
 looks-masked call r = grind (arith, common_steps)
@@ -184,12 +183,12 @@ event_with pid call reply = record { pid = pid; call = call; reply = reply }
 trail-same : (s m : Machine) (pid : ℕ) (call : ProcessCall) (r q : Reply) (t : Trail) → timeless s ≡ timeless m → masked r ≡ masked q
     → trail_after s (event_with pid call r) t ≡ trail_after m (event_with pid call q) t
 trail-same s m pid call r q t machines replies =
-    let refusals : is_refusal r ≡ is_refusal q = sym (refusal-masked r) ∙ ap is_refusal replies ∙ refusal-masked q in
+    let voids : is_void call r ≡ is_void call q = sym (void-masked call r) ∙ ap (is_void call) replies ∙ void-masked call q in
     let looked : looks call r ≡ looks call q = sym (looks-masked call r) ∙ ap (looks call) replies ∙ looks-masked call q in
     let patches : patch_by call r ≡ patch_by call q = sym (patch-masked call r) ∙ ap (patch_by call) replies ∙ patch-masked call q in
     let callers : caller_of s pid ≡ caller_of m pid = ap (λ (x : Machine). caller_of x pid) machines in
-    ap (λ (b : Bool). cond (not b && not (looks call r)) (noted s (event_with pid call r) (patch_by call r) t) t) refusals
-    ∙ ap (λ (b : Bool). cond (not (is_refusal q) && not b) (noted s (event_with pid call r) (patch_by call r) t) t) looked
+    ap (λ (b : Bool). cond (not b && not (looks call r)) (noted s (event_with pid call r) (patch_by call r) t) t) voids
+    ∙ ap (λ (b : Bool). cond (not (is_void call q) && not b) (noted s (event_with pid call r) (patch_by call r) t) t) looked
     ∙ ap (λ (p : Option Patch). cond (is_change (event_with pid call q)) (noted s (event_with pid call r) p t) t) patches
     ∙ ap (λ (n : Trail). cond (is_change (event_with pid call q)) n t) (by (patch_by call q) callers)
   where

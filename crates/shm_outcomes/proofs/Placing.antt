@@ -1,5 +1,5 @@
 -- Things in a map whose keys are equal only if they are the same.
-use Rattle.std.specs.Prelude.{◌≡◌, ◌<◌, ℕ, List, [], ◌∷◌, ◌++◌, Option, Some, None, Bool, true, false, map, Contains, IsTrue, is_some}
+use Rattle.std.specs.Prelude.{◌≡◌, ℕ, List, [], ◌∷◌, ◌++◌, Option, Some, None, Bool, true, false, map, Contains, IsTrue, is_some}
 use Rattle.std.specs.Bool.{Decides}
 use Rattle.std.specs.Map.{keys_of}
 use Rattle.std.proofs.Common.{refl, ap, sym, ◌∙◌, true≢false}

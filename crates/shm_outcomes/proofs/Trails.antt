@@ -1,7 +1,8 @@
 -- What the search keeps of a run's changes leads to the run's machine.
 use Rattle.std.specs.Prelude.{◌≡◌, ◌≢◌, ℕ, ◌+◌, ◌%◌, ◌^◌, ◌&&◌, Bool, true, false, not, nat_lt, cond, List, [], ◌∷◌, ◌++◌, map, length, Option, Some, None}
-use Rattle.std.proofs.Common.{refl, ap, sym, subst, ◌∙◌, inl, inr, length-append}
+use Rattle.std.proofs.Common.{refl, ap, sym, subst, ◌∙◌, arith, inl, inr, length-append}
 use Rattle.std.proofs.lemmas.Bool.{cases_Bool}
+use Rattle.std.proofs.lemmas.Grind.{common_steps}
 use Rattle.std.proofs.lemmas.List.{append-nil}
 use Rattle.std.proofs.lemmas.Option.{none-some, same_Some}
 use Rattle.std.specs.Int.{w64, to_le_bytes}
@@ -10,13 +11,17 @@ use Rattle.shm_base.specs.History.{is_refusal}
 use Rattle.shm_base.specs.Rules.{fork_marks}
 use Rattle.shm_base.specs.Segments.{attach_all}
 use Rattle.shm_base.specs.State.{Entry, Machine}
-use Rattle.shm_base.specs.Step.{Caller, Outcome, acts, caller_of, compare_exchange, exchange, forks, inherited, number_at, segments_of, step, step_by, store, unborn_from, xadd}
+use Rattle.shm_base.specs.Callers.{Caller, Outcome, caller_of}
+use Rattle.shm_base.specs.Step.{acts, compare_exchange, exchange, forks, inherited, number_at, segments_of, step, step_by, store, unborn_from, xadd}
 use Rattle.shm_base.specs.Calls.{ProcessCall}
-use Rattle.shm_base.specs.declared.call.Call.TheVariants.{Shmget, Shmat, Shmdt, Stat, Set, Rmid, Lock, Unlock, Load, Store, Xadd, Exchange, CompareExchange, Fork, Exec, Exit, Swapoff}
+use Rattle.shm_base.specs.declared.call.Call.TheVariants.{Shmget, Shmat, Shmdt, Stat, Set, Rmid, Lock, Unlock, Load, Store, Xadd, Exchange, CompareExchange, Fork, Exec, Exit, Swapoff, Munmap, Mprotect, Setuid}
 use Rattle.shm_base.specs.declared.call.Event.{Event}
 use Rattle.shm_base.specs.declared.call.Reply.{Reply}
+use Rattle.shm_base.specs.declared.call.Reply.TheVariants.{Refused}
+use Rattle.shm_base.specs.declared.errno.Errno.{Errno}
+use Rattle.shm_base.specs.declared.errno.Errno.TheVariants.{Esrch}
 use Rattle.shm_text.specs.Script.{ScriptView}
-use Rattle.shm_schedules.specs.Alike.{is_change, looks}
+use Rattle.shm_schedules.specs.Alike.{is_change, is_void, looks}
 use Rattle.shm_outcomes.specs.Changes.{Trail, all_changes, call_of, fits, is_fork, made, no_trail, noted, patch_by, put, put_at, puts, trail_after, trail_from, trail_of, write_at, wrote}
 use Rattle.shm_schedules.specs.Places.{place_by, place_of}
 use Rattle.shm_schedules.specs.Schedules.{Run, after, fresh, next, Leads, schedule_of, IsReached}
@@ -101,10 +106,14 @@ first-false true b h = absurd (cc)
 
 -- a call with this reply changed the machine
 abbrev altered : ProcessCall → Reply → Bool
-altered call r = not (is_refusal r) && not (looks call r)
+altered call r = not (is_void call r) && not (looks call r)
 
-not-refused : (call : ProcessCall) (r : Reply) → altered call r ≡ true → is_refusal r ≡ false
-not-refused call r h = first-false (is_refusal r) (looks call r) h
+not-void : (call : ProcessCall) (r : Reply) → altered call r ≡ true → is_void call r ≡ false
+not-void call r h = first-false (is_void call r) (looks call r) h
+
+-- a refused call wrote no bytes
+refused-wrote : (call : ProcessCall) (e : Errno) (p : Patch) → patch_by call (Refused e) ≡ Some p → altered call (Refused e) ≡ true → ⊥
+refused-wrote call e p patched kept = grind (arith, common_steps)
 
 module _ (s : Machine) (n : ℕ) (c : Caller) where
   store-stores : (addr : ℕ) (bytes : List ℕ) (o : Option (List Place)) → places c.pieces addr (length bytes) ≡ o
@@ -157,9 +166,9 @@ module _ (s : Machine) (n : ℕ) (c : Caller) where
 
   acts-store : (call : ProcessCall) (p : Patch) → patch_by call (acts s n c call).reply ≡ Some p → altered call (acts s n c call).reply ≡ true → Stores s c p (acts s n c call)
   acts-store (Store bytes addr) p is h =
-      subst (λ (q : Patch). Stores s c q (acts s n c (Store bytes addr))) (fits-is addr bytes p is) (store-stores addr bytes (places c.pieces addr (length bytes)) refl (not-refused (Store bytes addr) _ h))
+      subst (λ (q : Patch). Stores s c q (acts s n c (Store bytes addr))) (fits-is addr bytes p is) (store-stores addr bytes (places c.pieces addr (length bytes)) refl (not-void (Store bytes addr) _ h))
   acts-store (Exchange bytes addr) p is h =
-      subst (λ (q : Patch). Stores s c q (acts s n c (Exchange bytes addr))) (fits-is addr bytes p is) (exchange-stores addr bytes (places c.pieces addr (length bytes)) refl (not-refused (Exchange bytes addr) _ h))
+      subst (λ (q : Patch). Stores s c q (acts s n c (Exchange bytes addr))) (fits-is addr bytes p is) (exchange-stores addr bytes (places c.pieces addr (length bytes)) refl (not-void (Exchange bytes addr) _ h))
   acts-store (CompareExchange expected desired addr) p is h =
       subst (λ (q : Patch). Stores s c q (acts s n c (CompareExchange expected desired addr))) (fits-is addr desired p is)
       (compare-stores addr expected desired (places c.pieces addr (length desired)) refl h)
@@ -177,6 +186,9 @@ module _ (s : Machine) (n : ℕ) (c : Caller) where
   acts-store Exec p is h = absurd (none-some p is)
   acts-store Exit p is h = absurd (none-some p is)
   acts-store (Swapoff area) p is h = absurd (none-some p is)
+  acts-store (Munmap addr len) p is h = absurd (none-some p is)
+  acts-store (Mprotect addr len w) p is h = absurd (none-some p is)
+  acts-store (Setuid uid gid) p is h = absurd (none-some p is)
 
 -- the machine that the trail leads to after a call that wrote bytes
 stored-after :
@@ -187,7 +199,7 @@ stored-after m s n pid call p ws at is change = by (caller_of s pid) refl is cha
   where
     by : (o : Option Caller) → caller_of s pid ≡ o → patch_by call (step_by s n call o).reply ≡ Some p → altered call (step_by s n call o).reply ≡ true
         → written m (puts s pid p.addr p.bytes ws) ≡ timeless (step_by s n call o).state
-    by None caller patched kept = absurd (cc)
+    by None caller patched kept = absurd (refused-wrote call Esrch p patched kept)
     by (Some c) caller patched kept =
         let all = acts-store s n c call p patched kept in
         puts-stored s m pid c caller p.bytes p.addr ws all.0 all.1
@@ -203,7 +215,7 @@ stored-caller s n pid call p is change = by (caller_of s pid) refl is change
   where
     by : (o : Option Caller) → caller_of s pid ≡ o → patch_by call (step_by s n call o).reply ≡ Some p → altered call (step_by s n call o).reply ≡ true
         → caller_of (step_by s n call o).state pid ≡ caller_of s pid
-    by None caller patched kept = absurd (cc)
+    by None caller patched kept = absurd (refused-wrote call Esrch p patched kept)
     by (Some c) caller patched kept = ap (λ (m : Machine). caller_of m pid) (acts-store s n c call p patched kept).2
 
 pub puts-same : (s m : Machine) (pid : ℕ) → caller_of s pid ≡ caller_of m pid → (bytes : List ℕ) (addr : ℕ) (ws : List Write) → puts s pid addr bytes ws ≡ puts m pid addr bytes ws
@@ -255,6 +267,9 @@ fork-first s pid (Load addr len) ws h = absurd (cc)
 fork-first s pid Exec ws h = absurd (cc)
 fork-first s pid Exit ws h = absurd (cc)
 fork-first s pid (Swapoff area) ws h = absurd (cc)
+fork-first s pid (Munmap addr len) ws h = absurd (cc)
+fork-first s pid (Mprotect addr len w) ws h = absurd (cc)
+fork-first s pid (Setuid uid gid) ws h = absurd (cc)
 
 -- ONE CALL
 

@@ -76,6 +76,37 @@ fn printed_calls(rt: HostRuntime) -> Result<(), Fail> {
             },
             "cas 0x10 00 ab",
         ),
+        (Call::Munmap { addr: 0, len: 0 }, "munmap null 0"),
+        (
+            Call::Munmap {
+                addr: 0x40000000,
+                len: u64::MAX,
+            },
+            "munmap 0x40000000 18446744073709551615",
+        ),
+        (
+            Call::Mprotect {
+                addr: 0x40000000,
+                len: 4096,
+                writable: false,
+            },
+            "mprotect 0x40000000 4096 ro",
+        ),
+        (
+            Call::Mprotect {
+                addr: 16,
+                len: 1,
+                writable: true,
+            },
+            "mprotect 0x10 1 rw",
+        ),
+        (
+            Call::Setuid {
+                uid: 4294967295,
+                gid: 7,
+            },
+            "setuid 4294967295 7",
+        ),
         (Call::Fork { child: 2 }, "fork 2"),
         (Call::Swapoff { area: 7 }, "swapoff 7"),
         (Call::Exit, "exit"),

@@ -232,6 +232,56 @@ fn each_exchange(rt: HostRuntime) -> Result<(), Fail> {
     Ok(())
 }
 
+#[test]
+fn each_mapping_and_user(rt: HostRuntime) -> Result<(), Fail> {
+    let alloc = rt.alloc();
+    let read: [(&[u8], Call); 7] = [
+        (
+            b"1 munmap 0x40000000 4096",
+            Call::Munmap {
+                addr: 0x40000000,
+                len: 4096,
+            },
+        ),
+        (
+            b"1 munmap a+1 18446744073709551615",
+            Call::Munmap {
+                addr: 1,
+                len: u64::MAX,
+            },
+        ),
+        (b"1 munmap null 0", Call::Munmap { addr: 0, len: 0 }),
+        (
+            b"1 mprotect 4096 0x1001 ro",
+            Call::Mprotect {
+                addr: 4096,
+                len: 4097,
+                writable: false,
+            },
+        ),
+        (
+            b"1 mprotect a 18446744073709551615 rw",
+            Call::Mprotect {
+                addr: 0,
+                len: u64::MAX,
+                writable: true,
+            },
+        ),
+        (b"1 setuid 100 200", Call::Setuid { uid: 100, gid: 200 }),
+        (
+            b"1 setuid 0 4294967295",
+            Call::Setuid {
+                uid: 0,
+                gid: 4294967295,
+            },
+        ),
+    ];
+    for (line, call) in &read {
+        assert!(rt; call_of(alloc, line)? == *call);
+    }
+    Ok(())
+}
+
 fn are_rounds(rt: &impl Abort, lines: &[Line], all: &[u64]) -> Result<(), Fail> {
     assert_eq!(rt; lines.len(), all.len());
     for (line, pages) in lines.iter().zip(all) {
@@ -254,7 +304,7 @@ fn flush_lines(rt: HostRuntime) -> Result<(), Fail> {
 }
 
 /// Third lines of a script, each with its fault.
-const FAULTS: [(&[u8], FaultKind); 83] = [
+const FAULTS: [(&[u8], FaultKind); 110] = [
     (b"process 1 5 5", FaultKind::Twice),
     (b"2 exit", FaultKind::UnknownProcess),
     (b"1 fork 9", FaultKind::UnknownProcess),
@@ -347,6 +397,39 @@ const FAULTS: [(&[u8], FaultKind); 83] = [
     (b"1 swapoff 8", FaultKind::BadNumber),
     (b"1 swapoff", FaultKind::BadLine),
     (b"1 s = swapoff 0", FaultKind::BadLine),
+    (b"1 munmap 4096", FaultKind::BadLine),
+    (b"1 munmap 4096 4096 ro", FaultKind::BadLine),
+    (b"1 munmap a b", FaultKind::BadLine),
+    (b"1 munmap a -1", FaultKind::BadLine),
+    (b"1 munmap a 18446744073709551616", FaultKind::BadNumber),
+    (b"1 munmap a+18446744073709551616 1", FaultKind::BadNumber),
+    (b"2 munmap a 18446744073709551616", FaultKind::BadNumber),
+    (b"1 a = munmap a 4096", FaultKind::BadLine),
+    (b"1 Munmap a 4096", FaultKind::BadLine),
+    (b"1 mprotect 4096 4096", FaultKind::BadLine),
+    (b"1 mprotect 4096 4096 x", FaultKind::BadLine),
+    (b"1 mprotect 4096 4096 r", FaultKind::BadLine),
+    (b"1 mprotect 4096 4096 RO", FaultKind::BadLine),
+    (b"1 mprotect 4096 4096 rw rw", FaultKind::BadLine),
+    (b"1 mprotect 4096 ro 4096", FaultKind::BadLine),
+    (
+        b"1 mprotect a 18446744073709551616 ro",
+        FaultKind::BadNumber,
+    ),
+    (b"1 mprotect a 18446744073709551616 x", FaultKind::BadLine),
+    (
+        b"1 mprotect 18446744073709551616 1 rw",
+        FaultKind::BadNumber,
+    ),
+    (b"1 a = mprotect a 4096 rw", FaultKind::BadLine),
+    (b"1 setuid 100", FaultKind::BadLine),
+    (b"1 setuid 100 100 100", FaultKind::BadLine),
+    (b"1 setuid a 100", FaultKind::BadLine),
+    (b"1 setuid 4294967296 0", FaultKind::BadNumber),
+    (b"1 setuid 0 4294967296", FaultKind::BadNumber),
+    (b"1 setuid 4294967296 a", FaultKind::BadLine),
+    (b"2 setuid 0 0", FaultKind::UnknownProcess),
+    (b"1 a = setuid 0 0", FaultKind::BadLine),
     (b"0 flush 0", FaultKind::BadNumber),
     (b"0 flush 4097", FaultKind::BadNumber),
     (b"00 flush 1", FaultKind::BadLine),

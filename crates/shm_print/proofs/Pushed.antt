@@ -10,11 +10,11 @@ pushed (Ok _) a b t e = e
 pushed (Err _) a b t e = tt
 
 -- a word, an address and two operands, part by part
-pub operands_pushed : {E : Type 0} (r : Result (Unit {0}) E) (a b c d word addr one two : List ℕ)
-    → b ≡ a ++ (word ++ addr) → c ≡ b ++ (codes " " ++ one) → OnOk r (d ≡ c ++ (codes " " ++ two))
-    → OnOk r (d ≡ a ++ (word ++ (addr ++ (codes " " ++ (one ++ (codes " " ++ two))))))
-operands_pushed (Ok _) a b c d word addr one two p q u = rw (u, q, p) (simp append_assoc refl)
-operands_pushed (Err _) a b c d word addr one two p q u = tt
+pub operands_pushed : {E : Type 0} (r : Result (Unit {0}) E) (a b c word addr one two : List ℕ)
+    → b ≡ a ++ (word ++ (addr ++ (codes " " ++ one))) → OnOk r (c ≡ b ++ (codes " " ++ two))
+    → OnOk r (c ≡ a ++ (word ++ (addr ++ (codes " " ++ (one ++ (codes " " ++ two))))))
+operands_pushed (Ok _) a b c word addr one two p u = rw (u, p) (simp append_assoc refl)
+operands_pushed (Err _) a b c word addr one two p u = tt
 
 -- the line of an event, part by part
 pub event_pushed : {E : Type 0} (r : Result (Unit {0}) E) (place : ℕ) (event : Event) (a b c d e f : List ℕ)

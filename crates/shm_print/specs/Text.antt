@@ -7,7 +7,7 @@ use Rattle.shm_base.specs.declared.flags.AtFlags.{AtFlags}
 use Rattle.shm_base.specs.declared.flags.Status.{Status}
 use Rattle.shm_base.specs.declared.owner.Perm.{Perm}
 use Rattle.shm_base.specs.Calls.{ProcessCall}
-use Rattle.shm_base.specs.declared.call.Call.TheVariants.{Shmget, Shmat, Shmdt, Stat, Set, Rmid, Lock, Unlock, Load, Store, Xadd, Exchange, CompareExchange, Fork, Exec, Exit, Swapoff}
+use Rattle.shm_base.specs.declared.call.Call.TheVariants.{Shmget, Shmat, Shmdt, Stat, Set, Rmid, Lock, Unlock, Load, Store, Xadd, Exchange, CompareExchange, Fork, Exec, Exit, Swapoff, Munmap, Mprotect, Setuid}
 use Rattle.shm_base.specs.declared.call.ShmidDs.{ShmidDs}
 use Rattle.shm_base.specs.declared.call.Reply.{Reply}
 use Rattle.shm_base.specs.declared.call.Reply.TheVariants as replies
@@ -55,6 +55,9 @@ status_text status =
     if is_locked status then codes "locked" else
     codes "-"
 
+abbrev pub protection_text : Bool → List ℕ
+protection_text writable = if writable then codes " rw" else codes " ro"
+
 -- a call's word and its arguments
 abbrev pub call_text : ProcessCall → List ℕ
 call_text (Shmget key size mode flags) = codes "shmget " ++ (key_text key ++ (codes " " ++ (decimal size ++ (codes " " ++ (mode_text mode ++ get_flags_text flags)))))
@@ -74,6 +77,9 @@ call_text (Fork child) = codes "fork " ++ decimal child
 call_text Exec = codes "exec"
 call_text Exit = codes "exit"
 call_text (Swapoff area) = codes "swapoff " ++ decimal area
+call_text (Munmap addr len) = codes "munmap " ++ (address_text addr ++ (codes " " ++ decimal len))
+call_text (Mprotect addr len writable) = codes "mprotect " ++ (address_text addr ++ (codes " " ++ (decimal len ++ protection_text writable)))
+call_text (Setuid uid gid) = codes "setuid " ++ (decimal uid ++ (codes " " ++ decimal gid))
 
 -- the ids and the mode of a segment
 abbrev pub perm_text : Perm → List ℕ

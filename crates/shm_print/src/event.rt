@@ -73,6 +73,31 @@ fn push_counted(text: &mut String, word: &str, number: u64) -> Result<(), AllocE
     push_number(text, number)
 }
 
+// Appends a word, an address and a number to a text.
+fn push_at_number(text: &mut String, word: &str, addr: u64, number: u64) -> Result<(), AllocError>
+    ensures { OnOk result (string_bytes text.new
+        ≡ string_bytes text.old ++ (word.now ++ (printed.address_text addr ++ (codes " " ++ decimal number)))) }
+{
+    push_at(text, word, addr)?;
+    push_counted(text, " ", number)
+}
+
+// Appends a word, an address and bytes to a text.
+fn push_at_bytes(text: &mut String, word: &str, addr: u64, bytes: &[u8]) -> Result<(), AllocError>
+    requires { length bytes.now ≤ 64 }
+    ensures { OnOk result (string_bytes text.new
+        ≡ string_bytes text.old ++ (word.now ++ (printed.address_text addr ++ (codes " " ++ encode_lower bytes.now)))) }
+{
+    push_at(text, word, addr)?;
+    push_operand(text, bytes)
+}
+
+fn protection(writable: bool) -> &'static str
+    ensures { result.now ≡ printed.protection_text writable }
+{
+    if writable { " rw" } else { " ro" }
+}
+
 // Appends the word and the arguments of a call to a text.
 fn push_call(text: &mut String, call: &Call) -> Result<(), AllocError>
     ensures { OnOk result (string_bytes text.new ≡ string_bytes text.old ++ printed.call_text call.now) }
@@ -102,35 +127,32 @@ fn push_call(text: &mut String, call: &Call) -> Result<(), AllocError>
         Call::Rmid { id } => push_id(text, "rmid ", *id),
         Call::Lock { id } => push_id(text, "lock ", *id),
         Call::Unlock { id } => push_id(text, "unlock ", *id),
-        Call::Load { addr, len } => {
-            push_at(text, "load ", *addr)?;
-            push_counted(text, " ", len.get() as u64)
-        }
-        Call::Store { addr, chunk } => {
-            push_at(text, "store ", *addr)?;
-            push_operand(text, chunk.as_slice())
-        }
-        Call::Xadd { addr, add } => {
-            push_at(text, "xadd ", *addr)?;
-            push_counted(text, " ", *add)
-        }
-        Call::Exchange { addr, chunk } => {
-            push_at(text, "swap ", *addr)?;
-            push_operand(text, chunk.as_slice())
-        }
+        Call::Load { addr, len } => push_at_number(text, "load ", *addr, len.get() as u64),
+        Call::Store { addr, chunk } => push_at_bytes(text, "store ", *addr, chunk.as_slice()),
+        Call::Xadd { addr, add } => push_at_number(text, "xadd ", *addr, *add),
+        Call::Exchange { addr, chunk } => push_at_bytes(text, "swap ", *addr, chunk.as_slice()),
         Call::CompareExchange {
             expected,
             desired,
             addr,
         } => {
-            push_at(text, "cas ", *addr)?;
-            push_operand(text, expected.as_slice())?;
+            push_at_bytes(text, "cas ", *addr, expected.as_slice())?;
             push_operand(text, desired.as_slice())
         }
         Call::Fork { child } => push_counted(text, "fork ", u64::from(*child)),
         Call::Exec => text.push_str("exec"),
         Call::Exit => text.push_str("exit"),
         Call::Swapoff { area } => push_counted(text, "swapoff ", u64::from(*area)),
+        Call::Munmap { addr, len } => push_at_number(text, "munmap ", *addr, *len),
+        Call::Mprotect {
+            addr,
+            len,
+            writable,
+        } => {
+            push_at_number(text, "mprotect ", *addr, *len)?;
+            text.push_str(protection(*writable))
+        }
+        Call::Setuid { uid, gid } => write!(text, "setuid {uid} {gid}"),
     }
 }
 

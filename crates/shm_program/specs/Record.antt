@@ -3,7 +3,8 @@ use Rattle.std.specs.Prelude.{ℕ, ◌+◌, Bool, false, if◌then◌else◌, Li
 use Rattle.std.specs.Fmt.{decimal, digits}
 use Rattle.std.specs.List.{flat_map}
 use Rattle.shm_base.specs.State.{Piece, Runner}
-use Rattle.shm_base.specs.Step.{Caller, caller_from, unborn_from}
+use Rattle.shm_base.specs.Callers.{Caller, caller_from}
+use Rattle.shm_base.specs.Step.{unborn_from}
 use Rattle.shm_base.specs.declared.call.Process.{Process}
 use Rattle.shm_base.specs.declared.paging.PageRef.{PageRef}
 use Rattle.shm_slots.specs.View.{AreaView, SwapView, size_of}

@@ -3,7 +3,8 @@ use Rattle.std.proofs.Common.{arith, ◌≡◌, ℕ, ◌+◌, ◌≤◌, ◌++�
 use Rattle.std.proofs.lemmas.List.{length_push}
 use Rattle.shm_base.specs.declared.call.Event.{Event}
 use Rattle.shm_base.specs.State.{Machine, Opening, start_of}
-use Rattle.shm_base.specs.Step.{Outcome, step}
+use Rattle.shm_base.specs.Callers.{Outcome}
+use Rattle.shm_base.specs.Step.{step}
 use Rattle.shm_base.specs.History.{LeadsFrom, is_failure}
 use Rattle.shm_fault.specs.Store.{StoreView}
 use Rattle.shm_slots.specs.View.{AreCountsOf, SwapView, are_finite}

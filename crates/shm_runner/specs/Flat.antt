@@ -2,7 +2,8 @@
 use Rattle.std.specs.Prelude.{ℕ, ◌+◌, List, [], ◌∷◌, ◌++◌, map, Some}
 use Rattle.shm_base.specs.declared.call.Event.{Event}
 use Rattle.shm_base.specs.State.{Machine, start_of}
-use Rattle.shm_base.specs.Step.{Outcome, step}
+use Rattle.shm_base.specs.Callers.{Outcome}
+use Rattle.shm_base.specs.Step.{step}
 use Rattle.shm_history.specs.WorldState.{event}
 use Rattle.shm_print.specs.Text.{events_text}
 use Rattle.shm_program.specs.Listing.{listing_of}

@@ -11,6 +11,9 @@ const PAGE: usize = 4096;
 /// Where the search for a gap begins.
 const LOWEST_GAP: u64 = 0x40000000;
 
+/// No piece reaches beyond this address.
+const END: u64 = 0x7ffffffff000;
+
 const CHILD: u32 = 3;
 
 /// A segment at an index. It stays in the list after it is destroyed.
@@ -23,14 +26,17 @@ struct Segment {
     bytes: Vec<u8>,
 }
 
-/// An attach of a process: its address and length, and the segment's index in the list.
+/// A piece of a process: its address and length, where the attach began of which it is a part, and the
+/// segment's index in the list.
 #[derive(Clone, Copy)]
 struct Attach {
     pid: u32,
     addr: u64,
     len: u64,
+    origin: u64,
     segment: usize,
     is_writable: bool,
+    may_write: bool,
 }
 
 /// A byte of a segment, and whether the piece with it may be written.
@@ -55,17 +61,31 @@ pub(crate) struct Flat {
 }
 
 impl Attach {
-    // The offset of an address in the piece, if the piece is this process's and has the address.
+    // The offset of an address in the segment, if the piece is this process's and has the address.
     fn offset(&self, pid: u32, addr: u64) -> Option<u64> {
         if self.pid != pid || addr < self.addr {
             return None;
         }
-        let offset = addr.wrapping_sub(self.addr);
-        if offset < self.len {
-            Some(offset)
+        if addr.wrapping_sub(self.addr) < self.len {
+            Some(addr.wrapping_sub(self.origin))
         } else {
             None
         }
+    }
+
+    // The part from one address to another, with this protection.
+    fn part(&self, from: u64, to: u64, is_writable: bool) -> Attach {
+        Attach {
+            addr: from,
+            len: to.wrapping_sub(from),
+            is_writable,
+            ..*self
+        }
+    }
+
+    // Whether the other one is a part of the same attach.
+    fn is_beside(&self, other: &Attach) -> bool {
+        self.segment == other.segment && self.origin == other.origin
     }
 
     fn end(&self) -> u64 {
@@ -185,6 +205,13 @@ impl Flat {
                 Ok(self.control(call))
             }
             Call::Swapoff { area } => Ok(self.swapoff(area)),
+            Call::Munmap { addr, len } => self.unmap(pid, addr, len),
+            Call::Mprotect {
+                addr,
+                len,
+                writable,
+            } => self.protect(pid, addr, len, writable),
+            Call::Setuid { uid: 0, gid: 0 } => Ok(Reply::Done),
             _ => Ok(self.access(pid, call)),
         }
     }
@@ -312,33 +339,179 @@ impl Flat {
             pid,
             addr,
             len,
+            origin: addr,
             segment: number,
             is_writable: !flags.contains(AtFlags::RDONLY),
+            may_write: !flags.contains(AtFlags::RDONLY),
         })?;
         Ok(Reply::Addr(addr))
     }
 
-    // Removes the piece at the address, and returns its segment.
-    fn take(&mut self, pid: u32, addr: u64) -> Option<usize> {
-        for attach in self.attaches.iter_mut() {
-            if attach.pid == pid && attach.addr == addr {
-                // no process has this pid
-                attach.pid = 0;
-                return Some(attach.segment);
+    // The lowest piece of the process with this origin.
+    fn lowest(&self, pid: u32, origin: u64) -> Option<Attach> {
+        let mut found: Option<Attach> = None;
+        for attach in &self.attaches {
+            let is_lower = match found {
+                Some(other) => attach.addr < other.addr,
+                None => true,
+            };
+            if attach.pid == pid && attach.origin == origin && is_lower {
+                found = Some(*attach);
+            }
+        }
+        found
+    }
+
+    // Removes the piece with this number, which counts as a detach.
+    fn loses(&mut self, at: usize, attach: Attach) {
+        let now = self.now;
+        self.drops(at);
+        if let Some(segment) = self.segments.get_mut(attach.segment) {
+            segment.detached(attach.pid, now);
+        }
+    }
+
+    fn drops(&mut self, at: usize) {
+        if let Some(attach) = self.attaches.get_mut(at) {
+            // no process has this pid
+            attach.pid = 0;
+        }
+    }
+
+    // All pieces that are left of the attach that began at the address.
+    fn detach(&mut self, pid: u32, addr: u64) -> Reply {
+        let Some(first) = self.lowest(pid, addr) else {
+            return Reply::Refused(Errno::Einval);
+        };
+        for at in 0..self.attaches.len() {
+            let found = self.attaches.get(at).copied();
+            if let Some(attach) = found {
+                if attach.pid == pid && attach.is_beside(&first) {
+                    self.loses(at, attach);
+                }
+            }
+        }
+        Reply::Done
+    }
+
+    // Adds the parts of a piece that are outside of a range.
+    fn keeps(&mut self, attach: Attach, from: u64, to: u64) -> Result<(), Fail> {
+        let end = attach.end();
+        if attach.addr < from {
+            self.copies(
+                attach.pid,
+                attach.part(attach.addr, from, attach.is_writable),
+            )?;
+        }
+        if to < end {
+            self.copies(attach.pid, attach.part(to, end, attach.is_writable))?;
+        }
+        Ok(())
+    }
+
+    // The pieces in the range are detached, and their parts outside of it stay.
+    fn unmap(&mut self, pid: u32, addr: u64, len: u64) -> Result<Reply, Fail> {
+        let end = addr.saturating_add(len);
+        if addr % 4096 != 0 || len == 0 || end > END {
+            return Ok(Reply::Refused(Errno::Einval));
+        }
+        let to = end.div_ceil(4096).wrapping_mul(4096);
+        for at in 0..self.attaches.len() {
+            let found = self.attaches.get(at).copied();
+            if let Some(attach) = found {
+                if attach.meets(pid, addr, to.wrapping_sub(addr)) {
+                    self.keeps(attach, addr, to)?;
+                    self.loses(at, attach);
+                }
+            }
+        }
+        Ok(Reply::Done)
+    }
+
+    // The piece that the process has at the address.
+    fn covering(&self, pid: u32, addr: u64) -> Option<Attach> {
+        for attach in &self.attaches {
+            if attach.offset(pid, addr).is_some() {
+                return Some(*attach);
             }
         }
         None
     }
 
-    fn detach(&mut self, pid: u32, addr: u64) -> Reply {
-        let Some(number) = self.take(pid, addr) else {
-            return Reply::Refused(Errno::Einval);
-        };
-        let now = self.now;
-        if let Some(segment) = self.segments.get_mut(number) {
-            segment.detached(pid, now);
+    // Up the range, piece by piece. What lies below a refusal has changed.
+    fn protect(&mut self, pid: u32, addr: u64, len: u64, writable: bool) -> Result<Reply, Fail> {
+        if addr % 4096 != 0 {
+            return Ok(Reply::Refused(Errno::Einval));
         }
-        Reply::Done
+        let pages = len.div_ceil(4096);
+        let Some(to) = pages
+            .checked_mul(4096)
+            .and_then(|bytes| addr.checked_add(bytes))
+        else {
+            return Ok(Reply::Refused(Errno::Enomem));
+        };
+        let mut at = addr;
+        for _ in 0..=self.attaches.len() {
+            if at >= to {
+                return Ok(Reply::Done);
+            }
+            let Some(piece) = self.covering(pid, at) else {
+                return Ok(Reply::Refused(Errno::Enomem));
+            };
+            if writable && !piece.may_write {
+                return Ok(Reply::Refused(Errno::Eacces));
+            }
+            if piece.is_writable != writable {
+                self.turn(piece, at, to, writable)?;
+            }
+            at = piece.end();
+        }
+        Ok(Reply::Done)
+    }
+
+    // Where the piece at an address begins and ends, if it is of the same attach and has this protection.
+    fn joined(&self, piece: &Attach, addr: u64, writable: bool) -> Option<(u64, u64)> {
+        let other = self.covering(piece.pid, addr)?;
+        if other.is_beside(piece) && other.is_writable == writable {
+            Some((other.addr, other.end()))
+        } else {
+            None
+        }
+    }
+
+    // A part of the piece gets this protection. It joins a neighbour that has it; a whole piece joins none.
+    fn turn(&mut self, piece: Attach, at: u64, to: u64, writable: bool) -> Result<(), Fail> {
+        let end = piece.end();
+        let (mut low, mut high) = (at, to.min(end));
+        if at == piece.addr && to < end {
+            if let Some((base, _)) = self.joined(&piece, at.wrapping_sub(1), writable) {
+                low = base;
+            }
+        }
+        if piece.addr < at && end <= to {
+            if let Some((_, last)) = self.joined(&piece, end, writable) {
+                high = last;
+            }
+        }
+        self.gives_way(piece.pid, low, high)?;
+        self.copies(piece.pid, piece.part(low, high, writable))
+    }
+
+    // Cuts the range out of the pieces, which is no detach and sets no time.
+    fn gives_way(&mut self, pid: u32, from: u64, to: u64) -> Result<(), Fail> {
+        for at in 0..self.attaches.len() {
+            let found = self.attaches.get(at).copied();
+            if let Some(attach) = found {
+                if attach.meets(pid, from, to.wrapping_sub(from)) {
+                    self.keeps(attach, from, to)?;
+                    self.drops(at);
+                    if let Some(segment) = self.segments.get_mut(attach.segment) {
+                        segment.shown.nattch = segment.shown.nattch.wrapping_sub(1);
+                    }
+                }
+            }
+        }
+        Ok(())
     }
 
     // The child gets a copy of each piece. Each copy counts as an attach, and sets no time.

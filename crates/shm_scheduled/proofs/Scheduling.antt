@@ -5,7 +5,8 @@ use Rattle.std.proofs.lemmas.List.Elements.{All-head, All-tail, filter-append}
 use Rattle.shm_base.specs.History.{IsHistory, IsStep, LeadsFrom, own_part}
 use Rattle.shm_base.specs.Processes.{has_pid}
 use Rattle.shm_base.specs.State.{Machine, Opening, start_of}
-use Rattle.shm_base.specs.Step.{Caller, Outcome, caller_of, step_by}
+use Rattle.shm_base.specs.Callers.{Caller, Outcome, caller_of}
+use Rattle.shm_base.specs.Step.{step_by}
 use Rattle.shm_base.specs.Calls.{ProcessCall}
 use Rattle.shm_base.specs.declared.call.Event.{Event}
 use Rattle.shm_base.specs.declared.call.Process.{Process}

@@ -4,7 +4,8 @@ use Rattle.std.proofs.Common.{arith}
 use Rattle.std.proofs.lemmas.Grind.{common_steps}
 use Rattle.shm_base.specs.Calls.{ProcessCall}
 use Rattle.shm_base.specs.State.{Machine}
-use Rattle.shm_base.specs.Step.{Caller, caller_of, step, step_by}
+use Rattle.shm_base.specs.Callers.{Caller, caller_of}
+use Rattle.shm_base.specs.Step.{step, step_by}
 use Rattle.shm_base.specs.History.{IsExcused, IsMove, is_failure}
 use Rattle.shm_base.specs.declared.call.Event.{Event}
 

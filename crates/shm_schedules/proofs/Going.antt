@@ -1,5 +1,5 @@
 -- Equivalent runs have equivalent continuations.
-use Rattle.std.specs.Prelude.{◌≡◌, ◌≢◌, ◌<◌, ℕ, suc, zero, ◌+◌, ◌-◌, ◌%◌, ◌==◌, nat_lt, if◌then◌else◌, ◌&&◌, ◌⊎◌, Bool, true, false, not, List, [], ◌∷◌, ◌++◌, Option, Some, None, cond, map, length, option_map, slice_index_or}
+use Rattle.std.specs.Prelude.{◌≡◌, ◌≢◌, ◌<◌, ℕ, suc, zero, ◌+◌, ◌-◌, ◌%◌, ◌==◌, nat_lt, if◌then◌else◌, ◌&&◌, ◌⊎◌, Bool, true, false, not, List, [], ◌∷◌, ◌++◌, Option, Some, None, cond, map, length, option_map, slice_index_or, Result, Ok, Err}
 use Rattle.std.proofs.Common.{ap, refl, sym, subst, ◌∙◌, arith, inl, inr, length-append}
 use Rattle.std.proofs.lemmas.Bool.{cases_Bool, cases_eq}
 use Rattle.std.proofs.lemmas.Grind.{common_steps}
@@ -14,11 +14,13 @@ use Rattle.shm_base.specs.Identifier.{Look, Found, Removed, Invalid, identifier,
 use Rattle.shm_base.specs.Locking.{may_not_lock, passes_limit}
 use Rattle.shm_base.specs.Permission.{grants, owns, wish_of}
 use Rattle.shm_base.specs.Segments.{reserved}
-use Rattle.shm_base.specs.Space.{choose, inside}
+use Rattle.shm_base.specs.Space.{choose, cut, inside}
 use Rattle.shm_base.specs.State.{Machine, Segment, pages_in, pages_of}
-use Rattle.shm_base.specs.Step.{Caller, Outcome, acts, at_wish, attaches, attaches_chosen, attaches_fixed, attaches_found, caller_of, compare_exchange, controls, creates, creates_small, gets, huge_errno, is_full, is_no_owner, is_rnd, is_taken, pieces_with, remaps_null, step, step_by, wants_creation, wants_no_other}
+use Rattle.shm_base.specs.Callers.{Caller, Outcome, caller_of}
+use Rattle.shm_base.specs.Mapping.{unmapped_to, unmaps}
+use Rattle.shm_base.specs.Step.{acts, at_wish, attaches, attaches_chosen, attaches_fixed, attaches_found, compare_exchange, controls, creates, creates_small, gets, huge_errno, is_full, is_no_owner, is_rnd, is_taken, pieces_with, remaps_null, step, step_by, wants_creation, wants_no_other}
 use Rattle.shm_base.specs.Calls.{ProcessCall}
-use Rattle.shm_base.specs.declared.call.Call.TheVariants.{Shmget, Shmat, Shmdt, Stat, Set, Rmid, Lock, Unlock, Load, Store, Xadd, Exchange, CompareExchange, Fork, Exec, Exit, Swapoff}
+use Rattle.shm_base.specs.declared.call.Call.TheVariants.{Shmget, Shmat, Shmdt, Stat, Set, Rmid, Lock, Unlock, Load, Store, Xadd, Exchange, CompareExchange, Fork, Exec, Exit, Swapoff, Munmap, Mprotect, Setuid}
 use Rattle.shm_base.specs.declared.errno.Errno.{Errno}
 use Rattle.shm_base.specs.declared.flags.GetFlags.{GetFlags}
 use Rattle.shm_base.specs.declared.flags.AtFlags.{AtFlags}
@@ -29,7 +31,7 @@ use Rattle.shm_text.specs.Script.{ScriptView}
 use Rattle.shm_text.specs.Variables.{no_values, values_after}
 use Rattle.shm_text.specs.declared.script.Line.{Line}
 use Rattle.shm_text.specs.declared.script.Line.TheVariants.{Command, Flush}
-use Rattle.shm_schedules.specs.Alike.{AreAlike, changes, is_change, looks}
+use Rattle.shm_schedules.specs.Alike.{AreAlike, changes, is_change, is_void, looks}
 use Rattle.shm_schedules.specs.Outcomes.{masked, outcome_of, told}
 use Rattle.shm_schedules.specs.Schedules.{Run, after, goes, is_live, next, next_call, replies_to, reply_of, Leads, IsOver, schedule_of, IsReached}
 use Rattle.shm_schedules.specs.Finding.{finding_of}
@@ -41,6 +43,9 @@ use Rattle.shm_schedules.proofs.Walking.{made-by}
 
 abbrev Still : Machine → Outcome → Type 0
 Still s o = is_refusal o.reply ≡ true → o.state ≡ s
+
+abbrev Void : Machine → ProcessCall → Outcome → Type 0
+Void s call o = is_void call o.reply ≡ true → o.state ≡ s
 
 module _ (s : Machine) (n : ℕ) (c : Caller) where
   still-if : (b : Bool) (o p : Outcome) → Still s o → Still s p → Still s (if b then o else p)
@@ -85,7 +90,11 @@ module _ (s : Machine) (n : ℕ) (c : Caller) where
   still-controls act acts Removed = λ h. refl
   still-controls act acts (Found i x) = still-if (not (owns c.cred x.perm)) _ _ (λ h. refl) (acts i x)
 
-  still-acts : (call : ProcessCall) → Still s (acts s n c call)
+  still-unmaps : (from : ℕ) (r : Result ℕ Errno) → Still s (unmaps s n c from r)
+  still-unmaps from (Err e) = λ h. refl
+  still-unmaps from (Ok to) = still-if (nat_lt s.limits.most_pieces (length (cut from to c.pieces))) _ _ (λ h. refl) (λ h. absurd (cc))
+
+  still-acts : (call : ProcessCall) → Void s call (acts s n c call)
   still-acts (Shmget key size mode flags) = still-if (key == 0) _ _ (still-creates 0 size mode flags) (still-gets key size mode flags (find_key s.table key))
   still-acts (Shmat id addr flags) =
       still-if (remaps_null s addr flags) _ _ (λ h. refl)
@@ -107,8 +116,11 @@ module _ (s : Machine) (n : ℕ) (c : Caller) where
   still-acts Exec = λ h. absurd (cc)
   still-acts Exit = λ h. absurd (cc)
   still-acts (Swapoff area) = λ h. grind (arith, common_steps)
+  still-acts (Munmap addr len) = still-unmaps addr (unmapped_to addr len)
+  still-acts (Mprotect addr len w) = λ h. absurd (cc)
+  still-acts (Setuid uid gid) = λ h. absurd (cc)
 
-still-by : (s : Machine) (n : ℕ) (call : ProcessCall) (o : Option Caller) → Still s (step_by s n call o)
+still-by : (s : Machine) (n : ℕ) (call : ProcessCall) (o : Option Caller) → Void s call (step_by s n call o)
 still-by s n call None = λ h. refl
 still-by s n call (Some c) = still-acts s n c call
 
@@ -133,8 +145,8 @@ event_at s n pid call = record { pid = pid; call = call; reply = (step s n pid c
 -- a call that changes nothing leaves the machine as it is
 pub still : (s : Machine) (n pid : ℕ) (call : ProcessCall) → is_change (event_at s n pid call) ≡ false → (step s n pid call).state ≡ s
 still s n pid call h =
-    elim (no-change (is_refusal (step s n pid call).reply) (looks call (step s n pid call).reply) h) [
-      | inl refused ↦ still-by s n call (caller_of s pid) refused
+    elim (no-change (is_void call (step s n pid call).reply) (looks call (step s n pid call).reply) h) [
+      | inl void ↦ still-by s n call (caller_of s pid) void
       | inr looked ↦ looked-by s n call (caller_of s pid) looked
     ]
 

@@ -1,10 +1,10 @@
 -- A call's time reaches nothing but the times of its segment.
-use Rattle.std.specs.Prelude.{◌≡◌, ◌≢◌, ℕ, ◌+◌, ◌*◌, ◌%◌, ◌^◌, ◌==◌, ◌&&◌, ℤ, pos, Bool, not, nat_lt, if◌then◌else◌, List, [], ◌∷◌, length, map, Option, Some, None, slice_get, slice_set}
+use Rattle.std.specs.Prelude.{◌≡◌, ◌≢◌, ℕ, ◌+◌, ◌*◌, ◌%◌, ◌^◌, ◌==◌, ◌&&◌, ℤ, pos, Bool, not, nat_lt, if◌then◌else◌, List, [], ◌∷◌, length, map, Option, Some, None, Result, Ok, Err, slice_get, slice_set}
 use Rattle.std.proofs.Common.{refl, ap, sym, ◌∙◌, arith}
 use Rattle.std.proofs.lemmas.Grind.{common_steps}
 use Rattle.std.specs.Int.{w64, to_le_bytes, from_le_bytes}
 use Rattle.shm_base.specs.Calls.{ProcessCall}
-use Rattle.shm_base.specs.declared.call.Call.TheVariants.{Shmget, Shmat, Shmdt, Stat, Set, Rmid, Lock, Unlock, Load, Store, Xadd, Exchange, CompareExchange, Fork, Exec, Exit, Swapoff}
+use Rattle.shm_base.specs.declared.call.Call.TheVariants.{Shmget, Shmat, Shmdt, Stat, Set, Rmid, Lock, Unlock, Load, Store, Xadd, Exchange, CompareExchange, Fork, Exec, Exit, Swapoff, Munmap, Mprotect, Setuid}
 use Rattle.shm_base.specs.declared.call.Reply.TheVariants.{Addr, Bytes, Number, Done, Id}
 use Rattle.shm_base.specs.declared.errno.Errno.{Errno}
 use Rattle.shm_base.specs.declared.errno.Errno.TheVariants.{Eperm, Einval, Enospc, Enomem, Eexist, Eacces}
@@ -15,12 +15,14 @@ use Rattle.shm_base.specs.Bounds.{within}
 use Rattle.shm_base.specs.Identifier.{Look, Found, Removed, Invalid, identifier, find_key, look}
 use Rattle.shm_base.specs.Locking.{may_not_lock, passes_limit, locks_as, unlocked}
 use Rattle.shm_base.specs.Permission.{grants, wish_of}
-use Rattle.shm_base.specs.Rules.{fork_marks, pieces_errno}
+use Rattle.shm_base.specs.Rules.{fork_marks, pieces_errno, rest_is_attached}
 use Rattle.shm_base.specs.Segments.{reserved, change, attached, attach_all, detach_all, swept, after_detach}
-use Rattle.shm_base.specs.Space.{cut_segments, origin_of}
+use Rattle.shm_base.specs.Space.{cut, cut_segments, origin_of}
 use Rattle.shm_base.specs.State.{Segment, Entry, Piece, Runner, Machine, Live, pages_in, pages_of}
-use Rattle.shm_base.specs.Step.{Outcome, Caller, gives, refuses, caller_of, with_pieces, with_end, segments_of, new_segment, creates_small, huge_errno, creates, gets, shmget, wants_no_other, wants_creation, is_rnd, pieces_with, rests, attaches, attaches_chosen, attaches_fixed, attaches_found, remaps_null, shmat, detaches, inherited, forks, unborn_from, stat, controls, is_no_owner, sets, removes, locks, unlocks, load, store, xadd, number_at, exchange, compare_exchange, takes_away, acts, step_by}
-use Rattle.shm_schedules.specs.Outcomes.{masked_time}
+use Rattle.shm_base.specs.Callers.{Outcome, Caller, gives, refuses, caller_of, with_pieces, with_end}
+use Rattle.shm_base.specs.Mapping.{Protected, after_cut, after_split, done_or, protects, protects_pieces, rests, unmapped_to, unmaps}
+use Rattle.shm_base.specs.Step.{segments_of, new_segment, creates_small, huge_errno, creates, gets, shmget, wants_no_other, wants_creation, is_rnd, pieces_with, attaches, attaches_chosen, attaches_fixed, attaches_found, remaps_null, shmat, detaches, inherited, forks, unborn_from, stat, controls, is_no_owner, sets, removes, locks, unlocks, load, store, xadd, number_at, exchange, compare_exchange, takes_away, acts, step_by}
+use Rattle.shm_schedules.specs.Outcomes.{masked, masked_time}
 use Rattle.shm_schedules.specs.Times.{TimesReachTimes, timeless_segment, timeless_entry, timeless, timeless_outcome}
 use Rattle.shm_schedules.proofs.Timing.{Match, timeless_look, timeless-destroyed, reserved-timeless, locked-sum, locked_by-sum, count-timeless, free-timeless, find-timeless, look-timeless, change-timeless, attached-timeless, detach-timeless, attach-timeless, swept-timeless, made-timeless, loaded-timeless, stored-timeless}
 
@@ -71,6 +73,18 @@ module _ (s : Machine) (n : ℕ) (c : Caller) (one : masked_time n ≡ 1) where
   out-shmget key size mode flags =
       both (key == 0) (key == 0) _ _ _ _ refl (out-creates 0 size mode flags) (ap (gets B 1 c key size mode flags) (find-timeless key T) ∙ out-gets key size mode flags (find_key T key))
 
+  -- A RANGE IS TAKEN OUT
+
+  out-cut : (from to : ℕ) → after_cut B 1 c from to ≡ V (after_cut s n c from to)
+  out-cut from to =
+      ap (λ t. attach_all 1 c.pid t kept) (detach-timeless n c.pid one lost T) ∙ attach-timeless n c.pid one kept (detach_all n c.pid T lost)
+    where
+      lost : List ℕ
+      lost = cut_segments from to c.pieces
+
+      kept : List ℕ
+      kept = rests s from to c.pieces
+
   -- SHMAT
 
   out-attaches : (id : ℕ) (x : Segment) (flags : AtFlags) (base : ℕ) → attaches B 1 c id (timeless_segment x) flags base ≡ timeless_outcome (attaches s n c id x flags base)
@@ -80,19 +94,15 @@ module _ (s : Machine) (n : ℕ) (c : Caller) (one : masked_time n ≡ 1) where
       rs : List Runner
       rs = with_pieces s.runners c (pieces_with c id x flags base)
 
-      lost : List ℕ
-      lost = cut_segments base (base + 4096 * pages_in x) c.pieces
-
-      kept : List ℕ
-      kept = rests s base (base + 4096 * pages_in x) c.pieces
+      to : ℕ
+      to = base + 4096 * pages_in x
 
       gone : List Entry
-      gone = attach_all n c.pid (detach_all n c.pid T lost) kept
+      gone = after_cut s n c base to
 
-      table : swept rs (change (attach_all 1 c.pid (detach_all 1 c.pid (V T) lost) kept) id (attached 1 c.pid)) ≡ V (swept rs (change gone id (attached n c.pid)))
+      table : swept rs (change (after_cut B 1 c base to) id (attached 1 c.pid)) ≡ V (swept rs (change gone id (attached n c.pid)))
       table =
-          ap (λ t. swept rs (change (attach_all 1 c.pid t kept) id (attached 1 c.pid))) (detach-timeless n c.pid one lost T)
-          ∙ ap (λ t. swept rs (change t id (attached 1 c.pid))) (attach-timeless n c.pid one kept (detach_all n c.pid T lost))
+          ap (λ t. swept rs (change t id (attached 1 c.pid))) (out-cut base to)
           ∙ ap (swept rs) (change-timeless (attached 1 c.pid) (attached n c.pid) (attached-timeless n c.pid one) gone id)
           ∙ swept-timeless 0 rs (change gone id (attached n c.pid))
 
@@ -110,6 +120,29 @@ module _ (s : Machine) (n : ℕ) (c : Caller) (one : masked_time n ≡ 1) where
   out-shmat id addr flags =
       tests Einval (remaps_null s addr flags) _ _ _ refl
       (tests Einval (not (addr % 4096 == 0) && not (is_rnd flags)) _ _ _ refl (ap (attaches_found B 1 c flags addr) (look-timeless T id) ∙ out-found flags addr (look T id)))
+
+  -- MUNMAP AND MPROTECT
+
+  out-unmaps : (from : ℕ) (r : Result ℕ Errno) → unmaps B 1 c from r ≡ timeless_outcome (unmaps s n c from r)
+  out-unmaps from (Err e) = refl
+  out-unmaps from (Ok to) =
+      tests Enomem (nat_lt s.limits.most_pieces (length (cut from to c.pieces))) _ _ _ refl (λ j. record { reply = Done; state = record s { table = table j; runners = rs } })
+    where
+      rs : List Runner
+      rs = with_pieces s.runners c (cut from to c.pieces)
+
+      table : swept rs (after_cut B 1 c from to) ≡ V (swept rs (after_cut s n c from to))
+      table = ap (swept rs) (out-cut from to) ∙ swept-timeless 0 rs (after_cut s n c from to)
+
+  out-split : (ids : List ℕ) → after_split B 1 c ids ≡ V (after_split s n c ids)
+  out-split ids = either-timeless (rest_is_attached s.limits.rules) _ _ _ _ (attach-timeless n c.pid one ids T) refl
+
+  done-timeless : (o : Option Errno) → done_or o ≡ masked (done_or o)
+  done-timeless None = refl
+  done-timeless (Some e) = refl
+
+  out-protects : (x : Protected) → protects B 1 c x ≡ timeless_outcome (protects s n c x)
+  out-protects x = λ j. record { reply = done-timeless x.refusal j; state = record s { table = out-split x.split j; runners = with_pieces s.runners c x.pieces } }
 
   -- DETACHING, FORK AND CONTROL
 
@@ -205,6 +238,9 @@ module _ (s : Machine) (n : ℕ) (c : Caller) (one : masked_time n ≡ 1) where
   out-acts (Fork child) = out-forks child (unborn_from 0 child s.runners)
   out-acts Exec = out-after (with_pieces s.runners c []) (segments_of c)
   out-acts Exit = out-after (with_end s.runners c) (segments_of c)
+  out-acts (Munmap addr len) = out-unmaps addr (unmapped_to addr len)
+  out-acts (Mprotect addr len w) = out-protects (protects_pieces s.limits.most_pieces w addr len c.pieces)
+  out-acts (Setuid uid gid) = refl
   out-acts (Swapoff area) = tests Eperm (not (c.cred.uid == 0)) _ _ _ refl (out-takes area (slice_get s.areas area))
 
 out-by : (s : Machine) (n : ℕ) (one : masked_time n ≡ 1) (call : ProcessCall) (o : Option Caller) → step_by (timeless s) 1 call o ≡ timeless_outcome (step_by s n call o)

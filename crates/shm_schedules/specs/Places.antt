@@ -2,7 +2,7 @@
 use Rattle.std.specs.Prelude.{ℕ, Option, Some, None}
 use Rattle.shm_base.specs.Access.{Place, place}
 use Rattle.shm_base.specs.State.{Machine}
-use Rattle.shm_base.specs.Step.{Caller, caller_of}
+use Rattle.shm_base.specs.Callers.{Caller, caller_of}
 
 abbrev pub place_by : Option Caller → ℕ → Option Place
 place_by None addr = None

@@ -93,6 +93,9 @@ same-call (calls.Fork child) d = search rules
 same-call calls.Exec d = search rules
 same-call calls.Exit d = search rules
 same-call (calls.Swapoff area) d = search rules
+same-call (calls.Munmap addr len) d = search rules
+same-call (calls.Mprotect addr len writable) d = search rules
+same-call (calls.Setuid uid gid) d = search rules
 
 pub and-true : (b : Bool) → b ≡ (b && true)
 and-true true = refl

@@ -1,7 +1,8 @@
 -- Schedules: the processes of a script run their lines one at a time, in any order. Flush lines change no reply and are left out.
 use Rattle.std.specs.Prelude.{◌≡◌, ℕ, ◌+◌, ◌==◌, ◌&&◌, Bool, List, [], ◌∷◌, ◌++◌, map, length, Option, Some, None, is_some, option_and_then, option_map, flat_map, if◌then◌else◌}
 use Rattle.shm_base.specs.State.{Machine, start_of}
-use Rattle.shm_base.specs.Step.{caller_of, step}
+use Rattle.shm_base.specs.Callers.{caller_of}
+use Rattle.shm_base.specs.Step.{step}
 use Rattle.shm_base.specs.History.{own_part}
 use Rattle.shm_base.specs.Processes.{has_pid}
 use Rattle.shm_base.specs.Calls.{ProcessCall}

@@ -1,7 +1,8 @@
 -- Times affect nothing but the times that `stat` shows.
 use Rattle.std.specs.Prelude.{◌≡◌, ◌≢◌, ℕ, map, option_map}
 use Rattle.shm_base.specs.State.{Segment, Entry, Machine}
-use Rattle.shm_base.specs.Step.{Outcome, step}
+use Rattle.shm_base.specs.Callers.{Outcome}
+use Rattle.shm_base.specs.Step.{step}
 use Rattle.shm_base.specs.Calls.{ProcessCall}
 use Rattle.shm_schedules.specs.Outcomes.{masked, masked_time}
 

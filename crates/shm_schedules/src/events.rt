@@ -2,7 +2,7 @@
 ghost use Rattle.std.specs.Prelude.{◌≡◌, ◌↔◌, IfOk, IsTrue};
 ghost use Rattle.shm_base.specs.Access.{same_bytes};
 ghost use Rattle.shm_base.specs.History.{is_refusal};
-ghost use Rattle.shm_schedules.specs.Alike.{changes, is_change, looks};
+ghost use Rattle.shm_schedules.specs.Alike.{changes, is_change, is_void, looks};
 
 use shm_base::{Call, Event, Reply};
 use std::alloc::{AllocError, Global};
@@ -23,6 +23,17 @@ fn are_same(bytes: &[u8], expected: &[u8]) -> bool
     bytes == expected
 }
 
+// Whether a call was refused and changed nothing. A refused `mprotect` has changed the pages below the one at
+// which it was refused.
+fn is_void(call: &Call, reply: &Reply) -> bool
+    ensures { result ≡ is_void call.now reply.now }
+{
+    match call {
+        Call::Mprotect { .. } => false,
+        _ => is_refusal(reply),
+    }
+}
+
 // Whether a call that is not refused changes nothing.
 fn looks(call: &Call, reply: &Reply) -> bool
     ensures { result ≡ looks call.now reply.now }
@@ -38,11 +49,12 @@ fn looks(call: &Call, reply: &Reply) -> bool
 }
 
 /// Whether a call may have changed the machine: it succeeded, and is no `load`, no `stat`, and no `cas` that
-/// found other bytes than it expects.
+/// found other bytes than it expects; or it is an `mprotect`, which changes pages also if it is refused at a
+/// higher one.
 pub fn is_change(event: &Event) -> bool
     ensures { result ≡ is_change event.now }
 {
-    !is_refusal(&event.reply) && !looks(&event.call, &event.reply)
+    !is_void(&event.call, &event.reply) && !looks(&event.call, &event.reply)
 }
 
 /// The calls that may have changed the machine, in order. AllocError: the host refused memory.

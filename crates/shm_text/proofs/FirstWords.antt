@@ -2,7 +2,7 @@
 use Rattle.shm_text.proofs.Names.{arith, ◌≡◌, ◌≤◌, ◌<◌, ◌+◌, refl, ℕ, List, take, length, eqb, Bool, true, false, is_some, codes, nat_lt, not, ◌&&◌, ◌||◌, if◌then◌else◌, nat_tests, length-take, common_steps, word_at, FaultKind, NoLimits, TooMany, Number, LineCall, Verb, ◌>>=◌, required_number, call_by, call_with, SeenView, taker, is_skipped, is_command, with_room, command, word_at_is, declared_pid, command_of}
 use Rattle.std.specs.Prelude.{Result, Ok, Err}
 use Rattle.shm_text.specs.declared.calls.Verb.TheVariants as verbs
-use Rattle.shm_text.specs.Calls.{shmget_call, shmat_call, xadd_call, load_call, store_call, swap_call, cas_call, set_call, fork_call, swapoff_call, call_words}
+use Rattle.shm_text.specs.Calls.{shmget_call, shmat_call, xadd_call, load_call, store_call, swap_call, cas_call, munmap_call, mprotect_call, set_call, fork_call, setuid_call, swapoff_call, call_words}
 use Rattle.shm_text.specs.Reading.{limits_item, rules_item, process_item, child_item, declaration, flush_item, command_item, body_item, words_item}
 
 pub short : (ws : List (List ℕ)) (k : ℕ) → k < 8 → eqb (length (take 8 ws)) k ≡ eqb (length ws) k
@@ -13,7 +13,7 @@ early ws i h = grind (arith, common_steps)
 
 -- the operands of a call are among the first words
 call_by-take : (verb : Verb) (taken : Bool) (ws : List (List ℕ)) (i : ℕ) → i ≤ 4 → call_by verb taken (take 8 ws) i ≡ call_by verb taken ws i
-unfolding shmget_call shmat_call xadd_call load_call store_call swap_call cas_call set_call fork_call swapoff_call
+unfolding shmget_call shmat_call xadd_call load_call store_call swap_call cas_call munmap_call mprotect_call set_call fork_call setuid_call swapoff_call
 call_by-take verbs.Shmget taken ws i h = rw (early ws i (omega arith), early ws (i + 1) (omega arith), early ws (i + 2) (omega arith)) refl
 call_by-take verbs.Shmat taken ws i h = rw (early ws i (omega arith), early ws (i + 1) (omega arith), early ws (i + 2) (omega arith)) refl
 call_by-take verbs.Xadd taken ws i h = rw (early ws i (omega arith), early ws (i + 1) (omega arith)) refl
@@ -31,6 +31,9 @@ call_by-take verbs.Fork taken ws i h = rw (early ws i (omega arith)) refl
 call_by-take verbs.Exec taken ws i h = refl
 call_by-take verbs.Exit taken ws i h = refl
 call_by-take verbs.Swapoff taken ws i h = rw (early ws i (omega arith)) refl
+call_by-take verbs.Munmap taken ws i h = rw (early ws i (omega arith), early ws (i + 1) (omega arith)) refl
+call_by-take verbs.Mprotect taken ws i h = rw (early ws i (omega arith), early ws (i + 1) (omega arith), early ws (i + 2) (omega arith)) refl
+call_by-take verbs.Setuid taken ws i h = rw (early ws i (omega arith), early ws (i + 1) (omega arith)) refl
 
 call_plain-take : (ws : List (List ℕ)) (found : Result Verb FaultKind) → (found >>= call_with (take 8 ws) false) ≡ (found >>= call_with ws false)
 call_plain-take ws found = grind (arith, common_steps, short, call_by-take)

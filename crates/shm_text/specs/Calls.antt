@@ -10,8 +10,8 @@ use Rattle.shm_text.specs.declared.calls.Verb.TheVariants as verbs
 use Rattle.shm_text.specs.declared.script.LineId.{LineId}
 use Rattle.shm_text.specs.declared.script.LineAddr.{LineAddr}
 use Rattle.shm_text.specs.Form.{LineCall}
-use Rattle.shm_base.specs.declared.call.Call.TheVariants.{Shmget, Shmat, Shmdt, Stat, Set, Rmid, Lock, Unlock, Load, Store, Xadd, Exchange, CompareExchange, Fork, Exec, Exit, Swapoff}
-use Rattle.shm_text.specs.Operand.{◌>>=◌, required_number, ranged, within_64_bits, key_word, id_word, ranged_id, addr_word, ranged_addr, mode_word, get_flags_word, at_flags_word, chunk_word, short_word}
+use Rattle.shm_base.specs.declared.call.Call.TheVariants.{Shmget, Shmat, Shmdt, Stat, Set, Rmid, Lock, Unlock, Load, Store, Xadd, Exchange, CompareExchange, Fork, Exec, Exit, Swapoff, Munmap, Mprotect, Setuid}
+use Rattle.shm_text.specs.Operand.{◌>>=◌, required_number, ranged, within_64_bits, key_word, id_word, ranged_id, addr_word, ranged_addr, mode_word, protection_word, get_flags_word, at_flags_word, chunk_word, short_word}
 use Rattle.shm_text.specs.Words.{word_at}
 use Rattle.shm_base.specs.declared.bounds.TheConstants.{LAST_PID}
 
@@ -21,6 +21,7 @@ process_verb_of w =
     if bytes_eq w (codes "fork") then Some verbs.Fork else
     if bytes_eq w (codes "exec") then Some verbs.Exec else
     if bytes_eq w (codes "exit") then Some verbs.Exit else
+    if bytes_eq w (codes "setuid") then Some verbs.Setuid else
     if bytes_eq w (codes "swapoff") then Some verbs.Swapoff else
     None
 
@@ -34,15 +35,22 @@ control_verb_of w =
     if bytes_eq w (codes "unlock") then Some verbs.Unlock else
     process_verb_of w
 
--- the words of calls at an address, or those above
+-- the words of calls that unmap or protect, or those above
+unfoldable pub mapping_verb_of : List ℕ → Option Verb
+mapping_verb_of w =
+    if bytes_eq w (codes "shmdt") then Some verbs.Shmdt else
+    if bytes_eq w (codes "munmap") then Some verbs.Munmap else
+    if bytes_eq w (codes "mprotect") then Some verbs.Mprotect else
+    control_verb_of w
+
+-- the words of accesses, or those above
 unfoldable pub access_verb_of : List ℕ → Option Verb
 access_verb_of w =
-    if bytes_eq w (codes "shmdt") then Some verbs.Shmdt else
     if bytes_eq w (codes "load") then Some verbs.Load else
     if bytes_eq w (codes "store") then Some verbs.Store else
     if bytes_eq w (codes "swap") then Some verbs.Swap else
     if bytes_eq w (codes "cas") then Some verbs.Cas else
-    control_verb_of w
+    mapping_verb_of w
 
 -- the word of a call
 unfoldable pub verb_of : List ℕ → Option Verb
@@ -71,6 +79,9 @@ operands verbs.Fork = 1
 operands verbs.Exec = 0
 operands verbs.Exit = 0
 operands verbs.Swapoff = 1
+operands verbs.Munmap = 2
+operands verbs.Mprotect = 3
+operands verbs.Setuid = 2
 
 -- whether a variable and `=` may precede it
 abbrev pub may_be_taken : Verb → Bool
@@ -157,6 +168,23 @@ cas_call taken ws i = do
   addr ← ranged_addr addr
   Ok (CompareExchange expected desired addr)
 
+unfoldable pub munmap_call : List (List ℕ) → ℕ → Result LineCall FaultKind
+munmap_call ws i = do
+  addr ← addr_word (word_at ws i)
+  len ← required_number (word_at ws (i + 1))
+  addr ← ranged_addr addr
+  len ← within_64_bits len
+  Ok (Munmap addr len)
+
+unfoldable pub mprotect_call : List (List ℕ) → ℕ → Result LineCall FaultKind
+mprotect_call ws i = do
+  addr ← addr_word (word_at ws i)
+  len ← required_number (word_at ws (i + 1))
+  writable ← protection_word (word_at ws (i + 2))
+  addr ← ranged_addr addr
+  len ← within_64_bits len
+  Ok (Mprotect addr len writable)
+
 unfoldable pub set_call : List (List ℕ) → ℕ → Result LineCall FaultKind
 set_call ws i = do
   id ← id_word (word_at ws i)
@@ -173,6 +201,14 @@ fork_call ws i = do
   child ← required_number (word_at ws i)
   child ← ranged 1 LAST_PID child
   Ok (Fork child)
+
+unfoldable pub setuid_call : List (List ℕ) → ℕ → Result LineCall FaultKind
+setuid_call ws i = do
+  uid ← required_number (word_at ws i)
+  gid ← required_number (word_at ws (i + 1))
+  uid ← ranged 0 4294967295 uid
+  gid ← ranged 0 4294967295 gid
+  Ok (Setuid uid gid)
 
 unfoldable pub swapoff_call : List (List ℕ) → ℕ → Result LineCall FaultKind
 swapoff_call ws i = do
@@ -199,6 +235,9 @@ call_by verbs.Fork taken ws i = fork_call ws i
 call_by verbs.Exec taken ws i = Ok Exec
 call_by verbs.Exit taken ws i = Ok Exit
 call_by verbs.Swapoff taken ws i = swapoff_call ws i
+call_by verbs.Munmap taken ws i = munmap_call ws i
+call_by verbs.Mprotect taken ws i = mprotect_call ws i
+call_by verbs.Setuid taken ws i = setuid_call ws i
 
 -- the index of a call's word: it follows the pid, and also a variable and `=` if one takes the answer
 abbrev pub place_of : Bool → ℕ

@@ -7,7 +7,7 @@ use Rattle.shm_text.specs.declared.script.LineId.{LineId}
 use Rattle.shm_text.specs.declared.script.LineId.TheVariants as ids
 use Rattle.shm_text.specs.declared.script.LineAddr.{LineAddr}
 use Rattle.shm_base.specs.declared.call.Call.{Call}
-use Rattle.shm_base.specs.declared.call.Call.TheVariants.{Shmget, Shmat, Shmdt, Stat, Set, Rmid, Lock, Unlock, Load, Store, Xadd, Exchange, CompareExchange, Fork, Exec, Exit, Swapoff}
+use Rattle.shm_base.specs.declared.call.Call.TheVariants.{Shmget, Shmat, Shmdt, Stat, Set, Rmid, Lock, Unlock, Load, Store, Xadd, Exchange, CompareExchange, Fork, Exec, Exit, Swapoff, Munmap, Mprotect, Setuid}
 use Rattle.shm_base.specs.declared.bounds.TheConstants.{LAST_ID, LAST_PID, MODES}
 
 -- a line's call: an identifier or an address may be a variable
@@ -56,6 +56,9 @@ is_call (Fork child) = is_pid child
 is_call Exec = true
 is_call Exit = true
 is_call (Swapoff area) = nat_le area 7
+is_call (Munmap addr len) = true
+is_call (Mprotect addr len writable) = true
+is_call (Setuid uid gid) = true
 
 -- the calls whose answer a variable may take: a number, or at most eight bytes
 abbrev pub has_answer : LineCall → Bool

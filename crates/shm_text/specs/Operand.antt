@@ -1,5 +1,5 @@
 -- The operands of a line: first whether a word can be read, and then whether its number is in range.
-use Rattle.std.specs.Prelude.{ℕ, ◌+◌, ◌-◌, ◌*◌, ◌^◌, Bool, ◌==◌, ◌&&◌, ◌||◌, nat_le, List, length, drop, count_by, Option, Some, None, Result, Ok, Err, slice_index, codes, if◌then◌else◌}
+use Rattle.std.specs.Prelude.{ℕ, ◌+◌, ◌-◌, ◌*◌, ◌^◌, Bool, true, false, ◌==◌, ◌&&◌, ◌||◌, nat_le, List, length, drop, count_by, Option, Some, None, Result, Ok, Err, slice_index, codes, if◌then◌else◌}
 use Rattle.std.specs.List.{slice_split}
 use Rattle.std.specs.Str.{bytes_eq}
 use Rattle.std.specs.Option.{ok_or}
@@ -86,6 +86,13 @@ mode_from w = 64 * (slice_index w 0 - 48) + 8 * (slice_index w 1 - 48) + (slice_
 
 abbrev pub mode_word : List ℕ → Result ℕ FaultKind
 mode_word w = if is_mode w then Ok (mode_from w) else Err BadLine
+
+-- whether pages become writable
+abbrev pub protection_word : List ℕ → Result Bool FaultKind
+protection_word w =
+    if bytes_eq w (codes "rw") then Ok true else
+    if bytes_eq w (codes "ro") then Ok false else
+    Err BadLine
 
 -- the flags after a mode: each flag of shmget at most once, in either order
 abbrev pub get_flags_word : List ℕ → Result GetFlags FaultKind

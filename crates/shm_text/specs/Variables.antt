@@ -1,7 +1,7 @@
 -- The variables of a process, and the call that a line makes with them.
 use Rattle.std.specs.Prelude.{ℕ, ◌+◌, ◌-◌, ◌%◌, ◌^◌, ◌++◌, ℤ, pos, negsuc, nat_le, if◌then◌else◌, List, length, Option, Some, None, get_or, set, replicate}
 use Rattle.std.specs.Int.{w64, from_le_bytes}
-use Rattle.shm_base.specs.declared.call.Call.TheVariants.{Shmget, Shmat, Shmdt, Stat, Set, Rmid, Lock, Unlock, Load, Store, Xadd, Exchange, CompareExchange, Fork, Exec, Exit, Swapoff}
+use Rattle.shm_base.specs.declared.call.Call.TheVariants.{Shmget, Shmat, Shmdt, Stat, Set, Rmid, Lock, Unlock, Load, Store, Xadd, Exchange, CompareExchange, Fork, Exec, Exit, Swapoff, Munmap, Mprotect, Setuid}
 use Rattle.shm_base.specs.Calls.{ProcessCall}
 use Rattle.shm_base.specs.declared.call.Reply.{Reply}
 use Rattle.shm_base.specs.declared.call.Reply.TheVariants.{Id, Addr, Bytes, Number}
@@ -58,6 +58,9 @@ call_of values (Fork child) = Fork child
 call_of values Exec = Exec
 call_of values Exit = Exit
 call_of values (Swapoff area) = Swapoff area
+call_of values (Munmap addr len) = Munmap (addr_of values addr) len
+call_of values (Mprotect addr len writable) = Mprotect (addr_of values addr) len writable
+call_of values (Setuid uid gid) = Setuid uid gid
 
 abbrev pub id_number : ℤ → Option ℕ
 id_number (pos n) = Some n

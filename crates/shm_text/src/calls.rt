@@ -1,12 +1,12 @@
 //! The calls of a line: a word, and the operands that follow it.
 ghost use Rattle.std.specs.Prelude.{◌≡◌, ◌≤◌, ◌<◌, ◌+◌, length, take, drop, true, IfOk, OnOk};
 ghost use Rattle.shm_text.specs.Form.{is_id, is_call, has_answer, is_answer_taken};
-ghost use Rattle.shm_text.specs.Calls.{verb_of, access_verb_of, control_verb_of, process_verb_of, operands, may_be_taken, id_operand, addr_operand, shmget_call, shmat_call, xadd_call, load_call, store_call, swap_call, cas_call, within_variable, as_many, set_call, fork_call, swapoff_call, call_by, place_of, call_words};
+ghost use Rattle.shm_text.specs.Calls.{verb_of, access_verb_of, mapping_verb_of, control_verb_of, process_verb_of, operands, may_be_taken, id_operand, addr_operand, shmget_call, shmat_call, xadd_call, load_call, store_call, swap_call, cas_call, within_variable, as_many, munmap_call, mprotect_call, set_call, fork_call, setuid_call, swapoff_call, call_by, place_of, call_words};
 
 use crate::fault::FaultKind;
 use crate::operand::{
-    addr_word, at_flags_word, chunk_word, get_flags_word, id_word, key_word, mode_word, ranged,
-    ranged_addr, ranged_id, required_number, short_word, within_64_bits,
+    addr_word, at_flags_word, chunk_word, get_flags_word, id_word, key_word, mode_word,
+    protection_word, ranged, ranged_addr, ranged_id, required_number, short_word, within_64_bits,
 };
 use crate::script::{LineAddr, LineCall, LineId};
 use crate::words::{Words, is_word};
@@ -21,11 +21,13 @@ pub(crate) enum Verb {
     Shmget,
     Shmat,
     Xadd,
-    Shmdt,
     Load,
     Store,
     Swap,
     Cas,
+    Shmdt,
+    Munmap,
+    Mprotect,
     Stat,
     Set,
     Rmid,
@@ -34,6 +36,7 @@ pub(crate) enum Verb {
     Fork,
     Exec,
     Exit,
+    Setuid,
     Swapoff,
 }
 
@@ -53,14 +56,12 @@ impl Verb {
         }
     }
 
-    // The words `shmdt`, `load` and the other accesses, or those tried after them.
+    // The words of accesses, or those tried after them.
     #[tactic(auto, unfolding(crate::specs::Calls::access_verb_of))]
     fn of_access(word: &[u8]) -> Option<Verb>
         ensures { result ≡ access_verb_of word.now }
     {
-        if is_word(word, b"shmdt") {
-            Some(Verb::Shmdt)
-        } else if is_word(word, b"load") {
+        if is_word(word, b"load") {
             Some(Verb::Load)
         } else if is_word(word, b"store") {
             Some(Verb::Store)
@@ -68,6 +69,22 @@ impl Verb {
             Some(Verb::Swap)
         } else if is_word(word, b"cas") {
             Some(Verb::Cas)
+        } else {
+            Verb::of_mapping(word)
+        }
+    }
+
+    // The words of calls that unmap or protect, or those tried after them.
+    #[tactic(auto, unfolding(crate::specs::Calls::mapping_verb_of))]
+    fn of_mapping(word: &[u8]) -> Option<Verb>
+        ensures { result ≡ mapping_verb_of word.now }
+    {
+        if is_word(word, b"shmdt") {
+            Some(Verb::Shmdt)
+        } else if is_word(word, b"munmap") {
+            Some(Verb::Munmap)
+        } else if is_word(word, b"mprotect") {
+            Some(Verb::Mprotect)
         } else {
             Verb::of_control(word)
         }
@@ -104,6 +121,8 @@ impl Verb {
             Some(Verb::Exec)
         } else if is_word(word, b"exit") {
             Some(Verb::Exit)
+        } else if is_word(word, b"setuid") {
+            Some(Verb::Setuid)
         } else if is_word(word, b"swapoff") {
             Some(Verb::Swapoff)
         } else {
@@ -124,8 +143,8 @@ impl Verb {
             | Verb::Unlock
             | Verb::Fork
             | Verb::Swapoff => 1,
-            Verb::Xadd | Verb::Load | Verb::Store | Verb::Swap => 2,
-            Verb::Shmget | Verb::Shmat | Verb::Cas => 3,
+            Verb::Xadd | Verb::Load | Verb::Store | Verb::Swap | Verb::Munmap | Verb::Setuid => 2,
+            Verb::Shmget | Verb::Shmat | Verb::Cas | Verb::Mprotect => 3,
             Verb::Set => 4,
         }
     }
@@ -327,6 +346,39 @@ fn cas_call(taken: bool, words: &Words<'_>, index: usize) -> Result<LineCall, Fa
     })
 }
 
+#[tactic(auto, unfolding(crate::specs::Calls::munmap_call))]
+fn munmap_call(words: &Words<'_>, index: usize) -> Result<LineCall, FaultKind>
+    requires small { index ≤ 4 }
+    requires words { index + 2 ≡ length words.now }
+    ensures value { result ≡ munmap_call words.now index }
+    ensures form { IfOk result (λ c. is_call c ≡ true) }
+{
+    let addr = addr_word(words.at(index))?;
+    let len = required_number(words.at(index + 1))?;
+    let addr = ranged_addr(addr)?;
+    let len = within_64_bits(len)?;
+    Ok(Call::Munmap { addr, len })
+}
+
+#[tactic(auto, unfolding(crate::specs::Calls::mprotect_call))]
+fn mprotect_call(words: &Words<'_>, index: usize) -> Result<LineCall, FaultKind>
+    requires small { index ≤ 4 }
+    requires words { index + 3 ≡ length words.now }
+    ensures value { result ≡ mprotect_call words.now index }
+    ensures form { IfOk result (λ c. is_call c ≡ true) }
+{
+    let addr = addr_word(words.at(index))?;
+    let len = required_number(words.at(index + 1))?;
+    let writable = protection_word(words.at(index + 2))?;
+    let addr = ranged_addr(addr)?;
+    let len = within_64_bits(len)?;
+    Ok(Call::Mprotect {
+        addr,
+        len,
+        writable,
+    })
+}
+
 #[tactic(auto, unfolding(crate::specs::Calls::set_call))]
 fn set_call(words: &Words<'_>, index: usize) -> Result<LineCall, FaultKind>
     requires small { index ≤ 4 }
@@ -353,6 +405,20 @@ fn fork_call(words: &Words<'_>, index: usize) -> Result<LineCall, FaultKind>
     let child = required_number(words.at(index))?;
     let child = ranged(child, 1, LAST_PID)?;
     Ok(Call::Fork { child })
+}
+
+#[tactic(auto, unfolding(crate::specs::Calls::setuid_call))]
+fn setuid_call(words: &Words<'_>, index: usize) -> Result<LineCall, FaultKind>
+    requires small { index ≤ 4 }
+    requires words { index + 2 ≡ length words.now }
+    ensures value { result ≡ setuid_call words.now index }
+    ensures form { IfOk result (λ c. is_call c ≡ true) }
+{
+    let uid = required_number(words.at(index))?;
+    let gid = required_number(words.at(index + 1))?;
+    let uid = ranged(uid, 0, u32::MAX)?;
+    let gid = ranged(gid, 0, u32::MAX)?;
+    Ok(Call::Setuid { uid, gid })
 }
 
 #[tactic(auto, unfolding(crate::specs::Calls::swapoff_call))]
@@ -383,29 +449,17 @@ fn call_by(verb: Verb, taken: bool, words: &Words<'_>, index: usize) -> Result<L
         Verb::Store => store_call(words, index),
         Verb::Swap => swap_call(taken, words, index),
         Verb::Cas => cas_call(taken, words, index),
+        Verb::Munmap => munmap_call(words, index),
+        Verb::Mprotect => mprotect_call(words, index),
         Verb::Set => set_call(words, index),
         Verb::Fork => fork_call(words, index),
+        Verb::Setuid => setuid_call(words, index),
         Verb::Swapoff => swapoff_call(words, index),
-        Verb::Shmdt => {
-            let addr = addr_operand(words, index)?;
-            Ok(Call::Shmdt { addr })
-        }
-        Verb::Stat => {
-            let id = id_operand(words, index)?;
-            Ok(Call::Stat { id })
-        }
-        Verb::Rmid => {
-            let id = id_operand(words, index)?;
-            Ok(Call::Rmid { id })
-        }
-        Verb::Lock => {
-            let id = id_operand(words, index)?;
-            Ok(Call::Lock { id })
-        }
-        Verb::Unlock => {
-            let id = id_operand(words, index)?;
-            Ok(Call::Unlock { id })
-        }
+        Verb::Shmdt => addr_operand(words, index).map(|addr| Call::Shmdt { addr }),
+        Verb::Stat => id_operand(words, index).map(|id| Call::Stat { id }),
+        Verb::Rmid => id_operand(words, index).map(|id| Call::Rmid { id }),
+        Verb::Lock => id_operand(words, index).map(|id| Call::Lock { id }),
+        Verb::Unlock => id_operand(words, index).map(|id| Call::Unlock { id }),
         Verb::Exec => Ok(Call::Exec),
         Verb::Exit => Ok(Call::Exit),
     }

@@ -1,7 +1,7 @@
 //! The operands of a line: one word each. Words that can't be read make a bad line; ranges are tested
 //! afterwards, so a bad line is reported before a bad number.
 ghost use Rattle.std.specs.Prelude.{◌≡◌, ◌≤◌, ◌<◌, ◌==◌, true, length, drop, Ok, IfOk, Some};
-ghost use Rattle.shm_text.specs.Operand.{required_number, ranged, within_64_bits, key_word, letter_of, addr_by, id_word, addr_word, ranged_id, ranged_addr, mode_word, get_flags_word, names_of, times, at_flags_word, bytes_word, chunk_word, short_word};
+ghost use Rattle.shm_text.specs.Operand.{required_number, ranged, within_64_bits, key_word, letter_of, addr_by, id_word, addr_word, ranged_id, ranged_addr, mode_word, protection_word, get_flags_word, names_of, times, at_flags_word, bytes_word, chunk_word, short_word};
 ghost use Rattle.shm_text.specs.Form.{is_id, is_get_flags, is_at_flags};
 
 use crate::fault::FaultKind;
@@ -166,6 +166,19 @@ pub(crate) fn mode_word(word: &[u8]) -> Result<u16, FaultKind>
             Ok((*high - b'0') as u16 * 64 + (*middle - b'0') as u16 * 8 + (*low - b'0') as u16)
         }
         _ => Err(FaultKind::BadLine),
+    }
+}
+
+/// Whether pages become writable: `rw`, or `ro`.
+pub(crate) fn protection_word(word: &[u8]) -> Result<bool, FaultKind>
+    ensures { result ≡ protection_word word.now }
+{
+    if is_word(word, b"rw") {
+        Ok(true)
+    } else if is_word(word, b"ro") {
+        Ok(false)
+    } else {
+        Err(FaultKind::BadLine)
     }
 }
 

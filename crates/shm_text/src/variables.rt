@@ -167,6 +167,20 @@ impl Vars {
             Call::Exec => Call::Exec,
             Call::Exit => Call::Exit,
             Call::Swapoff { area } => Call::Swapoff { area },
+            Call::Munmap { addr, len } => Call::Munmap {
+                addr: self.addr(addr),
+                len,
+            },
+            Call::Mprotect {
+                addr,
+                len,
+                writable,
+            } => Call::Mprotect {
+                addr: self.addr(addr),
+                len,
+                writable,
+            },
+            Call::Setuid { uid, gid } => Call::Setuid { uid, gid },
         }
     }
 

@@ -1,5 +1,5 @@
 -- A call of a live process never fails with ESRCH.
-use Rattle.std.specs.Prelude.{◌≡◌, ◌≢◌, ◌+◌, ◌-◌, ◌%◌, ◌==◌, ◌&&◌, ℕ, ℤ, Bool, true, false, not, nat_lt, length, Option, Some, None, is_some, if◌then◌else◌}
+use Rattle.std.specs.Prelude.{◌≡◌, ◌≢◌, ◌+◌, ◌-◌, ◌%◌, ◌^◌, ◌==◌, ◌&&◌, ℕ, suc, zero, ℤ, Bool, true, false, not, nat_le, nat_lt, List, ◌∷◌, length, Option, Some, None, Result, is_some, if◌then◌else◌}
 use Rattle.std.proofs.Common.{sym, ap, ◌∙◌, refl, arith, inl, inr, true≢false}
 use Rattle.std.proofs.lemmas.Grind.{common_steps}
 use Rattle.shm_base.specs.Bounds.{within}
@@ -9,10 +9,13 @@ use Rattle.shm_base.specs.Identifier.{Found, Invalid, Look, Removed, find_key, f
 use Rattle.shm_base.specs.Permission.{grants, wish_of}
 use Rattle.shm_base.specs.Rules.{pieces_are_enomem, removed_is_invalid}
 use Rattle.shm_base.specs.Segments.{reserved, slots}
-use Rattle.shm_base.specs.Space.{choose, inside}
-use Rattle.shm_base.specs.State.{Machine, Segment, pages_in, pages_of}
-use Rattle.shm_base.specs.Step.{Caller, Outcome, acts, at_wish, attaches, attaches_chosen, attaches_fixed, attaches_found, caller_of, creates, creates_at, creates_small, gets, huge_errno, is_full, is_rnd, is_taken, pieces_with, remaps_null, shmat, step_by, wants_creation, wants_no_other}
-use Rattle.shm_base.specs.declared.call.Call.TheVariants.{Shmat, Shmget}
+use Rattle.shm_base.specs.Access.{end_of}
+use Rattle.shm_base.specs.Mapping.{Protected, done_or, has_protection, munmap, protects_from, protects_piece, protects_pieces, rounded, turned, unmaps}
+use Rattle.shm_base.specs.Space.{choose, covering, cut, end_address, inside}
+use Rattle.shm_base.specs.State.{Machine, Piece, Segment, pages_in, pages_of}
+use Rattle.shm_base.specs.Callers.{Caller, Outcome, caller_of}
+use Rattle.shm_base.specs.Step.{acts, at_wish, attaches, attaches_chosen, attaches_fixed, attaches_found, creates, creates_at, creates_small, gets, huge_errno, is_full, is_rnd, is_taken, pieces_with, remaps_null, shmat, step_by, wants_creation, wants_no_other}
+use Rattle.shm_base.specs.declared.call.Call.TheVariants.{Mprotect, Munmap, Shmat, Shmget}
 use Rattle.shm_base.specs.declared.call.Event.{Event}
 use Rattle.shm_base.specs.declared.call.Reply.{Reply}
 use Rattle.shm_base.specs.declared.call.Reply.TheVariants.{Refused}
@@ -33,6 +36,37 @@ IsFound o = is_lost o.reply ≡ false
 pick_errno : (s : Machine) (b : Bool) (e f : Errno) → is_lost (Refused e) ≡ false → is_lost (Refused f) ≡ false → is_lost (Refused (if b then e else f)) ≡ false
 pick_errno s true e f p q = p
 pick_errno s false e f p q = q
+
+-- A PROTECTION
+
+abbrev IsAnswered : Protected → Type 0
+IsAnswered x = is_lost (done_or x.refusal) ≡ false
+
+either : (b : Bool) (x y : Protected) → IsAnswered x → IsAnswered y → IsAnswered (if b then x else y)
+either true x y h k = h
+either false x y h k = k
+
+answered-piece : (most : ℕ) (w : Bool) (at to : ℕ) (ps : List Piece) (next : ℕ → List Piece → Protected) → ((above : ℕ) (qs : List Piece) → IsAnswered (next above qs)) → (o : Option Piece)
+    → IsAnswered (protects_piece most w at to ps next o)
+answered-piece most w at to ps next rest None = refl
+answered-piece most w at to ps next rest (Some p) =
+    let qs = turned w at to p ps in
+    let x = next (end_of p) qs in
+    either (w && not p.may_write) _ _ refl
+    (either (has_protection w p) _ _ (rest (end_of p) ps)
+    (either (nat_lt most (length qs)) _ _ refl
+    (either (nat_lt (length ps) (length qs)) (record x { split = p.seg ∷ x.split }) x (rest (end_of p) qs) (rest (end_of p) qs))))
+
+answered-from : (k most : ℕ) (w : Bool) (to at : ℕ) (ps : List Piece) → IsAnswered (protects_from k most w to at ps)
+answered-from zero most w to at ps = refl
+answered-from (suc k) most w to at ps = either (nat_le to at) _ _ refl (answered-piece most w at to ps (protects_from k most w to) (answered-from k most w to) (covering at ps))
+
+answered : (most : ℕ) (w : Bool) (addr len : ℕ) (ps : List Piece) → IsAnswered (protects_pieces most w addr len ps)
+answered most w addr len ps =
+    either (not (addr % 4096 == 0)) _ _ refl
+    (either (len == 0) _ _ refl (either (nat_le (2 ^ 64) (addr + rounded len)) _ _ refl (answered-from (pages_of len) most w (addr + rounded len) addr ps)))
+
+-- ANY CALL
 
 module _ (s : Machine) (n : ℕ) (c : Caller) where
   at-index : (key size mode : ℕ) (o : Option ℕ) → IsFound (creates_at s n c key size mode o)
@@ -78,9 +112,21 @@ module _ (s : Machine) (n : ℕ) (c : Caller) where
       pick IsFound (remaps_null s addr flags) _ _ refl
       (pick IsFound (not (addr % 4096 == 0) && not (is_rnd flags)) _ _ refl (found-look flags addr (look s.table id)))
 
+  found-unmaps : (from : ℕ) (b : Bool) (r q : Result ℕ Errno) → IsFound (unmaps s n c from r) → IsFound (unmaps s n c from q) → IsFound (unmaps s n c from (if b then r else q))
+  found-unmaps from true r q h k = h
+  found-unmaps from false r q h k = k
+
+  found-munmap : (addr len : ℕ) → IsFound (munmap s n c addr len)
+  found-munmap addr len =
+      found-unmaps addr (not (addr % 4096 == 0)) _ _ refl
+      (found-unmaps addr (len == 0) _ _ refl
+      (found-unmaps addr (nat_lt end_address (addr + len)) _ _ refl (pick IsFound (nat_lt s.limits.most_pieces (length (cut addr (addr + rounded len) c.pieces))) _ _ refl refl)))
+
   found-acts : (call : ProcessCall) → IsFound (acts s n c call)
   found-acts (Shmget key size mode flags) = pick IsFound (key == 0) _ _ (found-creates 0 size mode flags) (found-gets key size mode flags (find_key s.table key))
   found-acts (Shmat id addr flags) = found-shmat id addr flags
+  found-acts (Munmap addr len) = found-munmap addr len
+  found-acts (Mprotect addr len w) = answered s.limits.most_pieces w addr len c.pieces
   found-acts call = grind (arith, common_steps)
 
 found-failure : (call : ProcessCall) (r : Reply) → is_failure call r ≡ true → is_lost r ≡ false

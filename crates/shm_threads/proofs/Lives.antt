@@ -5,14 +5,16 @@ use Rattle.std.proofs.lemmas.Bool.{cases_eq}
 use Rattle.std.proofs.lemmas.Option.{none-some, same_Some}
 use Rattle.shm_base.specs.History.{IsMove, is_refusal}
 use Rattle.shm_base.specs.State.{Ended, Life, Live, Machine, Piece, Runner, Unborn}
-use Rattle.shm_base.specs.Step.{Caller, Outcome, acts, caller_by, caller_from, caller_of, detaches, is_unborn, pieces_with, unborn_from}
+use Rattle.shm_base.specs.Callers.{Caller, Outcome, caller_by, caller_from, caller_of}
+use Rattle.shm_base.specs.Step.{acts, detaches, is_unborn, pieces_with, unborn_from}
 use Rattle.shm_base.specs.Calls.{ProcessCall}
 use Rattle.shm_base.specs.declared.call.Call.TheVariants.{Exec, Exit, Shmdt}
 use Rattle.shm_base.specs.declared.call.Event.{Event}
 use Rattle.shm_base.specs.declared.call.Reply.{Reply}
 use Rattle.shm_base.specs.declared.call.Reply.TheVariants.{Done}
 use Rattle.shm_base.specs.declared.owner.Cred.{Cred}
-use Rattle.shm_base.specs.Space.{origin_of}
+use Rattle.shm_base.specs.Mapping.{protects_pieces, rounded}
+use Rattle.shm_base.specs.Space.{cut, origin_of}
 use Rattle.shm_laws.specs.Pieces.{hands_pieces}
 use Rattle.shm_laws.proofs.Handing.{Hands, Leaves, hands-acts}
 use Rattle.shm_laws.proofs.Refusing.{by-move}
@@ -162,9 +164,12 @@ ages-same e olds news same still goes =
       own = rw goes (λ live. (live.0, ap (life_from e.pid) same ∙ live.1));
     }
 
+abbrev LivesOn : Life → Type 0
+LivesOn life = (cred : Cred) × (life ≡ Live cred)
+
 -- the caller is set, which lives on or has ended
 ages-own : (e : Event) (cred : Cred) (rs : List Runner) (k : ℕ) (new : Runner) → FirstAt e.pid (Live cred) rs k → new.pid ≡ e.pid → Still e.call e.reply
-    → MatchBool (is_end e.call (Replied e.reply)) (new.life ≡ Ended) (new.life ≡ Live cred) → Ages e rs (slice_set rs k new)
+    → MatchBool (is_end e.call (Replied e.reply)) (new.life ≡ Ended) (LivesOn new.life) → Ages e rs (slice_set rs k new)
 ages-own e cred rs k new first named still life =
     let lives : Life = Live cred in
     record {
@@ -175,9 +180,9 @@ ages-own e cred rs k new first named still life =
       own = by (is_end e.call (Replied e.reply)) life;
     }
   where
-    by : (b : Bool) → MatchBool b (new.life ≡ Ended) (new.life ≡ Live cred) → MatchBool b (life_from e.pid (slice_set rs k new) ≡ Some Ended) (IsLive e.pid rs → IsLive e.pid (slice_set rs k new))
+    by : (b : Bool) → MatchBool b (new.life ≡ Ended) (LivesOn new.life) → MatchBool b (life_from e.pid (slice_set rs k new) ≡ Some Ended) (IsLive e.pid rs → IsLive e.pid (slice_set rs k new))
     by true ended = set-own e.pid (Live cred) rs k new first named ∙ ap (λ (l : Life). Some l) ended
-    by false lives = λ is. (cred, set-own e.pid (Live cred) rs k new first named ∙ ap (λ (l : Life). Some l) lives)
+    by false lives = λ is. (lives.0, set-own e.pid (Live cred) rs k new first named ∙ ap (λ (l : Life). Some l) lives.1)
 
 -- a child is set, which lives
 ages-child : (e : Event) (child : ℕ) (cred : Cred) (rs : List Runner) (k : ℕ) (new : Runner) → FirstAt child Unborn rs k → new.pid ≡ child → new.life ≡ Live cred
@@ -212,7 +217,7 @@ module _ (s : Machine) (n pid : ℕ) (c : Caller) (live : caller_of s pid ≡ So
 
   -- the caller is set
   set-caller : (call : ProcessCall) (reply : Reply) (new : Runner) → new.pid ≡ c.pid → Still call reply
-      → MatchBool (is_end call (Replied reply)) (new.life ≡ Ended) (new.life ≡ Live c.cred) → Ages (event pid call reply) s.runners (slice_set s.runners c.index new)
+      → MatchBool (is_end call (Replied reply)) (new.life ≡ Ended) (LivesOn new.life) → Ages (event pid call reply) s.runners (slice_set s.runners c.index new)
   set-caller call reply new named still life =
       let place : mine.place ≡ c.index = omega (arith, mine.at) in
       subst (λ (k : ℕ). Ages (event pid call reply) s.runners (slice_set s.runners k new)) place
@@ -220,7 +225,7 @@ module _ (s : Machine) (n pid : ℕ) (c : Caller) (live : caller_of s pid ≡ So
 
   ages-detaches : (addr : ℕ) (o : Option Piece) → let d = detaches s n c addr o in Ages (event pid (Shmdt addr) d.reply) s.runners d.state.runners
   ages-detaches addr None = ages-same (event pid (Shmdt addr) _) s.runners s.runners refl (λ q forked. absurd (cc forked)) refl
-  ages-detaches addr (Some p) = set-caller (Shmdt addr) Done _ refl (λ q forked. absurd (cc forked)) refl
+  ages-detaches addr (Some p) = set-caller (Shmdt addr) Done _ refl (λ q forked. absurd (cc forked)) (c.cred, refl)
 
   -- a call that takes no piece from the caller
   ages-hands : (call : ProcessCall) (o : Outcome) → Hands s c call o → is_end call (Replied o.reply) ≡ false → ((l : Leaves s c call o) → ⊥) → Ages (event pid call o.reply) s.runners o.state.runners
@@ -236,19 +241,31 @@ module _ (s : Machine) (n pid : ℕ) (c : Caller) (live : caller_of s pid ≡ So
   ages-hands call o (inr (inl k)) goes stays =
       let new : Runner = record { pid = c.pid; life = Live c.cred; pieces = pieces_with c k.seg k.segment k.flags k.base } in
       let still : Still call o.reply = λ q forked. absurd (let no = rw k.asked at forked in cc no) in
-      rw k.runners (set-caller call o.reply new refl still (rw goes refl))
+      rw k.runners (set-caller call o.reply new refl still (rw goes (c.cred, refl)))
   ages-hands call o (inr (inr (inl k))) goes stays = absurd (stays k)
-  ages-hands call o (inr (inr (inr k))) goes stays =
+  ages-hands call o (inr (inr (inr (inl k)))) goes stays =
       let child = child-first 0 k.child s.runners k.index k.unborn in
       let new : Runner = record { pid = k.child; life = Live c.cred; pieces = c.pieces } in
       let place : child.place ≡ k.index = omega (arith, child.at) in
       rw k.runners
       (subst (λ (i : ℕ). Ages (event pid call o.reply) s.runners (slice_set s.runners i new)) place
       (ages-child (event pid call o.reply) k.child c.cred s.runners child.place new child.first refl refl (λ q. rw (k.asked, k.answer) refl) goes))
+  ages-hands call o (inr (inr (inr (inr (inl k))))) goes stays =
+      let new : Runner = record { pid = c.pid; life = Live c.cred; pieces = cut k.addr (k.addr + rounded k.len) c.pieces } in
+      let still : Still call o.reply = λ q forked. absurd (let no = rw k.asked at forked in cc no) in
+      rw k.runners (set-caller call o.reply new refl still (rw goes (c.cred, refl)))
+  ages-hands call o (inr (inr (inr (inr (inr (inl k)))))) goes stays =
+      let new : Runner = record { pid = c.pid; life = Live c.cred; pieces = (protects_pieces s.limits.most_pieces k.writable k.addr k.len c.pieces).pieces } in
+      let still : Still call o.reply = λ q forked. absurd (let no = rw k.asked at forked in cc no) in
+      rw k.runners (set-caller call o.reply new refl still (rw goes (c.cred, refl)))
+  ages-hands call o (inr (inr (inr (inr (inr (inr k)))))) goes stays =
+      let new : Runner = record { pid = c.pid; life = Live k.cred; pieces = c.pieces } in
+      let still : Still call o.reply = λ q forked. absurd (let no = rw k.asked at forked in cc no) in
+      rw k.runners (set-caller call o.reply new refl still (rw goes (k.cred, refl)))
 
   ages-acts : (call : ProcessCall) → let o = acts s n c call in Ages (event pid call o.reply) s.runners o.state.runners
   ages-acts Exit = set-caller Exit Done _ refl (λ q forked. absurd (cc forked)) refl
-  ages-acts Exec = set-caller Exec Done _ refl (λ q forked. absurd (cc forked)) refl
+  ages-acts Exec = set-caller Exec Done _ refl (λ q forked. absurd (cc forked)) (c.cred, refl)
   ages-acts (Shmdt addr) = ages-detaches addr (origin_of addr c.pieces)
   ages-acts call = ages-hands call (acts s n c call) (hands-acts s n c call) refl (λ l. elim l.taken [ inl d ↦ absurd (cc d.2) | inr x ↦ elim x.0 [ inl e ↦ absurd (cc e) | inr e ↦ absurd (cc e) ] ])
 

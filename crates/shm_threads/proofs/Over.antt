@@ -7,7 +7,7 @@ use Rattle.std.proofs.lemmas.List.{take_all}
 use Rattle.std.proofs.lemmas.List.Elements.{All-map}
 use Rattle.shm_base.specs.History.{IsHistory}
 use Rattle.shm_base.specs.State.{Ended, Life, Live, Machine, Unborn}
-use Rattle.shm_base.specs.Step.{caller_of}
+use Rattle.shm_base.specs.Callers.{caller_of}
 use Rattle.shm_base.specs.declared.call.Event.{Event}
 use Rattle.shm_history.specs.WorldState.{WorldState}
 use Rattle.shm_text.specs.Script.{ScriptView}

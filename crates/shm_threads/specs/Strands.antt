@@ -4,7 +4,7 @@ use Rattle.shm_base.specs.Calls.{ProcessCall}
 use Rattle.shm_base.specs.History.{own_part}
 use Rattle.shm_base.specs.Memory.{takes_memory}
 use Rattle.shm_base.specs.State.{Life, Unborn, Live, Ended, Runner, Machine}
-use Rattle.shm_base.specs.Step.{caller_of}
+use Rattle.shm_base.specs.Callers.{caller_of}
 use Rattle.shm_base.specs.declared.call.Call.TheVariants.{Fork, Exit}
 use Rattle.shm_base.specs.declared.call.Event.{Event}
 use Rattle.shm_base.specs.declared.call.Reply.TheVariants.{Done}

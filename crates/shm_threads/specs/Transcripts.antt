@@ -13,7 +13,7 @@ use Rattle.shm_base.specs.declared.errno.Errno.TheVariants.{Esrch}
 use Rattle.shm_base.specs.Memory.{takes_memory}
 use Rattle.shm_base.specs.Processes.{has_pid}
 use Rattle.shm_base.specs.State.{Machine}
-use Rattle.shm_base.specs.Step.{caller_of}
+use Rattle.shm_base.specs.Callers.{caller_of}
 use Rattle.shm_history.specs.WorldState.{WorldState}
 use Rattle.shm_text.specs.Form.{CommandView}
 use Rattle.shm_text.specs.Script.{ScriptView}

@@ -127,6 +127,11 @@ fn at_most_64_processes(rt: HostRuntime) -> Result<(), Fail> {
     Ok(())
 }
 
+// A process asks to be this user from now on.
+fn becomes(machine: &mut Machine, pid: u32, id: u32) -> Result<(), Refusal> {
+    machine.perform(pid, &Call::Setuid { uid: id, gid: id })
+}
+
 #[test]
 fn another_user_is_granted(rt: HostRuntime) -> Result<(), Fail> {
     let alloc = rt.alloc();
@@ -134,12 +139,12 @@ fn another_user_is_granted(rt: HostRuntime) -> Result<(), Fail> {
     assert!(rt; admitted(&mut machine, alloc, 2, Some(user(200)))? == Ok(()));
     let refused = Err(Refusal::Refused(Errno::Eacces));
     assert!(rt; machine.stat(2, 0) == refused);
-    assert!(rt; machine.system.set_cred(2, user(100)) == Ok(()));
+    assert!(rt; becomes(&mut machine, 2, 100) == Ok(()));
     assert!(rt; attached(&mut machine, 2));
-    assert!(rt; machine.system.set_cred(2, user(200)) == Ok(()));
+    assert!(rt; becomes(&mut machine, 2, 200) == Ok(()));
     assert!(rt; machine.stat(2, 0) == refused);
     assert!(rt; shown(&mut machine)?.nattch == 1);
-    assert!(rt; machine.system.set_cred(3, user(0)) == Err(Errno::Esrch));
+    assert!(rt; becomes(&mut machine, 3, 0) == Err(Refusal::Refused(Errno::Esrch)));
     Ok(())
 }
 

@@ -212,6 +212,44 @@ fn four_count_together(rt: HostRuntime) -> Result<(), Fail> {
     Ok(())
 }
 
+/// A parent and its child unmap the pages of a marked segment. The parent protects its other page, and the
+/// child becomes another user.
+const CHANGES: &[u8] = b"\
+limits 65536 16 64 4 1\n\
+process 1 100 100\n\
+child 2\n\
+1 s = shmget private 4096 600\n\
+1 a = shmat s null -\n\
+1 store a 2a\n\
+1 t = shmget private 8192 600\n\
+1 b = shmat t null -\n\
+1 fork 2\n\
+1 rmid t\n\
+1 mprotect a 4096 ro\n\
+1 store a 2b\n\
+1 munmap b+4096 4096\n\
+1 munmap b 4096\n\
+2 setuid 200 200\n\
+2 lock 0\n\
+2 munmap 0x40001000 8192\n";
+
+#[test]
+fn pieces_and_users_change(rt: HostRuntime) -> Result<(), Fail> {
+    let alloc = rt.alloc();
+    let seen = seen_by(&rt, alloc, CHANGES, Rule::Open)?;
+    assert_eq!(rt; seen.events, 14);
+    assert!(rt; seen.has_calls(&[11, 3]));
+    // the marked segment is gone with its last piece, and user 200 may not lock the other one
+    assert_eq!(rt;
+        (seen.tally.segments, seen.tally.reserved, seen.tally.locked),
+        (1, 1, 0)
+    );
+    // nothing was stored in the read-only page
+    let kept = Chunk::new(&[0x2a, 0, 0, 0, 0, 0, 0, 0]).ok_or("8 bytes")?;
+    assert!(rt; seen.loaded == Some(Reply::Bytes(kept)));
+    Ok(())
+}
+
 // Adds a line for each of 64 processes, with this beginning and end.
 fn push_lines(alloc: Global, text: &mut Vec<u8>, head: &str, tail: &str) -> Result<(), Fail> {
     for pid in 1..65 {

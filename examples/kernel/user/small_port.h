@@ -1,9 +1,10 @@
 /* What conformance/small_peer.c needs of this kernel. docs/CONFORMANCE.md tells what each line is. */
 #include "user.h"
-
 #define KEY_OF(s) ((s)->shm_perm.key)
 #define HAS_USERS 1
 #define BECOME(uid, gid) (setgid((unsigned)(gid)) || setuid((unsigned)(uid)))
+#define MUNMAP(at, length) munmap(at, length)
+#define MPROTECT(at, length, is_rw) mprotect(at, length, (is_rw) ? PROT_READ | PROT_WRITE : PROT_READ)
 #define FREE_FROM 0x10000UL
 #define FREE_TO 0x7f0000000000UL
 

@@ -946,11 +946,10 @@ impl Machine {
         done(unsafe { raw::nog_dismiss(self.handle(), pid) })
     }
 
-    /// Sets the effective user and group of a live process, as setuid(2) and setgid(2) do. Its attachments stay. It is not
-    /// counted as a call.
+    /// setuid(2) and setgid(2): gives a process another effective user and group. Its attachments stay.
     ///
     /// # Errors
-    /// ESRCH.
+    /// ESRCH and SPENT.
     pub fn set_user(&mut self, pid: u32, uid: u32, gid: u32) -> Answer<()> {
         done(unsafe { raw::nog_set_user(self.handle(), pid, uid, gid) })
     }
@@ -961,8 +960,7 @@ impl Machine {
         unsafe { raw::nog_set_time(self.handle(), time) };
     }
 
-    /// munmap(2): unmaps a range, rounded up to whole pages. Attachments that extend beyond it are cut. It is not counted as a
-    /// call.
+    /// munmap(2): detaches a range, rounded up to whole pages. Attachments that extend beyond it are cut.
     ///
     /// # Errors
     /// ESRCH, EINVAL, ENOMEM, and SPENT.
@@ -970,7 +968,7 @@ impl Machine {
         done(unsafe { raw::nog_unmap(self.handle(), pid, addr, len) })
     }
 
-    /// mprotect(2): makes a range, rounded up to whole pages, writable or read-only. It is not counted as a call.
+    /// mprotect(2): makes a range, rounded up to whole pages, writable or read-only.
     ///
     /// # Errors
     /// ESRCH, EINVAL, SPENT, and ENOMEM or EACCES for a page; the pages below it have then changed, as on Linux.

@@ -213,7 +213,7 @@ fn processes_come_and_go() {
     assert_eq!(machine.set_user(9, 300, 200), Err(Errno::ESRCH));
     assert_eq!(machine.exit(4), Ok(()));
     assert_eq!(machine.dismiss(4), Ok(()));
-    assert_eq!(machine.calls(), 5);
+    assert_eq!(machine.calls(), 7);
 }
 
 const PAGE: u64 = 4096;
@@ -558,7 +558,7 @@ fn questions_about_pieces_and_segments() {
     let loan = machine.lend(id, 3, &mut [0; PAGE_BYTES]).expect("a loan");
     assert_eq!(machine.loans(), 1);
     drop(loan);
-    assert_eq!((machine.loans(), machine.calls()), (0, calls + 2));
+    assert_eq!((machine.loans(), machine.calls()), (0, calls + 3));
 }
 
 #[test]
@@ -693,7 +693,7 @@ fn a_fork_and_a_cut_attach_anew() {
         machine.protect(1, at, PAGE, false).unwrap();
         assert_eq!(machine.stat(1, id).unwrap().atime, by(holds, 5, 2));
         machine.unmap(3, at, PAGE).unwrap();
-        assert_eq!(machine.stat(1, id).unwrap().atime, by(holds, 6, 2));
+        assert_eq!(machine.stat(1, id).unwrap().atime, by(holds, 7, 2));
     }
 }
 

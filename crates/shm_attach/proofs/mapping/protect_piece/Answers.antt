@@ -1,14 +1,14 @@
-use Rattle.shm_attach.proofs.Names.{true≢false, most_at, ◌≡◌, ◌∙◌, ◌<◌, ◌+◌, length-map, option_to_list, ℕ, Option, bare_all, true, false, List, length, Some, get_or, ap, sym, subst, arith, common_steps, All, get, covering, cut, bare, runners_view, pieces_at, stored_at, size_in, HasTable}
+use Rattle.shm_attach.proofs.Names.{Arranged, lowest_address, true≢false, most_at, ◌≡◌, ◌∙◌, ◌<◌, ◌+◌, length-map, option_to_list, ℕ, Option, bare_all, true, false, List, length, Some, get_or, ap, sym, subst, arith, common_steps, All, get, covering, cut, bare, runners_view, pieces_at, stored_at, size_in, HasTable}
 use Rattle.shm_base.specs.State.{Piece}
 use Rattle.shm_base.specs.Access.{end_of}
 use Rattle.shm_base.specs.Space.{inserted}
-use Rattle.shm_base.specs.Mapping.{has_protection, low_end, high_end, part_between, turned, replaced}
+use Rattle.shm_base.specs.Mapping.{has_protection, low_end, high_end, part_between, turned}
 use Rattle.shm_areas.specs.declared.piece.Piece.{Piece as Stored}
 use Rattle.shm_attach.specs.Mapping.{AreNow, KeepsOwn, noted, split_in}
 use Rattle.shm_attach.proofs.Growing.{never-fewer, length-turned, grows}
 use Rattle.shm_attach.proofs.HavingTables.{pieces_at-bare, has_table, tables-passes, tables-passed}
 use Rattle.shm_attach.proofs.Protecting.{replaced_by, IsTurnable, protects-refused, protects-turned, IsLow, IsHigh, now-same, pieces-now, low_is, high_is, sized_by, stretch_of, part_replaces}
-use Rattle.shm_attach.proofs.Renewed.{own-same, turned-named, turned-has}
+use Rattle.shm_attach.proofs.Renewed.{own-same, turned-cut, turned-named, turned-has}
 use Rattle.shm_attach.proofs.mapping.protect_piece.Goals.{Start, After-high_end-high, else-writable-via-then-writable+else-not-piece, else-writable-via-else-writable}
 use Rattle.shm_attach.proofs.mapping.protect_piece.Goals as goal
 
@@ -99,6 +99,20 @@ low-value c = c.low_end-low.ensures ∙ ap (low_end c.args.writable c.args.at c.
 high-value : (c : After-high_end-high) → c.high_end-high.result ≡ high_end c.args.writable c.args.at c.args.to (bare c.in-Some.piece) (pieces_at (runners_view c.args.processes.now.entries) c.args.index)
 high-value c = c.high_end-high.ensures ∙ ap (high_end c.args.writable c.args.at c.args.to (bare c.in-Some.piece)) c.space_at-space.ensures.flat
 
+arranged : (c : After-high_end-high) → Arranged lowest_address (pieces_at (runners_view c.args.processes.now.entries) c.args.index)
+arranged c = c.requires.process.sound.exact.arranged c.args.index
+
+-- the pieces after the part is in, and how many there are
+in_its_place : (c : After-high_end-high) → let ps = pieces_at (runners_view c.args.processes.now.entries) c.args.index in let p = bare c.in-Some.piece in
+    turned c.args.writable c.args.at c.args.to p ps
+    ≡ inserted (part_between c.args.writable (low_end c.args.writable c.args.at c.args.to p ps) (high_end c.args.writable c.args.at c.args.to p ps) p)
+    (cut (low_end c.args.writable c.args.at c.args.to p ps) (high_end c.args.writable c.args.at c.args.to p ps) ps)
+in_its_place c = turned-cut c.args.writable c.args.at c.args.to (bare c.in-Some.piece) (pieces_at (runners_view c.args.processes.now.entries) c.args.index) (arranged c) (found c) c.requires.range.order
+
+longer : (c : After-high_end-high) → let ps = pieces_at (runners_view c.args.processes.now.entries) c.args.index in let p = bare c.in-Some.piece in
+    length (turned c.args.writable c.args.at c.args.to p ps) ≡ length (cut (low_end c.args.writable c.args.at c.args.to p ps) (high_end c.args.writable c.args.at c.args.to p ps) ps) + 1
+longer c = length-turned c.args.writable c.args.at c.args.to (bare c.in-Some.piece) (pieces_at (runners_view c.args.processes.now.entries) c.args.index) (arranged c) (found c) c.requires.range.order
+
 pub returns-then-left-most-clause-protects : goal.returns-then-left-most-clause-protects
 returns-then-left-most-clause-protects c = λ next.
     let es = c.args.processes.now.entries in
@@ -107,7 +121,7 @@ returns-then-left-most-clause-protects c = λ next.
     let count = rw (low-value b, high-value b, c.space_at-space.ensures.flat) at c.count_outside-left.ensures in
     let most : c.most.result ≡ most_at es i = c.most.ensures ∙ c.space_at-space.ensures.most in
     protects-refused (most_at es i) c.args.writable c.args.at c.args.to (bare c.in-Some.piece) (pieces_at (runners_view es) i) next (turnable b)
-    (omega (arith, count, most, c.if-left-most.true))
+    (omega (arith, count, most, c.if-left-most.true, longer b))
 
 pub returns-clause-now : goal.returns-clause-now
 returns-clause-now c =
@@ -127,20 +141,20 @@ left c q flat =
     let p = bare c.in-Some.piece in
     let end = c.high_end-high.result in
     replaced_by p (bare q) w (size_in (get t.slab c.in-Some.piece.key)) c.args.at c.low_end-low.result end ps flat (low c) (high c)
-    ∙ ap (λ n. replaced w n end p ps) (low-value c)
-    ∙ ap (λ n. replaced w (low_end w c.args.at c.args.to p ps) n p ps) (high-value c)
+    ∙ ap (λ n. inserted (part_between w n end p) (cut n end ps)) (low-value c)
+    ∙ ap (λ n. inserted (part_between w (low_end w c.args.at c.args.to p ps) n p) (cut (low_end w c.args.at c.args.to p ps) n ps)) (high-value c)
+    ∙ sym (in_its_place c)
 
 pub returns-clause-own : goal.returns-clause-own
 returns-clause-own c =
     let ps = pieces_at (runners_view c.args.processes.now.entries) c.args.index in
     let p = bare c.in-Some.piece in
     let b = (goal.at.returns-clause-own c).After-high_end-high in
-    let arranged = c.requires.process.sound.exact.arranged c.args.index in
     let now = pieces-now c.args.processes.now.entries c.renew.new.processes.entries c.args.tables.now c.renew.new.tables c.args.index _ c.requires.process.there c.renew.ensures in
-    subst (KeepsOwn ps) (sym (now ∙ left b c.part_between-part.result c.part_between-part.ensures.flat))
+    subst (KeepsOwn ps) (sym (now ∙ left b c.part_between-part.result c.part_between-part.ensures.flat ∙ in_its_place b))
     record {
-      named = turned-named c.args.writable c.args.at c.args.to p ps arranged (found b) c.requires.range.order;
-      pages = λ seg page all. turned-has seg page c.args.writable c.args.at c.args.to p ps arranged (found b) c.requires.range.order c.requires.range.from_page c.requires.range.to_page all;
+      named = turned-named c.args.writable c.args.at c.args.to p ps (arranged b) (found b) c.requires.range.order;
+      pages = λ seg page all. turned-has seg page c.args.writable c.args.at c.args.to p ps (arranged b) (found b) c.requires.range.order c.requires.range.from_page c.requires.range.to_page all;
     }
 
 -- the segment that is named if the piece is split
@@ -155,7 +169,7 @@ split c left o count named =
     let all = turned c.args.writable c.args.at c.args.to p ps in
     let cuts = rw (low-value c, high-value c, c.space_at-space.ensures.flat) at count in
     let before : length c.space_at-space.result.now.pieces ≡ length ps = sym (length-map c.space_at-space.result.now.pieces bare) ∙ ap length c.space_at-space.ensures.flat in
-    let after : left + 1 ≡ length all = omega (arith, cuts, length-turned c.args.writable c.args.at c.args.to p ps) in
+    let after : left + 1 ≡ length all = omega (arith, cuts, longer c) in
     named ∙ ap (λ n. split_in p.seg n (left + 1)) before ∙ ap (λ n. split_in p.seg (length ps) n) after
 
 pub returns-clause-protects : goal.returns-clause-protects
@@ -174,7 +188,7 @@ returns-clause-protects c = λ next.
     let most : c.most.result ≡ most_at es i = c.most.ensures ∙ c.space_at-space.ensures.most in
     let now = pieces-now es fs t c.renew.new.tables i _ c.requires.process.there c.renew.ensures in
     let named = split b c.count_outside-left.result c.split_by-split.result c.count_outside-left.ensures c.split_by-split.ensures in
-    protects-turned (most_at es i) w c.args.at c.args.to p ps next (turnable b) (omega (arith, count, most, c.if-left-most.false))
+    protects-turned (most_at es i) w c.args.at c.args.to p ps next (turnable b) (omega (arith, count, most, c.if-left-most.false, longer b))
     ∙ ap (λ n. noted (split_in p.seg (length ps) (length (turned w c.args.at c.args.to p ps))) (next n (turned w c.args.at c.args.to p ps))) (sym c.end-2.ensures)
     ∙ ap (λ qs. noted (split_in p.seg (length ps) (length (turned w c.args.at c.args.to p ps))) (next c.end-2.result qs)) (sym (now ∙ left b c.part_between-part.result c.part_between-part.ensures.flat))
     ∙ ap (λ ids. noted ids (next c.end-2.result (pieces_at (runners_view fs) i))) (sym named)
@@ -196,5 +210,5 @@ returns-clause-grows c =
     let most : c.most.result ≡ most_at es i = c.most.ensures ∙ c.space_at-space.ensures.most in
     let named = split b c.count_outside-left.result c.split_by-split.result c.count_outside-left.ensures c.split_by-split.ensures in
     grows es fs i p.seg c.split_by-split.result (turned w c.args.at c.args.to p ps) named now
-    (never-fewer w c.args.at c.args.to p ps (c.requires.process.sound.exact.arranged i) (found b) c.requires.range.order)
-    (omega (arith, count, most, c.if-left-most.false, length-turned w c.args.at c.args.to p ps))
+    (never-fewer w c.args.at c.args.to p ps (arranged b) (found b) c.requires.range.order)
+    (omega (arith, count, most, c.if-left-most.false, longer b))

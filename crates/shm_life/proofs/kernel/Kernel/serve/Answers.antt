@@ -50,3 +50,6 @@ returns-in-Exchange-clause-served g c = rw c.in-Exchange.is (rw c.as_slice-in-Ex
 pub returns-in-CompareExchange-clause-served : goal.returns-in-CompareExchange-clause-served
 returns-in-CompareExchange-clause-served g c =
     rw c.in-CompareExchange.is (rw (c.as_slice-expected.ensures.value, c.as_slice-desired.ensures.value) at (c.compare_exchange-served.ensures c.args.time))
+
+pub returns-in-Setuid-clause-served : goal.returns-in-Setuid-clause-served
+returns-in-Setuid-clause-served g c = rw c.in-Setuid.is (c.setuid.ensures c.args.time)

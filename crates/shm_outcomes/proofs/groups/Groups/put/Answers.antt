@@ -1,4 +1,4 @@
-use Rattle.std.proofs.Common.{rules, arith, ◌≡◌, ◌∙◌, ◌++◌, ◌∷◌, [], Some, Contains, false, inl, inr, ap, length, refl, subst, sym, true≢false}
+use Rattle.std.proofs.Common.{rules, ◌≡◌, ◌∙◌, ◌++◌, ◌∷◌, [], Some, Contains, false, inl, inr, ap, length, refl, subst, sym, true≢false}
 use Rattle.std.specs.Prelude.{is_some}
 use Rattle.std.specs.Map.{keys_of, values_of}
 use Rattle.std.proofs.lemmas.List.{map-append}

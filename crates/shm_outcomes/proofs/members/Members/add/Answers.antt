@@ -1,6 +1,6 @@
 use Rattle.std.proofs.Common.{rules, ◌≡◌, ◌∙◌, ◌+◌, ◌++◌, ◌∷◌, [], inr, ap, map, Contains, List, subst, sym}
 use Rattle.std.specs.Map.{keys_of}
-use Rattle.shm_outcomes.specs.Members.{Member, Members, Way, members_in, way, way_in}
+use Rattle.shm_outcomes.specs.Members.{Member, Members, members_in, way, way_in}
 use Rattle.shm_outcomes.proofs.Adding.{members-ways, ways-push}
 use Rattle.shm_outcomes.proofs.Placing.{goes-last, not-found}
 use Rattle.shm_outcomes.proofs.Same.{member_eq, same-member}

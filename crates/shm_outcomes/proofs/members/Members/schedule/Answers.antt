@@ -2,7 +2,7 @@ use Rattle.std.proofs.Common.{rules, arith, ◌≡◌, ◌<◌, ◌∙◌, lengt
 use Rattle.std.specs.Prelude.{slice_index_or}
 use Rattle.std.specs.Map.{values_of}
 use Rattle.std.proofs.lemmas.List.{length-map}
-use Rattle.shm_outcomes.specs.Members.{Member, Members, way_in}
+use Rattle.shm_outcomes.specs.Members.{Members, way_in}
 use Rattle.shm_outcomes.proofs.Adding.{schedule-at}
 use Rattle.shm_outcomes.proofs.members.Members.schedule.Goals as goal
 
