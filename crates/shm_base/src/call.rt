@@ -36,10 +36,12 @@ pub fn has_pid(processes: &[Process], pid: u32) -> bool
 }
 
 /// A call of a process: the shared memory calls (shmget(2), shmop(2), shmctl(2)), accesses to attached
-/// memory, munmap(2) and mprotect(2) of it, fork, exec and exit, setuid(2) and swapoff(2). An exchange, and a compare and exchange, are locked
-/// instructions, as an xadd is: they read and write in one step. A compare and exchange stores the desired
-/// bytes only if the bytes there are the expected ones. Only the low nine bits of a mode count. A line of a
-/// script has other identifiers and addresses, which may be variables.
+/// memory, munmap(2) and mprotect(2) of it, fork, exec and exit, setuid(2) and swapoff(2).
+///
+/// An exchange, and a compare and exchange, are locked instructions, as an xadd is: they read and write in
+/// one step. A compare and exchange stores the desired bytes only if the bytes there are the expected ones.
+/// Only the low nine bits of a mode count. A line of a script has other identifiers and addresses, which may
+/// be variables.
 #[derive(Clone, Copy, Debug, PartialEq, Eq)]
 pub enum Call<I = ShmId, A = u64> {
     Shmget {

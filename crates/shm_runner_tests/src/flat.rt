@@ -26,8 +26,8 @@ struct Segment {
     bytes: Vec<u8>,
 }
 
-/// A piece of a process: its address and length, where the attach began of which it is a part, and the
-/// segment's index in the list.
+/// A piece of a process: its address and length, the address of its attach, and the index of its segment in
+/// the list.
 #[derive(Clone, Copy)]
 struct Attach {
     pid: u32,
