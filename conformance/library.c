@@ -79,9 +79,10 @@ static void choose_rules(nog_limits *limits) {
 }
 
 static void open_machine(nog_machine *machine, const struct swap *swap) {
-    const uint64_t *l = script.limits;
-    nog_limits limits = {.shmmax = l[0], .shmmni = l[1], .shmall = l[2], .frames = l[3], .memlock = l[4]};
-    nog_process processes[PROCESSES];
+    static nog_process processes[PROCESSES];
+    const uint64_t *l = script.limits, *s = script.sizes;
+    nog_limits limits = {.shmmax = l[0], .shmmni = l[1], .shmall = l[2], .frames = l[3], .memlock = l[4],
+                         .most_pieces = s[0], .most_processes = s[1], .most_slots = s[2]};
     choose_rules(&limits);
     for (int i = 0; i < script.process_count; i++) {
         const struct declared *p = &script.processes[i];

@@ -33,11 +33,13 @@
 #include <time.h>
 #include <unistd.h>
 #define HAS_FLAGS
+/* each has four open files here, and a process may have 1024 */
+#define PROCESSES 200
 #include "script.h"
 
 enum { PAGE = 4096, PIECES = 1024, OWN_RANGES = 64 };
 #define END_OF_ADDRESSES UINT64_C(0x7ffffffff000)
-enum { RECORD_FD = 98, ALIVE_FD = 99, FIRST_FD = 100 };
+enum { RECORD_FD = 98, ALIVE_FD = 99, FIRST_FD = 100, OWN_FD = FIRST_FD + 2 * PROCESSES };
 #define LOWEST_CHOSEN UINT64_C(0x40000000)
 _Static_assert(IPC_CREAT == CREAT && IPC_EXCL == EXCL && SHM_HUGETLB == HUGETLB && SHM_NORESERVE == NORESERVE &&
     SHM_RDONLY == RDONLY && SHM_RND == RND && SHM_REMAP == REMAP && SHM_EXEC == EXECUTE, "a script's flags are the system's");
@@ -672,9 +674,10 @@ static void open_pipes(int index) {
     int to[2], from[2], at = FIRST_FD + 2 * index;
     if (pipe2(to, O_CLOEXEC) || pipe2(from, O_CLOEXEC) || dup2(to[0], at) < 0 || dup2(from[1], at + 1) < 0)
         fail(3, "pipe: %s", strerror(errno));
-    close(to[0]), close(from[1]);
-    processes[index].to = to[1];
-    processes[index].from = from[0];
+    processes[index].to = fcntl(to[1], F_DUPFD_CLOEXEC, OWN_FD);
+    processes[index].from = fcntl(from[0], F_DUPFD_CLOEXEC, OWN_FD);
+    if (processes[index].to < 0 || processes[index].from < 0) fail(3, "pipe: %s", strerror(errno));
+    for (int end = 0; end < 2; end++) close(to[end]), close(from[end]);
 }
 
 static void start_worker(int index) {

@@ -1,6 +1,7 @@
 /* A script of docs/SCRIPT.md, read and printed by programs in C that make its calls. The file that includes this one
    defines `fail`, which says what is wrong and ends the program. Not each fault of the language is found. The flags `exec`,
-   `hugetlb` and `noreserve` are words of the kit alone: a file that reads them too defines HAS_FLAGS above. */
+   `hugetlb` and `noreserve` are words of the kit alone: a file that reads them too defines HAS_FLAGS above. One that takes
+   fewer processes than a machine defines PROCESSES above. */
 #ifndef SCRIPT_H
 #define SCRIPT_H
 #include <errno.h>
@@ -10,7 +11,10 @@
 #include <stdlib.h>
 #include <string.h>
 
-enum { PROCESSES = 64, COMMANDS = 100000, WORDS = 8, OPERANDS = 4, BYTES = 64, MOST_COMPARED = 16 };
+#ifndef PROCESSES
+#define PROCESSES 32768
+#endif
+enum { COMMANDS = 100000, WORDS = 8, OPERANDS = 4, BYTES = 64, MOST_COMPARED = 16 };
 
 __attribute__((noreturn, format(printf, 2, 3))) static void fail(int status, const char *format, ...);
 
@@ -51,7 +55,7 @@ struct flush { int commands_above; uint64_t pages; };
 struct declared { unsigned pid, uid, gid; int is_child; uint64_t variables[26]; };
 
 struct script {
-    uint64_t limits[5];
+    uint64_t limits[5], sizes[3];  /* without a line sizes these are 0 */
     struct declared processes[PROCESSES];
     struct command *commands;
     struct flush *flushes;
@@ -155,7 +159,7 @@ static void read_flush(struct script *s, char **words, int count) {
 
 static void read_process(struct script *s, char **words, int count) {
     int is_child = strcmp(words[0], "child") == 0;
-    if (s->process_count == PROCESSES) fail(1, "too many processes");
+    if (s->process_count == PROCESSES) fail(1, "more than %d processes", PROCESSES);
     if (count != (is_child ? 2 : 4)) fail(1, "bad line");
     struct declared *p = &s->processes[s->process_count++];
     *p = (struct declared){.pid = (unsigned)number_of(words[1]), .is_child = is_child};
@@ -170,11 +174,13 @@ static void read_line(struct script *s, char *line) {
     if (count == 0 || words[0][0] == '#') return;
     int is_process = strcmp(words[0], "process") == 0 || strcmp(words[0], "child") == 0;
     int is_limits = strcmp(words[0], "limits") == 0 && count == 6, is_rules = strcmp(words[0], "rules") == 0 && count == 2;
+    int is_sizes = strcmp(words[0], "sizes") == 0 && count == 4;
     s->has_rules |= is_rules;
     for (int i = 0; i < 5 && is_limits; i++) s->limits[i] = number_of(words[i + 1]);
+    for (int i = 0; i < 3 && is_sizes; i++) s->sizes[i] = number_of(words[i + 1]);
     if (is_process) read_process(s, words, count);
     else if (strcmp(words[0], "0") == 0) read_flush(s, words, count);
-    else if (!is_limits && !is_rules) read_command(s, words, count);
+    else if (!is_sizes && !is_limits && !is_rules) read_command(s, words, count);
 }
 
 static void read_script(struct script *s, FILE *from) {

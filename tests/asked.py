@@ -286,7 +286,8 @@ def replay(script: Any, printed: Any, swaps: Any) -> Any:
     """Follows a script and the printed history of its run. Returns each area's counts after each line, the
     usage, and what is wrong with a reply."""
     lines = [words for words in map(str.split, script.splitlines()) if words and not words[0].startswith("#")]
-    run, counts, wrong = Run(number(lines[0][4]), swaps), [], []
+    frames = next(number(words[4]) for words in lines if words[0] == "limits")
+    run, counts, wrong = Run(frames, swaps), [], []
     events = iter([line for line in printed.splitlines() if EVENT.fullmatch(line)])
     for words in lines:
         if not words[0][0].isdigit():

@@ -14,8 +14,8 @@ SEGMENT_PAGES, ALL_PAGES, MOST_FRAMES = 4096, 65536, 4096
 class Script:
     """A script, and the lines that it prints."""
 
-    def __init__(self, limits: str, *processes: str) -> None:
-        self.lines = [f"limits {limits}", *processes]
+    def __init__(self, limits: str, *processes: str, sizes: str = "") -> None:
+        self.lines = [f"sizes {sizes}"] * bool(sizes) + [f"limits {limits}", *processes]
         self.declared = len(self.lines)
         self.events: list[str] = []
 
@@ -173,6 +173,68 @@ def many_attaches(folder: str) -> None:
     script.write(folder, "many_attaches", "ram:64", rows, (1, 1, 0, 1, 2, 1, 0, 64, 0, 0, 0))
 
 
+def seventy_processes(folder: str) -> None:
+    """A sizes line admits 70 processes. The 69 children have the first one's attachment, by fork, and each
+    adds to the same number."""
+    children = range(2, 71)
+    script = Script("4096 16 64 2 0", "process 1 100 100", *(f"child {pid}" for pid in children),
+                    sizes="256 70 64")
+    script.call("1 s = shmget private 4096 600", "shmget 0x00000000 4096 600", 0)
+    script.call("1 shmat s null -", "shmat 0 null -", f"0x{BASE:x}")
+    for pid in children:
+        script.call(f"1 fork {pid}", f"fork {pid}", "ok")
+    for count, pid in enumerate((1, *children)):
+        script.call(f"{pid} xadd {BASE} 1", f"xadd 0x{BASE:x} 1", count)
+    rows = [row(0, 0, 4096, 70)]
+    script.write(folder, "seventy_processes", "ram:64", rows, (1, 1, 0, 1, 2, 1, 0, 64, 0, 0, 0))
+
+
+def three_hundred_pieces(folder: str) -> None:
+    """A sizes line admits 300 pieces of a process, and no 301st."""
+    script = Script("4096 16 64 2 0", "process 1 100 100", sizes="300 1 64")
+    script.call("1 s = shmget private 4096 600", "shmget 0x00000000 4096 600", 0)
+    for piece in range(300):
+        script.call("1 shmat s null -", "shmat 0 null -", f"0x{BASE + PAGE * piece:x}")
+    script.call("1 shmat s null -", "shmat 0 null -", "EMFILE")
+    last = BASE + PAGE * 299
+    script.call(f"1 store {last} 2a", f"store 0x{last:x} 2a", "ok")
+    script.call(f"1 load {BASE} 1", f"load 0x{BASE:x} 1", "2a")
+    rows = [row(0, 0, 4096, 300)]
+    script.write(folder, "three_hundred_pieces", "ram:64", rows, (1, 1, 0, 1, 2, 1, 0, 64, 0, 0, 0))
+
+
+def two_thousand_processes(folder: str) -> None:
+    """A sizes line admits 2,000 processes, all but the first by fork of it. The last one adds to the first
+    one's number. One that is declared but not born is not live."""
+    children = range(2, 2000)
+    script = Script("4096 1 1 2 0", "process 1 100 100", *(f"child {pid}" for pid in children),
+                    "child 5000000", sizes="1 2000 1")
+    script.call("1 shmget private 4096 600", "shmget 0x00000000 4096 600", 0)
+    script.call("1 shmat 0 null -", "shmat 0 null -", f"0x{BASE:x}")
+    script.call(f"1 xadd {BASE} 5", f"xadd 0x{BASE:x} 5", 0)
+    for pid in children:
+        script.call(f"1 fork {pid}", f"fork {pid}", "ok")
+    script.call(f"1999 xadd {BASE} 1", f"xadd 0x{BASE:x} 1", 5)
+    script.call("5000000 exit", "exit", "ESRCH")
+    rows = [row(0, 0, 4096, 1999)]
+    script.write(folder, "two_thousand_processes", "ram:1", rows, (1, 1, 0, 1, 2, 1, 0, 1, 0, 0, 0))
+
+
+def larger_area(folder: str) -> None:
+    """A sizes line admits an area of 1,000,000 slots, and a segment with as many pages. Two frames: the load
+    of the last page evicts the first one, which is dirty, into slot 0, and the next load takes it from there.
+    For it the second page leaves, which was never stored, so it needs no slot."""
+    size = 1000000 * PAGE
+    script = Script("1099511627776 1 268435456 2 0", "process 1 100 100", sizes="1 1 1000000")
+    script.call(f"1 s = shmget private {size} 600", f"shmget 0x00000000 {size} 600", 0)
+    script.call("1 a = shmat s null -", "shmat 0 null -", f"0x{BASE:x}")
+    script.call("1 store a 2a", f"store 0x{BASE:x} 2a", "ok")
+    for page, data in ((1, "00"), (999999, "00"), (0, "2a"), (999999, "00")):
+        script.call(f"1 load a+{page * PAGE} 1", f"load 0x{BASE + page * PAGE:x} 1", data)
+    rows = [row(0, 0, size, 1)]
+    script.write(folder, "larger_area", "sparse:1000000", rows, (1, 1000000, 0, 2, 2, 0, 1, 1000000, 1, 1, 0))
+
+
 def largest_twice(folder: str) -> None:
     """Two processes attach a segment of 4096 pages, twice each. What one stores at the last page the other
     reads.
@@ -249,7 +311,8 @@ def most_events(folder: str) -> None:
 
 # what `main` writes
 NAMES = ("every_slot", "every_slot_of_a_mirror", "eight_areas", "most_segments", "most_pieces", "most_locked",
-         "many_attaches",
+         "many_attaches", "seventy_processes", "three_hundred_pieces", "two_thousand_processes",
+         "larger_area",
          "largest_twice", "most_lines", "most_events")
 
 
@@ -261,6 +324,10 @@ def main(folder: str) -> None:
     most_pieces(folder)
     most_locked(folder)
     many_attaches(folder)
+    seventy_processes(folder)
+    three_hundred_pieces(folder)
+    two_thousand_processes(folder)
+    larger_area(folder)
     largest_twice(folder)
     most_lines(folder)
     most_events(folder)

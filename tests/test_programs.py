@@ -13,7 +13,7 @@ USAGE = "shmsim: usage: shmsim serial|threads SWAP..."
 
 @pytest.mark.parametrize("words", [
     "", "serial", "threads", "threads ram:0", "parallel ram:1", "serial ram", "serial ram:0",
-    "serial ram:65537",
+    "serial ram:268435457",
     "serial ram:+1", "serial " + "ram:1 " * 9, "serial fuse:1", "serial fuse:1:r0", "serial fuse:1:x1",
     "serial fuse:1:w18446744073709551616", "serial mirror:1:r1", "--help", "--version"])
 def test_usage(shmsim: str, words: str) -> None:

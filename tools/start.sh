@@ -23,7 +23,7 @@ version() {
 refuse_words() {
     echo "$name: usage: $1" >&2
     echo "$name: $2" >&2
-    echo "$name: SWAP is ram:N, sparse:N, mirror:N, fuse:N:rK or fuse:N:wK, N slots from 1 to 65536; $name --help says more" >&2
+    echo "$name: SWAP is ram:N, sparse:N, mirror:N, fuse:N:rK or fuse:N:wK, N slots from 1 to 65536, or as many as the script's sizes allow; $name --help says more" >&2
     exit 2
 }
 
@@ -40,12 +40,15 @@ is_number() {
     [ -n "$digits" ] && [ ${#digits} -le ${#2} ] && { [ ${#digits} -lt ${#2} ] || ! [ "$digits" \> "$2" ]; }
 }
 
+# the most slots of an area in any machine; the limits of the script may allow fewer
+most_slots=268435456
+
 # is_swap WORD: the word names a swap area
 is_swap() {
     slots=${1#*:}
     case $1 in
-    ram:* | sparse:* | mirror:*) is_number "$slots" 65536 ;;
-    fuse:*:r* | fuse:*:w*) is_number "${slots%%:*}" 65536 && is_number "${slots#*:[rw]}" 18446744073709551615 ;;
+    ram:* | sparse:* | mirror:*) is_number "$slots" "$most_slots" ;;
+    fuse:*:r* | fuse:*:w*) is_number "${slots%%:*}" "$most_slots" && is_number "${slots#*:[rw]}" 18446744073709551615 ;;
     *) false ;;
     esac
 }

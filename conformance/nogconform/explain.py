@@ -14,7 +14,7 @@ import re
 from collections.abc import Iterator
 from dataclasses import dataclass, field, replace
 
-from nogcuvema.machine import Rules
+from nogcuvema.machine import LARGER, PROFILE, Rules
 from nogconform.script import Case, Command, Event
 
 from .places import TOP
@@ -114,12 +114,14 @@ class System:
 def systems(it: System, has_system_limits: bool) -> Iterator[tuple[str, System]]:
     """Other systems, with what explains a difference if the peer is like them."""
     case, (shmmax, shmmni, shmall, frames, memlock) = it.case, it.case.limits
+    most = {name: high for name, (_, high) in (LARGER if case.sizes else PROFILE).items()}
     sound = [re.sub(r"fuse:(\d+):.*", r"ram:\1", word) for word in case.swap]
     yield "failing pager", replace(it, case=replace(case, swap=sound))
     yield "reserved swap", replace(it, case=replace(case, swap=list(SWAP)))
-    yield "locked pages", replace(it, case=with_limits(case, [shmmax, shmmni, shmall, 4096, memlock]))
+    many = max(frames, PROFILE["frames"][1])
+    yield "locked pages", replace(it, case=with_limits(case, [shmmax, shmmni, shmall, many, memlock]))
     if has_system_limits:
-        wide = with_limits(case, [2 ** 24, 4096, 65536, frames, memlock])
+        wide = with_limits(case, [most["shmmax"], most["shmmni"], most["shmall"], frames, memlock])
         yield "limits of the system", replace(it, case=wide)
         yield "limits of the system", replace(it, case=replace(wide, swap=list(SWAP)))
     yield "limits of the system", replace(it, rules=it.rules & ~Rules.HUGE_IS_REFUSED)
@@ -141,12 +143,13 @@ def user_of(case: Case, events: list[Event], pid: int) -> int:
     return users.get(pid, 0)
 
 
-def may_have_most_pieces(events: list[Event]) -> bool:
+def may_have_most_pieces(case: Case, events: list[Event]) -> bool:
     """Whether so many pieces were made that a process may have as many as it may; a remap makes up to two
     more."""
+    most = case.sizes[0] if case.sizes else PIECES
     made = {"shmat": 1, "munmap": 1, "mprotect": 2}
     return sum(made.get(it.word, 0) + 2 * ("remap" in " ".join(it.operands))
-               for it in events if not it.is_refused) >= PIECES
+               for it in events if not it.is_refused) >= most
 
 
 def left(case: Case, before: list[Event], event: Event, other: Event) -> str:
@@ -155,7 +158,7 @@ def left(case: Case, before: list[Event], event: Event, other: Event) -> str:
         return ""
     address = number_of(event.operands[1]) if event.word == "shmat" else 0
     is_low = 0 < address < LOWEST
-    if event.reply == "ENOMEM" and may_have_most_pieces(before):
+    if event.reply == "ENOMEM" and may_have_most_pieces(case, before):
         return "limits of the system" if not other.is_refused or is_low and other.reply == "EPERM" else ""
     if other.is_refused or not is_low or number_of(other.reply) != address - address % PAGE:
         return ""

@@ -19,8 +19,8 @@ often, and the first line.
                 creators in stat, if they are one user; otherwise the user and group of this command
 --limits        SHMMAX SHMMNI SHMALL FRAMES MEMLOCK of the script; without it they are as wide as the trace
                 needs
---slots         the most pages of all segments at a time (64, as in ./shmcheck); larger segments get smaller
-                sizes
+--slots         the most pages of all segments at a time (64, as in ./shmcheck, up to 2^28); with more pages
+                the segments get smaller sizes
 
 Status: 0 done, 1 the trace has a line that can't be read, or does not fit into a script, 2 usage, 3 a file
 can't be read or written, 6 the schedule does not keep the order. Nothing is written unless everything is.
@@ -38,6 +38,7 @@ from dataclasses import replace
 from typing import Tuple
 
 from nogcuvema._ending import Parser, run_command
+from nogcuvema.machine import LARGER, MOST_PROCESSES, MOST_SLOTS, PROFILE
 
 from .places import INSTALLED, TOP
 from .strace_lines import BadTrace, Trace, read_trace
@@ -47,8 +48,9 @@ from .strace_script import Command, Converter
 
 # of a call: its thread, whether it is the end of the thread, and its first line
 Name = Tuple[str, bool, int]
-MOST_PROCESSES, MOST_COMMANDS, MOST_BYTES = 64, 100_000, 1_048_576
-MOST_SIZE, MOST_SEGMENTS, MOST_PAGES, MOST_FRAMES = 1 << 24, 4096, 65536, 4096
+MOST_COMMANDS, MOST_BYTES, MOST_PIECES = 100_000, 1_048_576, 256
+# the largest machine, which a script with a sizes line may have
+LARGEST = {name: most for name, (_, most) in LARGER.items()}
 LETTERS = {"shmget": "stuvwxyzpqrijklmnohgfedcba", "shmat": "abcdefghijklmnopqrzyxwvuts"}
 
 
@@ -120,7 +122,7 @@ def converted(trace: Trace, slots: int) -> Converter:
 def fitted(trace: Trace, found: Converter, order: dict[Name, float] | None, loose: set[Name],
            slots: int) -> Converter:
     """The commands with smaller sizes, if the segments have more pages than there are slots."""
-    if found.memory.most_pages <= slots and found.most_size <= MOST_SIZE:
+    if found.memory.most_pages <= slots and found.most_size <= LARGEST["shmmax"]:
         return found
     if found.memory.most_segments > slots:
         raise BadTrace(0, f"there are {found.memory.most_segments} segments at a time, but at most {slots} "
@@ -147,10 +149,23 @@ def places_of(commands: list[Command]) -> dict[Name, float]:
     return places
 
 
-def limits_for(found: Converter, slots: int) -> str:
-    frames = min(slots + 2, MOST_FRAMES)
-    segments = min(max(found.memory.created, 1), MOST_SEGMENTS)
-    return f"{found.most_size} {segments} {MOST_PAGES} {frames} {frames - 2}"
+def limits_for(found: Converter, slots: int, ranges: dict[str, tuple[int, int]]) -> list[int]:
+    """The five limits of the script, as wide as the trace needs."""
+    frames = min(slots + 2, ranges["frames"][1])
+    segments = min(max(found.memory.created, 1), ranges["shmmni"][1])
+    return [found.most_size, segments, ranges["shmall"][1], frames, frames - 2]
+
+
+def head_of(found: Converter, chosen: list[int], slots: int) -> list[str]:
+    """The first lines of the script: the limits, and above them the sizes if the trace, or the chosen limits,
+    need a machine that is larger than the profile's."""
+    processes, memory = len(processes_of(found.commands)), found.memory
+    is_larger = (processes > MOST_PROCESSES or memory.most_pieces > MOST_PIECES or slots > MOST_SLOTS
+                 or memory.most_segments > PROFILE["shmmni"][1] or found.most_size > PROFILE["shmmax"][1]
+                 or any(number > most for number, (_, most) in zip(chosen, PROFILE.values())))
+    numbers = chosen or limits_for(found, slots, LARGER if is_larger else PROFILE)
+    sizes = f"sizes {LARGEST['most_pieces']} {max(processes, 1)} {max(slots, MOST_SLOTS)}"
+    return [sizes] * is_larger + ["limits " + " ".join(map(str, numbers))]
 
 
 def processes_of(commands: list[Command]) -> list[tuple[Process, bool]]:
@@ -164,14 +179,14 @@ def processes_of(commands: list[Command]) -> list[tuple[Process, bool]]:
     return list(processes.values())
 
 
-def script_of(commands: list[Command], limits: str, uid: int, gid: int) -> str:
+def script_of(commands: list[Command], head: list[str], uid: int, gid: int) -> str:
     processes = processes_of(commands)
-    if len(processes) > MOST_PROCESSES:
+    if len(processes) > LARGEST["most_processes"]:
         raise BadTrace(0, f"{len(processes)} processes call or inherit shared memory, but a script has at "
-                          f"most {MOST_PROCESSES}")
+                          f"most {LARGEST['most_processes']}")
     if len(commands) > MOST_COMMANDS:
         raise BadTrace(0, f"there are {len(commands)} calls, but a script has at most {MOST_COMMANDS}")
-    lines = [f"limits {limits}", "rules linux"]
+    lines = [*head, "rules linux"]
     for process, is_born in processes:
         name = "".join(it if " " <= it <= "~" else "?" for it in process.program)
         lines.append(f"# {process.pid} is {name or 'not named in the trace'}")
@@ -316,11 +331,11 @@ def number_up_to(most: int, least: int = 0) -> Callable[[str], int]:
     return number
 
 
-def limits(text: str) -> str:
+def limits(text: str) -> list[int]:
     words = text.split()
     if len(words) != 5 or not all(word.isdigit() for word in words):
         raise argparse.ArgumentTypeError(f"SHMMAX SHMMNI SHMALL FRAMES MEMLOCK are five numbers: {text}")
-    return " ".join(words)
+    return [int(word) for word in words]
 
 
 def words_of(arguments: list[str]) -> argparse.Namespace:
@@ -332,8 +347,8 @@ def words_of(arguments: list[str]) -> argparse.Namespace:
     parser.add_argument("--verdict", metavar="VERDICT")
     parser.add_argument("--uid", type=number_up_to(2 ** 32 - 1), metavar="N")
     parser.add_argument("--gid", type=number_up_to(2 ** 32 - 1), metavar="N")
-    parser.add_argument("--limits", type=limits, metavar="NUMBERS")
-    parser.add_argument("--slots", type=number_up_to(MOST_PAGES, 1), default=64, metavar="N")
+    parser.add_argument("--limits", type=limits, default=[], metavar="NUMBERS")
+    parser.add_argument("--slots", type=number_up_to(LARGEST["most_slots"], 1), default=64, metavar="N")
     words = parser.parse_args(arguments)
     if words.verdict is None and None in (words.script, words.log):
         parser.error("--script and --log are both needed, or --verdict")
@@ -357,7 +372,7 @@ def main(arguments: list[str]) -> int:
         if words.verdict is not None:
             return judge_times(found.commands, words.verdict)
         user = user_of(found, words)
-        script = script_of(found.commands, words.limits or limits_for(found, words.slots), *user)
+        script = script_of(found.commands, head_of(found, words.limits, words.slots), *user)
         write_all([(words.script, script), (words.log, log_of(found.commands, *user))])
     except BadTrace as fault:
         print(f"from_strace: {fault}", file=sys.stderr)

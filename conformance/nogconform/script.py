@@ -19,12 +19,12 @@ from typing import Any
 
 from nogcuvema.explain import nearest
 from nogcuvema.machine import Flag
-from nogcuvema.script import (ATTACH_FLAGS, CALLS, GET_FLAGS, NoForm, OperandKind, ScriptFault, number_of,
-                              read_script, words_of)
+from nogcuvema.script import (ATTACH_FLAGS, CALLS, GET_FLAGS, MOST_SLOTS, NoForm, OperandKind, ScriptFault,
+                              number_of, read_script, words_of)
 
 ERRORS = ("EPERM ENOENT ESRCH EIO EAGAIN ENOMEM EACCES EEXIST EINVAL EMFILE ENOSPC EIDRM SIGBUS SIGSEGV "
           "ENFILE ENOSYS EFAULT EOVERFLOW").split()
-DECLARATIONS = ("limits", "process", "child")
+DECLARATIONS = ("sizes", "limits", "process", "child")
 EVENT = re.compile(r"(\d+) (\d+) (\S+)((?: \S+)*) = (\S.*)")
 SOURCE = re.compile(r"POSIX(\.1-\d{4})?,? [\w<]|\(\d\)|profile")
 LINUX_SOURCE = re.compile(r"observed on Linux \d+\.\d+|Linux: \w+\(\d\)")
@@ -32,7 +32,7 @@ LINUX_SOURCES = "observed on Linux 6.18, or Linux: shmget(2)"
 SOURCES = "POSIX shmat(), POSIX.1-2017, page 1384, shmop(2) or profile"
 SWAP = ["sparse:65536"]
 AREA = re.compile(r"(ram|sparse|mirror):(\d{1,9})|fuse:(\d{1,9}):[rw][1-9]\d*")
-AREAS, SLOTS = 8, 65536
+AREAS = 8
 TIMES = ("atime", "dtime", "ctime")
 STAT = re.compile(r"key=0x[0-9a-f]{8} uid=\d+ gid=\d+ cuid=\d+ cgid=\d+ mode=[0-7]{3} "
                   r"status=(-|dest|locked|dest,locked) "
@@ -111,6 +111,7 @@ class Case:
     text: str
     commands: list[Command] = field(default_factory=list)
     swap: list[str] = field(default_factory=lambda: list(SWAP))
+    sizes: list[int] = field(default_factory=list)      # of a sizes line
     limits: list[int] = field(default_factory=list)
     users: dict[int, tuple[int, int]] = field(default_factory=dict)
     title: str = ""
@@ -244,10 +245,10 @@ def read_swap(path: str, number: int, line: str) -> list[str]:
         raise BadCase(path, number, first, "the line is #swap and 1 to 8 areas, as #swap ram:64 sparse:65536")
     for word in words:
         form = AREA.fullmatch(word)
-        if form is None or not 1 <= int(form[2] or form[3]) <= SLOTS:
+        if form is None or not 1 <= int(form[2] or form[3]) <= MOST_SLOTS:
             raise BadCase(path, number, word,
                           "no swap area: ram:N, sparse:N, mirror:N, fuse:N:rK or fuse:N:wK, "
-                          "N from 1 to 65536")
+                          f"N from 1 to {MOST_SLOTS}")
     return words
 
 
@@ -266,7 +267,9 @@ def require_rules(path: str, case: Case) -> None:
 
 
 def read_declaration(case: Case, words: list[str]) -> bool:
-    if words[0] == "limits":
+    if words[0] == "sizes":
+        case.sizes = [number_of(word) for word in words[1:]]
+    elif words[0] == "limits":
         case.limits = [number_of(word) for word in words[1:]]
     elif words[0] == "process":
         case.users[number_of(words[1])] = (number_of(words[2]), number_of(words[3]))

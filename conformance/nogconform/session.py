@@ -13,7 +13,7 @@ from .options import Options
 from .places import CASES, LIBRARY_CASES, names_in
 from .results import Outcome, Results
 from .running import Peer, Stopped, run_program
-from .script import BadCase, BadInput, Case, Event, read_case, read_events
+from .script import DECLARATIONS, BadCase, BadInput, Case, Event, read_case, read_events
 
 
 def case_paths(names: list[str], has_flags: bool) -> list[str]:
@@ -192,7 +192,7 @@ def shorten(session: Session, text: str, last: int, seconds: int = 60) -> str:
     lines = text.splitlines()[:last]
     end = time.monotonic() + seconds
     for index in reversed(range(len(lines))):
-        if lines[index].split()[0] in ("limits", "process", "child") or time.monotonic() > end:
+        if lines[index].split()[0] in DECLARATIONS or time.monotonic() > end:
             continue
         fewer = lines[:index] + lines[index + 1:]
         if first_difference(session, "\n".join(fewer) + "\n").different:

@@ -115,6 +115,7 @@ class Memory:
     pages: int = 0
     most_pages: int = 0
     most_segments: int = 0
+    most_pieces: int = 0        # of one process
     created: int = 0
     # of attachments, since they were last read
     changes: list[tuple[Segment, int]] = field(default_factory=list)
@@ -180,6 +181,7 @@ class Memory:
         """Replaces the pieces of a process."""
         before = process.pieces
         process.pieces = pieces
+        self.most_pieces = max(self.most_pieces, sum(not it.attach.segment.out for it in pieces))
         kept = {id(it) for it in before} & {id(it) for it in pieces}
         self.changes += [(it.attach.segment, 1) for it in pieces if id(it) not in kept]
         self.changes += [(it.attach.segment, -1) for it in before if id(it) not in kept]

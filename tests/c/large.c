@@ -1,6 +1,6 @@
 /* large: what only a large machine shows. A call that gave up as out of memory at some size would keep every rule, so
-   these tests make 5,000 segments, 300 pieces, snapshots of both, 70,000 segments one after the other, and a copy of
-   1 MiB, and let calls of the third and the fourth swap area fail. */
+   these tests make 5,000 segments, 300 pieces, snapshots of both, 70,000 segments one after the other, a copy of
+   1 MiB and a segment of 64 GiB, and let calls of the third and the fourth swap area fail. */
 #include "testing.h"
 
 enum { SEGMENTS = 5000, PIECES = 300, PAIRS = 70000, LIVES_OF_AN_INDEX = 65536, SEQUENCE = 32768, MEBIBYTE = 1 << 20 };
@@ -87,6 +87,34 @@ static void test_copy(void) {
     TEST(memcmp(bytes, found, MEBIBYTE) == 0);
 }
 
+/* two processes share pages of a segment of 64 GiB in 64 frames; attached a second time, it has the pages that were stored */
+static void test_large_segment(void) {
+    static const nog_limits huge = {.shmmax = UINT64_C(1) << 36, .shmmni = 1, .shmall = 1 << 24, .frames = 64, .memlock = 1,
+                                    .most_pieces = 2, .most_processes = 3, .most_slots = 1 << 24};
+    static const nog_area slots = {NOG_SPARSE, 1 << 24};
+    uint64_t at = 0, number = 0;
+    ANSWER(nog_open(&machine, &huge, &slots, 1, &none, 0, processes, 3), NOG_DONE);
+    int32_t id = -1;
+    ANSWER(nog_get(&machine, ROOT, NOG_PRIVATE, huge.shmmax, 0666, 0, &id), NOG_DONE);
+    for (int times = 0; times < 2; times++) {
+        ANSWER(nog_attach(&machine, ROOT, id, 0, 0, &at), NOG_DONE);
+        ANSWER(nog_attach(&machine, USER, id, LOWEST + PAGE, 0, &at), NOG_DONE);
+        for (uint64_t page = 0; page < 1000; page++) {
+            ANSWER(nog_add(&machine, ROOT, LOWEST + page * PAGE, page + 1, &number), NOG_DONE);
+            TEST(number == (page + 1) * (uint64_t)times);
+        }
+        for (uint64_t page = 0; page < 1000; page++) {
+            ANSWER(nog_load(&machine, USER, LOWEST + PAGE + page * PAGE, &number, 8), NOG_DONE);
+            TEST(number == (page + 1) * (uint64_t)(times + 1));
+        }
+        number = 1;
+        ANSWER(nog_load(&machine, USER, LOWEST + PAGE + 5000 * PAGE, &number, 8), NOG_DONE);
+        TEST(number == 0);
+        ANSWER(nog_detach(&machine, USER, LOWEST + PAGE), NOG_DONE);
+        ANSWER(nog_detach(&machine, ROOT, LOWEST), NOG_DONE);
+    }
+}
+
 /* each area has one slot but the last, so the page that is written out next goes to the next area */
 static void flush(nog_machine *of, uint64_t written, uint64_t failed) {
     nog_flushed flushed = {9, 9};
@@ -123,6 +151,7 @@ int main(void) {
     test_pieces();
     test_pairs();
     test_copy();
+    test_large_segment();
     test_later_areas();
     ANSWER(nog_close(&saved), NOG_DONE);
     ANSWER(nog_close(&machine), NOG_DONE);

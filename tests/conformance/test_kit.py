@@ -25,7 +25,7 @@ HEAD = "limits 4096 1 1 2 0\nprocess 1 1 1\n"
 RULE = "# A segment. profile\n"
 RIGHT = HEAD + RULE + "1 shmget private 1 600\n#= 0\n"
 EVENT = "1 1 shmget 0x00000000 1 600 = 0"
-AREAS = "no swap area: ram:N, sparse:N, mirror:N, fuse:N:rK or fuse:N:wK, N from 1 to 65536"
+AREAS = "no swap area: ram:N, sparse:N, mirror:N, fuse:N:rK or fuse:N:wK, N from 1 to 268435456"
 SWAP = "the line is #swap and 1 to 8 areas, as #swap ram:64 sparse:65536"
 NO_RULE = ("no comment above it names the rule and its source, as POSIX shmat(), POSIX.1-2017, page 1384, "
            "shmop(2) or profile")
@@ -39,6 +39,11 @@ MALFORMED = (
     ("limits 4096 x 1 2 0\n", "c.shm: line 1: 'x': bad line, allowed here: a number"),
     ("limits 4096 1 1 2\n", "c.shm: line 1: "),
     ("", "c.shm: line 1: no limits line"),
+    ("sizes 1 1\n" + HEAD, "c.shm: line 1: '1': bad line, allowed here: sizes PIECES PROCESSES SLOTS"),
+    ("sizes 0 1 1\n" + HEAD, "c.shm: line 1: '0': bad limits 6, allowed here: PIECES is from 1 to 65530"),
+    (HEAD + "sizes 1 1 1\n", "c.shm: line 3: 'sizes': bad line, allowed here: one sizes line"),
+    ("size 1 1 1\n" + HEAD, "c.shm: line 1: 'size': no limits line, allowed here: limits SHMMAX"),
+    ("size 1 1 1\n" + HEAD, "; nearest form: sizes"),
     (HEAD + RULE + "1 shmgt private 1 600\n#= 0\n",
      "c.shm: line 4: 'shmgt': bad line, allowed here: a call: "),
     (HEAD + RULE + "1 shmgt private 1 600\n#= 0\n", "; nearest form: shmget"),
@@ -61,7 +66,7 @@ MALFORMED = (
     (HEAD, "c.shm: no command"),
     ("#swap disk\n" + RIGHT, "c.shm: line 1: 'disk': " + AREAS),
     ("#swap ram:0\n" + RIGHT, "c.shm: line 1: 'ram:0': " + AREAS),
-    ("#swap ram:1 ram:65537\n" + RIGHT, "c.shm: line 1: 'ram:65537': " + AREAS),
+    ("#swap ram:1 ram:268435457\n" + RIGHT, "c.shm: line 1: 'ram:268435457': " + AREAS),
     ("#swap fuse:4\n" + RIGHT, "c.shm: line 1: 'fuse:4': " + AREAS),
     ("#swap fuse:4:r0\n" + RIGHT, "c.shm: line 1: 'fuse:4:r0': " + AREAS),
     ("#swap\n" + RIGHT, "c.shm: line 1: '#swap': " + SWAP),
@@ -133,6 +138,12 @@ def said_of(text: str, has_flags: bool = False) -> str:
 def test_malformed(text: str, wanted: str) -> None:
     """A malformed case is refused with its line and the cause."""
     assert wanted in said_of(text)
+
+
+def test_sizes_line() -> None:
+    """A case may have a sizes line, which is no command."""
+    case = read_case("c", "sizes 300 70 65536\n" + RIGHT)
+    assert (case.sizes, case.limits, len(case.commands)) == ([300, 70, 65536], [4096, 1, 1, 2, 0], 1)
 
 
 @pytest.mark.parametrize("has_flags, line, wanted", FLAGGED)

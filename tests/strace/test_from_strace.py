@@ -20,6 +20,7 @@ import pytest
 
 from commands import TOP, run, text_of, write_file
 from nogconform.script import ERRORS
+from nogcuvema import read_script
 
 HERE = os.path.dirname(os.path.realpath(__file__))
 NAMES = sorted(it[:-7] for it in os.listdir(HERE) if it.endswith(".strace"))
@@ -42,8 +43,6 @@ WRONG = (
     ("[pid 1] exit(0) = ?\n[pid 2] exit(0) = ?\nexit(0) = ?\n",
      "line 3: it does not say which process it belongs to; strace -f -o FILE names each"),
     ("vfork(strace: Process 2 attached\n", "line 1: the line continues in the next one, which is missing"),
-    ("".join(f"{pid} {CALL[2:]}" for pid in range(1, 66)),
-     "65 processes call or inherit shared memory, but a script has at most 64"),
     ("".join(CALL.replace("= 0", f"= {it}") for it in range(65)),
      "there are 65 segments at a time, but at most 64 fit: see --slots"),
 )
@@ -130,6 +129,42 @@ def test_fits(told: str, reply: str, wanted: bool) -> None:
 
 
 OUT = ["--script", "s", "--log", "l"]
+
+
+def attaches(count: int) -> str:
+    """A process attaches a segment this many times."""
+    return "".join(f"1 shmat(0, NULL, 0) = {0x7f0000000000 - 4096 * place:#x}\n" for place in range(count))
+
+
+# traces that need a sizes line, further words, and the first lines of the script
+LARGE: tuple[tuple[str, list[str], list[str]], ...] = (
+    ("".join(f"{pid} {CALL[2:]}{pid} shmctl(0, IPC_RMID, NULL) = 0\n" for pid in range(1, 66)), [],
+     ["sizes 65530 65 65536", "limits 4096 65 268435456 66 64"]),
+    (CALL.replace("4096", str(2 ** 24 + 1)), ["--slots", "5000"],
+     ["sizes 65530 1 65536", "limits 16777217 1 268435456 5002 5000"]),
+    (CALL.replace("4096", str(2 ** 30)), ["--slots", "262144"],
+     ["sizes 65530 1 262144", "limits 1073741824 1 268435456 262146 262144"]),
+    (CALL + attaches(257), [], ["sizes 65530 1 65536", "limits 4096 1 268435456 66 64"]),
+    (CALL, ["--limits", "4096 1 65537 2 0"], ["sizes 65530 1 65536", "limits 4096 1 65537 2 0"]),
+)
+# traces of the largest machine without that line
+SMALL: tuple[tuple[str, list[str], list[str]], ...] = (
+    ("".join(f"{pid} {CALL[2:]}{pid} shmctl(0, IPC_RMID, NULL) = 0\n" for pid in range(1, 65)), [],
+     ["limits 4096 64 65536 66 64"]),
+    (CALL.replace("4096", str(2 ** 24)), ["--slots", "65536"], ["limits 16777216 1 65536 4096 4094"]),
+    # with 64 slots the size is 1 in the script
+    (CALL.replace("4096", str(2 ** 30)), [], ["limits 1 1 65536 66 64"]),
+    (CALL + attaches(256), [], ["limits 4096 1 65536 66 64"]),
+)
+
+
+@pytest.mark.parametrize("text, words, head", [*LARGE, *SMALL], ids=lambda it: str(it)[:40])
+def test_sizes_line(folder: str, text: str, words: list[str], head: list[str]) -> None:
+    """The first lines of a script, with a sizes line only if the trace needs it; the script can be read."""
+    ended = convert([*OUT, "--uid", "0", "--gid", "0", *words], text, folder)
+    script = text_of(os.path.join(folder, "s"))
+    assert (ended.status, script.split("\n")[:len(head) + 1]) == (0, [*head, "rules linux"]), ended.said
+    assert read_script(script).lines
 
 
 @pytest.mark.parametrize("text, said", WRONG)

@@ -21,7 +21,7 @@ from .script import (CALLS, TAKEN, Command, FlushLine, Run, Script, ScriptFault,
 
 USAGE = ("usage: python3 -m nogcuvema [SWAP...]: SWAP is ram:N, sparse:N, mirror:N, fuse:N:rK or fuse:N:wK; "
          "ram:64 without one")
-# the limits and processes if the first line is no limits line
+# the limits and processes if the first line gives no limits
 HEAD = ("limits 65536 16 64 4 1", "process 1 100 100", "child 2", "child 3")
 OWN_WORDS = ("help", "show", "undo", "snapshot", "restore", "save", "quit", "exit")
 HELP = """A line is a call of a process: its pid, the call and its operands. A variable stores the reply.
@@ -36,6 +36,7 @@ accepted lines, quit or exit ends. show needs the viewer's program, shmview: it 
 or ./shmview --unproved built in the repository, or the one that ./install installed, also by its name on the
 path. Without one it prints segments and counts.
 Limits and processes come first: limits SHMMAX SHMMNI SHMALL FRAMES MEMLOCK, process PID UID GID, child PID.
+A line sizes PIECES PROCESSES SLOTS above the limits makes a larger machine.
 If you begin with a call, these lines come first: {head}"""
 
 
@@ -98,7 +99,8 @@ class Prompt:
         accepted."""
         told: List[str] = []
         before = self.moment_before(line)
-        if self.script.limits is None and line.split()[0] != "limits":
+        is_first = self.script.limits is None and self.script.sizes is None
+        if is_first and line.split()[0] not in ("sizes", "limits"):
             for head in HEAD:
                 self.script.read_line(self.typed, head)
                 self.taken.append(head)
@@ -227,8 +229,8 @@ def viewer_program() -> str:
 
 def complete(text: str, state: int) -> Optional[str]:
     """Completes the words of calls, of declarations and of the prompt."""
-    words = [*CALLS, *OWN_WORDS, "limits", "process", "child", "flush", "private", "null", "rdonly", "remap",
-             "rnd"]
+    words = [*CALLS, *OWN_WORDS, "sizes", "limits", "process", "child", "flush", "private", "null", "rdonly",
+             "remap", "rnd"]
     found = [word + " " for word in words if word.startswith(text)]
     return found[state] if state < len(found) else None
 

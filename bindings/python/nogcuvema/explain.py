@@ -10,6 +10,7 @@ from ._ending import run_command
 from .script import CALLS, RULES, Command, Script, ScriptFault, Variable, read_script
 
 FIRST_WORDS = ("limits", "rules", "process", "child")
+HEADS = ("sizes", "limits")
 
 
 def nearest(fault: ScriptFault, line: str) -> str:
@@ -19,7 +20,7 @@ def nearest(fault: ScriptFault, line: str) -> str:
         return "remove the carriage returns: tr -d '\\r' < SCRIPT"
     if fault.kind == "unknown process":
         return f"child {word}, or process {word} UID GID, above the first command"
-    if fault.kind != "bad line":
+    if fault.kind not in ("bad line", "no limits line"):
         return ""
     if re.match("0[0-7]{3}(,|$)", word) and "octal" in fault.allowed:
         return word[1:]
@@ -33,7 +34,7 @@ def nearest(fault: ScriptFault, line: str) -> str:
     if word == "0" and "null" not in fault.allowed and "flush" in fault.allowed:
         return "0 flush N, or a pid from 1 on"
     choices = ([*CALLS] if "a call:" in fault.allowed else [*FIRST_WORDS]
-               if "limits, rules" in fault.allowed else [])
+               if "limits, rules" in fault.allowed else [*HEADS] if fault.kind == "no limits line" else [])
     choices += ["flush"] if "flush" in fault.allowed else []
     choices += ["linux", *RULES] if "linux, or" in fault.allowed else []
     found = difflib.get_close_matches(word.lower(), choices, 1)

@@ -22,6 +22,7 @@ def most_moments(limits: Limits, areas: Sequence[Area]) -> int:
 @dataclass
 class Moment:
     """A run at one moment. The lists of lines only grow, so a moment shares them and keeps their lengths."""
+    sizes: Optional[Limits]
     limits: Optional[Limits]
     processes: List[Process]
     lines: List[Union[Command, FlushLine]]
@@ -36,12 +37,13 @@ class Moment:
     def of(cls, script: Script, taken: List[str], run: Optional[Run], line: str) -> "Moment":
         """The current moment. Raises `NoMemory` if there is no memory for the snapshot."""
         variables = {pid: dict(letters) for pid, letters in run.variables.items()} if run else {}
-        return cls(script.limits, list(script.processes), script.lines, len(script.lines), taken, len(taken),
-                   run.machine.snapshot() if run else None, variables, line)
+        return cls(script.sizes, script.limits, list(script.processes), script.lines, len(script.lines),
+                   taken, len(taken), run.machine.snapshot() if run else None, variables, line)
 
     def script(self) -> Script:
         script = Script()
-        script.limits, script.processes = self.limits, list(self.processes)
+        script.sizes, script.limits, script.processes = self.sizes, self.limits, list(self.processes)
+        script.pids = {it.pid for it in self.processes}
         script.lines = self.lines[:self.line_count]
         return script
 

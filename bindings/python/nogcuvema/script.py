@@ -4,17 +4,24 @@ A fault has the kind that the programs print. It also has the word, its column, 
 """
 import collections.abc
 import re
-from dataclasses import dataclass, replace
-from typing import Any, Callable, Dict, Iterator, List, NamedTuple, Optional, Sequence, Tuple, Union
+from dataclasses import dataclass, fields, replace
+from typing import Any, Callable, Dict, Iterator, List, NamedTuple, Optional, Sequence, Set, Tuple, Union
 
 from .errors import Fault, Refused
-from .machine import Area, Failure, Flag, Limits, Machine, Process, Rules, Segment, child
+from .machine import (LARGER, MOST_PROCESSES, Area, Failure, Flag, Limits, Machine, Process, Rules, Segment,
+                      child, range_of)
 
-LONGEST, MOST_LINES, MOST_PROCESSES, MOST_AREAS, MOST_SLOTS = 1048576, 100000, 64, 8, 65536
+LONGEST, MOST_LINES, MOST_AREAS, MOST_SLOTS = 1048576, 100000, 8, LARGER["most_slots"][1]
 U64, U32, I32 = 2 ** 64 - 1, 2 ** 32 - 1, 2 ** 31 - 1
 RULES = {name.lower(): rule for name, rule in Rules.__members__.items() if rule is not Rules.LINUX}
-LIMITS = (("SHMMAX", 1, 2 ** 24), ("SHMMNI", 1, 4096), ("SHMALL", 1, 65536), ("FRAMES", 2, 4096),
-          ("MEMLOCK", 0, 4094))
+# the limits that two lines give, and their names in docs/SCRIPT.md
+SIZES = {"most_pieces": "PIECES", "most_processes": "PROCESSES", "most_slots": "SLOTS"}
+LIMITS = {"shmmax": "SHMMAX", "shmmni": "SHMMNI", "shmall": "SHMALL", "frames": "FRAMES",
+          "memlock": "MEMLOCK"}
+FIRST_LINES = ("limits SHMMAX SHMMNI SHMALL FRAMES MEMLOCK, the first line with words; above it only a line "
+               "sizes PIECES PROCESSES SLOTS")
+# a message names each declared process, unless there are more
+MOST_NAMED = 64
 
 
 class ScriptFault(ValueError):
@@ -233,12 +240,11 @@ class Script:
     """A script: its limits, its declared processes, and its lines in their order."""
 
     def __init__(self) -> None:
+        self.sizes: Optional[Limits] = None     # of these only those of a sizes line are chosen
         self.limits: Optional[Limits] = None
         self.processes: List[Process] = []
+        self.pids: Set[int] = set()             # theirs
         self.lines: List[Union[Command, FlushLine]] = []
-
-    def is_declared(self, pid: int) -> bool:
-        return any(it.pid == pid for it in self.processes)
 
     def read_line(self, number: int, text: str) -> Optional[Union[Command, FlushLine]]:
         """Reads the next line. Returns its command or flush round, None for any other line."""
@@ -258,11 +264,10 @@ class Script:
         if not words or words[0].text.startswith("#"):
             return None
         if self.limits is None:
-            if words[0].text != "limits":
-                raise _Bad("no limits line", words[0],
-                           "limits SHMMAX SHMMNI SHMALL FRAMES MEMLOCK, the first line with words")
-            self.limits = read_limits(words)
+            self._read_head(words)
             return None
+        if words[0].text == "sizes":
+            raise _Bad("bad line", words[0], "one sizes line, directly above the limits line")
         if words[0].text == "rules":
             self.limits = self._ruled(self.limits, words)
             return None
@@ -278,6 +283,22 @@ class Script:
         self.lines.append(line)
         return line
 
+    def _read_head(self, words: List[Word]) -> None:
+        """The limits line, or the sizes line above it."""
+        first = words[0].text
+        if first == "limits":
+            self.limits = read_limits(words, LIMITS, self.sizes or Limits())
+        elif first != "sizes":
+            raise _Bad("no limits line", words[0], FIRST_LINES)
+        elif self.sizes is not None:
+            raise _Bad("bad line", words[0], "one sizes line, directly above the limits line")
+        else:
+            self.sizes = read_limits(words, SIZES, Limits())
+
+    def most_processes(self) -> int:
+        """How many processes may be declared."""
+        return self.limits.most_processes or MOST_PROCESSES if self.limits else 0
+
     def _ruled(self, limits: Limits, words: List[Word]) -> Limits:
         if self.lines or self.processes or limits.rules:
             raise _Bad("bad line", words[0], "one rules line, below the limits and above everything else")
@@ -289,11 +310,12 @@ class Script:
         is_child = words[0].text == "child"
         form = [PID] if is_child else [PID, USER, USER]
         values = read_operands(words, 1, form, "child PID" if is_child else "process PID UID GID")
-        if self.is_declared(values[0]):
+        if values[0] in self.pids:
             raise _Bad("process declared twice", words[1], "a pid that is not declared above")
-        if len(self.processes) >= MOST_PROCESSES:
-            raise _Bad("too many lines", words[0], "64 processes at most")
+        if len(self.processes) >= self.most_processes():
+            raise _Bad("too many lines", words[0], f"{self.most_processes()} processes at most")
         self.processes.append(child(values[0]) if is_child else Process(*values))
+        self.pids.add(values[0])
 
     def _read_flush(self, number: int, words: List[Word]) -> FlushLine:
         if len(words) < 2 or words[1].text != "flush":
@@ -319,9 +341,11 @@ class Script:
         read_ranges(words[at + 1:], kinds, values)
         read_range(words[0], PID, pid)
         for value, word in ((pid, words[0]), *([(values[0], words[at + 1])] if call == "fork" else [])):
-            if not self.is_declared(value):
+            if value not in self.pids:
+                named = ", ".join(str(it.pid) for it in self.processes[:MOST_NAMED])
+                more = len(self.processes) - MOST_NAMED
                 raise _Bad("unknown process", word,
-                           "a declared pid: " + ", ".join(str(it.pid) for it in self.processes))
+                           f"a declared pid: {named}" + f" and {more} more" * (more > 0))
         return Command(number, pid, words[1].text if is_taken else "", call, tuple(values))
 
 
@@ -374,14 +398,17 @@ def require_widths(words: List[Word], call: str, values: List[Any], is_taken: bo
                    "at most 8 bytes, because the variable takes as many that were there")
 
 
-def read_limits(words: List[Word]) -> Limits:
-    form = "limits " + " ".join(name for name, _, _ in LIMITS)
-    values = read_operands(words, 1, [SIZE] * len(LIMITS), form)
-    for place, (name, least, most) in enumerate(LIMITS):
-        most = values[3] - 2 if name == "MEMLOCK" else most
-        if not least <= values[place] <= most:
-            raise _Bad(f"bad limits {place + 1}", words[place + 1], f"{name} is from {least} to {most}")
-    return Limits(*values)
+def read_limits(words: List[Word], names: Dict[str, str], others: Limits) -> Limits:
+    """The limits with those of a line, each within its range."""
+    values = read_operands(words, 1, [SIZE] * len(names), " ".join([words[0].text, *names.values()]))
+    limits = replace(others, **dict(zip(names, values)))
+    order = [it.name for it in fields(Limits)]
+    for name, value, word in zip(names, values, words[1:]):
+        least, most = range_of(limits, name)
+        if not least <= value <= most:
+            raise _Bad(f"bad limits {order.index(name) + 1}", word,
+                       f"{names[name]} is from {least} to {most}")
+    return limits
 
 
 def read_script(text: Union[str, bytes]) -> Script:
@@ -397,8 +424,7 @@ def read_script(text: Union[str, bytes]) -> Script:
     for number, line in enumerate(lines, 1):
         script.read_line(number, line)
     if script.limits is None:
-        raise ScriptFault(1, "no limits line",
-                          allowed="limits SHMMAX SHMMNI SHMALL FRAMES MEMLOCK, the first line with words")
+        raise ScriptFault(1, "no limits line", allowed=FIRST_LINES)
     return script
 
 
@@ -414,7 +440,7 @@ def areas_of(swap: Union[str, Sequence[str]]) -> List[Area]:
         if not found or (found[1] == "fuse") != (found[3] is not None) or not 1 <= slots <= MOST_SLOTS or (
                 found[3] and not 1 <= int(found[4]) <= U64):
             raise ValueError(f"no swap area: {word}: it is ram:N, sparse:N, mirror:N, fuse:N:rK or "
-                             f"fuse:N:wK, N from 1 to 65536")
+                             f"fuse:N:wK, N from 1 to {MOST_SLOTS}")
         failures = [Failure(int(found[4]), found[3] == "w")] if found[3] else []
         areas.append({"sparse": Area.sparse, "mirror": Area.mirror}.get(found[1], Area.ram)(slots, failures))
     if not 1 <= len(areas) <= MOST_AREAS:

@@ -37,6 +37,13 @@ class Explained(unittest.TestCase):
                 self.assertIn("nearest form: ", told[-1])
                 self.assertIn(near, told[-1])
 
+    def test_nearest_first_line(self) -> None:
+        for line, near in (("limts 1 1 1 2 0", "limits"), ("size 1 1 1", "sizes"), ("SIZES 1 1 1", "sizes")):
+            told = explain(line + "\n")
+            self.assertEqual((told[0], told[-1]),
+                             ("line 1, column 1: no limits line", f"    nearest form: {near}"))
+        self.assertIn("allowed here: limits SHMMAX", explain("nothing\n")[-1])
+
     def test_nearest_rule(self) -> None:
         for word, near in (("linus", "linux"), ("fork_mark", "fork_marks"), ("LOCKS_BY_USER", "locks_by_user")):
             told = explain(f"limits 65536 16 64 4 1\nrules {word}\n")

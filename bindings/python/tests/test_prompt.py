@@ -52,6 +52,17 @@ class Prompts(unittest.TestCase):
     def test_answers(self) -> None:
         self.say_all()
 
+    def test_a_larger_machine(self) -> None:
+        """The limits follow the sizes, and undo knows both."""
+        self.assertEqual(self.prompt.answer("sizes 300 70 64"), [])
+        self.assertEqual(self.prompt.answer("1 exit")[0], "line 2, column 1: no limits line")
+        self.assertEqual(self.prompt.answer("limits 33554432 16 8192 4 1"), [])
+        self.assertEqual(self.prompt.answer("undo"), ["undone: limits 33554432 16 8192 4 1"])
+        for line in ("limits 33554432 16 8192 4 1", *(f"process {pid} 100 100" for pid in range(1, 71))):
+            self.assertEqual(self.prompt.answer(line), [])
+        self.assertEqual(self.prompt.answer("70 shmget private 33554433 600"),
+                         ["1 70 shmget 0x00000000 33554433 600 = EINVAL"])
+
     def test_a_line_with_a_fault_is_not_taken(self) -> None:
         self.say_all()
         before = list(self.prompt.taken)

@@ -8,7 +8,7 @@ import os
 import unittest
 from collections.abc import Iterator
 
-from nogcuvema import Machine, ScriptFault, areas_of, read_script
+from nogcuvema import Limits, Machine, ScriptFault, areas_of, read_script
 from nogcuvema.script import transcript
 
 TOP = os.path.dirname(os.path.dirname(os.path.dirname(os.path.dirname(os.path.abspath(__file__)))))
@@ -46,6 +46,29 @@ FAULTS = (
     ("0 flush 0", "bad number", "0", 9, "1 to 4096"),
     ("process 1 0 0", "process declared twice", "1", 9, "not declared"),
     ("rules linux", "bad line", "rules", 1, "one rules line"),
+    ("sizes 1 1 1", "bad line", "sizes", 1, "one sizes line"),
+)
+# whole scripts, with the line of the fault before its kind
+FAULTS_OF_SIZES = (
+    ("sizes 0 0 0\n", 1, "bad limits 6", "0", 7, "PIECES is from 1 to 65530"),
+    ("sizes 1 32769 0\n", 1, "bad limits 7", "32769", 9, "PROCESSES is from 1 to 32768"),
+    ("sizes 1 1 268435457\n", 1, "bad limits 8", "268435457", 11, "SLOTS is from 1 to 268435456"),
+    ("sizes 1 1\n", 1, "bad line", "1", 9, "sizes PIECES PROCESSES SLOTS"),
+    ("sizes 0 0 18446744073709551616\n", 1, "bad number", "18446744073709551616", 11, "a number"),
+    ("sizes 1 1 1\nlimits 1099511627777 1 1 2 0\n", 2, "bad limits 1", "1099511627777", 8,
+     "SHMMAX is from 1 to 1099511627776"),
+    ("limits 16777217 1 1 2 0\n", 1, "bad limits 1", "16777217", 8, "SHMMAX is from 1 to 16777216"),
+    ("sizes 1 1 1\nlimits 1 1 1 4 3\n", 2, "bad limits 5", "3", 16, "MEMLOCK is from 0 to 2"),
+    ("sizes 1 1 1\nsizes 1 1 1\n", 2, "bad line", "sizes", 1, "one sizes line"),
+    ("sizes 1 1 1\nprocess 1 0 0\n", 2, "no limits line", "process", 1,
+     "limits SHMMAX SHMMNI SHMALL FRAMES MEMLOCK"),
+    ("sizes 1 1 1\n", 1, "no limits line", "", 0, "limits SHMMAX SHMMNI SHMALL FRAMES MEMLOCK"),
+    ("sizes 1 2 1\nlimits 1 1 1 2 0\nchild 1\nchild 2\nchild 3\n", 5, "too many lines", "child", 1,
+     "2 processes at most"),
+    ("limits 1 1 1 2 0\n" + "".join(f"child {pid}\n" for pid in range(1, 66)), 66, "too many lines", "child",
+     1, "64 processes at most"),
+    ("sizes 1 70 1\nlimits 1 1 1 2 0\n" + "".join(f"child {pid}\n" for pid in range(1, 71)) + "71 exit\n", 73,
+     "unknown process", "71", 1, "64 and 6 more"),
 )
 
 
@@ -73,8 +96,9 @@ class Scripts(unittest.TestCase):
                 read_script(script)
             except ScriptFault as fault:
                 said = f"shmsim: {fault}\n"
+            wanted = self.text_of(name + ".err")
             with self.subTest(name):
-                self.assertEqual(said, self.text_of(name + ".err"))
+                self.assertEqual(said, wanted if wanted.startswith("shmsim: line ") else "")
 
     def test_stored_transcripts(self) -> None:
         seen = 0
@@ -95,6 +119,17 @@ class Scripts(unittest.TestCase):
             self.assertEqual((fault.line, fault.kind, fault.word, fault.column), (3, kind, word, column))
             self.assertIn(allowed, fault.allowed)
 
+    def test_sizes(self) -> None:
+        for script, line, kind, word, column, allowed in FAULTS_OF_SIZES:
+            with self.subTest(script[:60]), self.assertRaises(ScriptFault) as caught:
+                read_script(script)
+            fault = caught.exception
+            self.assertEqual((fault.line, fault.kind, fault.word, fault.column), (line, kind, word, column))
+            self.assertIn(allowed, fault.allowed)
+        larger = read_script("sizes 300 70 1000\nlimits 33554432 5000 8192 4 1\nrules fork_marks\n")
+        self.assertEqual(larger.limits, Limits(33554432, 5000, 8192, 4, 1, 300, 70, 1000, 4))
+        self.assertEqual(read_script("limits 65536 16 64 4 1\n").limits, Limits(65536, 16, 64, 4, 1))
+
     def test_a_machine_from_a_script(self) -> None:
         script = (HEAD + "1 s = shmget private 8192 600\n1 a = shmat s null -\n1 store a 2a\n0 flush 1\n"
                   "1 load 0 1\n")
@@ -107,8 +142,8 @@ class Scripts(unittest.TestCase):
     def test_words_for_swap_areas(self) -> None:
         [area] = areas_of("fuse:3:w7")
         self.assertEqual((area.slots, [(it.call, it.is_write) for it in area.failures]), (3, [(7, True)]))
-        for words in ("", "ram", "ram:0", "ram:65537", "ram:+1", "disk:1", "fuse:1", "fuse:1:r0", "fuse:1:x1",
-                      "mirror:1:r1",
+        for words in ("", "ram", "ram:0", "ram:268435457", "ram:+1", "disk:1", "fuse:1", "fuse:1:r0",
+                      "fuse:1:x1", "mirror:1:r1",
                       "fuse:1:w18446744073709551616", "ram:1 " * 9):
             self.assertRaises(ValueError, areas_of, words)
         self.assertEqual(len(areas_of("ram:1 " * 8)), 8)

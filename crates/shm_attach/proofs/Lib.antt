@@ -20,3 +20,4 @@ pub mod Served
 pub mod Absent
 pub mod ByIndex
 pub mod Alone
+pub mod Untouched

@@ -1,5 +1,9 @@
 //! The frames of the pages of a segment: its translations.
-ghost use Rattle.std.specs.Prelude.{◌≡◌, ℕ, ◌+◌, ◌-◌, ◌^◌, ◌<◌, ◌≤◌, Option, Some, None, length, [], OnOk, OnErr};
+//!
+//! Room for the frames of all pages is reserved when a segment is attached. A frame is written once its page is
+//! resident, together with those of the pages before it. So pages that nobody touches cost nothing.
+ghost use Rattle.std.specs.Prelude.{◌≡◌, ℕ, ◌+◌, ◌-◌, ◌^◌, ◌<◌, ◌≤◌, Option, Some, None, length, [], OnOk, OnErr, vec_capacity};
+ghost use Rattle.shm_base.specs.Stored.{padded};
 ghost use Rattle.shm_fault.specs.Store.{frame_of};
 ghost use Rattle.shm_attach.specs.Table.{frame_in, TrueTable, with_frame};
 
@@ -13,6 +17,8 @@ use std::marker::Model;
 pub(crate) struct Table {
     seg: u32,
     count: u32,
+    // How many pages the table has, and the frames of the first of them. The other pages are not resident.
+    pages: u32,
     frames: Vec<Option<FrameNo>>,
 }
 
@@ -21,41 +27,50 @@ impl Drop for Table {
         let Table {
             seg: _,
             count: _,
+            pages: _,
             frames: _,
         } = self;
     }
 }
 
 impl Model for Table {
+    ghost use Rattle.std.specs.Prelude.{◌≤◌, None, length, vec_capacity};
+    ghost use Rattle.shm_base.specs.Stored.{padded};
     ghost use Rattle.shm_attach.specs.Table.{TableView};
 
     ghost Value = { TableView };
 
-    ghost view = { λ t. record { seg = t.seg; count = t.count; frames = t.frames.items } };
+    ghost view = { λ t. record { seg = t.seg; count = t.count; frames = padded t.frames.items t.pages None } };
+
+    ghost invariant = { λ t. (length t.frames.items ≤ t.pages) × (t.pages ≤ vec_capacity t.frames) };
 }
 
 impl Clone for Table {
     ghost is_clone = { λ table copy. copy ≡ table };
 
     fn clone(&self) -> Result<Table, AllocError> {
+        let mut frames = Vec::with_capacity(*self.frames.allocator(), self.pages as usize)?;
+        frames.extend_from_slice(&self.frames)?;
         Ok(Table {
             seg: self.seg,
             count: self.count,
-            frames: Vec::from_slice(*self.frames.allocator(), &self.frames)?,
+            pages: self.pages,
+            frames,
         })
     }
 }
 
-// The frame of a page. Pages from `touched` on were never touched, so the store is asked only for the others.
-#[inline(always)]
-fn frame_of<P: Pager>(store: &PageStore<P>, seg: u32, page: u32, touched: u32) -> Option<FrameNo>
-    requires { (p : ℕ) → touched ≤ p → frame_of store.now seg p ≡ None }
-    ensures { result ≡ frame_of store.now seg page }
+// Writes that pages are not resident, until there are at least this many.
+fn reach(frames: &mut Vec<Option<FrameNo>>, count: usize)
+    requires { count ≤ vec_capacity frames.old }
+    ensures frames { frames.new.items ≡ padded frames.old.items count None }
+    ensures room { vec_capacity frames.old ≤ vec_capacity frames.new }
 {
-    if page >= touched {
-        return None;
+    if frames.len() < count {
+        let Ok(()) = frames.resize(count, None) else {
+            unreachable!();
+        };
     }
-    store.frame(seg, page)
 }
 
 impl Table {
@@ -66,6 +81,7 @@ impl Table {
         Table {
             seg,
             count: 1,
+            pages: 0,
             frames: Vec::new(alloc),
         }
     }
@@ -102,14 +118,15 @@ impl Table {
         ensures translated { let at = frame_of store.now in
             TrueTable at self.old → TrueTable at self.new }
     {
-        let known = self.frames.len();
-        let pages = pages as usize;
-        self.frames.reserve(pages.saturating_sub(known))?;
-        let touched = store.touched(self.seg);
-        for page in known..pages {
-            self.frames
-                .push_reserved(frame_of(store, self.seg, page as u32, touched));
+        if pages <= self.pages {
+            return Ok(());
         }
+        let known = self.frames.len();
+        self.frames.reserve(pages as usize - known)?;
+        for page in known as u32..store.touched(self.seg).min(pages) {
+            self.frames.push_reserved(store.frame(self.seg, page));
+        }
+        self.pages = pages;
         Ok(())
     }
 
@@ -128,9 +145,11 @@ impl Table {
         ensures translated { (at : ℕ → ℕ → Option ℕ) → TrueTable at self.old
             → TrueTable (with_frame page frame at) self.new }
     {
-        let k = page.page as usize;
-        if k < self.frames.len() {
-            self.frames[k] = frame;
+        if page.page >= self.pages {
+            return;
         }
+        let k = page.page as usize;
+        reach(&mut self.frames, k + 1);
+        self.frames[k] = frame;
     }
 }

@@ -1,5 +1,7 @@
 -- Who may lock pages, and how many.
-use Rattle.std.specs.Prelude.{ℕ, ◌+◌, Bool, true, false, not, ◌&&◌, ◌||◌, ◌==◌, nat_lt, if◌then◌else◌, List}
+use Rattle.std.specs.Prelude.{ℕ, ◌+◌, Bool, true, false, not, ◌&&◌, ◌||◌, ◌==◌, nat_lt, if◌then◌else◌, List, Option, Some, None}
+use Rattle.shm_base.specs.declared.errno.Errno.{Errno}
+use Rattle.shm_base.specs.declared.errno.Errno.TheVariants.{Eperm, Enomem}
 use Rattle.shm_base.specs.declared.owner.Cred.{Cred}
 use Rattle.shm_base.specs.Rules.{locks_by_user}
 use Rattle.shm_base.specs.Bounds.{Bounds, lockable}
@@ -23,6 +25,13 @@ passes_own_limit limits cred table x =
 abbrev pub passes_limit : Bounds → Cred → List Entry → Segment → Bool
 passes_limit limits cred table x =
     passes_own_limit limits cred table x || nat_lt (lockable limits) (locked table + pages_in x)
+
+-- why a user may not lock a segment
+abbrev pub lock_refusal : Bounds → Cred → List Entry → Segment → Option Errno
+lock_refusal limits cred table x =
+    if may_not_lock limits cred then Some Eperm else
+    if not x.locked && passes_limit limits cred table x then Some Enomem else
+    None
 
 -- the user who locks a segment first is its locker
 abbrev pub locks_as : ℕ → Segment → Segment

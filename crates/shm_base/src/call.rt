@@ -121,6 +121,14 @@ pub enum Call<I = ShmId, A = u64> {
     },
 }
 
+/// Where shmat attaches a segment: its identifier, its number of pages, and the address of its first page.
+#[derive(Clone, Copy)]
+pub struct Placed {
+    pub seg: u32,
+    pub pages: u32,
+    pub base: u64,
+}
+
 /// What `stat` shows of a segment (shmctl(2), IPC_STAT). A time is the place of a call in the history,
 /// counted from 1, or the time that the host gave; 0 means never.
 #[derive(Clone, Copy, Debug, PartialEq, Eq)]

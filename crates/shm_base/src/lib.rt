@@ -24,7 +24,7 @@ pub use bounds::{
     PROFILE_PIECES, PROFILE_PROCESSES, PROFILE_SHMALL, PROFILE_SHMMAX, PROFILE_SHMMNI,
     PROFILE_SLOTS, SEQUENCES,
 };
-pub use call::{Call, Event, Process, Reply, ShmId, ShmidDs, Step, has_pid, index_of};
+pub use call::{Call, Event, Placed, Process, Reply, ShmId, ShmidDs, Step, has_pid, index_of};
 pub use errno::Errno;
 pub use flags::{AtFlags, GetFlags, Rules, Status};
 pub use guest::{AdmitRefusal, DismissRefusal};

@@ -1,5 +1,5 @@
 -- Which reply a word `P:N=REPLY` is about.
-use Rattle.std.specs.Prelude.{ℕ, zero, suc, ◌+◌, ◌-◌, ◌==◌, nat_lt, Bool, true, false, if◌then◌else◌, List, [], ◌∷◌, filter, length, Option, Some, None, Result, Ok, Err}
+use Rattle.std.specs.Prelude.{ℕ, suc, ◌+◌, ◌-◌, ◌==◌, nat_lt, if◌then◌else◌, List, [], ◌∷◌, length, Option, Some, None, Result, Ok, Err}
 use Rattle.shm_base.specs.declared.call.Process.{Process}
 use Rattle.shm_text.specs.Number.{decimal_of}
 use Rattle.shm_text.specs.Script.{ScriptView}

@@ -49,5 +49,5 @@ pub(crate) fn fits(alloc: Global, word: &[u8], reply: &Reply) -> Result<bool, Al
         return Ok(!is_refusal(reply));
     }
     let text = reply_words(alloc, reply)?;
-    has_word(alloc, word, &text)
+    has_word(alloc, word, text.as_bytes())
 }

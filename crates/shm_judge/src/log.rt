@@ -64,7 +64,7 @@ impl Answer {
             return Ok(!is_refusal(reply));
         }
         let words = reply_words(alloc, reply)?;
-        Ok(are_same_bytes(&self.reply, &words))
+        Ok(are_same_bytes(&self.reply, words.as_bytes()))
     }
 }
 

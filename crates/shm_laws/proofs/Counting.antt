@@ -83,23 +83,24 @@ module _ (s : Machine) (pid : ℕ) (c : Caller) (live : caller_of s pid ≡ Some
 
   -- nothing lies in the range, because the call asked for that, or because it was so
   range-free : (k : Attaches s c call o) (id addr base : ℕ) (flags : AtFlags) → call ≡ Shmat (pos id) addr flags → o.reply ≡ Addr base
-      → (is_remap flags ≡ false) ⊎ IsFreeFor s pid id base → occupied c.pieces k.base (k.base + 4096 * pages_in k.segment) ≡ false
-  range-free k id addr base flags asked answer (inl plain) = k.free (grind arith)
+      → (is_remap flags ≡ false) ⊎ IsFreeFor s pid id base → occupied c.pieces k.place.base (k.place.base + 4096 * k.place.pages) ≡ false
+  range-free k id addr base flags asked answer (inl plain) = let same : flags ≡ k.flags = cc (asked, k.asked) in k.there.lies.free (subst (λ f. is_remap f ≡ false) same plain)
   range-free k id addr base flags asked answer (inr f) =
-      let named : id ≡ k.seg = cc (asked, k.asked) in
-      let there : base ≡ k.base = cc (answer, k.answer) in
-      let one : f.segment ≡ k.segment = same-segment (look s.table (pos k.seg)) (k.seg % 32768) f.segment k.segment (subst (λ n. Stands s n f.segment) named f.stands) k.stands in
+      let named : id ≡ k.place.seg = cc (asked, k.asked) in
+      let there : base ≡ k.place.base = cc (answer, k.answer) in
+      let one : f.segment ≡ k.there.segment = same-segment (look s.table (pos k.place.seg)) (k.place.seg % 32768) f.segment k.there.segment (subst (λ n. Stands s n f.segment) named f.stands) k.there.stands in
       let whose : pieces_of_caller (caller_of s pid) ≡ c.pieces = ap pieces_of_caller live in
-      subst (λ x. occupied c.pieces k.base (k.base + 4096 * pages_in x) ≡ false) one
+      let whole : pages_in f.segment ≡ k.place.pages = ap pages_in one ∙ sym k.there.whole in
+      subst (λ n. occupied c.pieces k.place.base (k.place.base + 4096 * n) ≡ false) whole
       (subst (λ b. occupied c.pieces b (b + 4096 * pages_in f.segment) ≡ false) there (subst (λ ps. occupied ps base (base + 4096 * pages_in f.segment) ≡ false) whose f.free))
 
-  attached-counts : (k : Attaches s c call o) → occupied c.pieces k.base (k.base + 4096 * pages_in k.segment) ≡ false → (j : ℕ) → attach_count o.state.runners j ≡ attach_count s.runners j + (if k.seg == j then 1 else 0)
+  attached-counts : (k : Attaches s c call o) → occupied c.pieces k.place.base (k.place.base + 4096 * k.place.pages) ≡ false → (j : ℕ) → attach_count o.state.runners j ≡ attach_count s.runners j + (if k.place.seg == j then 1 else 0)
   attached-counts k free j = grind (arith, cut-free, pieces_of-inserted, swap)
 
   attach-counts : Hands s c call o → (id addr base : ℕ) (flags : AtFlags) → call ≡ Shmat (pos id) addr flags → o.reply ≡ Addr base
       → (is_remap flags ≡ false) ⊎ IsFreeFor s pid id base → (j : ℕ) → attach_count o.state.runners j ≡ attach_count s.runners j + (if id == j then 1 else 0)
   attach-counts (inr (inl k)) id addr base flags asked answer free j =
-      let named : id ≡ k.seg = cc (asked, k.asked) in
+      let named : id ≡ k.place.seg = cc (asked, k.asked) in
       rw named (attached-counts k (range-free k id addr base flags asked answer free) j)
   attach-counts (inl k) id addr base flags asked answer free j = absurd (no-rest s call o k (ap hands_pieces asked) (ap is_refusal answer))
   attach-counts (inr (inr (inl k))) id addr base flags asked answer free j = absurd (no-attach c call k.stays id addr flags k.taken asked)

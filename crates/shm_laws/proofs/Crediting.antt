@@ -39,7 +39,7 @@ module _ (s : Machine) (pid : ℕ) (c : Caller) (live : caller_of s pid ≡ Some
 
   had-hands : (o : Outcome) → Hands s c e.call o → (e.reply ≡ o.reply) → KeepsIn s e o.state.runners
   had-hands o (inl k) told = rw k.runners (had-same s e)
-  had-hands o (inr (inl k)) told = rw k.runners (had-set s e c.index (record { pid = c.pid; life = Live c.cred; pieces = pieces_with c k.seg k.segment k.flags k.base }) mine)
+  had-hands o (inr (inl k)) told = rw k.runners (had-set s e c.index (record { pid = c.pid; life = Live c.cred; pieces = pieces_with c k.flags k.place }) mine)
   had-hands o (inr (inr (inl k))) told = rw k.runners (had-set s e c.index (record { pid = c.pid; life = k.life; pieces = filter k.stays c.pieces }) (λ cred lives. left cred lives k.who))
     where
       left : (cred : Cred) → k.life ≡ Live cred → (k.life ≡ Live c.cred) ⊎ (k.life ≡ Ended) → Had s e c.index c.pid cred

@@ -1,5 +1,5 @@
 -- Each piece descends from a shmat that had permission, and each move refuses processes without it.
-use Rattle.shm_laws.proofs.Names.{IsProtected, Protected, ShareTheirPages, protects_pieces, rounded, ◌≤◌, new_piece, ◌≡◌, ◌⊎◌, ℕ, ◌+◌, ◌*◌, ◌%◌, ◌<◌, ℤ, Bool, true, false, not, List, [], ◌∷◌, ◌++◌, length, get_or, Option, Some, None, slice_get, slice_set, refl, sym, ap, subst, ◌∙◌, inl, inr, arith, true≢false, All, Contains, none-some, slice_get_within, get_or_from_slice_get, All-nil, All-filter, All-map, All-weaker, All-contains, Contains-get_or, common_steps, ProcessCall, Load, Store, Xadd, Done, Event, Place, covers, places, writable_places, Segment, Piece, Live, Runner, Machine, Opening, start_of, runner_at_start, pages_in, look, parts, cut, Caller, Outcome, caller_of, acts, pieces_with, is_rdonly, controls, load, store, xadd, is_refusal, IsMove, IsHistory, all-slice_set, HasPiece, EachPiece, IsPart, IsGranted, IsInherited, GoesBack, Granted, Kept, Inherited, Reach, StaysInside, controlled, OwnerAsks, KeepsOut, KeepsCredentials, MayAsk, NoWayIn, ShmidDs, pos, negsuc, stat, wish_of, grants, not-false, Look, Found, Removed, Invalid, Stands, IsCreated, Swapoff, swapoff, IsUserZero, ◌==◌, Set, Rmid, Lock, Unlock, sets, removes, locks, unlocks, Exchange, CompareExchange, exchange, compare_exchange}
+use Rattle.shm_laws.proofs.Names.{IsProtected, Protected, ShareTheirPages, protects_pieces, rounded, ◌≤◌, ◌≡◌, ◌⊎◌, ℕ, ◌+◌, ◌*◌, ◌%◌, ◌<◌, ℤ, Bool, true, false, not, List, [], ◌∷◌, ◌++◌, length, get_or, Option, Some, None, slice_get, slice_set, refl, sym, ap, subst, ◌∙◌, inl, inr, arith, true≢false, All, Contains, none-some, slice_get_within, get_or_from_slice_get, All-nil, All-filter, All-map, All-weaker, All-contains, Contains-get_or, common_steps, ProcessCall, Load, Store, Xadd, Done, Event, Place, covers, places, writable_places, Segment, Piece, Live, Runner, Machine, Opening, start_of, runner_at_start, look, parts, cut, Caller, Outcome, caller_of, acts, pieces_with, controls, load, store, xadd, is_refusal, IsMove, IsHistory, all-slice_set, HasPiece, EachPiece, IsPart, IsGranted, IsInherited, GoesBack, Granted, Kept, Inherited, Reach, StaysInside, controlled, OwnerAsks, KeepsOut, KeepsCredentials, MayAsk, NoWayIn, ShmidDs, pos, negsuc, stat, wish_of, grants, not-false, Look, Found, Removed, Invalid, Stands, IsCreated, Swapoff, swapoff, IsUserZero, ◌==◌, Set, Rmid, Lock, Unlock, sets, removes, locks, unlocks, Exchange, CompareExchange, exchange, compare_exchange, piece_for, pieces_beside}
 use Rattle.shm_laws.proofs.Accessing.{lies-in, place-of, writable-at, writable-parts}
 use Rattle.shm_laws.proofs.Callers.{CallerAt, caller-at}
 use Rattle.shm_laws.proofs.Handing.{Attaches, Leaves, Forks, Unmaps, Protects, Credits, Hands, hands-acts}
@@ -72,9 +72,9 @@ module _ (s : Machine) (pid : ℕ) (c : Caller) (is : caller_of s pid ≡ Some c
     given-set i r own = all-slice_set (λ (q : Runner). All (IsPieceGiven s e q.pid) q.pieces) s.runners i r (kept-all s e) own
 
     given-attaches : Attaches s c call o → AllGiven s e o.state.runners
-    given-attaches k = rw k.runners (given-set c.index (record { pid = c.pid; life = Live c.cred; pieces = pieces_with c k.seg k.segment k.flags k.base }) own)
+    given-attaches k = rw k.runners (given-set c.index (record { pid = c.pid; life = Live c.cred; pieces = pieces_with c k.flags k.place }) own)
       where
-        new : IsPieceGiven s e pid (new_piece k.seg k.base (pages_in k.segment) (not (is_rdonly k.flags)))
+        new : IsPieceGiven s e pid (piece_for k.flags k.place)
         new =
             inr (inr (inl (record {
               own = refl;
@@ -86,27 +86,27 @@ module _ (s : Machine) (pid : ℕ) (c : Caller) (is : caller_of s pid ≡ Some c
               may_write = refl;
               caller = c;
               live = is;
-              segment = k.segment;
-              stands = k.stands;
-              permitted = k.permitted;
-              page = k.page pages;
-              whole = (refl, refl);
+              segment = k.there.segment;
+              stands = k.there.stands;
+              permitted = k.there.permitted;
+              page = k.there.lies.page pages;
+              whole = (refl, k.there.whole);
             })))
 
         to : ℕ
-        to = k.base + 4096 * pages_in k.segment
+        to = k.place.base + 4096 * k.place.pages
 
-        page_to : (k.base + 4096 * pages_in k.segment) % 4096 ≡ 0
-        page_to = let page = k.page pages in omega (arith, page)
+        page_to : (k.place.base + 4096 * k.place.pages) % 4096 ≡ 0
+        page_to = let page = k.there.lies.page pages in omega (arith, page)
 
-        left : All (IsPieceGiven s e pid) (cut k.base (k.base + 4096 * pages_in k.segment) c.pieces)
+        left : All (IsPieceGiven s e pid) (pieces_beside c k.place)
         left =
-            all-cut (λ p. HasPiece s pid p × IsAligned p) (IsPieceGiven s e pid) k.base (k.base + 4096 * pages_in k.segment)
-            (λ p h. All-weaker (λ q. IsPart q p) (IsPieceGiven s e pid) (λ q part. inl (p, h.0, part)) (parts k.base (k.base + 4096 * pages_in k.segment) p)
-            (all-parts k.base (k.base + 4096 * pages_in k.segment) (k.page pages) page_to p h.1))
+            all-cut (λ p. HasPiece s pid p × IsAligned p) (IsPieceGiven s e pid) k.place.base to
+            (λ p h. All-weaker (λ q. IsPart q p) (IsPieceGiven s e pid) (λ q part. inl (p, h.0, part)) (parts k.place.base to p)
+            (all-parts k.place.base to (k.there.lies.page pages) page_to p h.1))
             c.pieces (λ j d lt. (mine j d lt, pages j d lt))
 
-        own : All (IsPieceGiven s e c.pid) (pieces_with c k.seg k.segment k.flags k.base)
+        own : All (IsPieceGiven s e c.pid) (pieces_with c k.flags k.place)
         own = rw there.own (all-inserted (IsPieceGiven s e pid) _ _ new left)
 
     given-leaves : Leaves s c call o → AllGiven s e o.state.runners

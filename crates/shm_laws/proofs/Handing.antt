@@ -1,30 +1,21 @@
 -- What each call does to processes: nothing; or the caller attaches a segment, loses pieces, has a child, unmaps or protects a
 -- range, or gets other credentials.
-use Rattle.shm_laws.proofs.Names.{subst, cut, Cred, Munmap, Mprotect, Setuid, Outcome, stops_midway, unmaps, unmapped_to, rounded, protects_pieces, with_cred, ◌≡◌, ◌⊎◌, ℕ, ◌+◌, ◌-◌, ◌*◌, ◌%◌, ◌≤◌, ◌==◌, ◌&&◌, ℤ, pos, negsuc, Bool, true, false, not, nat_lt, List, [], ◌∷◌, length, map, get_or, Option, Some, None, slice_set, refl, sym, ap, ◌∙◌, inl, inr, arith, common_steps, All, filter, find, not-false, none-some, All-map, Errno, ProcessCall, Shmget, Shmat, Shmdt, Load, Fork, Exec, Exit, Addr, Done, AtFlags, end_of, grants, Segment, Piece, Life, Live, Ended, Machine, pages_in, Look, Found, Removed, Invalid, identifier, destroyed_at, look, inside, occupied, choose, is_gap, first_chosen, lowest_address, end_address, origin_of, is_named, is_refusal, refuses, Caller, acts, at_wish, is_rnd, is_remap, pieces_with, with_pieces, attaches, attaches_chosen, attaches_fixed, attaches_found, shmat, detaches, forks, unborn_from, all-cons, all-head, all-tail, Stands, hands_pieces, is_taken, is_full, remaps_null, creates_at, slots, reserved, pages_of}
+use Rattle.shm_laws.proofs.Names.{subst, cut, Cred, Munmap, Mprotect, Setuid, Outcome, stops_midway, unmaps, unmapped_to, rounded, protects_pieces, with_cred, ◌≡◌, ◌⊎◌, ℕ, ◌+◌, ◌-◌, ◌%◌, ◌≤◌, ℤ, pos, Bool, true, false, not, nat_lt, List, [], ◌∷◌, length, Option, Some, None, slice_set, refl, ap, ◌∙◌, inl, inr, arith, common_steps, filter, Errno, ProcessCall, Shmget, Shmat, Shmdt, Load, Fork, Exec, Exit, Addr, Done, AtFlags, Piece, Life, Live, Ended, Machine, origin_of, is_named, is_refusal, refuses, Caller, acts, pieces_with, with_pieces, detaches, forks, unborn_from, hands_pieces, creates_at, slots, reserved, pages_of, attaches_if, Placed, placed}
 use Rattle.std.specs.Prelude.{Result, Ok, Err}
 use Rattle.shm_laws.proofs.Asking.{by-shmget}
-use Rattle.shm_laws.proofs.Looks.{found-own}
-use Rattle.shm_laws.proofs.Parting.{IsAligned}
+use Rattle.shm_laws.proofs.Placing.{IsPlaced, few-enough, is-placed}
 use Rattle.shm_laws.proofs.Stepping.{pick, pick_by}
 
 -- SEVEN THINGS
 
 pub record Attaches (s : Machine) (c : Caller) (call : ProcessCall) (o : Outcome) : Type 0 where
-  pub seg : ℕ
   pub addr : ℕ
   pub flags : AtFlags
-  pub base : ℕ
-  pub segment : Segment
-  pub asked : call ≡ Shmat (pos seg) addr flags
-  pub stands : Stands s seg segment
-  pub permitted : grants c.cred segment.perm (at_wish s flags) ≡ true
-  pub page : All IsAligned c.pieces → base % 4096 ≡ 0
-  pub from : lowest_address ≤ base
-  pub to : base + 4096 * pages_in segment ≤ end_address
-  pub few : length (pieces_with c seg segment flags base) ≤ s.limits.most_pieces
-  pub free : is_remap flags ≡ false → occupied c.pieces base (base + 4096 * pages_in segment) ≡ false
-  pub answer : o.reply ≡ Addr base
-  pub runners : o.state.runners ≡ with_pieces s.runners c (pieces_with c seg segment flags base)
+  pub place : Placed
+  pub asked : call ≡ Shmat (pos place.seg) addr flags
+  pub there : IsPlaced s c flags place
+  pub answer : o.reply ≡ Addr place.base
+  pub runners : o.state.runners ≡ with_pieces s.runners c (pieces_with c flags place)
 
 -- by a shmdt that named the piece, or all of them
 abbrev pub Takes : Caller → ProcessCall → (Piece → Bool) → Type 0
@@ -83,46 +74,6 @@ Hands s c call o =
 
 -- EACH CALL
 
-find-all : {X : Type 0} (P : X → Type 0) (test : X → Bool) (xs : List X) (x : X) → find test xs ≡ Some x → All P xs → P x
-find-all P test [] x found all = absurd (none-some x found)
-find-all P test (y ∷ ys) x found all =
-    let first = all-head P y ys all in
-    let rest = λ (h : find test ys ≡ Some x). find-all P test ys x h (all-tail P y ys all) in
-    grind arith
-
-chosen-page : (ps : List Piece) (pages base : ℕ) → choose ps pages ≡ Some base → All IsAligned ps → base % 4096 ≡ 0
-chosen-page ps pages base found all =
-    find-all (λ a. a % 4096 ≡ 0) (is_gap ps pages) (first_chosen ∷ map end_of ps) base found
-    (all-cons (λ a. a % 4096 ≡ 0) first_chosen (map end_of ps) refl (All-map (λ a. a % 4096 ≡ 0) end_of ps (λ k d lt. ends (get_or ps k d) (all k d lt))))
-  where
-    ends : (p : Piece) → IsAligned p → end_of p % 4096 ≡ 0
-    ends p h = omega (arith, h)
-
-find-passes : {X : Type 0} (test : X → Bool) (xs : List X) (x : X) → find test xs ≡ Some x → test x ≡ true
-find-passes test [] x found = absurd (none-some x found)
-find-passes test (y ∷ ys) x found = let rest = find-passes test ys x in grind arith
-
--- what is chosen is free
-chosen-free : (ps : List Piece) (pages base : ℕ) → choose ps pages ≡ Some base → occupied ps base (base + 4096 * pages) ≡ false
-chosen-free ps pages base found = grind (arith, common_steps, find-passes, map, arith)
-
--- from the lowest address up to the last
-pub record IsInside (base end : ℕ) : Type 0 where
-  pub from : lowest_address ≤ base
-  pub to : end ≤ end_address
-
-chosen-inside : (ps : List Piece) (pages base : ℕ) → choose ps pages ≡ Some base → IsInside base (base + 4096 * pages)
-chosen-inside ps pages base found = by (find-passes (is_gap ps pages) (first_chosen ∷ map end_of ps) base found)
-  where
-    by : is_gap ps pages base ≡ true → IsInside base (base + 4096 * pages)
-    by h = grind (arith, common_steps)
-
-fixed-inside : (base pages : ℕ) → not (inside base pages) ≡ false → IsInside base (base + 4096 * pages)
-fixed-inside base pages h = grind (arith, common_steps)
-
-few-enough : (most n : ℕ) → nat_lt most n ≡ false → n ≤ most
-few-enough most n h = grind (arith, common_steps)
-
 pub none-stay : (ps : List Piece) → [] ≡ filter (λ (p : Piece). false) ps
 none-stay [] = refl
 none-stay (p ∷ ps) = none-stay ps
@@ -136,70 +87,11 @@ module _ (s : Machine) (n : ℕ) (c : Caller) where
   rests : (call : ProcessCall) (o : Outcome) → hands_pieces call ≡ false → stops_midway call ≡ false → o.state.runners ≡ s.runners → Hands s c call o
   rests call o why plain same = inl (record { why = inl why; plain = plain; runners = same })
 
-  -- of a call that asks for a segment that exists, and has the permission
-  module _ (call : ProcessCall) (seg at : ℕ) (flags : AtFlags) (x : Segment) (asked : call ≡ Shmat (pos seg) at flags) (there : Stands s seg x) (permitted : grants c.cred x.perm (at_wish s flags) ≡ true) where
-    hands-attaches : (base : ℕ) → (All IsAligned c.pieces → base % 4096 ≡ 0) → IsInside base (base + 4096 * pages_in x) → (is_remap flags ≡ false → occupied c.pieces base (base + 4096 * pages_in x) ≡ false)
-        → Hands s c call (attaches s n c seg x flags base)
-    hands-attaches base page inside free =
-        pick_by (Hands s c call) (nat_lt s.limits.most_pieces (length (pieces_with c seg x flags base))) _ _ (λ h. refused call _ (ap stops_midway asked))
-        (λ h. inr (inl (record {
-          seg = seg;
-          addr = at;
-          flags = flags;
-          base = base;
-          segment = x;
-          asked = asked;
-          stands = there;
-          permitted = permitted;
-          page = page;
-          from = inside.from;
-          to = inside.to;
-          few = few-enough s.limits.most_pieces (length (pieces_with c seg x flags base)) h;
-          free = free;
-          answer = refl;
-          runners = refl;
-        })))
-
-    hands-chosen : (o : Option ℕ) → choose c.pieces (pages_in x) ≡ o → Hands s c call (attaches_chosen s n c seg x flags o)
-    hands-chosen None is = refused _ _ (ap stops_midway asked)
-    hands-chosen (Some base) is = hands-attaches base (chosen-page c.pieces (pages_in x) base is) (chosen-inside c.pieces (pages_in x) base is) (λ plain. chosen-free c.pieces (pages_in x) base is)
-
-    hands-fixed : (base : ℕ) → base % 4096 ≡ 0 → Hands s c call (attaches_fixed s n c seg x flags base)
-    hands-fixed base page =
-        pick_by (Hands s c call) (is_taken s c x flags base) _ _ (λ h. refused call _ (ap stops_midway asked))
-        (λ taken. pick (Hands s c call) (is_full s c) _ _ (refused call _ (ap stops_midway asked))
-        (pick_by (Hands s c call) (not (inside base (pages_in x))) _ _ (λ h. refused call _ (ap stops_midway asked))
-        (λ within.
-        let lies = fixed-inside base (pages_in x) within in
-        hands-attaches base (λ all. page) lies (λ plain. untaken base lies.from taken plain))))
-      where
-        -- where no piece is to be replaced, none is met
-        untaken : (base : ℕ) → lowest_address ≤ base → is_taken s c x flags base ≡ false → is_remap flags ≡ false → occupied c.pieces base (base + 4096 * pages_in x) ≡ false
-        untaken base low taken plain = grind (arith, common_steps)
-
-  hands-found : (m : ℕ) (flags : AtFlags) (addr at : ℕ) (l : Look) → look s.table (pos m) ≡ l → Hands s c (Shmat (pos m) at flags) (attaches_found s n c flags addr l)
-  hands-found m flags addr at Invalid is = refused _ _ refl
-  hands-found m flags addr at Removed is = refused _ _ refl
-  hands-found m flags addr at (Found i x) is =
-      let found = found-own s.table m i x is in
-      let own : identifier i (destroyed_at s.table i) ≡ m = found.1 in
-      let there : Stands s (identifier i (destroyed_at s.table i)) x = rw own (is ∙ ap (λ k. Found k x) found.0) in
-      let asked : Shmat (pos m) at flags ≡ Shmat (pos (identifier i (destroyed_at s.table i))) at flags = ap (λ k. Shmat (pos k) at flags) (sym own) in
-      pick_by (Hands s c (Shmat (pos m) at flags)) (not (grants c.cred x.perm (at_wish s flags))) _ _ (λ h. refused _ _ refl)
-      (λ h.
-      let permitted = not-false (grants c.cred x.perm (at_wish s flags)) h in
-      pick (Hands s c (Shmat (pos m) at flags)) (addr == 0) _ _
-      (hands-chosen _ _ at flags x asked there permitted (choose c.pieces (pages_in x)) refl)
-      (hands-fixed _ _ at flags x asked there permitted (addr - addr % 4096) (omega arith)))
-
-  hands-look : (id : ℤ) (flags : AtFlags) (addr : ℕ) → Hands s c (Shmat id addr flags) (attaches_found s n c flags addr (look s.table id))
-  hands-look (pos m) flags addr = hands-found m flags addr addr (look s.table (pos m)) refl
-  hands-look (negsuc m) flags addr = refused _ _ refl
-
-  hands-shmat : (id : ℤ) (addr : ℕ) (flags : AtFlags) → Hands s c (Shmat id addr flags) (shmat s n c id addr flags)
-  hands-shmat id addr flags =
-      pick (Hands s c (Shmat id addr flags)) (remaps_null s addr flags) _ _ (refused _ _ refl)
-      (pick (Hands s c (Shmat id addr flags)) (not (addr % 4096 == 0) && not (is_rnd flags)) _ _ (refused _ _ refl) (hands-look id flags addr))
+  hands-attaches : (id : ℤ) (addr : ℕ) (flags : AtFlags) (r : Result Placed Errno) → placed s c id addr flags ≡ r → Hands s c (Shmat id addr flags) (attaches_if s n c flags r)
+  hands-attaches id addr flags (Err e) is = refused _ _ refl
+  hands-attaches id addr flags (Ok p) is =
+      let k = is-placed s c id addr flags p is in
+      inr (inl (record { addr = addr; flags = flags; place = p; asked = ap (λ i. Shmat i addr flags) k.0; there = k.1; answer = refl; runners = refl }))
 
   hands-detaches : (addr : ℕ) (o : Option Piece) → origin_of addr c.pieces ≡ o → Hands s c (Shmdt addr) (detaches s n c addr o)
   hands-detaches addr None is = refused _ _ refl
@@ -247,7 +139,7 @@ module _ (s : Machine) (n : ℕ) (c : Caller) where
 
   pub hands-acts : (call : ProcessCall) → Hands s c call (acts s n c call)
   hands-acts (Shmget key size mode flags) = rests _ _ refl refl (by-shmget s n c Leave (λ r. refl) same-at key size mode flags)
-  hands-acts (Shmat id addr flags) = hands-shmat id addr flags
+  hands-acts (Shmat id addr flags) = hands-attaches id addr flags (placed s c id addr flags) refl
   hands-acts (Shmdt addr) = hands-detaches addr (origin_of addr c.pieces) refl
   hands-acts (Fork child) = hands-forks child (unborn_from 0 child s.runners) refl
   hands-acts Exec = hands-all Exec _ (Live c.cred) (inl refl) (inl refl) refl refl

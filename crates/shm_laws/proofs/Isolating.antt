@@ -1,6 +1,6 @@
 -- A call sees no byte that is hidden from its process.
 use Rattle.shm_laws.proofs.Stepping.{pick}
-use Rattle.shm_laws.proofs.Names.{Mprotect, Munmap, Setuid, cut, mprotect, protects_pieces, rest_is_attached, unmapped_to, unmaps, ◌≡◌, ◌⊎◌, ℕ, ◌+◌, ◌*◌, ◌/◌, ◌%◌, ◌^◌, ◌==◌, ℤ, Bool, true, false, not, nat_lt, if◌then◌else◌, List, [], ◌∷◌, length, Option, Some, None, slice_get, refl, sym, ap, subst, ◌∙◌, inl, inr, arith, common_steps, w64, to_le_bytes, from_le_bytes, length-replicate, none-some, slice_get_within, Errno, Eperm, GetFlags, AtFlags, ProcessCall, Shmget, Shmat, Shmdt, Stat, Set, Rmid, Lock, Unlock, Load, Store, Xadd, Fork, Exec, Exit, Swapoff, Addr, Number, Done, Event, Place, place, places, writable_places, stored, Segment, Entry, Piece, Runner, Machine, Opening, pages_in, Look, identifier, destroyed_in, destroyed_at, find_key, look, cut_segments, origin_of, change, attached, detach_all, swept, after_detach, Outcome, gives, refuses, Caller, caller_of, with_pieces, with_end, segments_of, new_segment, creates, shmget, pieces_with, attaches, attaches_chosen, attaches_fixed, attaches_found, shmat, detaches, forks, unborn_from, stat, controls, sets, removes, locks, unlocks, load, store, xadd, number_at, takes_away, acts, step_by, step, is_failure, IsMove, IsHistory, HasPiece, Reach, reach, veiled, veiled_from, veil, DifferIn, HasNone, IsPrivate, IsAsked, IsBlindOn, IsIsolated, pieces_of_caller, clear_step, first_clear, rest_clear, Einval, Enospc, Enomem, creates_small, huge_errno, within, reserved, pages_of, rests, attach_all, pieces_errno, inherited, fork_marks, slice_set, Live, may_not_lock, passes_limit, locks_as, unlocked, is_no_owner, ◌&&◌, Eexist, Eacces, grants, wish_of, wants_no_other, wants_creation, Found, Removed, Invalid, Id, pos, remaps_null, is_rnd, Exchange, CompareExchange, exchange, compare_exchange, same_bytes, loaded, Bytes}
+use Rattle.shm_laws.proofs.Names.{Mprotect, Munmap, Setuid, cut, mprotect, protects_pieces, rest_is_attached, unmapped_to, unmaps, ◌≡◌, ◌⊎◌, ℕ, ◌+◌, ◌*◌, ◌/◌, ◌%◌, ◌^◌, ◌==◌, ℤ, Bool, true, false, not, nat_lt, if◌then◌else◌, List, [], ◌∷◌, length, Option, Some, None, slice_get, refl, sym, ap, subst, ◌∙◌, inl, inr, arith, common_steps, w64, to_le_bytes, from_le_bytes, length-replicate, none-some, slice_get_within, Errno, Eperm, GetFlags, AtFlags, ProcessCall, Shmget, Shmat, Shmdt, Stat, Set, Rmid, Lock, Unlock, Load, Store, Xadd, Fork, Exec, Exit, Swapoff, Addr, Number, Done, Event, Place, place, places, writable_places, stored, Segment, Entry, Piece, Runner, Machine, Opening, Look, identifier, destroyed_in, destroyed_at, find_key, look, cut_segments, origin_of, change, attached, detach_all, swept, after_detach, Outcome, gives, refuses, Caller, caller_of, with_pieces, with_end, segments_of, new_segment, creates, shmget, pieces_with, shmat, detaches, forks, unborn_from, stat, controls, sets, removes, locks, unlocks, load, store, xadd, number_at, takes_away, acts, step_by, step, is_failure, IsMove, IsHistory, HasPiece, Reach, reach, veiled, veiled_from, veil, DifferIn, HasNone, IsPrivate, IsAsked, IsBlindOn, IsIsolated, pieces_of_caller, clear_step, first_clear, rest_clear, Einval, Enospc, Enomem, creates_small, huge_errno, within, reserved, pages_of, rests, attach_all, inherited, fork_marks, slice_set, Live, may_not_lock, passes_limit, locks_as, unlocked, is_no_owner, ◌&&◌, Eexist, Eacces, grants, wish_of, wants_no_other, wants_creation, Found, Removed, Invalid, Id, pos, Exchange, CompareExchange, exchange, compare_exchange, same_bytes, loaded, Bytes, attaches_if, Placed, placed, placed_found, base_for, is_misplaced, lock_refusal, locks_unless}
 use Rattle.std.specs.Prelude.{Result, Ok, Err}
 use Rattle.shm_base.specs.Mapping.{done_or}
 use Rattle.shm_laws.proofs.Refusing.{by-move}
@@ -75,44 +75,49 @@ module _ (hidden : ℕ → Bool) (s : Machine) (n : ℕ) (c : Caller) where
 
   -- SHMAT
 
-  out-attaches : (b : Bool) (id : ℕ) (x : Segment) (flags : AtFlags) (base : ℕ) → attaches B n c id (veiled b x) flags base ≡ out hidden (attaches s n c id x flags base)
-  out-attaches b id x flags base =
-      rw (veiled-pages b x)
-      (tests (pieces_errno s.limits.rules) (nat_lt s.limits.most_pieces (length (pieces_with c id x flags base))) _ _ _ refl (λ j. record { reply = Addr base; state = record s { table = table j; runners = rs } }))
+  -- the segment is the same but for its bytes
+  base-veiled : (flags : AtFlags) (addr : ℕ) (b : Bool) (x : Segment) → base_for B c (veiled b x) flags addr ≡ base_for s c x flags addr
+  base-veiled flags addr b x = let pages = veiled-pages b x in grind arith
+
+  found-veiled : (flags : AtFlags) (addr : ℕ) (b : Bool) (l : Look) → placed_found B c flags addr (veiled_look b l) ≡ placed_found s c flags addr l
+  found-veiled flags addr b Invalid = refl
+  found-veiled flags addr b Removed = refl
+  found-veiled flags addr b (Found i x) =
+      let base = base-veiled flags addr b x in
+      let pages = veiled-pages b x in
+      let count = veiled-destroyed hidden T i in
+      grind arith
+
+  placed-veiled : (id : ℤ) (addr : ℕ) (flags : AtFlags) → placed B c id addr flags ≡ placed s c id addr flags
+  placed-veiled id addr flags =
+      let l = look-veiled hidden T id in
+      ap (λ r. if is_misplaced s addr flags then Err Einval else r) (ap (placed_found B c flags addr) l.1 ∙ found-veiled flags addr l.0 (look T id))
+
+  out-attaches : (flags : AtFlags) (r : Result Placed Errno) → attaches_if B n c flags r ≡ out hidden (attaches_if s n c flags r)
+  out-attaches flags (Err e) = refl
+  out-attaches flags (Ok p) = λ j. record { reply = Addr p.base; state = record s { table = table j; runners = rs } }
     where
       rs : List Runner
-      rs = with_pieces s.runners c (pieces_with c id x flags base)
+      rs = with_pieces s.runners c (pieces_with c flags p)
 
       lost : List ℕ
-      lost = cut_segments base (base + 4096 * pages_in x) c.pieces
+      lost = cut_segments p.base (p.base + 4096 * p.pages) c.pieces
 
       kept : List ℕ
-      kept = rests s base (base + 4096 * pages_in x) c.pieces
+      kept = rests s p.base (p.base + 4096 * p.pages) c.pieces
 
       gone : List Entry
       gone = attach_all n c.pid (detach_all n c.pid T lost) kept
 
-      table : swept rs (change (attach_all n c.pid (detach_all n c.pid (V T) lost) kept) id (attached n c.pid)) ≡ V (swept rs (change gone id (attached n c.pid)))
+      table : swept rs (change (attach_all n c.pid (detach_all n c.pid (V T) lost) kept) p.seg (attached n c.pid)) ≡ V (swept rs (change gone p.seg (attached n c.pid)))
       table =
-          ap (λ t. swept rs (change (attach_all n c.pid t kept) id (attached n c.pid))) (detach-veiled hidden n c.pid lost T)
-          ∙ ap (λ t. swept rs (change t id (attached n c.pid))) (attach-veiled hidden n c.pid kept (detach_all n c.pid T lost))
-          ∙ ap (swept rs) (change-veiled hidden (attached n c.pid) (λ b x. refl) gone id)
-          ∙ swept-veiled hidden 0 rs (change gone id (attached n c.pid))
-
-  out-chosen : (b : Bool) (id : ℕ) (x : Segment) (flags : AtFlags) (o : Option ℕ) → attaches_chosen B n c id (veiled b x) flags o ≡ out hidden (attaches_chosen s n c id x flags o)
-  out-chosen b id x flags o = grind (arith, common_steps, out-attaches)
-
-  out-fixed : (b : Bool) (id : ℕ) (x : Segment) (flags : AtFlags) (base : ℕ) → attaches_fixed B n c id (veiled b x) flags base ≡ out hidden (attaches_fixed s n c id x flags base)
-  out-fixed b id x flags base = let pages = veiled-pages b x in let all = out-attaches b id x flags base in grind arith
-
-  out-found : (flags : AtFlags) (addr : ℕ) (b : Bool) (l : Look) → attaches_found B n c flags addr (veiled_look b l) ≡ out hidden (attaches_found s n c flags addr l)
-  out-found flags addr b l = grind (arith, common_steps, veiled-destroyed, both, veiled-pages, out-chosen, out-fixed)
+          ap (λ t. swept rs (change (attach_all n c.pid t kept) p.seg (attached n c.pid))) (detach-veiled hidden n c.pid lost T)
+          ∙ ap (λ t. swept rs (change t p.seg (attached n c.pid))) (attach-veiled hidden n c.pid kept (detach_all n c.pid T lost))
+          ∙ ap (swept rs) (change-veiled hidden (attached n c.pid) (λ b x. refl) gone p.seg)
+          ∙ swept-veiled hidden 0 rs (change gone p.seg (attached n c.pid))
 
   out-shmat : (id : ℤ) (addr : ℕ) (flags : AtFlags) → shmat B n c id addr flags ≡ out hidden (shmat s n c id addr flags)
-  out-shmat id addr flags =
-      let l = look-veiled hidden T id in
-      tests Einval (remaps_null s addr flags) _ _ _ refl
-      (tests Einval (not (addr % 4096 == 0) && not (is_rnd flags)) _ _ _ refl (ap (attaches_found B n c flags addr) l.1 ∙ out-found flags addr l.0 (look T id)))
+  out-shmat id addr flags = ap (attaches_if B n c flags) (placed-veiled id addr flags) ∙ out-attaches flags (placed s c id addr flags)
 
   -- DETACHING, FORK AND CONTROL
 
@@ -175,10 +180,15 @@ module _ (hidden : ℕ → Bool) (s : Machine) (n : ℕ) (c : Caller) where
   limit-veiled : (b : Bool) (x : Segment) → passes_limit s.limits c.cred (V T) (veiled b x) ≡ passes_limit s.limits c.cred T x
   limit-veiled b x = grind (arith, common_steps, locked-sum, locked_by-sum, veiled-pages)
 
+  refusal-veiled : (b : Bool) (x : Segment) → lock_refusal s.limits c.cred (V T) (veiled b x) ≡ lock_refusal s.limits c.cred T x
+  refusal-veiled b x = ap (λ d. if may_not_lock s.limits c.cred then Some Eperm else if not x.locked && d then Some Enomem else None) (limit-veiled b x)
+
+  out-locked : (i : ℕ) (o : Option Errno) → locks_unless B c i o ≡ out hidden (locks_unless s c i o)
+  out-locked i (Some e) = refl
+  out-locked i None = out-changed i (locks_as c.cred.uid) (locks-veiled c.cred.uid)
+
   out-locks : (b : Bool) (i : ℕ) (x : Segment) → locks B c i (veiled b x) ≡ out hidden (locks s c i x)
-  out-locks b i x =
-      tests Eperm (may_not_lock s.limits c.cred) _ _ _ refl
-      (tests Enomem (not x.locked && passes_limit s.limits c.cred (V T) (veiled b x)) _ _ _ (ap (λ d. not x.locked && d) (limit-veiled b x)) (out-changed i (locks_as c.cred.uid) (locks-veiled c.cred.uid)))
+  out-locks b i x = ap (locks_unless B c i) (refusal-veiled b x) ∙ out-locked i (lock_refusal s.limits c.cred T x)
 
   out-sets : (uid gid mode : ℕ) (b : Bool) (i : ℕ) (x : Segment) → sets B n uid gid mode i (veiled b x) ≡ out hidden (sets s n uid gid mode i x)
   out-sets uid gid mode b i x = tests Einval (is_no_owner s uid gid) _ _ _ refl (out-changed i _ (λ b x. refl))

@@ -21,6 +21,7 @@ pub mod Inducting
 pub mod Callers
 pub mod Parting
 pub mod Protecting
+pub mod Placing
 pub mod Handing
 pub mod Accessing
 pub mod Granting

@@ -1,5 +1,5 @@
 -- No call changes the limits of a machine.
-use Rattle.shm_laws.proofs.Names.{Errno, Mprotect, Munmap, Setuid, cut, unmapped_to, unmaps, ◌≡◌, ◌%◌, ◌==◌, ◌&&◌, ℕ, ℤ, not, nat_lt, List, length, Option, Some, None, refl, common_steps, arith, AtFlags, ProcessCall, Shmget, Shmat, Shmdt, Stat, Set, Rmid, Lock, Unlock, Load, Store, Xadd, Fork, Exec, Exit, Swapoff, Event, Place, Segment, Piece, Machine, pages_in, Look, Found, Removed, Invalid, look, places, writable_places, inside, origin_of, Outcome, Caller, pieces_with, attaches, attaches_chosen, attaches_fixed, attaches_found, shmat, detaches, forks, unborn_from, stat, controls, sets, removes, locks, unlocks, load, store, xadd, takes_away, acts, is_rnd, at_wish, grants, owns, IsMove, is_taken, is_full, is_no_owner, remaps_null, may_not_lock, passes_limit, Exchange, CompareExchange, exchange, compare_exchange, same_bytes, loaded}
+use Rattle.shm_laws.proofs.Names.{Errno, Mprotect, Munmap, Setuid, cut, unmapped_to, unmaps, ◌≡◌, ◌==◌, ℕ, not, nat_lt, List, length, Option, Some, None, refl, common_steps, arith, AtFlags, ProcessCall, Shmget, Shmat, Shmdt, Stat, Set, Rmid, Lock, Unlock, Load, Store, Xadd, Fork, Exec, Exit, Swapoff, Event, Place, Segment, Piece, Machine, Look, Found, Removed, Invalid, look, places, writable_places, origin_of, Outcome, Caller, detaches, forks, unborn_from, stat, controls, sets, removes, locks, unlocks, load, store, xadd, takes_away, acts, owns, IsMove, is_no_owner, Exchange, CompareExchange, exchange, compare_exchange, same_bytes, loaded, attaches_if, Placed, placed, lock_refusal, locks_unless}
 use Rattle.std.specs.Prelude.{Result, Ok, Err}
 use Rattle.shm_base.specs.Step.{creates_at}
 use Rattle.shm_laws.proofs.Asking.{by-shmget}
@@ -13,28 +13,9 @@ module _ (s : Machine) (n : ℕ) (c : Caller) where
   limited-creates_at : (key size mode : ℕ) (o : Option ℕ) → Limited (creates_at s n c key size mode o)
   limited-creates_at key size mode o = grind (arith, common_steps)
 
-  limited-attaches : (id : ℕ) (x : Segment) (flags : AtFlags) (base : ℕ) → Limited (attaches s n c id x flags base)
-  limited-attaches id x flags base = pick Limited (nat_lt s.limits.most_pieces (length (pieces_with c id x flags base))) _ _ refl refl
-
-  limited-chosen : (id : ℕ) (x : Segment) (flags : AtFlags) (o : Option ℕ) → Limited (attaches_chosen s n c id x flags o)
-  limited-chosen id x flags None = refl
-  limited-chosen id x flags (Some base) = limited-attaches id x flags base
-
-  limited-fixed : (id : ℕ) (x : Segment) (flags : AtFlags) (base : ℕ) → Limited (attaches_fixed s n c id x flags base)
-  limited-fixed id x flags base =
-      pick Limited (is_taken s c x flags base) _ _ refl
-      (pick Limited (is_full s c) _ _ refl (pick Limited (not (inside base (pages_in x))) _ _ refl (limited-attaches id x flags base)))
-
-  limited-found : (flags : AtFlags) (addr : ℕ) (l : Look) → Limited (attaches_found s n c flags addr l)
-  limited-found flags addr Invalid = refl
-  limited-found flags addr Removed = refl
-  limited-found flags addr (Found i x) =
-      pick Limited (not (grants c.cred x.perm (at_wish s flags))) _ _ refl (pick Limited (addr == 0) _ _ (limited-chosen _ x flags _) (limited-fixed _ x flags _))
-
-  limited-shmat : (id : ℤ) (addr : ℕ) (flags : AtFlags) → Limited (shmat s n c id addr flags)
-  limited-shmat id addr flags =
-      pick Limited (remaps_null s addr flags) _ _ refl
-      (pick Limited (not (addr % 4096 == 0) && not (is_rnd flags)) _ _ refl (limited-found flags addr (look s.table id)))
+  limited-attaches : (flags : AtFlags) (r : Result Placed Errno) → Limited (attaches_if s n c flags r)
+  limited-attaches flags (Err e) = refl
+  limited-attaches flags (Ok p) = refl
 
   limited-controls : (act : ℕ → Segment → Outcome) → ((i : ℕ) (x : Segment) → Limited (act i x)) → (l : Look) → Limited (controls s c act l)
   limited-controls act acts Invalid = refl
@@ -44,8 +25,9 @@ module _ (s : Machine) (n : ℕ) (c : Caller) where
   limited-removes : (i : ℕ) (x : Segment) → Limited (removes s i x)
   limited-removes i x = grind (arith, common_steps)
 
-  limited-locks : (i : ℕ) (x : Segment) → Limited (locks s c i x)
-  limited-locks i x = pick Limited (may_not_lock s.limits c.cred) _ _ refl (pick Limited (not x.locked && passes_limit s.limits c.cred s.table x) _ _ refl refl)
+  limited-locks : (i : ℕ) (o : Option Errno) → Limited (locks_unless s c i o)
+  limited-locks i (Some e) = refl
+  limited-locks i None = refl
 
   limited-sets : (uid gid mode i : ℕ) (x : Segment) → Limited (sets s n uid gid mode i x)
   limited-sets uid gid mode i x = pick Limited (is_no_owner s uid gid) _ _ refl refl
@@ -90,12 +72,12 @@ module _ (s : Machine) (n : ℕ) (c : Caller) where
 
   pub limited-acts : (call : ProcessCall) → Limited (acts s n c call)
   limited-acts (Shmget key size mode flags) = by-shmget s n c Limited (λ r. refl) limited-creates_at key size mode flags
-  limited-acts (Shmat id addr flags) = limited-shmat id addr flags
+  limited-acts (Shmat id addr flags) = limited-attaches flags (placed s c id addr flags)
   limited-acts (Shmdt addr) = limited-detaches addr (origin_of addr c.pieces)
   limited-acts (Stat id) = limited-stat (look s.table id)
   limited-acts (Set id uid gid mode) = limited-controls (sets s n uid gid mode) (limited-sets uid gid mode) (look s.table id)
   limited-acts (Rmid id) = limited-controls (removes s) limited-removes (look s.table id)
-  limited-acts (Lock id) = limited-controls (locks s c) limited-locks (look s.table id)
+  limited-acts (Lock id) = limited-controls (locks s c) (λ i x. limited-locks i (lock_refusal s.limits c.cred s.table x)) (look s.table id)
   limited-acts (Unlock id) = limited-controls (unlocks s) (λ i x. refl) (look s.table id)
   limited-acts (Load a len) = limited-load (places c.pieces a len)
   limited-acts (Store bytes a) = limited-store bytes (writable_places c.pieces a (length bytes))

@@ -11,7 +11,7 @@ pub use Rattle.std.specs.Int.{from_le_bytes, to_le_bytes, w64}
 pub use Rattle.std.specs.Prelude.{All, Contains, filter, find, is_some, option_map, sum_by, ⊤}
 pub use Rattle.shm_attach.proofs.Callers.{child_at, first_runner}
 pub use Rattle.shm_attach.proofs.Keeping.{occupied-cut}
-pub use Rattle.shm_attach.proofs.Processes.{one_more, pieces_of-cut_cons, pieces_of-filter, pieces_of-inserted, shorter_filter}
+pub use Rattle.shm_attach.proofs.Processes.{length-inserted, one_more, pieces_of-cut_cons, pieces_of-filter, pieces_of-inserted, shorter_filter}
 pub use Rattle.shm_attach.specs.Spaces.{life_in}
 pub use Rattle.shm_base.specs.Access.{Place, all_writable, byte_at, byte_set, covers, end_of, entry_byte_set, loaded, only_writable, same_bytes, place, place_by, places, set_in, stored, with_byte, writable_places}
 pub use Rattle.shm_base.specs.Bounds.{within}
@@ -19,18 +19,19 @@ pub use Rattle.shm_base.specs.History.{IsExcused, IsHistory, IsMove, LeadsFrom, 
 pub use Rattle.shm_base.specs.Identifier.{Found, Invalid, Look, Removed, destroyed_at, destroyed_in, find_key, free_from, free_index, has_key, identifier, key_from, look, look_entry, look_segment, with_segment}
 pub use Rattle.shm_base.specs.Permission.{grants, owns, wish_of}
 pub use Rattle.shm_base.specs.Processes.{pieces_of_caller}
-pub use Rattle.shm_base.specs.Locking.{locks_as, may_not_lock, passes_limit, unlocked}
+pub use Rattle.shm_base.specs.Locking.{lock_refusal, locks_as, may_not_lock, passes_limit, unlocked}
 pub use Rattle.shm_base.specs.Rules.{fork_marks, pieces_errno, removed_errno, rest_is_attached}
 pub use Rattle.shm_base.specs.Segments.{after_detach, attach_all, attach_count, attached, change, change_all, detach_all, detached, locked, marked, pages_held, pages_locked, reserved, locked_by_user, pages_locked_by, segment_count, slots, swept, swept_at, swept_from, with_entry}
-pub use Rattle.shm_base.specs.Space.{choose, cut, cut_segments, first_chosen, inserted, inside, is_gap, is_named, new_piece, end_address, lowest_address, meets, occupied, origin_of, part_above, part_below, parts, pieces_of, without_named}
+pub use Rattle.shm_base.specs.Space.{choose, cut, cut_segments, first_chosen, inserted, inside, is_gap, is_named, end_address, lowest_address, meets, occupied, origin_of, part_above, part_below, parts, pieces_of, without_named}
 pub use Rattle.shm_base.specs.State.{Ended, Entry, Life, Live, Machine, Opening, Piece, Runner, Segment, Unborn, pages_in, pages_of, runner_at_start, start_of}
 pub use Rattle.shm_base.specs.Callers.{Caller, Outcome, caller_from, caller_of, gives, refuses, with_cred, with_end, with_pieces}
 pub use Rattle.shm_base.specs.Mapping.{munmap, mprotect, protects, protects_pieces, rests, rounded, unmaps, unmapped_to}
-pub use Rattle.shm_base.specs.Step.{acts, at_wish, compare_exchange, exchange, creates_small, huge_errno, inherited, is_full, is_no_owner, is_taken, outside_errno, remaps_null, attaches, attaches_chosen, attaches_fixed, attaches_found, controls, creates, creates_at, detaches, forks, is_rdonly, is_remap, is_rnd, load, locks, new_segment, number_at, pieces_with, removes, segments_of, sets, shmat, shmget, stat, step, setuid, step_by, store, swapoff, takes_away, unborn_from, unlocks, wants_creation, wants_no_other, xadd}
+pub use Rattle.shm_base.specs.Step.{acts, at_wish, compare_exchange, exchange, creates_small, huge_errno, inherited, is_full, is_no_owner, is_taken, is_misplaced, attaches_if, base_for, chosen_base, fixed_base, controls, creates, creates_at, detaches, forks, is_remap, load, locks, locks_unless, new_segment, number_at, piece_for, pieces_beside, pieces_with, placed, placed_at, placed_found, removes, segments_of, sets, shmat, shmget, stat, step, setuid, step_by, store, swapoff, takes_away, unborn_from, unlocks, wants_creation, wants_no_other, xadd}
 pub use Rattle.shm_base.specs.declared.owner.Cred.{Cred}
 pub use Rattle.shm_base.specs.Calls.{ProcessCall}
 pub use Rattle.shm_base.specs.declared.call.Call.TheVariants.{CompareExchange, Exchange, Exec, Exit, Fork, Load, Lock, Mprotect, Munmap, Rmid, Set, Setuid, Shmat, Shmdt, Shmget, Stat, Store, Swapoff, Unlock, Xadd}
 pub use Rattle.shm_base.specs.declared.call.Event.{Event}
+pub use Rattle.shm_base.specs.declared.call.Placed.{Placed}
 pub use Rattle.shm_base.specs.declared.call.Process.{Process}
 pub use Rattle.shm_base.specs.declared.call.Reply.{Reply}
 pub use Rattle.shm_base.specs.declared.call.Reply.TheVariants.{Addr, Bytes, Done, Id, Number, Refused}

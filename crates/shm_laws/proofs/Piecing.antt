@@ -1,5 +1,5 @@
 -- A segment with a piece exists.
-use Rattle.shm_laws.proofs.Names.{protects_pieces, rounded, new_piece, ◌≡◌, ◌⊎◌, ℕ, suc, zero, ◌+◌, ◌*◌, ◌≤◌, not, List, [], ◌∷◌, map, Some, slice_set, refl, ap, subst, inl, inr, arith, common_steps, cases_eq, filter, sum_by-cons, ProcessCall, Event, Process, Segment, Piece, Live, Runner, Machine, Opening, start_of, runner_at_start, pages_in, cut, pieces_of, attach_count, Caller, Outcome, caller_of, acts, is_rdonly, pieces_with, IsMove, IsHistory, one_more, pieces_of-inserted, pieces_of-cut_cons, pieces_of-filter, Stands, IsDue, PiecesNameWhatStands, GivesPieces, CountsPieces, PiecesAreOfSegments}
+use Rattle.shm_laws.proofs.Names.{protects_pieces, rounded, ◌≡◌, ◌⊎◌, ℕ, suc, zero, ◌+◌, ◌*◌, ◌≤◌, List, [], ◌∷◌, map, Some, slice_set, refl, ap, subst, inl, inr, arith, common_steps, cases_eq, filter, sum_by-cons, ProcessCall, Event, Process, Segment, Piece, Live, Runner, Machine, Opening, start_of, runner_at_start, cut, pieces_of, attach_count, Caller, Outcome, caller_of, acts, pieces_with, IsMove, IsHistory, one_more, pieces_of-inserted, pieces_of-cut_cons, pieces_of-filter, Stands, IsDue, PiecesNameWhatStands, GivesPieces, CountsPieces, PiecesAreOfSegments, piece_for, pieces_beside}
 use Rattle.shm_laws.proofs.Protecting.{protected-none}
 use Rattle.shm_laws.proofs.Refusing.{by-move}
 use Rattle.shm_laws.proofs.Counting.{counts-move}
@@ -44,15 +44,14 @@ module _ (s : Machine) (c : Caller) (mine : (id : ℕ) → attach_count s.runner
 
   first-attaches : (call : ProcessCall) (o : Outcome) → Attaches s c call o → Gives o
   first-attaches call o k =
-      rw k.runners (set-first c.index (record { pid = c.pid; life = Live c.cred; pieces = pieces_with c k.seg k.segment k.flags k.base }) own)
+      rw k.runners (set-first c.index (record { pid = c.pid; life = Live c.cred; pieces = pieces_with c k.flags k.place }) own)
     where
-      own : (j : ℕ) → attach_count s.runners j ≡ 0 → (pieces_of j (pieces_with c k.seg k.segment k.flags k.base) ≡ 0) ⊎ ((y : Segment) × Stands s j y)
+      own : (j : ℕ) → attach_count s.runners j ≡ 0 → (pieces_of j (pieces_with c k.flags k.place) ≡ 0) ⊎ ((y : Segment) × Stands s j y)
       own j none =
-          let piece : Piece = new_piece k.seg k.base (pages_in k.segment) (not (is_rdonly k.flags)) in
-          let left = cut-none j k.base (k.base + 4096 * pages_in k.segment) c.pieces (mine j none) in
-          let more = pieces_of-inserted j piece (cut k.base (k.base + 4096 * pages_in k.segment) c.pieces) in
-          elim (cases_eq k.seg j) [
-            | inl h ↦ inr (k.segment, subst (λ n. Stands s n k.segment) h k.stands)
+          let left = cut-none j k.place.base (k.place.base + 4096 * k.place.pages) c.pieces (mine j none) in
+          let more = pieces_of-inserted j (piece_for k.flags k.place) (pieces_beside c k.place) in
+          elim (cases_eq k.place.seg j) [
+            | inl h ↦ inr (k.there.segment, subst (λ n. Stands s n k.there.segment) h k.there.stands)
             | inr apart ↦ inl (grind (arith, common_steps, left, more))
           ]
 

@@ -1,5 +1,5 @@
 -- The pieces of a process lie apart, inside the addresses, and are few.
-use Rattle.shm_laws.proofs.Names.{Contains, Contains-get_or, get_or, protects_pieces, rounded, slice_get-get_or, new_piece, ◌≡◌, ◌⊎◌, ℕ, zero, suc, ◌+◌, ◌-◌, ◌*◌, ◌/◌, ◌%◌, ◌≤◌, ◌<◌, Bool, true, false, not, List, [], ◌∷◌, ◌++◌, length, Some, slice_get, slice_set, refl, ap, subst, inl, inr, arith, common_steps, All, All-contains, All-map, All-nil, All-weaker, filter, none-some, or_parts, both_ways, ⊤, ProcessCall, Event, Segment, Piece, Live, Runner, Machine, Opening, start_of, runner_at_start, pages_in, end_of, covers, meets, occupied, parts, cut, inserted, lowest_address, end_address, occupied-cut, shorter_filter, all-cons, all-slice_set, Caller, Outcome, caller_of, acts, is_rdonly, pieces_with, IsMove, IsHistory, FillsPages, LieApart, LiesInside, AreLaidOut, SpacesAreLaidOut, sym, ◌∙◌}
+use Rattle.shm_laws.proofs.Names.{Contains, Contains-get_or, get_or, protects_pieces, rounded, slice_get-get_or, ◌≡◌, ◌⊎◌, ℕ, zero, suc, ◌+◌, ◌-◌, ◌*◌, ◌/◌, ◌%◌, ◌≤◌, ◌<◌, Bool, true, false, List, [], ◌∷◌, ◌++◌, length, Some, slice_get, slice_set, refl, ap, subst, inl, inr, arith, common_steps, All, All-contains, All-map, All-nil, All-weaker, filter, none-some, or_parts, both_ways, ⊤, ProcessCall, Event, Segment, Piece, Live, Runner, Machine, Opening, start_of, runner_at_start, pages_in, end_of, covers, meets, occupied, parts, cut, inserted, lowest_address, end_address, occupied-cut, shorter_filter, all-cons, all-slice_set, Caller, Outcome, caller_of, acts, pieces_with, IsMove, IsHistory, FillsPages, LieApart, LiesInside, AreLaidOut, SpacesAreLaidOut, sym, ◌∙◌, piece_for, pieces_beside}
 use Rattle.shm_base.specs.Bounds.{Bounds}
 use Rattle.std.specs.Prelude.{max}
 use Rattle.shm_attach.proofs.Renewed.{own_cut-is}
@@ -264,33 +264,33 @@ module _ (s : Machine) (pid : ℕ) (c : Caller) (is : caller_of s pid ≡ Some c
 
   module _ (call : ProcessCall) (o : Outcome) (k : Attaches s c call o) where
     abbrev new : Piece
-    new = new_piece k.seg k.base (pages_in k.segment) (not (is_rdonly k.flags))
+    new = piece_for k.flags k.place
 
-    abbrev left : List Piece
-    left = cut k.base (k.base + 4096 * pages_in k.segment) c.pieces
+    abbrev to : ℕ
+    to = k.place.base + 4096 * k.place.pages
 
     inside : All LiesInside c.pieces
     inside = laid-inside lowest_address c.pieces (omega arith) own.laid
 
-    page : k.base % 4096 ≡ 0
-    page = k.page (All-weaker LiesInside IsAligned (λ p h. h.page) c.pieces inside)
+    page : k.place.base % 4096 ≡ 0
+    page = k.there.lies.page (All-weaker LiesInside IsAligned (λ p h. h.page) c.pieces inside)
 
     set : IsSet new
-    set = record { page = page; some = some-pages k.segment (filled.filled k.seg k.segment k.stands); to = k.to }
+    set = record { page = page; some = rw k.there.whole (some-pages k.there.segment (filled.filled k.place.seg k.there.segment k.there.stands)); to = k.there.lies.to }
 
-    attaches-space : IsSpace s.limits.most_pieces (pieces_with c k.seg k.segment k.flags k.base)
+    attaches-space : IsSpace s.limits.most_pieces (pieces_with c k.flags k.place)
     attaches-space =
         record {
           laid =
-              laid-inserted lowest_address new left (laid-cut lowest_address k.base (k.base + 4096 * pages_in k.segment) c.pieces own.laid page (omega (arith, page)) (omega arith))
-              k.from set (occupied-cut k.base (k.base + 4096 * pages_in k.segment) c.pieces);
-          few = k.few;
+              laid-inserted lowest_address new (pieces_beside c k.place) (laid-cut lowest_address k.place.base to c.pieces own.laid page (omega (arith, page)) (omega arith))
+              k.there.lies.from set (occupied-cut k.place.base to c.pieces);
+          few = k.there.few;
         }
 
   hands-spaces : (call : ProcessCall) (o : Outcome) → Hands s c call o → Spaces s.limits.most_pieces o.state.runners
   hands-spaces call o (inl k) = rw k.runners spaces
   hands-spaces call o (inr (inl k)) =
-      rw k.runners (set-one c.index (record { pid = c.pid; life = Live c.cred; pieces = pieces_with c k.seg k.segment k.flags k.base }) (attaches-space call o k))
+      rw k.runners (set-one c.index (record { pid = c.pid; life = Live c.cred; pieces = pieces_with c k.flags k.place }) (attaches-space call o k))
   hands-spaces call o (inr (inr (inl k))) =
       rw k.runners
       (set-one c.index (record { pid = c.pid; life = k.life; pieces = filter k.stays c.pieces })

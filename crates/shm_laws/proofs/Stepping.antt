@@ -1,5 +1,5 @@
 -- The four kinds of step on the segments: still, a sweep after a detach, a creation, a removal.
-use Rattle.shm_laws.proofs.Names.{pieces_of, Cred, Mprotect, Munmap, Setuid, cut, mprotect, protects_pieces, rest_is_attached, unmapped_to, unmaps, with_cred, ◌≡◌, ◌⊎◌, ℕ, ◌+◌, ◌*◌, ◌%◌, ◌^◌, ◌≤◌, ◌==◌, ◌&&◌, ℤ, pos, negsuc, Bool, true, false, not, nat_lt, nat_le, within, if◌then◌else◌, List, [], ◌∷◌, length, replicate, get_or, Option, Some, None, slice_get, slice_set, refl, sym, ap, subst, ◌∙◌, inl, inr, arith, common_steps, get-set_other, w64, to_le_bytes, slice_get-get_or, GetFlags, AtFlags, ProcessCall, Shmget, Shmat, Shmdt, Stat, Set, Rmid, Lock, Unlock, Load, Store, Xadd, Exchange, CompareExchange, Fork, Exec, Exit, Swapoff, Reply, Id, Done, Addr, Event, grants, owns, wish_of, Place, places, writable_places, stored, Segment, Entry, Piece, Unborn, Live, Ended, Runner, Machine, pages_in, pages_of, Look, Found, Removed, Invalid, identifier, destroyed_at, free_index, with_segment, look, find_key, inside, cut_segments, origin_of, attach_count, reserved, segment_count, change, attached, marked, detach_all, swept, Outcome, gives, refuses, segments_of, Caller, caller_of, acts, new_segment, creates, creates_at, shmget, wants_creation, wants_no_other, is_rnd, at_wish, attaches, attaches_chosen, attaches_fixed, attaches_found, shmat, pieces_with, with_pieces, detaches, forks, unborn_from, stat, controls, sets, removes, locks, unlocks, load, store, xadd, number_at, takes_away, swapoff, first_runner, child_at, life_in, IsSame, Put, put, pieces_of_caller, Errno, creates_small, huge_errno, rests, attach_all, is_taken, is_full, remaps_null, pieces_errno, inherited, fork_marks, may_not_lock, passes_limit, locks_as, unlocked, is_no_owner, exchange, compare_exchange, same_bytes, loaded, Bytes}
+use Rattle.shm_laws.proofs.Names.{pieces_of, Cred, Mprotect, Munmap, Setuid, cut, mprotect, protects_pieces, rest_is_attached, unmapped_to, unmaps, with_cred, ◌≡◌, ◌⊎◌, ℕ, ◌+◌, ◌*◌, ◌%◌, ◌^◌, ◌≤◌, ◌==◌, ℤ, pos, negsuc, Bool, true, false, not, nat_lt, nat_le, within, if◌then◌else◌, List, [], ◌∷◌, length, replicate, get_or, Option, Some, None, slice_get, slice_set, refl, sym, ap, subst, ◌∙◌, inl, inr, arith, common_steps, get-set_other, w64, to_le_bytes, slice_get-get_or, GetFlags, AtFlags, ProcessCall, Shmget, Shmat, Shmdt, Stat, Set, Rmid, Lock, Unlock, Load, Store, Xadd, Exchange, CompareExchange, Fork, Exec, Exit, Swapoff, Reply, Id, Done, Addr, Event, grants, owns, wish_of, Place, places, writable_places, stored, Segment, Entry, Piece, Unborn, Live, Ended, Runner, Machine, pages_of, Look, Found, Removed, Invalid, identifier, destroyed_at, free_index, with_segment, look, find_key, cut_segments, origin_of, attach_count, reserved, segment_count, change, attached, marked, detach_all, swept, Outcome, gives, segments_of, Caller, caller_of, acts, new_segment, creates, creates_at, shmget, wants_creation, wants_no_other, pieces_with, with_pieces, detaches, forks, unborn_from, stat, controls, sets, removes, locks, unlocks, load, store, xadd, number_at, takes_away, swapoff, first_runner, child_at, life_in, IsSame, Put, put, pieces_of_caller, Errno, creates_small, huge_errno, rests, attach_all, inherited, fork_marks, locks_as, unlocked, is_no_owner, exchange, compare_exchange, same_bytes, loaded, Bytes, attaches_if, Placed, placed, lock_refusal, locks_unless}
 use Rattle.std.specs.Prelude.{Result, Ok, Err}
 use Rattle.shm_base.specs.Step.{gets}
 use Rattle.shm_laws.proofs.Callers.{kept-set}
@@ -200,36 +200,19 @@ module _ (like : Segment → Type 0) (s : Machine) (n : ℕ) (c : Caller) where
       private : (key == 0) ≡ true → Likes 0 size mode
       private h = let none = is-zero key h in subst (λ k. Likes k size mode) none (made (inl none))
 
-  kind-attaches : (id : ℕ) (x : Segment) (flags : AtFlags) (base : ℕ) → Plain s (attaches s n c id x flags base)
-  kind-attaches id x flags base =
-      let lost : List ℕ = cut_segments base (base + 4096 * pages_in x) c.pieces in
+  kind-attaches : (flags : AtFlags) (r : Result Placed Errno) → Plain s (attaches_if s n c flags r)
+  kind-attaches flags (Err e) = still like s _
+  kind-attaches flags (Ok p) =
+      let to : ℕ = p.base + 4096 * p.pages in
+      let lost : List ℕ = cut_segments p.base to c.pieces in
       let gone : List Entry = detach_all n c.pid s.table lost in
-      let kept : List ℕ = rests s base (base + 4096 * pages_in x) c.pieces in
+      let kept : List ℕ = rests s p.base to c.pieces in
       let old : List Entry = attach_all n c.pid gone kept in
-      let rs : List Runner = with_pieces s.runners c (pieces_with c id x flags base) in
-      let after : Machine = record s { table = swept rs (change old id (attached n c.pid)); runners = rs } in
-      pick (Plain s) (nat_lt s.limits.most_pieces (length (pieces_with c id x flags base))) (refuses s (pieces_errno s.limits.rules)) (gives after (Addr base)) (still like s _)
-      (sweeps like s (Addr base) after (change old id (attached n c.pid))
-      (λ i. turned-trans unchanged unchanged s.table old (change old id (attached n c.pid)) i (turned-trans unchanged unchanged s.table gone old i (turned-detach n c.pid lost s.table i) (turned-attach n c.pid kept gone i)) (turned-change (attached n c.pid) (λ y. same_head y (attached n c.pid y) refl refl refl refl) (λ y. record { key = refl; dest = refl }) (λ y. refl) old id i))
-      refl (living c (pieces_with c id x flags base) s.runners))
-
-  kind-chosen : (id : ℕ) (x : Segment) (flags : AtFlags) (o : Option ℕ) → Plain s (attaches_chosen s n c id x flags o)
-  kind-chosen id x flags None = still like s _
-  kind-chosen id x flags (Some base) = kind-attaches id x flags base
-
-  kind-fixed : (id : ℕ) (x : Segment) (flags : AtFlags) (base : ℕ) → Plain s (attaches_fixed s n c id x flags base)
-  kind-fixed id x flags base =
-      pick (Plain s) (is_taken s c x flags base) _ _ (still like s _)
-      (pick (Plain s) (is_full s c) _ _ (still like s _) (pick (Plain s) (not (inside base (pages_in x))) _ _ (still like s _) (kind-attaches id x flags base)))
-
-  kind-found : (flags : AtFlags) (addr : ℕ) (l : Look) → Plain s (attaches_found s n c flags addr l)
-  kind-found flags addr Invalid = still like s _
-  kind-found flags addr Removed = still like s _
-  kind-found flags addr (Found i x) =
-      pick (Plain s) (not (grants c.cred x.perm (at_wish s flags))) _ _ (still like s _) (pick (Plain s) (addr == 0) _ _ (kind-chosen _ x flags _) (kind-fixed _ x flags _))
-
-  kind-shmat : (id : ℤ) (addr : ℕ) (flags : AtFlags) → Plain s (shmat s n c id addr flags)
-  kind-shmat id addr flags = pick (Plain s) (remaps_null s addr flags) _ _ (still like s _) (pick (Plain s) (not (addr % 4096 == 0) && not (is_rnd flags)) _ _ (still like s _) (kind-found flags addr (look s.table id)))
+      let rs : List Runner = with_pieces s.runners c (pieces_with c flags p) in
+      let after : Machine = record s { table = swept rs (change old p.seg (attached n c.pid)); runners = rs } in
+      sweeps like s (Addr p.base) after (change old p.seg (attached n c.pid))
+      (λ i. turned-trans unchanged unchanged s.table old (change old p.seg (attached n c.pid)) i (turned-trans unchanged unchanged s.table gone old i (turned-detach n c.pid lost s.table i) (turned-attach n c.pid kept gone i)) (turned-change (attached n c.pid) (λ y. same_head y (attached n c.pid y) refl refl refl refl) (λ y. record { key = refl; dest = refl }) (λ y. refl) old p.seg i))
+      refl (living c (pieces_with c flags p) s.runners)
 
   kind-detaches : (addr : ℕ) (o : Option Piece) → Plain s (detaches s n c addr o)
   kind-detaches addr None = still like s _
@@ -265,11 +248,10 @@ module _ (like : Segment → Type 0) (s : Machine) (n : ℕ) (c : Caller) where
       pick (Plain s) (is_no_owner s uid gid) _ _ (still like s _)
       (quiet idle like s _ _ (turned-change (λ (y : Segment). record y { perm = record y.perm { uid = uid; gid = gid; mode = mode % 512 }; ctime = n }) (λ y. same_head y _ refl refl refl refl) (λ y. record { key = refl; dest = refl }) (λ y. refl) s.table i) refl)
 
-  kind-locks : (i : ℕ) (x : Segment) → Plain s (locks s c i x)
-  kind-locks i x =
-      pick (Plain s) (may_not_lock s.limits c.cred) _ _ (still like s _)
-      (pick (Plain s) (not x.locked && passes_limit s.limits c.cred s.table x) _ _ (still like s _)
-      (quiet idle like s _ _ (turned-change (locks_as c.cred.uid) (λ y. locked-head c.cred.uid y) (λ y. locked-alike c.cred.uid y) (λ y. locked-bytes c.cred.uid y) s.table i) refl))
+  kind-locks : (i : ℕ) (o : Option Errno) → Plain s (locks_unless s c i o)
+  kind-locks i (Some e) = still like s _
+  kind-locks i None =
+      quiet idle like s _ _ (turned-change (locks_as c.cred.uid) (λ y. locked-head c.cred.uid y) (λ y. locked-alike c.cred.uid y) (λ y. locked-bytes c.cred.uid y) s.table i) refl
 
   kind-unlocks : (i : ℕ) (x : Segment) → Plain s (unlocks s i x)
   kind-unlocks i x = quiet idle like s _ _ (turned-change unlocked (λ y. same_head y _ refl refl refl refl) (λ y. record { key = refl; dest = refl }) (λ y. refl) s.table i) refl
@@ -375,13 +357,13 @@ module _ (like : Segment → Type 0) (s : Machine) (n : ℕ) (c : Caller) where
   pub kind-acts : There → (call : ProcessCall) → Bare s.runners → ((key size mode : ℕ) (flags : GetFlags) → call ≡ Shmget key size mode flags → (key ≡ 0) ⊎ IsFree s.table key → Likes key size mode)
       → let o = acts s n c call in Kind (over_put c.pieces (put call o.reply)) like s (removed call o.reply) o.reply o.state
   kind-acts there (Shmget key size mode flags) bare made = kind-shmget key size mode flags (made key size mode flags refl)
-  kind-acts there (Shmat id addr flags) bare made = kind-shmat id addr flags
+  kind-acts there (Shmat id addr flags) bare made = kind-attaches flags (placed s c id addr flags)
   kind-acts there (Shmdt addr) bare made = kind-detaches addr (origin_of addr c.pieces)
   kind-acts there (Stat id) bare made = kind-stat (look s.table id)
   kind-acts there (Set id uid gid mode) bare made = kind-controls (sets s n uid gid mode) (kind-sets uid gid mode) (look s.table id)
   kind-acts there (Rmid (pos id)) bare made = kind-rmid id (look s.table (pos id)) refl
   kind-acts there (Rmid (negsuc id)) bare made = still like s _
-  kind-acts there (Lock id) bare made = kind-controls (locks s c) kind-locks (look s.table id)
+  kind-acts there (Lock id) bare made = kind-controls (locks s c) (λ i x. kind-locks i (lock_refusal s.limits c.cred s.table x)) (look s.table id)
   kind-acts there (Unlock id) bare made = kind-controls (unlocks s) kind-unlocks (look s.table id)
   kind-acts there (Load a len) bare made = kind-load (places c.pieces a len)
   kind-acts there (Store bytes a) bare made = kind-store a bytes (writable_places c.pieces a (length bytes)) refl

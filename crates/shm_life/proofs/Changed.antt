@@ -3,12 +3,9 @@ use Rattle.shm_life.proofs.Names.{OrphansAmong, ◌≡◌, ℕ, ◌+◌, ◌/◌
 use Rattle.std.proofs.Common.{slice_set, true≢false}
 use Rattle.std.specs.Prelude.{Option, None, Result, Ok, Err, is_some}
 use Rattle.shm_base.specs.declared.owner.Cred.{Cred}
-use Rattle.shm_base.specs.Locking.{locks_as, may_not_lock, passes_limit}
-use Rattle.shm_base.specs.declared.errno.Errno.{Errno}
+use Rattle.shm_base.specs.Locking.{lock_refusal, may_not_lock, passes_limit}
 use Rattle.shm_base.specs.declared.errno.Errno.TheVariants.{Eperm, Enomem}
-use Rattle.shm_life.specs.Looking.{lock_refusal}
-use Rattle.shm_life.proofs.Names.{none-some, gives, refuses, Outcome, Done, locks}
-use Rattle.shm_base.specs.State.{Machine as FlatMachine}
+use Rattle.shm_life.proofs.Names.{none-some}
 use Rattle.shm_base.specs.State.{Segment}
 use Rattle.shm_base.specs.State.{pages_in}
 use Rattle.shm_base.specs.Callers.{Caller as FlatCaller}
@@ -74,20 +71,6 @@ lock-granted limits cred t x none = by (may_not_lock limits cred) (not x.locked 
     by true b h k z = absurd (none-some _ (sym z))
     by false true h k z = absurd (none-some _ (sym z))
     by false false h k z = (h, k)
-
--- what the flat machine does with the refusal of a lock
-abbrev pub locked_outcome : FlatMachine → FlatCaller → ℕ → Option Errno → Outcome
-locked_outcome s c i (Some e) = refuses s e
-locked_outcome s c i None = gives (record s { table = change s.table i (locks_as c.cred.uid) }) Done
-
-pub lock-outcome : (s : FlatMachine) (c : FlatCaller) (i : ℕ) (x : Segment) → locks s c i x ≡ locked_outcome s c i (lock_refusal s.limits c.cred s.table x)
-lock-outcome s c i x = by (may_not_lock s.limits c.cred) (not x.locked && passes_limit s.limits c.cred s.table x)
-  where
-    by : (a b : Bool) → (if a then refuses s Eperm else if b then refuses s Enomem else gives (record s { table = change s.table i (locks_as c.cred.uid) }) Done)
-        ≡ locked_outcome s c i (if a then Some Eperm else if b then Some Enomem else None)
-    by true b = refl
-    by false true = refl
-    by false false = refl
 
 pub unlock-few : (t : List Entry) (f : Found) (most : ℕ) → IsFound t f → locked t ≤ most → locked (change t f.seg (relocked None)) ≤ most
 unlock-few t f most found few = let sum = relocked-sum t f found None in omega (arith, sum, few)

@@ -1,6 +1,6 @@
 -- A process whose pieces go, or come: what the calls on segments need, and what is kept but for segments that
 -- lost their last piece.
-use Rattle.shm_life.proofs.Names.{◌≡◌, ◌≤◌, ℕ, ◌+◌, ◌*◌, ◌%◌, false, List, [], ◌∷◌, zero, suc, Some, None, refl, sym, ap, ◌∙◌, arith, All-nil, All, set_in, Bounds, Piece, Life, Live, Entry, Runner, cut, pieces_of, origin_of, without_named, change, with_entry, attached, attach_all, attach_all-same, detached, detach_all, same-refl, same-trans, segments_of, AtFlags, StoreView, Translation, AreTrue, IsCaller, caller_seen, pieces_at, rest_segments, IsLive, SameTable, change-same, Placed, piece_for, pieces_after, lost_to, PieceFits, is_among, IsTableSound, IsTableSoundBut, IsWell, IsWellBut}
+use Rattle.shm_life.proofs.Names.{◌≡◌, ◌≤◌, ℕ, ◌+◌, ◌*◌, ◌%◌, false, List, [], ◌∷◌, zero, suc, Some, None, refl, sym, ap, ◌∙◌, arith, All-nil, All, set_in, Bounds, Piece, Life, Live, Entry, Runner, cut, pieces_of, origin_of, without_named, change, with_entry, attached, attach_all, attach_all-same, detached, detach_all, same-refl, same-trans, segments_of, AtFlags, StoreView, Translation, AreTrue, IsCaller, caller_seen, pieces_at, rest_segments, IsLive, SameTable, change-same, Placed, piece_for, pieces_with, PieceFits, is_among, IsTableSound, IsTableSoundBut, IsWell, IsWellBut}
 use Rattle.std.proofs.Common.{slice_get, slice_set, Option, option_map, Bool, true, if◌then◌else◌}
 use Rattle.shm_base.specs.Rules.{rest_is_attached}
 use Rattle.shm_base.specs.declared.owner.Cred.{Cred}
@@ -83,14 +83,14 @@ module _ (limits : Bounds) (t : List Entry) (rs : List Runner) (c : Caller) (k :
 
   -- shmat
   pub place-goes : (flags : AtFlags) (p : Placed) → PieceFits t (piece_for flags p)
-      → Goes limits t (replaced rs c (Live c.cred) (pieces_after (pieces_at rs c.index) flags p)) (lost_to (pieces_at rs c.index) p)
+      → Goes limits t (replaced rs c (Live c.cred) (pieces_with (caller_seen c rs) flags p)) (cut_segments p.base (p.base + 4096 * p.pages) (pieces_at rs c.index))
   place-goes flags p fits =
       let ps = pieces_at rs c.index in
       let from = p.base in
       let to = p.base + 4096 * p.pages in
       record {
         live = lives-cut t from to ps own;
-        kept = going (Live c.cred) (pieces_after ps flags p) (lost_to ps p) (all-inserted (PieceFits t) (piece_for flags p) (cut from to ps) fits (pass-cut t from to ps own)) (keeps-cut from to (piece_for flags p) ps);
+        kept = going (Live c.cred) (pieces_with (caller_seen c rs) flags p) (cut_segments from to ps) (all-inserted (PieceFits t) (piece_for flags p) (cut from to ps) fits (pass-cut t from to ps own)) (keeps-cut from to (piece_for flags p) ps);
       }
 
 -- exec and exit, with the pages where they were
@@ -113,7 +113,7 @@ renewed-same false n pid t ids = same-refl t
 
 -- a segment whose attach was noted, after what its range attaches anew
 pub attached-goes : (limits : Bounds) (t : List Entry) (rs : List Runner) (c : Caller) (n : ℕ) (kept : List ℕ) (flags : AtFlags) (p : Placed) → IsTableSound limits t rs → IsCaller c rs → PieceFits t (piece_for flags p)
-    → Goes limits (change (renewed (rest_is_attached limits.rules) n c.pid t kept) p.seg (attached n c.pid)) (replaced rs c (Live c.cred) (pieces_after (pieces_at rs c.index) flags p)) (lost_to (pieces_at rs c.index) p)
+    → Goes limits (change (renewed (rest_is_attached limits.rules) n c.pid t kept) p.seg (attached n c.pid)) (replaced rs c (Live c.cred) (pieces_with (caller_seen c rs) flags p)) (cut_segments p.base (p.base + 4096 * p.pages) (pieces_at rs c.index))
 attached-goes limits t rs c n kept flags p k is fits =
     let u = renewed (rest_is_attached limits.rules) n c.pid t kept in
     let v = change u p.seg (attached n c.pid) in

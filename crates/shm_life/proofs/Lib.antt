@@ -1,4 +1,3 @@
-pub mod PlacedOutcome
 pub mod Names
 pub mod Swapping
 pub mod Running

@@ -15,7 +15,7 @@ pub use Rattle.shm_areas.specs.Arranged.{bare_all}
 pub use Rattle.shm_attach.proofs.Callers.{caller_there}
 pub use Rattle.shm_attach.proofs.FlatSteps.{load-wanted, pieces_by-caller, shmdt-named, store-wanted}
 pub use Rattle.shm_attach.proofs.Keeping.{pieces_of-there}
-pub use Rattle.shm_attach.proofs.Processes.{length-inserted, one_more, pieces_of-cut_met, pieces_of-inserted, pieces_of-without, shorter_filter}
+pub use Rattle.shm_attach.proofs.Processes.{one_more, pieces_of-cut_met, pieces_of-inserted, pieces_of-without, shorter_filter}
 pub use Rattle.shm_attach.specs.Fork.{born_child}
 pub use Rattle.shm_attach.specs.Spaces.{AreTrue, IsCaller, Translation, caller_seen, pieces_at}
 pub use Rattle.shm_attach.specs.Spans.{PassPages, pieces_by, wanted, wanted_in}
@@ -23,15 +23,16 @@ pub use Rattle.shm_attach.specs.declared.process.Child.{Child}
 pub use Rattle.shm_base.specs.Access.{Place, end_of, loaded, set_in}
 pub use Rattle.shm_base.specs.Bounds.{Bounds, lockable, within}
 pub use Rattle.shm_base.specs.History.{is_refusal}
-pub use Rattle.shm_base.specs.Identifier.{Invalid, Look, Removed, destroyed_at, destroyed_in, free_from, free_index, identifier, look, with_segment}
+pub use Rattle.shm_base.specs.Identifier.{destroyed_at, destroyed_in, free_from, free_index, identifier, look, with_segment}
 pub use Rattle.shm_base.specs.Permission.{grants}
 pub use Rattle.shm_base.specs.Segments.{attach_all, attach_count, attached, change, change_all, detach_all, detached, locked, marked, pages_held, pages_locked, reserved, swept, swept_at, swept_from, with_entry}
-pub use Rattle.shm_base.specs.Space.{choose, cut, cut_segments, leaves_rest, rest_segments, has_origin, inserted, is_named, meets, origin_of, part_above, part_below, parts, pieces_of, without_named}
+pub use Rattle.shm_base.specs.Space.{cut, cut_segments, leaves_rest, rest_segments, has_origin, inserted, is_named, meets, origin_of, part_above, part_below, parts, pieces_of, without_named}
 pub use Rattle.shm_base.specs.Spans.{InPage, page_of, span_places}
 pub use Rattle.shm_base.specs.State.{Entry, Life, Live, Machine, Piece, Runner, Segment, pages_of, runner_at_start}
 pub use Rattle.shm_base.specs.Callers.{Outcome, gives, refuses}
 pub use Rattle.shm_base.specs.Mapping.{rests}
-pub use Rattle.shm_base.specs.Step.{at_wish, attaches, attaches_chosen, attaches_fixed, attaches_found, locks, segments_of, shmat, swapoff}
+pub use Rattle.shm_base.specs.Step.{at_wish, attaches_if, base_for, if_few, is_misplaced, locks, locks_unless, piece_for, pieces_beside, pieces_with, placed, placed_at, segments_of, shmat, swapoff}
+pub use Rattle.shm_base.specs.declared.call.Placed.{Placed}
 pub use Rattle.shm_base.specs.declared.call.Process.{Process}
 pub use Rattle.shm_base.specs.declared.call.Reply.TheVariants.{Bytes, Done}
 pub use Rattle.shm_base.specs.declared.errno.Errno.TheVariants.{Enomem}
@@ -64,13 +65,9 @@ pub use Rattle.shm_segments.specs.Table.{IsFound, IsLive, SpanFits, created, des
 pub use Rattle.shm_segments.specs.View.{KeepsMemory, SegmentsView, ShowsTable}
 pub use Rattle.shm_segments.specs.declared.head.Head.{Head}
 pub use Rattle.shm_slots.specs.View.{AreaView, IsAreaSize, SwapView, area_at, fresh, new_swap, no_area, owner_of, size_of, sizes}
-pub use Rattle.shm_life.specs.Address.{misplaced}
 pub use Rattle.shm_life.specs.Sound.{IsTableSoundBut, IsTableSound, IsWell, IsWellBut}
 pub use Rattle.shm_life.specs.MachineView.{KeepsOn}
 pub use Rattle.shm_life.specs.Orphans.{OrphansAmong, Sweeps, is_among}
-pub use Rattle.shm_life.specs.Placing.{base_for, fixed, gap_found, if_few, piece_for, placed, placed_at, placed_found, wished}
-pub use Rattle.shm_life.proofs.PlacedOutcome.{lost_to, pieces_after, placed_outcome}
 pub use Rattle.shm_life.specs.Start.{are_pids, are_sizes, start_error}
 pub use Rattle.shm_base.specs.Processes.{has_pid}
 pub use Rattle.shm_life.specs.Tied.{PieceFits, PiecesFit}
-pub use Rattle.shm_life.specs.declared.shmat.Placed.{Placed}

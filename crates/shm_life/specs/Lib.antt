@@ -2,8 +2,6 @@ pub mod Tied
 pub mod Sound
 pub mod Orphans
 pub mod Listed
-pub mod Address
-pub mod Placing
 pub mod Looking
 pub mod Inherited
 pub mod Start

@@ -10,7 +10,6 @@ ghost use Rattle.shm_base.specs.declared.bounds.TheConstants.{MOST_SHMALL};
 ghost use Rattle.shm_base.specs.declared.paging.TheConstants.{PAGE_SIZE};
 ghost use Rattle.shm_attach.specs.Spaces.{IsCaller, caller_seen};
 ghost use Rattle.shm_segments.specs.Table.{IsFound, segment_seen};
-ghost use Rattle.shm_life.specs.Placing.{fixed, within_addresses};
 
 use crate::kernel::Kernel;
 use bitflags::Flags;
@@ -91,7 +90,7 @@ impl<P: Pager> Kernel<P> {
     fn inside(&self, caller: &Caller, base: u64, pages: u32) -> Result<u64, Errno>
         requires { pages ≤ MOST_SHMALL }
         ensures value { let seen = caller_seen caller.now self.now.flat.runners in
-            result ≡ within_addresses self.now.flat seen base pages }
+            result ≡ flat.within_addresses self.now.flat seen base pages }
         ensures lies { IfOk result (λ b. (b ≡ base) × (flat_space.inside base pages ≡ true)) }
     {
         if is_beyond(base, pages) {
@@ -108,7 +107,7 @@ impl<P: Pager> Kernel<P> {
     /// - Einval: the range meets a piece without SHM_REMAP, or reaches 2^64.
     /// - Enomem: the process can attach nothing more, under `Rules::PIECES_ARE_ENOMEM`.
     /// - Einval: the range is not within 0x10000 to 0x7ffffffff000; rules replace this by Enomem or Eperm.
-    pub(crate) fn fixed(
+    pub(crate) fn fixed_base(
         &self,
         caller: &Caller,
         found: &Found,
@@ -121,7 +120,7 @@ impl<P: Pager> Kernel<P> {
         ensures range { IfOk result (IsRange (pages_of found.now.head.size)) }
         ensures value { let seen = caller_seen caller.now self.now.flat.runners in
             let segment = segment_seen self.now.flat.table found.now in
-            result ≡ fixed self.now.flat seen segment flags base }
+            result ≡ flat.fixed_base self.now.flat seen segment flags base }
     {
         if self.is_taken(caller, found, flags, base) {
             return Err(Errno::Einval);

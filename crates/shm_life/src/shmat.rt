@@ -9,9 +9,7 @@ ghost use Rattle.shm_base.specs.declared.call.Call.TheVariants as call;
 ghost use Rattle.shm_base.specs.declared.call.Reply.TheVariants.{Addr};
 ghost use Rattle.shm_attach.specs.Place.{IsRange};
 ghost use Rattle.shm_attach.specs.Spaces.{IsCaller, pieces_at, caller_seen};
-ghost use Rattle.shm_life.specs.Address.{misplaced};
 ghost use Rattle.shm_life.specs.MachineView.{IsWithoutMemory, Served, replied};
-ghost use Rattle.shm_life.specs.Placing.{placed, piece_for};
 ghost use Rattle.shm_life.specs.Tied.{PieceFits};
 
 use crate::fixed::pieces_errno;
@@ -19,22 +17,14 @@ use crate::kernel::Kernel;
 use crate::sweep::{after_detach, attach_rests};
 use bitflags::Flags;
 use shm_attach::Caller;
-use shm_base::{AtFlags, Errno, HostMemory, PAGE_SIZE, Rules, ShmId, Want, grants};
+use shm_base::{AtFlags, Errno, HostMemory, PAGE_SIZE, Placed, Rules, ShmId, Want, grants};
 use shm_pager::Pager;
-
-/// Where the new piece is placed: its segment, the segment's number of pages, and the base.
-#[derive(Clone, Copy)]
-pub(crate) struct Placed {
-    seg: u32,
-    pages: u32,
-    base: u64,
-}
 
 impl<P: Pager> Kernel<P> {
     // Whether SHM_REMAP is given with a null address, or an address is unaligned without SHM_RND (shmop(2)).
     // Under `Rules::LOW_IS_EPERM` an address that rounds to 0 is null too.
     fn is_misplaced(&self, addr: u64, flags: AtFlags) -> bool
-        ensures { result ≡ misplaced self.now.flat addr flags }
+        ensures { result ≡ flat.is_misplaced self.now.flat addr flags }
     {
         if flags.contains(AtFlags::REMAP) && self.is_null(addr, flags) {
             return true;
@@ -84,8 +74,8 @@ impl<P: Pager> Kernel<P> {
     ) -> Result<Placed, Errno>
         requires { IsCaller caller.now self.now.flat.runners }
         ensures value { let seen = caller_seen caller.now self.now.flat.runners in
-            result ≡ placed self.now.flat seen id addr flags }
-        ensures fits { IfOk result (λ p. PieceFits self.now.flat.table (piece_for flags p)) }
+            result ≡ flat.placed self.now.flat seen id addr flags }
+        ensures fits { IfOk result (λ p. PieceFits self.now.flat.table (flat.piece_for flags p)) }
         ensures pages { IfOk result (λ p. (1 ≤ p.pages) × (p.pages ≤ MOST_SHMALL)) }
         ensures range { IfOk result (λ p. IsRange p.pages p.base) }
         ensures room { let pieces = pieces_at self.now.flat.runners caller.now.index in
@@ -104,7 +94,7 @@ impl<P: Pager> Kernel<P> {
         let wish = if addr == 0 {
             space.choose(pages).ok_or(Errno::Enomem)
         } else {
-            self.fixed(caller, &found, flags, addr - addr % PAGE_SIZE)
+            self.fixed_base(caller, &found, flags, addr - addr % PAGE_SIZE)
         };
         let base = wish?;
         let most = self.limits.most_pieces() as usize;

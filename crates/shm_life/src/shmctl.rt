@@ -12,7 +12,7 @@ ghost use Rattle.shm_segments.specs.Table.{IsFound, look_of, segment_seen};
 ghost use Rattle.shm_base.specs.declared.call.Call.TheVariants as call;
 ghost use Rattle.shm_base.specs.declared.call.Reply.TheVariants.{Stat, Refused};
 ghost use Rattle.shm_life.specs.MachineView.{Served, replied, done};
-ghost use Rattle.shm_life.specs.Looking.{refused_by, lock_refusal};
+ghost use Rattle.shm_life.specs.Looking.{refused_by};
 
 use crate::kernel::Kernel;
 use crate::sweep::remove;
@@ -180,8 +180,9 @@ impl<P: Pager> Kernel<P> {
     // Why a user may not lock the segment.
     fn lock_refusal(&self, cred: &Cred, found: &Found) -> Option<Errno>
         requires { IsFound self.now.flat.table found.now }
-        ensures { let table = self.now.flat.table in
-            result ≡ lock_refusal self.now.flat.limits cred.now table (segment_seen table found.now) }
+        ensures { let limits = self.now.flat.limits in
+            let table = self.now.flat.table in
+            result ≡ locking.lock_refusal limits cred.now table (segment_seen table found.now) }
     {
         if self.has_own_limit(cred) && self.limits.memlock() == 0 {
             return Some(Errno::Eperm);

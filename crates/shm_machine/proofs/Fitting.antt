@@ -1,5 +1,5 @@
 -- A reply that is not a refusal is of its call's kind.
-use Rattle.std.proofs.Common.{◌≡◌, ℕ, zero, suc, ◌+◌, ◌-◌, ◌%◌, ℤ, Bool, true, false, if◌then◌else◌, List, length, Option, Some, None, refl, true≢false, arith}
+use Rattle.std.proofs.Common.{◌≡◌, ℕ, zero, suc, ◌+◌, ℤ, Bool, true, false, if◌then◌else◌, List, length, Option, Some, None, refl, true≢false, arith}
 use Rattle.std.proofs.lemmas.Grind.{common_steps}
 use Rattle.shm_base.specs.declared.flags.GetFlags.{GetFlags}
 use Rattle.shm_base.specs.declared.flags.AtFlags.{AtFlags}
@@ -7,21 +7,20 @@ use Rattle.shm_base.specs.Calls.{ProcessCall}
 use Rattle.shm_base.specs.declared.call.Call.TheVariants.{Shmget, Shmat, Load, Exchange, CompareExchange}
 use Rattle.shm_base.specs.declared.call.Reply.{Reply}
 use Rattle.shm_base.specs.declared.call.Event.{Event}
-use Rattle.shm_base.specs.State.{Piece, Segment, Machine, pages_in, pages_of}
-use Rattle.shm_base.specs.Space.{choose, inside}
+use Rattle.shm_base.specs.State.{Piece, Machine, pages_of}
 use Rattle.shm_base.specs.Bounds.{within}
 use Rattle.shm_base.specs.Permission.{grants, wish_of}
 use Rattle.shm_base.specs.declared.errno.Errno.{Errno}
 use Rattle.shm_base.specs.declared.errno.Errno.TheVariants.{Esrch, Enoent, Enomem, Enospc, Eacces, Eexist, Einval}
+use Rattle.shm_base.specs.declared.call.Placed.{Placed}
 use Rattle.shm_base.specs.declared.call.Reply.TheVariants.{Id, Addr}
-use Rattle.shm_base.specs.Rules.{pieces_errno, removed_errno}
 use Rattle.shm_base.specs.Segments.{reserved, segment_count, slots}
-use Rattle.std.specs.Prelude.{nat_le, nat_lt, pos, not, ◌&&◌, ◌==◌, ◌*◌}
-use Rattle.shm_base.specs.Identifier.{Look, Found, Removed, Invalid, destroyed_at, find_key, free_index, identifier, look}
+use Rattle.std.specs.Prelude.{nat_le, nat_lt, pos, not, ◌==◌, Result, Ok, Err}
+use Rattle.shm_base.specs.Identifier.{Look, Found, Removed, Invalid, destroyed_at, find_key, free_index, identifier}
 use Rattle.shm_base.specs.Access.{Place, places, writable_places}
 use Rattle.shm_base.specs.History.{is_refusal, is_failure, IsMove}
 use Rattle.shm_base.specs.Callers.{Outcome, Caller, caller_of, gives, refuses}
-use Rattle.shm_base.specs.Step.{acts, step_by, pieces_with, at_wish, is_full, is_rnd, is_taken, outside_errno, remaps_null, wants_creation, wants_no_other, creates, creates_at, creates_small, huge_errno, gets, shmget, attaches, attaches_chosen, attaches_fixed, attaches_found, shmat}
+use Rattle.shm_base.specs.Step.{acts, step_by, attaches_if, placed, wants_creation, wants_no_other, creates, creates_at, creates_small, huge_errno, gets, shmget}
 use Rattle.shm_machine.specs.Answered.{fits}
 
 record Fine (call : ProcessCall) (o : Outcome) : Type 0 where
@@ -71,35 +70,9 @@ module _ (s : Machine) (n : ℕ) (c : Caller) where
     fine-shmget : Got (shmget s n c key size mode flags)
     fine-shmget = pick get (key == 0) _ _ (fine-creates 0) (fine-gets (find_key s.table key))
 
-  module _ (id : ℤ) (addr : ℕ) (flags : AtFlags) where
-    abbrev at : ProcessCall
-    at = Shmat id addr flags
-
-    fine-attaches : (seg : ℕ) (x : Segment) (base : ℕ) → Fine at (attaches s n c seg x flags base)
-    fine-attaches seg x base =
-        pick at (nat_lt s.limits.most_pieces (length (pieces_with c seg x flags base))) (refuses s (pieces_errno s.limits.rules)) _ (refused at s (pieces_errno s.limits.rules)) (given at _ (Addr base) refl)
-
-    fine-chosen : (seg : ℕ) (x : Segment) (o : Option ℕ) → Fine at (attaches_chosen s n c seg x flags o)
-    fine-chosen seg x None = refused at s Enomem
-    fine-chosen seg x (Some base) = fine-attaches seg x base
-
-    fine-fixed : (seg : ℕ) (x : Segment) (base : ℕ) → Fine at (attaches_fixed s n c seg x flags base)
-    fine-fixed seg x base =
-        pick at (is_taken s c x flags base) _ _ (refused at s Einval)
-        (pick at (is_full s c) _ _ (refused at s Enomem)
-        (pick at (not (inside base (pages_in x))) _ _ (refused at s (outside_errno s c (base + 4096 * pages_in x))) (fine-attaches seg x base)))
-
-    fine-found : (l : Look) → Fine at (attaches_found s n c flags addr l)
-    fine-found Invalid = refused at s Einval
-    fine-found Removed = refused at s (removed_errno s.limits.rules)
-    fine-found (Found i x) =
-        pick at (not (grants c.cred x.perm (at_wish s flags))) _ _ (refused at s Eacces)
-        (pick at (addr == 0) _ _ (fine-chosen (identifier i (destroyed_at s.table i)) x (choose c.pieces (pages_in x))) (fine-fixed (identifier i (destroyed_at s.table i)) x (addr - addr % 4096)))
-
-    fine-shmat : Fine at (shmat s n c id addr flags)
-    fine-shmat =
-        pick at (remaps_null s addr flags) _ _ (refused at s Einval)
-        (pick at (not (addr % 4096 == 0) && not (is_rnd flags)) _ _ (refused at s Einval) (fine-found (look s.table id)))
+  fine-attaches : (id : ℤ) (addr : ℕ) (flags : AtFlags) (r : Result Placed Errno) → Fine (Shmat id addr flags) (attaches_if s n c flags r)
+  fine-attaches id addr flags (Err e) = refused (Shmat id addr flags) s e
+  fine-attaches id addr flags (Ok p) = given (Shmat id addr flags) _ (Addr p.base) refl
 
 pub places-length : (pieces : List Piece) (a n : ℕ) (ps : List Place) → places pieces a n ≡ Some ps → length ps ≡ n
 places-length pieces a zero ps is = grind (arith, common_steps)
@@ -110,7 +83,7 @@ writable-length pieces a n ps is = grind (arith, common_steps, places-length pie
 
 fine-acts : (s : Machine) (n : ℕ) (c : Caller) (call : ProcessCall) → Fine call (acts s n c call)
 fine-acts s n c (Shmget key size mode flags) = fine-shmget s n c key size mode flags
-fine-acts s n c (Shmat id addr flags) = fine-shmat s n c id addr flags
+fine-acts s n c (Shmat id addr flags) = fine-attaches s n c id addr flags (placed s c id addr flags)
 fine-acts s n c (Load addr len) = record { fit = grind (arith, common_steps, places-length c.pieces addr len) }
 fine-acts s n c (Exchange new addr) = record { fit = grind (arith, common_steps, writable-length c.pieces addr (length new)) }
 fine-acts s n c (CompareExchange expected new addr) = record { fit = grind (arith, common_steps, writable-length c.pieces addr (length new)) }

@@ -1,8 +1,8 @@
 -- The pages and failures of an area of each kind.
-use Rattle.std.specs.Prelude.{ℕ, ◌≡◌, List, replicate}
-use Rattle.shm_pager.specs.Pages.{blank, last_count}
+use Rattle.std.specs.Prelude.{ℕ, ◌≡◌, List, Result, replicate}
+use Rattle.shm_pager.specs.Pages.{blank, last_count, next_count}
 use Rattle.shm_pager.specs.Fuse.{FuseView, new_fuse, fuse_most}
-use Rattle.shm_pager.specs.Mirror.{MirrorView, MirrorSeen, mirror_of, mirror_seen, pages_shown, left_alone}
+use Rattle.shm_pager.specs.Mirror.{MirrorView, MirrorSeen, ReadsMirror, WritesMirror, mirror_of, mirror_seen, pages_shown, left_alone}
 use Rattle.shm_pager.specs.declared.area.AreaPager.{AreaPager}
 use Rattle.shm_pager.specs.declared.area.AreaPager.TheVariants.{Ram, Sparse, Mirror}
 use Rattle.shm_pager.specs.declared.area.Failing.{Failing}
@@ -37,6 +37,20 @@ abbrev pub most_in : AreaPager → ℕ
 most_in (Ram f) = fuse_most f
 most_in (Sparse f) = fuse_most f
 most_in (Mirror m) = last_count
+
+-- A read of an area asks its fuse once, which so counts one read; a read of a mirror asks its good sides until one succeeds
+abbrev pub ReadsOnce : {A E : Type 0} → ℕ → List ℕ → Result A E → AreaPager → AreaPager → Type 0
+ReadsOnce slot bytes result (Ram f) (Ram g) = (g.reads ≡ next_count f.reads) × (g.writes ≡ f.writes)
+ReadsOnce slot bytes result (Sparse f) (Sparse g) = (g.reads ≡ next_count f.reads) × (g.writes ≡ f.writes)
+ReadsOnce slot bytes result (Mirror m) (Mirror n) = ReadsMirror slot bytes (fuses_seen m) (fuses_seen n) result
+ReadsOnce slot bytes result _ _ = ⊥
+
+-- and a write asks its fuse once; a write of a mirror asks both sides
+abbrev pub WritesOnce : {A E : Type 0} → ℕ → List ℕ → Result A E → AreaPager → AreaPager → Type 0
+WritesOnce slot bytes result (Ram f) (Ram g) = (g.writes ≡ next_count f.writes) × (g.reads ≡ f.reads)
+WritesOnce slot bytes result (Sparse f) (Sparse g) = (g.writes ≡ next_count f.writes) × (g.reads ≡ f.reads)
+WritesOnce slot bytes result (Mirror m) (Mirror n) = WritesMirror slot bytes (fuses_seen m) (fuses_seen n) result
+WritesOnce slot bytes result _ _ = ⊥
 
 -- which reads and writes of a side fail, by their places
 pub record FailingCalls : Type 0 where

@@ -1,7 +1,8 @@
 //! A swap area of any kind, as one type.
-ghost use Rattle.std.specs.Prelude.{◌≡◌, IfOk, replicate};
+ghost use Rattle.std.specs.Prelude.{◌≡◌, ◌<◌, ◌≤◌, [], IfOk, get_or, length, replicate, set};
 ghost use Rattle.shm_base.specs.Page.{zero_page};
-ghost use Rattle.shm_pager.specs.Areas.{area_pages, failed_in, most_in, calls_of, fails_at, IsOfKind};
+ghost use Rattle.shm_pager.specs.Areas.{area_pages, failed_in, most_in, calls_of, fails_at, IsOfKind, ReadsOnce, WritesOnce};
+ghost use Rattle.shm_pager.specs.Pages.{last_count, CountsErr, KeepsMost, SlotUnknown};
 
 use crate::fuse::FusePager;
 use crate::mirror::MirrorPager;
@@ -108,7 +109,16 @@ impl Pager for AreaPager {
         }
     }
 
-    fn write(&mut self, slot: u32, page: &[u8; PAGE_BYTES]) -> Result<(), PagerFault> {
+    fn write(&mut self, slot: u32, page: &[u8; PAGE_BYTES]) -> Result<(), PagerFault>
+        requires there { slot < length (area_pages self.old) }
+        requires countable { failed_in self.old < last_count }
+        ensures others { SlotUnknown slot (area_pages self.old) (area_pages self.new) }
+        ensures page { IfOk result (λ _. area_pages self.new ≡ set (area_pages self.old) slot page.now) }
+        ensures failed { CountsErr result (failed_in self.old) (failed_in self.new) }
+        ensures most { KeepsMost result (most_in self.old) (most_in self.new) }
+        ensures bounded { failed_in self.new ≤ most_in self.new }
+        ensures once { WritesOnce slot page.now result self.old self.new }
+    {
         match self {
             AreaPager::Ram(pager) => pager.write(slot, page),
             AreaPager::Sparse(pager) => pager.write(slot, page),
@@ -116,7 +126,16 @@ impl Pager for AreaPager {
         }
     }
 
-    fn read(&mut self, slot: u32, page: &mut [u8; PAGE_BYTES]) -> Result<(), PagerFault> {
+    fn read(&mut self, slot: u32, page: &mut [u8; PAGE_BYTES]) -> Result<(), PagerFault>
+        requires there { slot < length (area_pages self.old) }
+        requires countable { failed_in self.old < last_count }
+        ensures content { area_pages self.new ≡ area_pages self.old }
+        ensures page { IfOk result (λ _. get_or (area_pages self.old) slot [] ≡ page.new) }
+        ensures failed { CountsErr result (failed_in self.old) (failed_in self.new) }
+        ensures most { KeepsMost result (most_in self.old) (most_in self.new) }
+        ensures bounded { failed_in self.new ≤ most_in self.new }
+        ensures once { ReadsOnce slot page.new result self.old self.new }
+    {
         match self {
             AreaPager::Ram(pager) => pager.read(slot, page),
             AreaPager::Sparse(pager) => pager.read(slot, page),

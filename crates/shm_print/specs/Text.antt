@@ -58,6 +58,13 @@ status_text status =
 abbrev pub protection_text : Bool → List ℕ
 protection_text writable = if writable then codes " rw" else codes " ro"
 
+-- an address and a number, or bytes: the operands of an access
+abbrev pub at_number_text : ℕ → ℕ → List ℕ
+at_number_text addr number = address_text addr ++ (codes " " ++ decimal number)
+
+abbrev pub at_bytes_text : ℕ → List ℕ → List ℕ
+at_bytes_text addr bytes = address_text addr ++ (codes " " ++ encode_lower bytes)
+
 -- a call's word and its arguments
 abbrev pub call_text : ProcessCall → List ℕ
 call_text (Shmget key size mode flags) = codes "shmget " ++ (key_text key ++ (codes " " ++ (decimal size ++ (codes " " ++ (mode_text mode ++ get_flags_text flags)))))
@@ -68,16 +75,16 @@ call_text (Set id uid gid mode) = codes "set " ++ (signed_decimal id ++ (codes "
 call_text (Rmid id) = codes "rmid " ++ signed_decimal id
 call_text (Lock id) = codes "lock " ++ signed_decimal id
 call_text (Unlock id) = codes "unlock " ++ signed_decimal id
-call_text (Load addr len) = codes "load " ++ (address_text addr ++ (codes " " ++ decimal len))
-call_text (Store bytes addr) = codes "store " ++ (address_text addr ++ (codes " " ++ encode_lower bytes))
-call_text (Xadd addr add) = codes "xadd " ++ (address_text addr ++ (codes " " ++ decimal add))
-call_text (Exchange bytes addr) = codes "swap " ++ (address_text addr ++ (codes " " ++ encode_lower bytes))
+call_text (Load addr len) = codes "load " ++ at_number_text addr len
+call_text (Store bytes addr) = codes "store " ++ at_bytes_text addr bytes
+call_text (Xadd addr add) = codes "xadd " ++ at_number_text addr add
+call_text (Exchange bytes addr) = codes "swap " ++ at_bytes_text addr bytes
 call_text (CompareExchange expected desired addr) = codes "cas " ++ (address_text addr ++ (codes " " ++ (encode_lower expected ++ (codes " " ++ encode_lower desired))))
 call_text (Fork child) = codes "fork " ++ decimal child
 call_text Exec = codes "exec"
 call_text Exit = codes "exit"
 call_text (Swapoff area) = codes "swapoff " ++ decimal area
-call_text (Munmap addr len) = codes "munmap " ++ (address_text addr ++ (codes " " ++ decimal len))
+call_text (Munmap addr len) = codes "munmap " ++ at_number_text addr len
 call_text (Mprotect addr len writable) = codes "mprotect " ++ (address_text addr ++ (codes " " ++ (decimal len ++ protection_text writable)))
 call_text (Setuid uid gid) = codes "setuid " ++ (decimal uid ++ (codes " " ++ decimal gid))
 
@@ -85,12 +92,20 @@ call_text (Setuid uid gid) = codes "setuid " ++ (decimal uid ++ (codes " " ++ de
 abbrev pub perm_text : Perm → List ℕ
 perm_text p = codes "uid=" ++ (decimal p.uid ++ (codes " gid=" ++ (decimal p.gid ++ (codes " cuid=" ++ (decimal p.cuid ++ (codes " cgid=" ++ (decimal p.cgid ++ (codes " mode=" ++ mode_text p.mode))))))))
 
--- who used a segment last, and when
+-- which processes used a segment, and its attach count
 abbrev pub use_text : ShmidDs → List ℕ
-use_text s = codes "cpid=" ++ (decimal s.cpid ++ (codes " lpid=" ++ (decimal s.lpid ++ (codes " nattch=" ++ (decimal s.nattch ++ (codes " atime=" ++ (decimal s.atime ++ (codes " dtime=" ++ (decimal s.dtime ++ (codes " ctime=" ++ decimal s.ctime))))))))))
+use_text s = codes "cpid=" ++ (decimal s.cpid ++ (codes " lpid=" ++ (decimal s.lpid ++ (codes " nattch=" ++ decimal s.nattch))))
+
+-- the fields of stat before its times
+abbrev pub fields_text : ShmidDs → List ℕ
+fields_text s = codes "key=" ++ (key_text s.key ++ (codes " " ++ (perm_text s.perm ++ (codes " status=" ++ (status_text s.status ++ (codes " size=" ++ (decimal s.size ++ (codes " " ++ use_text s))))))))
+
+-- the times of stat, each in these words
+abbrev pub times_text : (ℕ → List ℕ) → ShmidDs → List ℕ
+times_text time s = codes " atime=" ++ (time s.atime ++ (codes " dtime=" ++ (time s.dtime ++ (codes " ctime=" ++ time s.ctime))))
 
 abbrev pub stat_text : ShmidDs → List ℕ
-stat_text s = codes "key=" ++ (key_text s.key ++ (codes " " ++ (perm_text s.perm ++ (codes " status=" ++ (status_text s.status ++ (codes " size=" ++ (decimal s.size ++ (codes " " ++ use_text s))))))))
+stat_text s = fields_text s ++ times_text decimal s
 
 abbrev pub reply_text : Reply → List ℕ
 reply_text (replies.Id id) = signed_decimal id
@@ -101,9 +116,13 @@ reply_text (replies.Stat s) = stat_text s
 reply_text replies.Done = codes "ok"
 reply_text (replies.Refused e) = name_of e
 
+-- the line of an event up to its reply: the process and the call
+abbrev pub asked_text : Event → List ℕ
+asked_text e = decimal e.pid ++ (codes " " ++ (call_text e.call ++ codes " = "))
+
 -- the line of an event at a place of the history
 abbrev pub event_text : ℕ → Event → List ℕ
-event_text n e = decimal n ++ (codes " " ++ (decimal e.pid ++ (codes " " ++ (call_text e.call ++ (codes " = " ++ (reply_text e.reply ++ codes "\n"))))))
+event_text n e = decimal n ++ (codes " " ++ (asked_text e ++ (reply_text e.reply ++ codes "\n")))
 
 -- the lines of events, the first of which is at place n
 abbrev pub events_text : ℕ → List Event → List ℕ

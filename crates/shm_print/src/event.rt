@@ -76,7 +76,7 @@ fn push_counted(text: &mut String, word: &str, number: u64) -> Result<(), AllocE
 // Appends a word, an address and a number to a text.
 fn push_at_number(text: &mut String, word: &str, addr: u64, number: u64) -> Result<(), AllocError>
     ensures { OnOk result (string_bytes text.new
-        ≡ string_bytes text.old ++ (word.now ++ (printed.address_text addr ++ (codes " " ++ decimal number)))) }
+        ≡ string_bytes text.old ++ (word.now ++ printed.at_number_text addr number)) }
 {
     push_at(text, word, addr)?;
     push_counted(text, " ", number)
@@ -86,7 +86,7 @@ fn push_at_number(text: &mut String, word: &str, addr: u64, number: u64) -> Resu
 fn push_at_bytes(text: &mut String, word: &str, addr: u64, bytes: &[u8]) -> Result<(), AllocError>
     requires { length bytes.now ≤ 64 }
     ensures { OnOk result (string_bytes text.new
-        ≡ string_bytes text.old ++ (word.now ++ (printed.address_text addr ++ (codes " " ++ encode_lower bytes.now)))) }
+        ≡ string_bytes text.old ++ (word.now ++ printed.at_bytes_text addr bytes.now)) }
 {
     push_at(text, word, addr)?;
     push_operand(text, bytes)
@@ -171,15 +171,13 @@ fn push_uses(text: &mut String, shown: &ShmidDs) -> Result<(), AllocError>
     ensures { OnOk result (string_bytes text.new ≡ string_bytes text.old ++ printed.use_text shown.now) }
 {
     let (cpid, lpid, nattch) = (shown.cpid, shown.lpid, shown.nattch);
-    let (atime, dtime, ctime) = (shown.atime, shown.dtime, shown.ctime);
-    write!(
-        text,
-        "cpid={cpid} lpid={lpid} nattch={nattch} atime={atime} dtime={dtime} ctime={ctime}"
-    )
+    write!(text, "cpid={cpid} lpid={lpid} nattch={nattch}")
 }
 
-fn push_stat(text: &mut String, shown: &ShmidDs) -> Result<(), AllocError>
-    ensures { OnOk result (string_bytes text.new ≡ string_bytes text.old ++ printed.stat_text shown.now) }
+/// Appends the fields of stat before its times. AllocError: the host refused memory, and the text may have a
+/// part of them.
+pub fn push_fields(text: &mut String, shown: &ShmidDs) -> Result<(), AllocError>
+    ensures { OnOk result (string_bytes text.new ≡ string_bytes text.old ++ printed.fields_text shown.now) }
 {
     let (key, status, size) = (Key(shown.key), StatusWord(shown.status), shown.size);
     write!(text, "key={key} ")?;
@@ -188,8 +186,24 @@ fn push_stat(text: &mut String, shown: &ShmidDs) -> Result<(), AllocError>
     push_uses(text, shown)
 }
 
-// Appends a reply to a text.
-fn push_reply(text: &mut String, reply: &Reply) -> Result<(), AllocError>
+fn push_times(text: &mut String, shown: &ShmidDs) -> Result<(), AllocError>
+    ensures { OnOk result (
+        string_bytes text.new ≡ string_bytes text.old ++ printed.times_text decimal shown.now) }
+{
+    let (atime, dtime, ctime) = (shown.atime, shown.dtime, shown.ctime);
+    write!(text, " atime={atime} dtime={dtime} ctime={ctime}")
+}
+
+fn push_stat(text: &mut String, shown: &ShmidDs) -> Result<(), AllocError>
+    ensures { OnOk result (string_bytes text.new ≡ string_bytes text.old ++ printed.stat_text shown.now) }
+{
+    push_fields(text, shown)?;
+    push_times(text, shown)
+}
+
+/// Appends a reply to a text: an identifier or a number in decimal, an address, bytes as hexadecimal digits,
+/// the fields of stat, `ok`, or the name of a refusal. AllocError: the host refused memory.
+pub fn push_reply(text: &mut String, reply: &Reply) -> Result<(), AllocError>
     ensures { OnOk result (string_bytes text.new ≡ string_bytes text.old ++ printed.reply_text reply.now) }
 {
     match reply {
@@ -203,14 +217,22 @@ fn push_reply(text: &mut String, reply: &Reply) -> Result<(), AllocError>
     }
 }
 
-// Appends an event's place in the history and its process to a text.
-fn push_place(text: &mut String, place: u64, pid: u32) -> Result<(), AllocError>
-    ensures { OnOk result (string_bytes text.new
-        ≡ string_bytes text.old ++ (decimal place ++ (codes " " ++ (decimal pid ++ codes " ")))) }
+// Appends a process and a space to a text.
+fn push_process(text: &mut String, pid: u32) -> Result<(), AllocError>
+    ensures { OnOk result (string_bytes text.new ≡ string_bytes text.old ++ (decimal pid ++ codes " ")) }
 {
-    push_number(text, place)?;
-    push_counted(text, " ", u64::from(pid))?;
+    push_number(text, u64::from(pid))?;
     text.push_str(" ")
+}
+
+/// Appends the line of an event up to its reply: the process, the call and ` = `. AllocError: the host refused
+/// memory, and the text may have a part of it.
+pub fn push_asked(text: &mut String, event: &Event) -> Result<(), AllocError>
+    ensures { OnOk result (string_bytes text.new ≡ string_bytes text.old ++ printed.asked_text event.now) }
+{
+    push_process(text, event.pid)?;
+    push_call(text, &event.call)?;
+    text.push_str(" = ")
 }
 
 /// Appends the line of an event to a text: its place in the history from 1, the process, the call and the
@@ -219,9 +241,9 @@ pub fn push_event(text: &mut String, place: u64, event: &Event) -> Result<(), Al
     ensures { OnOk result (string_bytes text.new
         ≡ string_bytes text.old ++ printed.event_text place event.now) }
 {
-    push_place(text, place, event.pid)?;
-    push_call(text, &event.call)?;
-    text.push_str(" = ")?;
+    push_number(text, place)?;
+    text.push_str(" ")?;
+    push_asked(text, event)?;
     push_reply(text, &event.reply)?;
     text.push_str("\n")
 }

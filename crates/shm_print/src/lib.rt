@@ -8,5 +8,5 @@ mod lines;
 mod words;
 
 pub use counts::usage_text;
-pub use event::{event_text, push_event, reply_text};
+pub use event::{event_text, push_asked, push_event, push_fields, push_reply, reply_text};
 pub use lines::{header_line, segment_line};

@@ -5,12 +5,12 @@ use Rattle.shm_base.specs.Bounds.{within}
 use Rattle.shm_text.specs.Number.{decimal_of}
 use Rattle.shm_program.specs.declared.options.SwapWord.{SwapWord}
 use Rattle.shm_program.specs.declared.options.SwapWord.TheVariants.{Ram, Sparse, Mirror, FuseRead, FuseWrite}
-use Rattle.shm_base.specs.declared.bounds.TheConstants.{PROFILE_SLOTS}
+use Rattle.shm_base.specs.declared.bounds.TheConstants.{MOST_SLOTS}
 
--- 1 to 65536 slots
+-- 1 to 2^28 slots
 abbrev pub sized : Option ℕ → Option ℕ
 sized None = None
-sized (Some n) = if nat_le 1 n && nat_le n PROFILE_SLOTS then Some n else None
+sized (Some n) = if nat_le 1 n && nat_le n MOST_SLOTS then Some n else None
 
 abbrev pub slots_of : List ℕ → Option ℕ
 slots_of w = sized (decimal_of w)

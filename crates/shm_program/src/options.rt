@@ -3,12 +3,12 @@ ghost use Rattle.std.specs.Prelude.{◌≡◌, ◌≤◌, ◌<◌, ◌+◌, leng
 ghost use Rattle.shm_program.specs.Options.{slots_of, place_in, area_by, fuse_by, colon, swap_of, swaps_of};
 ghost use Rattle.shm_text.specs.Number.{decimal_of};
 
-use shm_base::{MOST_AREAS, is_slot_count};
+use shm_base::{MOST_AREAS, MOST_SLOTS};
 use shm_text::read_decimal;
 use std::alloc::{AllocError, Global};
 use std::convert::AsStr;
 
-/// A swap area: its kind, its number of slots (1 to 65536), and for a fuse the number, from 1, of the read or
+/// A swap area: its kind, its number of slots (1 to 2^28), and for a fuse the number, from 1, of the read or
 /// the write that fails.
 #[derive(Clone, Copy, Debug, PartialEq, Eq)]
 pub enum SwapWord {
@@ -23,7 +23,7 @@ fn slots_of(word: &[u8]) -> Option<u32>
     ensures { result ≡ slots_of word.now }
 {
     let slots = read_decimal(word)?;
-    if !is_slot_count(slots) {
+    if slots < 1 || slots > MOST_SLOTS as u64 {
         return None;
     }
     Some(slots as u32)

@@ -1,5 +1,5 @@
 -- Equivalent runs have equivalent continuations.
-use Rattle.std.specs.Prelude.{◌≡◌, ◌≢◌, ◌<◌, ℕ, suc, zero, ◌+◌, ◌-◌, ◌%◌, ◌==◌, nat_lt, if◌then◌else◌, ◌&&◌, ◌⊎◌, Bool, true, false, not, List, [], ◌∷◌, ◌++◌, Option, Some, None, cond, map, length, option_map, slice_index_or, Result, Ok, Err}
+use Rattle.std.specs.Prelude.{◌≡◌, ◌≢◌, ◌<◌, ℕ, suc, zero, ◌+◌, ◌==◌, nat_lt, if◌then◌else◌, ◌&&◌, ◌⊎◌, Bool, true, false, not, List, [], ◌∷◌, ◌++◌, Option, Some, None, cond, map, length, option_map, slice_index_or, Result, Ok, Err}
 use Rattle.std.proofs.Common.{ap, refl, sym, subst, ◌∙◌, arith, inl, inr, length-append}
 use Rattle.std.proofs.lemmas.Bool.{cases_Bool, cases_eq}
 use Rattle.std.proofs.lemmas.Grind.{common_steps}
@@ -10,21 +10,22 @@ use Rattle.shm_base.specs.History.{is_refusal, own_part}
 use Rattle.shm_base.specs.Processes.{has_pid}
 use Rattle.shm_base.specs.Access.{Place, writable_places}
 use Rattle.shm_base.specs.Bounds.{within}
-use Rattle.shm_base.specs.Identifier.{Look, Found, Removed, Invalid, identifier, destroyed_at, find_key, look}
-use Rattle.shm_base.specs.Locking.{may_not_lock, passes_limit}
+use Rattle.shm_base.specs.Identifier.{Look, Found, Removed, Invalid, find_key, look}
+use Rattle.shm_base.specs.Locking.{lock_refusal}
 use Rattle.shm_base.specs.Permission.{grants, owns, wish_of}
 use Rattle.shm_base.specs.Segments.{reserved}
-use Rattle.shm_base.specs.Space.{choose, cut, inside}
-use Rattle.shm_base.specs.State.{Machine, Segment, pages_in, pages_of}
+use Rattle.shm_base.specs.Space.{cut}
+use Rattle.shm_base.specs.State.{Machine, Segment, pages_of}
 use Rattle.shm_base.specs.Callers.{Caller, Outcome, caller_of}
 use Rattle.shm_base.specs.Mapping.{unmapped_to, unmaps}
-use Rattle.shm_base.specs.Step.{acts, at_wish, attaches, attaches_chosen, attaches_fixed, attaches_found, compare_exchange, controls, creates, creates_small, gets, huge_errno, is_full, is_no_owner, is_rnd, is_taken, pieces_with, remaps_null, step, step_by, wants_creation, wants_no_other}
+use Rattle.shm_base.specs.Step.{acts, attaches_if, compare_exchange, controls, creates, creates_small, gets, huge_errno, is_no_owner, locks_unless, placed, step, step_by, wants_creation, wants_no_other}
 use Rattle.shm_base.specs.Calls.{ProcessCall}
 use Rattle.shm_base.specs.declared.call.Call.TheVariants.{Shmget, Shmat, Shmdt, Stat, Set, Rmid, Lock, Unlock, Load, Store, Xadd, Exchange, CompareExchange, Fork, Exec, Exit, Swapoff, Munmap, Mprotect, Setuid}
 use Rattle.shm_base.specs.declared.errno.Errno.{Errno}
 use Rattle.shm_base.specs.declared.flags.GetFlags.{GetFlags}
 use Rattle.shm_base.specs.declared.flags.AtFlags.{AtFlags}
 use Rattle.shm_base.specs.declared.call.Event.{Event}
+use Rattle.shm_base.specs.declared.call.Placed.{Placed}
 use Rattle.shm_base.specs.declared.call.Process.{Process}
 use Rattle.shm_base.specs.declared.call.Reply.{Reply}
 use Rattle.shm_text.specs.Script.{ScriptView}
@@ -66,24 +67,13 @@ module _ (s : Machine) (n : ℕ) (c : Caller) where
   still-gets key size mode flags Removed = still-if (wants_creation flags) _ _ (still-creates key size mode flags) (λ h. refl)
   still-gets key size mode flags Invalid = still-if (wants_creation flags) _ _ (still-creates key size mode flags) (λ h. refl)
 
-  still-attaches : (id : ℕ) (x : Segment) (flags : AtFlags) (base : ℕ) → Still s (attaches s n c id x flags base)
-  still-attaches id x flags base = still-if (nat_lt s.limits.most_pieces (length (pieces_with c id x flags base))) _ _ (λ h. refl) (λ h. absurd (cc))
+  still-attaches : (flags : AtFlags) (r : Result Placed Errno) → Still s (attaches_if s n c flags r)
+  still-attaches flags (Err e) = λ h. refl
+  still-attaches flags (Ok p) = λ h. absurd (cc)
 
-  still-chosen : (id : ℕ) (x : Segment) (flags : AtFlags) (o : Option ℕ) → Still s (attaches_chosen s n c id x flags o)
-  still-chosen id x flags None = λ h. refl
-  still-chosen id x flags (Some base) = still-attaches id x flags base
-
-  still-fixed : (id : ℕ) (x : Segment) (flags : AtFlags) (base : ℕ) → Still s (attaches_fixed s n c id x flags base)
-  still-fixed id x flags base =
-      still-if (is_taken s c x flags base) _ _ (λ h. refl)
-      (still-if (is_full s c) _ _ (λ h. refl) (still-if (not (inside base (pages_in x))) _ _ (λ h. refl) (still-attaches id x flags base)))
-
-  still-found : (flags : AtFlags) (addr : ℕ) (l : Look) → Still s (attaches_found s n c flags addr l)
-  still-found flags addr Invalid = λ h. refl
-  still-found flags addr Removed = λ h. refl
-  still-found flags addr (Found i x) =
-      still-if (not (grants c.cred x.perm (at_wish s flags))) _ _ (λ h. refl)
-      (still-if (addr == 0) _ _ (still-chosen (identifier i (destroyed_at s.table i)) x flags (choose c.pieces (pages_in x))) (still-fixed (identifier i (destroyed_at s.table i)) x flags (addr - addr % 4096)))
+  still-locks : (i : ℕ) (o : Option Errno) → Still s (locks_unless s c i o)
+  still-locks i (Some e) = λ h. refl
+  still-locks i None = λ h. absurd (cc)
 
   still-controls : (act : ℕ → Segment → Outcome) → ((i : ℕ) (x : Segment) → Still s (act i x)) → (l : Look) → Still s (controls s c act l)
   still-controls act acts Invalid = λ h. refl
@@ -96,16 +86,12 @@ module _ (s : Machine) (n : ℕ) (c : Caller) where
 
   still-acts : (call : ProcessCall) → Void s call (acts s n c call)
   still-acts (Shmget key size mode flags) = still-if (key == 0) _ _ (still-creates 0 size mode flags) (still-gets key size mode flags (find_key s.table key))
-  still-acts (Shmat id addr flags) =
-      still-if (remaps_null s addr flags) _ _ (λ h. refl)
-      (still-if (not (addr % 4096 == 0) && not (is_rnd flags)) _ _ (λ h. refl) (still-found flags addr (look s.table id)))
+  still-acts (Shmat id addr flags) = still-attaches flags (placed s c id addr flags)
   still-acts (Shmdt addr) = λ h. grind (arith, common_steps)
   still-acts (Stat id) = λ h. grind (arith, common_steps)
   still-acts (Set id uid gid mode) = still-controls _ (λ i x. still-if (is_no_owner s uid gid) _ _ (λ h. refl) (λ h. absurd (cc))) (look s.table id)
   still-acts (Rmid id) = still-controls _ (λ i x h. absurd (cc)) (look s.table id)
-  still-acts (Lock id) =
-      still-controls _
-      (λ i x. still-if (may_not_lock s.limits c.cred) _ _ (λ h. refl) (still-if (not x.locked && passes_limit s.limits c.cred s.table x) _ _ (λ h. refl) (λ h. absurd (cc)))) (look s.table id)
+  still-acts (Lock id) = still-controls _ (λ i x. still-locks i (lock_refusal s.limits c.cred s.table x)) (look s.table id)
   still-acts (Unlock id) = still-controls _ (λ i x h. absurd (cc)) (look s.table id)
   still-acts (Load addr len) = λ h. grind (arith, common_steps)
   still-acts (Store bytes addr) = λ h. grind (arith, common_steps)

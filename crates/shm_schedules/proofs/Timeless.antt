@@ -5,6 +5,7 @@ use Rattle.std.proofs.lemmas.Grind.{common_steps}
 use Rattle.std.specs.Int.{w64, to_le_bytes, from_le_bytes}
 use Rattle.shm_base.specs.Calls.{ProcessCall}
 use Rattle.shm_base.specs.declared.call.Call.TheVariants.{Shmget, Shmat, Shmdt, Stat, Set, Rmid, Lock, Unlock, Load, Store, Xadd, Exchange, CompareExchange, Fork, Exec, Exit, Swapoff, Munmap, Mprotect, Setuid}
+use Rattle.shm_base.specs.declared.call.Placed.{Placed}
 use Rattle.shm_base.specs.declared.call.Reply.TheVariants.{Addr, Bytes, Number, Done, Id}
 use Rattle.shm_base.specs.declared.errno.Errno.{Errno}
 use Rattle.shm_base.specs.declared.errno.Errno.TheVariants.{Eperm, Einval, Enospc, Enomem, Eexist, Eacces}
@@ -13,15 +14,15 @@ use Rattle.shm_base.specs.declared.flags.AtFlags.{AtFlags}
 use Rattle.shm_base.specs.Access.{Place, places, writable_places, loaded, stored, same_bytes}
 use Rattle.shm_base.specs.Bounds.{within}
 use Rattle.shm_base.specs.Identifier.{Look, Found, Removed, Invalid, identifier, find_key, look}
-use Rattle.shm_base.specs.Locking.{may_not_lock, passes_limit, locks_as, unlocked}
+use Rattle.shm_base.specs.Locking.{lock_refusal, may_not_lock, passes_limit, locks_as, unlocked}
 use Rattle.shm_base.specs.Permission.{grants, wish_of}
-use Rattle.shm_base.specs.Rules.{fork_marks, pieces_errno, rest_is_attached}
+use Rattle.shm_base.specs.Rules.{fork_marks, rest_is_attached}
 use Rattle.shm_base.specs.Segments.{reserved, change, attached, attach_all, detach_all, swept, after_detach}
 use Rattle.shm_base.specs.Space.{cut, cut_segments, origin_of}
 use Rattle.shm_base.specs.State.{Segment, Entry, Piece, Runner, Machine, Live, pages_in, pages_of}
 use Rattle.shm_base.specs.Callers.{Outcome, Caller, gives, refuses, caller_of, with_pieces, with_end}
 use Rattle.shm_base.specs.Mapping.{Protected, after_cut, after_split, done_or, protects, protects_pieces, rests, unmapped_to, unmaps}
-use Rattle.shm_base.specs.Step.{segments_of, new_segment, creates_small, huge_errno, creates, gets, shmget, wants_no_other, wants_creation, is_rnd, pieces_with, attaches, attaches_chosen, attaches_fixed, attaches_found, remaps_null, shmat, detaches, inherited, forks, unborn_from, stat, controls, is_no_owner, sets, removes, locks, unlocks, load, store, xadd, number_at, exchange, compare_exchange, takes_away, acts, step_by}
+use Rattle.shm_base.specs.Step.{segments_of, new_segment, creates_small, huge_errno, creates, gets, shmget, wants_no_other, wants_creation, at_wish, base_for, is_misplaced, placed, placed_at, placed_found, pieces_with, attaches_if, shmat, detaches, inherited, forks, unborn_from, stat, controls, is_no_owner, sets, removes, locks, locks_unless, unlocks, load, store, xadd, number_at, exchange, compare_exchange, takes_away, acts, step_by}
 use Rattle.shm_schedules.specs.Outcomes.{masked, masked_time}
 use Rattle.shm_schedules.specs.Times.{TimesReachTimes, timeless_segment, timeless_entry, timeless, timeless_outcome}
 use Rattle.shm_schedules.proofs.Timing.{Match, timeless_look, timeless-destroyed, reserved-timeless, locked-sum, locked_by-sum, count-timeless, free-timeless, find-timeless, look-timeless, change-timeless, attached-timeless, detach-timeless, attach-timeless, swept-timeless, made-timeless, loaded-timeless, stored-timeless}
@@ -87,39 +88,38 @@ module _ (s : Machine) (n : ℕ) (c : Caller) (one : masked_time n ≡ 1) where
 
   -- SHMAT
 
-  out-attaches : (id : ℕ) (x : Segment) (flags : AtFlags) (base : ℕ) → attaches B 1 c id (timeless_segment x) flags base ≡ timeless_outcome (attaches s n c id x flags base)
-  out-attaches id x flags base =
-      tests (pieces_errno s.limits.rules) (nat_lt s.limits.most_pieces (length (pieces_with c id x flags base))) _ _ _ refl (λ j. record { reply = Addr base; state = record s { table = table j; runners = rs } })
+  -- an attach has its place from no time
+  found-timeless : (flags : AtFlags) (addr : ℕ) (l : Look) → placed_found B c flags addr (timeless_look l) ≡ placed_found s c flags addr l
+  found-timeless flags addr Invalid = refl
+  found-timeless flags addr Removed = refl
+  found-timeless flags addr (Found i x) =
+      ap (λ d. if not (grants c.cred x.perm (at_wish s flags)) then Err Eacces else placed_at s c (identifier i d) (pages_in x) (base_for s c x flags addr)) (timeless-destroyed T i)
+
+  placed-timeless : (id : ℤ) (addr : ℕ) (flags : AtFlags) → placed B c id addr flags ≡ placed s c id addr flags
+  placed-timeless id addr flags =
+      ap (λ r. if is_misplaced s addr flags then Err Einval else r) (ap (placed_found B c flags addr) (look-timeless T id) ∙ found-timeless flags addr (look T id))
+
+  out-attaches : (flags : AtFlags) (r : Result Placed Errno) → attaches_if B 1 c flags r ≡ timeless_outcome (attaches_if s n c flags r)
+  out-attaches flags (Err e) = refl
+  out-attaches flags (Ok p) = λ j. record { reply = Addr p.base; state = record s { table = table j; runners = rs } }
     where
       rs : List Runner
-      rs = with_pieces s.runners c (pieces_with c id x flags base)
+      rs = with_pieces s.runners c (pieces_with c flags p)
 
       to : ℕ
-      to = base + 4096 * pages_in x
+      to = p.base + 4096 * p.pages
 
       gone : List Entry
-      gone = after_cut s n c base to
+      gone = after_cut s n c p.base to
 
-      table : swept rs (change (after_cut B 1 c base to) id (attached 1 c.pid)) ≡ V (swept rs (change gone id (attached n c.pid)))
+      table : swept rs (change (after_cut B 1 c p.base to) p.seg (attached 1 c.pid)) ≡ V (swept rs (change gone p.seg (attached n c.pid)))
       table =
-          ap (λ t. swept rs (change t id (attached 1 c.pid))) (out-cut base to)
-          ∙ ap (swept rs) (change-timeless (attached 1 c.pid) (attached n c.pid) (attached-timeless n c.pid one) gone id)
-          ∙ swept-timeless 0 rs (change gone id (attached n c.pid))
-
-  out-chosen : (id : ℕ) (x : Segment) (flags : AtFlags) (o : Option ℕ) → attaches_chosen B 1 c id (timeless_segment x) flags o ≡ timeless_outcome (attaches_chosen s n c id x flags o)
-  out-chosen id x flags None = refl
-  out-chosen id x flags (Some base) = out-attaches id x flags base
-
-  out-fixed : (id : ℕ) (x : Segment) (flags : AtFlags) (base : ℕ) → attaches_fixed B 1 c id (timeless_segment x) flags base ≡ timeless_outcome (attaches_fixed s n c id x flags base)
-  out-fixed id x flags base = let all = out-attaches id x flags base in grind arith
-
-  out-found : (flags : AtFlags) (addr : ℕ) (l : Look) → attaches_found B 1 c flags addr (timeless_look l) ≡ timeless_outcome (attaches_found s n c flags addr l)
-  out-found flags addr l = grind (arith, common_steps, timeless-destroyed, both, out-chosen, out-fixed)
+          ap (λ t. swept rs (change t p.seg (attached 1 c.pid))) (out-cut p.base to)
+          ∙ ap (swept rs) (change-timeless (attached 1 c.pid) (attached n c.pid) (attached-timeless n c.pid one) gone p.seg)
+          ∙ swept-timeless 0 rs (change gone p.seg (attached n c.pid))
 
   out-shmat : (id : ℤ) (addr : ℕ) (flags : AtFlags) → shmat B 1 c id addr flags ≡ timeless_outcome (shmat s n c id addr flags)
-  out-shmat id addr flags =
-      tests Einval (remaps_null s addr flags) _ _ _ refl
-      (tests Einval (not (addr % 4096 == 0) && not (is_rnd flags)) _ _ _ refl (ap (attaches_found B 1 c flags addr) (look-timeless T id) ∙ out-found flags addr (look T id)))
+  out-shmat id addr flags = ap (attaches_if B 1 c flags) (placed-timeless id addr flags) ∙ out-attaches flags (placed s c id addr flags)
 
   -- MUNMAP AND MPROTECT
 
@@ -179,10 +179,15 @@ module _ (s : Machine) (n : ℕ) (c : Caller) (one : masked_time n ≡ 1) where
   limit-timeless : (x : Segment) → passes_limit s.limits c.cred (V T) (timeless_segment x) ≡ passes_limit s.limits c.cred T x
   limit-timeless x = grind (arith, common_steps, locked-sum, locked_by-sum)
 
+  refusal-timeless : (x : Segment) → lock_refusal s.limits c.cred (V T) (timeless_segment x) ≡ lock_refusal s.limits c.cred T x
+  refusal-timeless x = ap (λ b. if may_not_lock s.limits c.cred then Some Eperm else if not x.locked && b then Some Enomem else None) (limit-timeless x)
+
+  out-locked : (i : ℕ) (o : Option Errno) → locks_unless B c i o ≡ timeless_outcome (locks_unless s c i o)
+  out-locked i (Some e) = refl
+  out-locked i None = out-changed i (locks_as c.cred.uid) (locks_as c.cred.uid) (locks-timeless c.cred.uid)
+
   out-locks : (i : ℕ) (x : Segment) → locks B c i (timeless_segment x) ≡ timeless_outcome (locks s c i x)
-  out-locks i x =
-      tests Eperm (may_not_lock s.limits c.cred) _ _ _ refl
-      (tests Enomem (not x.locked && passes_limit s.limits c.cred (V T) (timeless_segment x)) _ _ _ (ap (λ d. not x.locked && d) (limit-timeless x)) (out-changed i (locks_as c.cred.uid) (locks_as c.cred.uid) (locks-timeless c.cred.uid)))
+  out-locks i x = ap (locks_unless B c i) (refusal-timeless x) ∙ out-locked i (lock_refusal s.limits c.cred T x)
 
   out-sets : (uid gid mode : ℕ) (i : ℕ) (x : Segment) → sets B 1 uid gid mode i (timeless_segment x) ≡ timeless_outcome (sets s n uid gid mode i x)
   out-sets uid gid mode i x =

@@ -1,9 +1,9 @@
 -- The first words of a line decide what it says.
-use Rattle.shm_text.proofs.Names.{arith, ◌≡◌, ◌≤◌, ◌<◌, ◌+◌, refl, ℕ, List, take, length, eqb, Bool, true, false, is_some, codes, nat_lt, not, ◌&&◌, ◌||◌, if◌then◌else◌, nat_tests, length-take, common_steps, word_at, FaultKind, NoLimits, TooMany, Number, LineCall, Verb, ◌>>=◌, required_number, call_by, call_with, SeenView, taker, is_skipped, is_command, with_room, command, word_at_is, declared_pid, command_of}
+use Rattle.shm_text.proofs.Names.{arith, ◌≡◌, ◌≤◌, ◌<◌, ◌+◌, refl, ℕ, List, take, length, eqb, Bool, true, false, is_some, codes, nat_lt, not, ◌&&◌, ◌||◌, if◌then◌else◌, nat_tests, length-take, common_steps, word_at, FaultKind, TooMany, Number, LineCall, Verb, ◌>>=◌, required_number, call_by, call_with, SeenView, taker, is_skipped, is_command, with_room, command, word_at_is, declared_pid, command_of}
 use Rattle.std.specs.Prelude.{Result, Ok, Err}
 use Rattle.shm_text.specs.declared.calls.Verb.TheVariants as verbs
 use Rattle.shm_text.specs.Calls.{shmget_call, shmat_call, xadd_call, load_call, store_call, swap_call, cas_call, munmap_call, mprotect_call, set_call, fork_call, setuid_call, swapoff_call, call_words}
-use Rattle.shm_text.specs.Reading.{limits_item, rules_item, process_item, child_item, declaration, flush_item, command_item, body_item, words_item}
+use Rattle.shm_text.specs.Reading.{sizes_item, limits_item, head_item, rules_item, process_item, child_item, declaration, flush_item, command_item, body_item, words_item}
 
 pub short : (ws : List (List ℕ)) (k : ℕ) → k < 8 → eqb (length (take 8 ws)) k ≡ eqb (length ws) k
 short ws k h = rw length-take (grind (arith, nat_tests))
@@ -60,7 +60,7 @@ command_item-take seen ws =
     ) refl
 
 pub words_item-take : (seen : SeenView) (ws : List (List ℕ)) → words_item seen (take 8 ws) ≡ words_item seen ws
-unfolding words_item body_item limits_item rules_item declaration process_item child_item
+unfolding words_item body_item head_item sizes_item limits_item rules_item declaration process_item child_item
 words_item-take seen ws =
     rw (
       command_item-take seen ws,
@@ -89,7 +89,7 @@ unfolding words_item body_item command_item
 command_words seen ws is =
     chosen (with_room seen) (is_some seen.limits) (word_at_is ws 0 (codes "0")) (word_at_is ws 0 (codes "process")) (word_at_is ws 0 (codes "child")) (word_at_is ws 0 (codes "rules")) (rules_item seen ws) (declaration seen ws) (flush_item ws)
     (required_number (word_at ws 0) >>= λ pid. command seen pid (taker ws) ws)
-    (if word_at_is ws 0 (codes "limits") then limits_item ws else Err NoLimits)
+    (head_item seen ws)
     is
 
 -- the call and the pid can be read

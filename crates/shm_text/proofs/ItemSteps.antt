@@ -37,6 +37,7 @@ counts_on seen item = grind (arith, common_steps)
 -- the limits that were seen are those of the items
 limits_step : (b : Option Bounds) (front : List Item) (item : Item) → limits_after b (front ++ item ∷ []) ≡ limits_after (limits_after b front) (item ∷ [])
 limits_step b [] item = refl
+limits_step b (items.Sizes sizes ∷ front) item = limits_step b front item
 limits_step b (items.Limits c ∷ front) item = limits_step (Some c) front item
 limits_step b (items.Process p ∷ front) item = limits_step b front item
 limits_step b (items.Line l ∷ front) item = limits_step b front item
@@ -46,12 +47,14 @@ limits_go_on front seen next item e is = grind (arith, common_steps, append-nil,
 
 pub processes_in-append : (xs ys : List Item) → processes_in (xs ++ ys) ≡ processes_in xs ++ processes_in ys
 processes_in-append [] ys = refl
+processes_in-append (items.Sizes sizes ∷ xs) ys = processes_in-append xs ys
 processes_in-append (items.Limits b ∷ xs) ys = processes_in-append xs ys
 processes_in-append (items.Process p ∷ xs) ys = ap (λ l. p ∷ l) (processes_in-append xs ys)
 processes_in-append (items.Line l ∷ xs) ys = processes_in-append xs ys
 
 pub lines_in-append : (xs ys : List Item) → lines_in (xs ++ ys) ≡ lines_in xs ++ lines_in ys
 lines_in-append [] ys = refl
+lines_in-append (items.Sizes sizes ∷ xs) ys = lines_in-append xs ys
 lines_in-append (items.Limits b ∷ xs) ys = lines_in-append xs ys
 lines_in-append (items.Process p ∷ xs) ys = lines_in-append xs ys
 lines_in-append (items.Line l ∷ xs) ys = ap (λ k. l ∷ k) (lines_in-append xs ys)

@@ -3,8 +3,9 @@ use Rattle.std.specs.Prelude.{ℕ, ◌+◌, Bool, true, ◌==◌, ◌&&◌, ◌|
 use Rattle.std.specs.List.{list_all, list_any}
 use Rattle.std.specs.Option.{ok_or}
 use Rattle.std.specs.Str.{bytes_eq}
-use Rattle.shm_base.specs.Bounds.{Bounds, limits_of, ruled}
+use Rattle.shm_base.specs.Bounds.{Bounds, bounds_of, limits_of, machine_limits_of, ruled}
 use Rattle.shm_base.specs.declared.limits.BadLimits.{BadLimits as BadBounds}
+use Rattle.shm_base.specs.declared.limits.Sizes.{Sizes}
 use Rattle.shm_base.specs.declared.call.Process.{Process as Declared}
 use Rattle.shm_text.specs.declared.fault.FaultKind.{FaultKind}
 use Rattle.shm_text.specs.declared.fault.FaultKind.TheVariants.{TooLong, BadByte, NoLimits, BadLine, BadLimits, UnknownProcess, Twice, TooMany}
@@ -23,10 +24,11 @@ use Rattle.shm_text.specs.Calls.{call_words}
 use Rattle.shm_text.specs.Operand.{◌>>=◌, required_number, ranged, within_64_bits, letter_of}
 use Rattle.shm_text.specs.Rules.{rules_word}
 use Rattle.shm_text.specs.Words.{is_allowed, words_of, lines_of, word_at}
-use Rattle.shm_base.specs.declared.bounds.TheConstants.{LAST_PID, LONGEST_SCRIPT, MOST_COMMANDS, MOST_FLUSHED}
+use Rattle.shm_base.specs.declared.bounds.TheConstants.{LAST_PID, LONGEST_SCRIPT, MOST_COMMANDS, MOST_FLUSHED, MOST_PROCESSES}
 
 -- what the lines above a line said
 pub record SeenView : Type 0 where
+  pub sizes : Option Sizes
   pub limits : Option Bounds
   pub pids : List ℕ
   pub commands : ℕ
@@ -35,14 +37,59 @@ pub record SeenView : Type 0 where
 abbrev pub word_at_is : List (List ℕ) → ℕ → List ℕ → Bool
 word_at_is ws i text = bytes_eq (word_at ws i) text
 
--- LIMITS, RULES AND PROCESSES
+-- SIZES, LIMITS, RULES AND PROCESSES
+
+-- a request for the smallest machine, in which a sizes line and then the limits line replace the numbers
+abbrev pub smallest : Sizes
+smallest =
+    record {
+      shmmax = 1;
+      shmmni = 1;
+      shmall = 1;
+      frames = 2;
+      memlock = 0;
+      most_pieces = 1;
+      most_processes = 1;
+      most_slots = 1;
+      rules = record { 0 = 0 };
+    }
+
+abbrev pub sizes_by : Sizes → Result Bounds BadBounds → Result Item FaultKind
+sizes_by sizes (Ok b) = Ok (items.Sizes sizes)
+sizes_by sizes (Err e) = Err (BadLimits e.0)
+
+-- sizes within the ranges of any machine
+abbrev pub tested_sizes : Sizes → Result Item FaultKind
+tested_sizes sizes = sizes_by sizes (machine_limits_of (bounds_of sizes))
+
+unfoldable pub sizes_item : List (List ℕ) → Result Item FaultKind
+sizes_item ws = if length ws == 4 then (do
+  pieces ← required_number (word_at ws 1)
+  processes ← required_number (word_at ws 2)
+  slots ← required_number (word_at ws 3)
+  pieces ← within_64_bits pieces
+  processes ← within_64_bits processes
+  slots ← within_64_bits slots
+  tested_sizes (record smallest { most_pieces = pieces; most_processes = processes; most_slots = slots })) else Err BadLine
+
+-- five limits within the ranges of the profile; below a sizes line within those of any machine, with its sizes
+abbrev pub limits_below : Option Sizes → ℕ → ℕ → ℕ → ℕ → ℕ → Result Bounds BadBounds
+limits_below None shmmax shmmni shmall frames memlock = limits_of shmmax shmmni shmall frames memlock
+limits_below (Some sizes) shmmax shmmni shmall frames memlock =
+    machine_limits_of (bounds_of (record sizes {
+      shmmax = shmmax;
+      shmmni = shmmni;
+      shmall = shmall;
+      frames = frames;
+      memlock = memlock;
+    }))
 
 abbrev pub limits_by : Result Bounds BadBounds → Result Item FaultKind
 limits_by (Ok b) = Ok (items.Limits b)
 limits_by (Err e) = Err (BadLimits e.0)
 
-unfoldable pub limits_item : List (List ℕ) → Result Item FaultKind
-limits_item ws = if length ws == 6 then (do
+unfoldable pub limits_item : Option Sizes → List (List ℕ) → Result Item FaultKind
+limits_item sizes ws = if length ws == 6 then (do
   shmmax ← required_number (word_at ws 1)
   shmmni ← required_number (word_at ws 2)
   shmall ← required_number (word_at ws 3)
@@ -53,7 +100,7 @@ limits_item ws = if length ws == 6 then (do
   shmall ← within_64_bits shmall
   frames ← within_64_bits frames
   memlock ← within_64_bits memlock
-  limits_by (limits_of shmmax shmmni shmall frames memlock)) else Err BadLine
+  limits_by (limits_below sizes shmmax shmmni shmall frames memlock)) else Err BadLine
 
 -- the limits, while no rule holds
 abbrev pub without_rules : Option Bounds → Option Bounds
@@ -74,11 +121,20 @@ rules_item seen ws = if length ws == 2 then (do
 abbrev pub is_declared : SeenView → ℕ → Bool
 is_declared seen pid = list_any (λ p. p == pid) seen.pids
 
--- a process that is not declared above and is not the 65th
+-- how many processes may be declared
+abbrev pub most_declared : Option Bounds → ℕ
+most_declared None = 0
+most_declared (Some b) = b.most_processes
+
+-- no more processes may be declared
+abbrev pub is_full : SeenView → Bool
+is_full seen = nat_le (most_declared seen.limits) (length seen.pids)
+
+-- a process that is not declared above, if one more may be declared
 abbrev pub declared : SeenView → Declared → Result Item FaultKind
 declared seen p =
     if is_declared seen p.pid then Err Twice else
-    if nat_le 64 (length seen.pids) then Err TooMany else
+    if is_full seen then Err TooMany else
     Ok (items.Process p)
 
 unfoldable pub process_item : SeenView → List (List ℕ) → Result Item FaultKind
@@ -165,11 +221,16 @@ body_item seen ws =
 abbrev pub is_skipped : List (List ℕ) → Bool
 is_skipped ws = (length ws == 0) || (slice_index (word_at ws 0) 0 == 35)
 
+-- the limits line, or the sizes line above it
+unfoldable pub head_item : SeenView → List (List ℕ) → Result Item FaultKind
+head_item seen ws =
+    if word_at_is ws 0 (codes "limits") then limits_item seen.sizes ws else
+    if not (word_at_is ws 0 (codes "sizes")) then Err NoLimits else
+    if is_some seen.sizes then Err BadLine else
+    sizes_item ws
+
 unfoldable pub words_item : SeenView → List (List ℕ) → Result Item FaultKind
-words_item seen ws =
-    if is_some seen.limits then body_item seen ws else
-    if word_at_is ws 0 (codes "limits") then limits_item ws else
-    Err NoLimits
+words_item seen ws = if is_some seen.limits then body_item seen ws else head_item seen ws
 
 -- a command of a process comes after the limits, and does not begin with a word of another kind of line
 abbrev pub is_command : SeenView → List (List ℕ) → Bool
@@ -190,6 +251,7 @@ line_item seen line =
     else Err BadByte
 
 abbrev pub seen_with : SeenView → Item → SeenView
+seen_with seen (items.Sizes sizes) = record seen { sizes = Some sizes }
 seen_with seen (items.Limits b) = record seen { limits = Some b }
 seen_with seen (items.Process p) = record seen { pids = seen.pids ++ p.pid ∷ [] }
 seen_with seen (items.Line l) = record seen { commands = seen.commands + 1 }
@@ -199,7 +261,7 @@ seen_next seen None = seen
 seen_next seen (Some item) = seen_with seen item
 
 abbrev pub nothing : SeenView
-nothing = record { limits = None; pids = []; commands = 0 }
+nothing = record { sizes = None; limits = None; pids = []; commands = 0 }
 
 -- THE SCRIPT
 
@@ -222,6 +284,7 @@ items_of n seen (line ∷ more) = do
 -- the last limits among the items, or `b` if there are none
 abbrev pub limits_after : Option Bounds → List Item → Option Bounds
 limits_after b [] = b
+limits_after b (items.Sizes sizes ∷ rest) = limits_after b rest
 limits_after b (items.Limits c ∷ rest) = limits_after (Some c) rest
 limits_after b (items.Process p ∷ rest) = limits_after b rest
 limits_after b (items.Line l ∷ rest) = limits_after b rest
@@ -229,6 +292,7 @@ limits_after b (items.Line l ∷ rest) = limits_after b rest
 -- the declared processes, in file order
 abbrev pub processes_in : List Item → List Declared
 processes_in [] = []
+processes_in (items.Sizes sizes ∷ rest) = processes_in rest
 processes_in (items.Limits b ∷ rest) = processes_in rest
 processes_in (items.Process p ∷ rest) = p ∷ processes_in rest
 processes_in (items.Line l ∷ rest) = processes_in rest
@@ -236,6 +300,7 @@ processes_in (items.Line l ∷ rest) = processes_in rest
 -- the command and flush lines, in file order
 abbrev pub lines_in : List Item → List Line
 lines_in [] = []
+lines_in (items.Sizes sizes ∷ rest) = lines_in rest
 lines_in (items.Limits b ∷ rest) = lines_in rest
 lines_in (items.Process p ∷ rest) = lines_in rest
 lines_in (items.Line l ∷ rest) = l ∷ lines_in rest
@@ -297,7 +362,7 @@ pub record Takes (said : Result (Option Item) FaultKind) (seen next : SeenView) 
 
 -- if an item declares a process, there is room for its pid
 abbrev pub HasPlace : SeenView → Item → Type 0
-HasPlace seen (items.Process p) = length seen.pids < 64
+HasPlace seen (items.Process p) = length seen.pids < MOST_PROCESSES
 HasPlace seen _ = Unit {0}
 
 abbrev pub IsLine : Item → Type 0
@@ -307,3 +372,7 @@ IsLine _ = ⊥
 abbrev pub IsLimits : Item → Type 0
 IsLimits (items.Limits b) = Unit {0}
 IsLimits _ = ⊥
+
+abbrev pub IsSizes : Item → Type 0
+IsSizes (items.Sizes sizes) = Unit {0}
+IsSizes _ = ⊥

@@ -9,8 +9,8 @@ use thiserror::Error;
 ///
 /// - `TooLong`: the script has more than 1,048,576 bytes.
 /// - `BadByte`: a byte that is neither a tab nor 0x20 to 0x7e.
-/// - `NoLimits`: the first line with words does not begin with `limits`, or there is no such line and this is
-///   line 1.
+/// - `NoLimits`: the first line with words begins neither with `sizes` nor with `limits`, or the first one
+///   below the sizes not with `limits`; or there is no limits line, and this is line 1.
 /// - `BadLine`: the words have no form of the language.
 /// - `LengthsDiffer`: the two operands of a `cas` do not have the same number of bytes.
 /// - `TooWide`: a variable before a `swap` or `cas` of more than eight bytes.
@@ -18,7 +18,7 @@ use thiserror::Error;
 /// - `BadLimits`: the limits are refused, with the number of the first that is out of its range.
 /// - `UnknownProcess`: the pid of a command, or the child of a fork, is not declared above.
 /// - `Twice`: the pid is declared above.
-/// - `TooMany`: the 65th process, or the 100,001st command or flush line.
+/// - `TooMany`: one process more than the limits allow, or the 100,001st command or flush line.
 #[derive(Clone, Copy, Debug, PartialEq, Eq)]
 pub enum FaultKind {
     TooLong,

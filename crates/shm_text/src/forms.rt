@@ -1,7 +1,7 @@
 //! The forms of lines.
 ghost use Rattle.std.specs.Prelude.{◌≡◌, ◌<◌, ◌≤◌, length, true, false, Err, IfOk, OnOk, IfErr};
 ghost use Rattle.shm_text.specs.Form.{is_pid};
-ghost use Rattle.shm_text.specs.Reading.{limits_item, rules_item, limits_by, process_item, child_item, declared, declaration, taker, known, known_child, declared_pid, flush_item, words_item, line_item, is_command, with_room, some_item, is_skipped, HasPlace, Takes, IsLimits, IsLine};
+ghost use Rattle.shm_text.specs.Reading.{tested_sizes, sizes_item, limits_item, rules_item, limits_by, process_item, child_item, declared, declaration, taker, known, known_child, declared_pid, flush_item, head_item, words_item, line_item, is_command, with_room, some_item, is_skipped, HasPlace, Takes, IsLimits, IsLine, IsSizes};
 
 use crate::calls::call_words;
 use crate::fault::FaultKind;
@@ -13,11 +13,59 @@ use crate::reading::Seen;
 use crate::rules::rules_word;
 use crate::script::{Command, FlushLine, Item, Line, LineCall, Variable};
 use crate::words::Words;
-use shm_base::{BadLimits, Call, Cred, LAST_PID, Limits, MOST_COMMANDS, MOST_FLUSHED, Process};
+use shm_base::{
+    BadLimits, Call, Cred, LAST_PID, Limits, MOST_COMMANDS, MOST_FLUSHED, Process, Rules, Sizes,
+};
+
+/// A request for the smallest machine, in which a sizes line and then the limits line replace the numbers.
+const SMALLEST: Sizes = Sizes {
+    shmmax: 1,
+    shmmni: 1,
+    shmall: 1,
+    frames: 2,
+    memlock: 0,
+    most_pieces: 1,
+    most_processes: 1,
+    most_slots: 1,
+    rules: Rules::PROFILE,
+};
+
+// Sizes within the ranges of any machine.
+fn tested_sizes(sizes: Sizes) -> Result<Item, FaultKind>
+    ensures value { result ≡ tested_sizes sizes }
+    ensures item { IfOk result IsSizes }
+{
+    match Limits::of(&sizes) {
+        Ok(_) => Ok(Item::Sizes(sizes)),
+        Err(bad) => Err(FaultKind::BadLimits(bad.0)),
+    }
+}
+
+#[tactic(auto, unfolding(crate::specs::Reading::sizes_item))]
+fn sizes_item(words: &Words<'_>) -> Result<Item, FaultKind>
+    ensures value { result ≡ sizes_item words.now }
+    ensures item { IfOk result IsSizes }
+{
+    if words.len() != 4 {
+        return Err(FaultKind::BadLine);
+    }
+    let pieces = required_number(words.at(1))?;
+    let processes = required_number(words.at(2))?;
+    let slots = required_number(words.at(3))?;
+    let pieces = within_64_bits(pieces)?;
+    let processes = within_64_bits(processes)?;
+    let slots = within_64_bits(slots)?;
+    tested_sizes(Sizes {
+        most_pieces: pieces,
+        most_processes: processes,
+        most_slots: slots,
+        ..SMALLEST
+    })
+}
 
 #[tactic(auto, unfolding(crate::specs::Reading::limits_item))]
-fn limits_item(words: &Words<'_>) -> Result<Item, FaultKind>
-    ensures value { result ≡ limits_item words.now }
+fn limits_item(sizes: Option<Sizes>, words: &Words<'_>) -> Result<Item, FaultKind>
+    ensures value { result ≡ limits_item sizes words.now }
     ensures item { IfOk result IsLimits }
 {
     if words.len() != 6 {
@@ -33,7 +81,17 @@ fn limits_item(words: &Words<'_>) -> Result<Item, FaultKind>
     let shmall = within_64_bits(shmall)?;
     let frames = within_64_bits(frames)?;
     let memlock = within_64_bits(memlock)?;
-    limits_by(Limits::new(shmmax, shmmni, shmall, frames, memlock))
+    limits_by(match sizes {
+        None => Limits::new(shmmax, shmmni, shmall, frames, memlock),
+        Some(sizes) => Limits::of(&Sizes {
+            shmmax,
+            shmmni,
+            shmall,
+            frames,
+            memlock,
+            ..sizes
+        }),
+    })
 }
 
 fn limits_by(limits: Result<Limits, BadLimits>) -> Result<Item, FaultKind>
@@ -195,7 +253,26 @@ fn counted_flush(seen: &Seen, words: &Words<'_>) -> Result<Item, FaultKind>
     }
 }
 
-// A line that is not a command of a process: the limits, rules, a process, or a flush round.
+// The limits line, or the sizes line above it.
+#[tactic(auto, unfolding(crate::specs::Reading::head_item))]
+fn head_item(seen: &Seen, words: &Words<'_>) -> Result<Item, FaultKind>
+    requires { 0 < length words.now }
+    ensures value { result ≡ head_item seen.now words.now }
+    ensures place { IfOk result (λ item. HasPlace seen.now item) }
+{
+    let sizes = seen.sizes();
+    if words.is(0, b"limits") {
+        limits_item(sizes, words)
+    } else if !words.is(0, b"sizes") {
+        Err(FaultKind::NoLimits)
+    } else if sizes.is_some() {
+        Err(FaultKind::BadLine)
+    } else {
+        sizes_item(words)
+    }
+}
+
+// A line that is not a command of a process: sizes, limits, rules, a process, or a flush round.
 #[tactic(auto, unfolding(crate::specs::Reading::words_item, crate::specs::Reading::body_item, crate::specs::Reading::command_item))]
 fn other_item(seen: &Seen, words: &Words<'_>) -> Result<Item, FaultKind>
     requires words { 0 < length words.now }
@@ -211,10 +288,8 @@ fn other_item(seen: &Seen, words: &Words<'_>) -> Result<Item, FaultKind>
         } else {
             declaration(seen, words)
         }
-    } else if words.is(0, b"limits") {
-        limits_item(words)
     } else {
-        Err(FaultKind::NoLimits)
+        head_item(seen, words)
     }
 }
 

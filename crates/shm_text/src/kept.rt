@@ -64,7 +64,7 @@ impl Kept {
                     self.is_whole = false;
                 }
             }
-            Item::Limits(_) => {}
+            Item::Sizes(_) | Item::Limits(_) => {}
         }
     }
 

@@ -1,7 +1,7 @@
 //! Reads a script line by line.
-ghost use Rattle.std.specs.Prelude.{◌≡◌, ◌<◌, ◌≤◌, ◌+◌, ◌/◌, IfOk, IfErr, Ok, length, not, nat_le, is_some, min};
+ghost use Rattle.std.specs.Prelude.{◌≡◌, ◌<◌, ◌≤◌, ◌+◌, ◌/◌, IfOk, IfErr, Ok, length, not, false, is_some, min};
 ghost use Rattle.std.specs.List.{list_all};
-ghost use Rattle.shm_text.specs.Reading.{unruled, script_of_lines, script_of, without_words, is_wordless, nothing, seen_with, is_declared, IsFaultOf, HasPlace};
+ghost use Rattle.shm_text.specs.Reading.{unruled, script_of_lines, script_of, without_words, is_wordless, nothing, seen_with, is_declared, is_full, IsFaultOf, HasPlace};
 ghost use Rattle.shm_text.specs.Words.{lines_of};
 
 use crate::fault::{FaultKind, ReadRefused, ScriptFault};
@@ -11,16 +11,17 @@ use crate::lines::Lines;
 use crate::script::{Item, Script};
 use arrayvec::ArrayVec;
 use bitflags::Flags;
-use shm_base::{LONGEST_SCRIPT, Limits, MOST_COMMANDS, PROFILE_PROCESSES};
+use shm_base::{LONGEST_SCRIPT, Limits, MOST_COMMANDS, MOST_PROCESSES, Sizes};
 use std::alloc::Global;
 use std::marker::Model;
 
-/// What the lines above a line said: whether there were limits, the declared pids, and the number of command
-/// and flush lines.
+/// What the lines above a line said: the sizes, the limits, the declared pids, and the number of command and
+/// flush lines. The pids are kept in the value itself, so that they are known after a refusal of memory.
 #[derive(Drop)]
 pub(crate) struct Seen {
+    sizes: Option<Sizes>,
     limits: Option<Limits>,
-    pids: ArrayVec<u32, PROFILE_PROCESSES>,
+    pids: ArrayVec<u32, MOST_PROCESSES>,
     commands: u32,
 }
 
@@ -29,7 +30,12 @@ impl Model for Seen {
 
     ghost Value = { SeenView };
 
-    ghost view = { λ s. record { limits = s.limits; pids = s.pids.items; commands = s.commands } };
+    ghost view = { λ s. record {
+      sizes = s.sizes;
+      limits = s.limits;
+      pids = s.pids.items;
+      commands = s.commands;
+    } };
 }
 
 impl Seen {
@@ -37,10 +43,17 @@ impl Seen {
         ensures { result ≡ nothing }
     {
         Seen {
+            sizes: None,
             limits: None,
             pids: ArrayVec::new(),
             commands: 0,
         }
+    }
+
+    pub(crate) fn sizes(&self) -> Option<Sizes>
+        ensures { result ≡ self.now.sizes }
+    {
+        self.sizes
     }
 
     pub(crate) fn has_limits(&self) -> bool
@@ -63,9 +76,13 @@ impl Seen {
 
     /// Whether no more processes can be declared.
     pub(crate) fn is_full(&self) -> bool
-        ensures { result ≡ nat_le 64 (length self.now.pids) }
+        ensures value { result ≡ is_full self.now }
+        ensures room { result ≡ false → length self.now.pids < MOST_PROCESSES }
     {
-        self.pids.len() >= PROFILE_PROCESSES
+        match &self.limits {
+            Some(limits) => self.pids.len() >= limits.most_processes() as usize,
+            None => true,
+        }
     }
 
     /// The limits, while rules may follow them: no rule holds yet, and nothing else is above.
@@ -95,6 +112,7 @@ impl Seen {
         ensures { self.new ≡ seen_with self.old item.now }
     {
         match item {
+            Item::Sizes(sizes) => self.sizes = Some(*sizes),
             Item::Limits(limits) => self.limits = Some(*limits),
             Item::Process(process) => self.pids.push(process.pid),
             Item::Line(_) => self.count(),
@@ -153,7 +171,7 @@ fn without_words(bytes: &[u8]) -> ScriptFault
 /// The bytes of a short line such as `1 rmid s`.
 const SHORT_LINE: usize = 8;
 
-/// A missing limits line is reported at line 1.
+/// If the text ends without a limits line, that is reported at line 1.
 const NO_LIMITS: ScriptFault = ScriptFault {
     line: 1,
     kind: FaultKind::NoLimits,

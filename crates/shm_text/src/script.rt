@@ -1,7 +1,7 @@
 //! A script's values, by their types.
 ghost use Rattle.std.specs.Prelude.{◌≡◌, ◌≤◌, ◌↔◌, IsSome, IfSome};
 
-use shm_base::{Call, Limits, MOST_FLUSHED, Process};
+use shm_base::{Call, Limits, MOST_FLUSHED, Process, Sizes};
 use std::marker::Model;
 
 /// A variable of a process: one letter, a to z. Contracts see its byte.
@@ -206,6 +206,7 @@ impl Model for Script {
 /// What one line says, if it says something.
 #[derive(Debug, Drop)]
 pub(crate) enum Item {
+    Sizes(Sizes),
     Limits(Limits),
     Process(Process),
     Line(Line),

@@ -1,11 +1,12 @@
 -- A call of a live process never fails with ESRCH.
-use Rattle.std.specs.Prelude.{◌≡◌, ◌≢◌, ◌+◌, ◌-◌, ◌%◌, ◌^◌, ◌==◌, ◌&&◌, ℕ, suc, zero, ℤ, Bool, true, false, not, nat_le, nat_lt, List, ◌∷◌, length, Option, Some, None, Result, is_some, if◌then◌else◌}
+use Rattle.std.specs.Prelude.{◌≡◌, ◌≢◌, ◌+◌, ◌-◌, ◌*◌, ◌%◌, ◌^◌, ◌==◌, ◌&&◌, ℕ, suc, zero, ℤ, Bool, true, false, not, nat_le, nat_lt, List, ◌∷◌, length, Option, Some, None, Result, Ok, Err, ⊤, is_some, if◌then◌else◌}
+use Rattle.std.specs.Option.{ok_or}
 use Rattle.std.proofs.Common.{sym, ap, ◌∙◌, refl, arith, inl, inr, true≢false}
 use Rattle.std.proofs.lemmas.Grind.{common_steps}
 use Rattle.shm_base.specs.Bounds.{within}
 use Rattle.shm_base.specs.Calls.{ProcessCall}
 use Rattle.shm_base.specs.History.{IsMove, is_failure}
-use Rattle.shm_base.specs.Identifier.{Found, Invalid, Look, Removed, find_key, free_index, look}
+use Rattle.shm_base.specs.Identifier.{Found, Invalid, Look, Removed, destroyed_at, find_key, free_index, identifier, look}
 use Rattle.shm_base.specs.Permission.{grants, wish_of}
 use Rattle.shm_base.specs.Rules.{pieces_are_enomem, removed_is_invalid}
 use Rattle.shm_base.specs.Segments.{reserved, slots}
@@ -14,13 +15,14 @@ use Rattle.shm_base.specs.Mapping.{Protected, done_or, has_protection, munmap, p
 use Rattle.shm_base.specs.Space.{choose, covering, cut, end_address, inside}
 use Rattle.shm_base.specs.State.{Machine, Piece, Segment, pages_in, pages_of}
 use Rattle.shm_base.specs.Callers.{Caller, Outcome, caller_of}
-use Rattle.shm_base.specs.Step.{acts, at_wish, attaches, attaches_chosen, attaches_fixed, attaches_found, creates, creates_at, creates_small, gets, huge_errno, is_full, is_rnd, is_taken, pieces_with, remaps_null, shmat, step_by, wants_creation, wants_no_other}
+use Rattle.shm_base.specs.Step.{acts, at_wish, attaches_if, base_for, creates, creates_at, creates_small, fixed_base, gets, huge_errno, if_few, is_full, is_misplaced, is_taken, outside_errno, pieces_beside, placed, placed_at, placed_found, shmat, step_by, wants_creation, wants_no_other}
 use Rattle.shm_base.specs.declared.call.Call.TheVariants.{Mprotect, Munmap, Shmat, Shmget}
 use Rattle.shm_base.specs.declared.call.Event.{Event}
+use Rattle.shm_base.specs.declared.call.Placed.{Placed}
 use Rattle.shm_base.specs.declared.call.Reply.{Reply}
 use Rattle.shm_base.specs.declared.call.Reply.TheVariants.{Refused}
 use Rattle.shm_base.specs.declared.errno.Errno.{Errno}
-use Rattle.shm_base.specs.declared.errno.Errno.TheVariants.{Esrch}
+use Rattle.shm_base.specs.declared.errno.Errno.TheVariants.{Enomem, Esrch}
 use Rattle.shm_base.specs.declared.flags.AtFlags.{AtFlags}
 use Rattle.shm_base.specs.declared.flags.GetFlags.{GetFlags}
 use Rattle.shm_laws.proofs.Stepping.{pick}
@@ -36,6 +38,15 @@ IsFound o = is_lost o.reply ≡ false
 pick_errno : (s : Machine) (b : Bool) (e f : Errno) → is_lost (Refused e) ≡ false → is_lost (Refused f) ≡ false → is_lost (Refused (if b then e else f)) ≡ false
 pick_errno s true e f p q = p
 pick_errno s false e f p q = q
+
+-- a refusal that is not ESRCH
+abbrev IsNamed : {A : Type 0} → Result A Errno → Type 0
+IsNamed (Err e) = is_lost (Refused e) ≡ false
+IsNamed (Ok a) = ⊤
+
+if-named : {A : Type 0} (b : Bool) (r q : Result A Errno) → IsNamed r → IsNamed q → IsNamed (if b then r else q)
+if-named true r q h k = h
+if-named false r q h k = k
 
 -- A PROTECTION
 
@@ -87,30 +98,42 @@ module _ (s : Machine) (n : ℕ) (c : Caller) where
   found-gets key size mode flags Removed = pick IsFound (wants_creation flags) _ _ (found-creates key size mode flags) refl
   found-gets key size mode flags Invalid = pick IsFound (wants_creation flags) _ _ (found-creates key size mode flags) refl
 
-  found-attaches : (id : ℕ) (x : Segment) (flags : AtFlags) (base : ℕ) → IsFound (attaches s n c id x flags base)
-  found-attaches id x flags base = pick IsFound (nat_lt s.limits.most_pieces (length (pieces_with c id x flags base))) _ _ (pick_errno s (pieces_are_enomem s.limits.rules) _ _ refl refl) refl
+  -- THE PLACE OF AN ATTACH
 
-  found-chosen : (id : ℕ) (x : Segment) (flags : AtFlags) (o : Option ℕ) → IsFound (attaches_chosen s n c id x flags o)
-  found-chosen id x flags None = refl
-  found-chosen id x flags (Some base) = found-attaches id x flags base
+  few : (p : Placed) → IsNamed (if_few s c p)
+  few p = if-named (nat_lt s.limits.most_pieces (length (pieces_beside c p) + 1)) _ _ (pick_errno s (pieces_are_enomem s.limits.rules) _ _ refl refl) tt
 
-  found-fixed : (id : ℕ) (x : Segment) (flags : AtFlags) (base : ℕ) → IsFound (attaches_fixed s n c id x flags base)
-  found-fixed id x flags base =
-      pick IsFound (is_taken s c x flags base) _ _ refl
-      (pick IsFound (is_full s c) _ _ refl
-      (pick IsFound (not (inside base (pages_in x))) _ _ (grind (arith, common_steps)) (found-attaches id x flags base)))
+  named-at : (seg pages : ℕ) (r : Result ℕ Errno) → IsNamed r → IsNamed (placed_at s c seg pages r)
+  named-at seg pages (Err e) h = h
+  named-at seg pages (Ok base) h = few (record { seg = seg; pages = pages; base = base })
 
-  found-look : (flags : AtFlags) (addr : ℕ) (l : Look) → IsFound (attaches_found s n c flags addr l)
-  found-look flags addr Invalid = refl
-  found-look flags addr Removed = pick_errno s (removed_is_invalid s.limits.rules) _ _ refl refl
-  found-look flags addr (Found i x) =
-      pick IsFound (not (grants c.cred x.perm (at_wish s flags))) _ _ refl
-      (pick IsFound (addr == 0) _ _ (found-chosen _ x flags (choose c.pieces (pages_in x))) (found-fixed _ x flags (addr - addr % 4096)))
+  named-chosen : (o : Option ℕ) → IsNamed (ok_or o Enomem)
+  named-chosen None = refl
+  named-chosen (Some base) = tt
+
+  named-fixed : (x : Segment) (flags : AtFlags) (base : ℕ) → IsNamed (fixed_base s c x flags base)
+  named-fixed x flags base =
+      if-named (is_taken s c x flags base) _ _ refl
+      (if-named (is_full s c) _ _ refl (if-named (not (inside base (pages_in x))) (Err (outside_errno s c (base + 4096 * pages_in x))) (Ok base) (grind (arith, common_steps)) tt))
+
+  named-base : (x : Segment) (flags : AtFlags) (addr : ℕ) → IsNamed (base_for s c x flags addr)
+  named-base x flags addr = if-named (addr == 0) _ _ (named-chosen (choose c.pieces (pages_in x))) (named-fixed x flags (addr - addr % 4096))
+
+  named-found : (flags : AtFlags) (addr : ℕ) (l : Look) → IsNamed (placed_found s c flags addr l)
+  named-found flags addr Invalid = refl
+  named-found flags addr Removed = pick_errno s (removed_is_invalid s.limits.rules) _ _ refl refl
+  named-found flags addr (Found i x) =
+      if-named (not (grants c.cred x.perm (at_wish s flags))) _ _ refl (named-at (identifier i (destroyed_at s.table i)) (pages_in x) (base_for s c x flags addr) (named-base x flags addr))
+
+  found-attaches : (flags : AtFlags) (r : Result Placed Errno) → IsNamed r → IsFound (attaches_if s n c flags r)
+  found-attaches flags (Err e) h = h
+  found-attaches flags (Ok p) h = refl
 
   found-shmat : (id : ℤ) (addr : ℕ) (flags : AtFlags) → IsFound (shmat s n c id addr flags)
   found-shmat id addr flags =
-      pick IsFound (remaps_null s addr flags) _ _ refl
-      (pick IsFound (not (addr % 4096 == 0) && not (is_rnd flags)) _ _ refl (found-look flags addr (look s.table id)))
+      found-attaches flags (placed s c id addr flags) (if-named (is_misplaced s addr flags) _ _ refl (named-found flags addr (look s.table id)))
+
+  -- THE OTHER CALLS
 
   found-unmaps : (from : ℕ) (b : Bool) (r q : Result ℕ Errno) → IsFound (unmaps s n c from r) → IsFound (unmaps s n c from q) → IsFound (unmaps s n c from (if b then r else q))
   found-unmaps from true r q h k = h

@@ -239,7 +239,7 @@ module _ (s : Machine) (n pid : ℕ) (c : Caller) (live : caller_of s pid ≡ So
             | inr refused ↦ true≢false (sym refused ∙ shows.1)
           ]
   ages-hands call o (inr (inl k)) goes stays =
-      let new : Runner = record { pid = c.pid; life = Live c.cred; pieces = pieces_with c k.seg k.segment k.flags k.base } in
+      let new : Runner = record { pid = c.pid; life = Live c.cred; pieces = pieces_with c k.flags k.place } in
       let still : Still call o.reply = λ q forked. absurd (let no = rw k.asked at forked in cc no) in
       rw k.runners (set-caller call o.reply new refl still (rw goes (c.cred, refl)))
   ages-hands call o (inr (inr (inl k))) goes stays = absurd (stays k)

@@ -1,9 +1,11 @@
-use Rattle.shm_attach.proofs.Names.{◌≡◌, ◌++◌, ◌∷◌, [], ℕ, List, Option, length, arith, common_steps, TrueTable}
+use Rattle.std.proofs.Common.{arith}
+use Rattle.shm_fault.specs.Store.{frame_of}
+use Rattle.shm_attach.proofs.Untouched.{true-rest}
 use Rattle.shm_attach.proofs.table.Table.extend.Goals as goal
 
--- one more frame, which is that of its page
-true-push : (at : ℕ → ℕ → Option ℕ) (seg count : ℕ) (fs : List (Option ℕ)) (f : Option ℕ) → TrueTable at (record { seg = seg; count = count; frames = fs }) → f ≡ at seg (length fs) → TrueTable at (record { seg = seg; count = count; frames = fs ++ f ∷ [] })
-true-push at seg count fs f true here = λ j lt. grind (arith, common_steps, true j)
-
-pub loop-page-preserved : goal.loop-page-preserved
-loop-page-preserved g c = grind (arith, common_steps, true-push, c.loop-page.invariant, c.push_reserved.ensures, c.frame_of.ensures)
+pub returns-clause-translated : goal.returns-clause-translated
+returns-clause-translated g c = λ h.
+    let s = c.loop-page.self-inside in
+    let loop = c.loop-page.invariant in
+    true-rest (frame_of c.args.store.now) s.seg s.count c.args.pages s.frames.items (omega (arith, loop.written, loop.few)) (loop.translated (rw c.reserve.ensures.items (rw (← c.self.view_is) at h)))
+    (λ page past lt. rw loop.seg (c.touched.ensures.rest page (omega (arith, past, lt, loop.written, c.loop-page-test.false, c.min-page-end.ensures))))

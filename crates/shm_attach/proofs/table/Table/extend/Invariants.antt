@@ -1,13 +1,20 @@
-use Rattle.shm_attach.proofs.Names.{◌≡◌, ◌≤◌, length, vec_capacity, frame_of, TrueTable}
+use Rattle.std.specs.Prelude.{◌≡◌, ◌≤◌, None, length, vec_capacity}
+use Rattle.shm_base.specs.Stored.{padded}
+use Rattle.shm_fault.specs.Store.{frame_of}
+use Rattle.shm_attach.specs.Table.{TrueTable}
 use Rattle.shm_attach.proofs.table.Table.extend.Given as goal
 
--- the pages so far, and room for the others
+-- the frames so far, and room for the others
 abbrev pub invariant-loop-page : goal.invariant-loop-page
 invariant-loop-page g l =
+    let old = l.initial.self-inside in
+    let now = l.self-inside in
     record {
-      seg : l.self-inside.seg ≡ l.initial.self-inside.seg;
-      count : l.self-inside.count ≡ l.initial.self-inside.count;
-      pages : length l.self-inside.frames.items ≡ l.page;
-      room : l.pages ≤ vec_capacity l.self-inside.frames;
-      translated : TrueTable (frame_of l.store) (record { seg = l.initial.self-inside.seg; count = l.initial.self-inside.count; frames = l.initial.self-inside.frames.items }) → TrueTable (frame_of l.store) (record { seg = l.self-inside.seg; count = l.self-inside.count; frames = l.self-inside.frames.items });
+      seg : now.seg ≡ old.seg;
+      count : now.count ≡ old.count;
+      pages : now.pages ≡ old.pages;
+      written : length now.frames.items ≡ l.page;
+      few : l.page ≤ l.pages;
+      room : l.pages ≤ vec_capacity now.frames;
+      translated : TrueTable (frame_of l.store) (record { seg = old.seg; count = old.count; frames = padded old.frames.items old.pages None }) → TrueTable (frame_of l.store) (record { seg = now.seg; count = now.count; frames = now.frames.items });
     }

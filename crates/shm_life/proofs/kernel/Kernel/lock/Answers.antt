@@ -1,6 +1,6 @@
-use Rattle.shm_life.proofs.Names.{arith, rules, ◌≡◌, ◌%◌, ◌≤◌, length, List, [], Some, None, refl, sym, ap, ◌∙◌, to_z, of_z, w32, Entry, change, locked, lockable, locks, gives, Done, IsFound, relocked, segment_seen, caller_seen, change-index, Head, whole, StoreView}
-use Rattle.shm_life.specs.Looking.{lock_refusal}
-use Rattle.shm_life.proofs.Changed.{relocked-well, lock-few, lock-granted, lock-outcome, locked_outcome}
+use Rattle.shm_life.proofs.Names.{arith, rules, ◌≡◌, ◌%◌, ◌≤◌, length, List, [], Some, None, refl, sym, ap, ◌∙◌, to_z, of_z, w32, Entry, change, locked, lockable, locks, locks_unless, gives, Done, IsFound, relocked, segment_seen, caller_seen, change-index, Head, whole, StoreView}
+use Rattle.shm_base.specs.Locking.{lock_refusal}
+use Rattle.shm_life.proofs.Changed.{relocked-well, lock-few, lock-granted}
 use Rattle.shm_life.proofs.Running.{refused_as, keeps_refl, locking}
 use Rattle.shm_life.proofs.kernel.Kernel.lock.Given.{Over}
 use Rattle.shm_life.proofs.kernel.Kernel.lock.Goals as goal
@@ -22,8 +22,7 @@ returns-in-Some g c = λ n.
     let k = caller_seen c.args.caller.now m.runners in
     let refusal : lock_refusal m.limits k.cred m.table (segment_seen m.table f) ≡ Some c.in-Some.errno = sym c.lock_refusal.ensures ∙ c.in-Some.is in
     let signed : to_z w32 (of_z w32 c.args.id) ≡ c.args.id = search rules in
-    refused_as _ _ _ _ _
-    (rw signed at (c.in_ok-found.ensures.ok (locks m k)) ∙ lock-outcome m k (f.seg % 32768) (segment_seen m.table f) ∙ ap (locked_outcome m k (f.seg % 32768)) refusal)
+    refused_as _ _ _ _ _ (rw signed at (c.in_ok-found.ensures.ok (locks m k)) ∙ ap (locks_unless m k (f.seg % 32768)) refusal)
 
 pub set_locked-requires-clause-few : goal.set_locked-requires-clause-few
 set_locked-requires-clause-few g c = λ _.
@@ -44,7 +43,7 @@ returns g c = λ n.
     let k = caller_seen c.args.caller.now m.runners in
     let none : lock_refusal m.limits k.cred m.table (segment_seen m.table f) ≡ None = sym c.lock_refusal.ensures ∙ c.in_default.is in
     let act : locks m k (f.seg % 32768) (segment_seen m.table f) ≡ gives (record m { table = change m.table f.seg (relocked (Some k.cred.uid)) }) Done =
-    lock-outcome m k (f.seg % 32768) (segment_seen m.table f) ∙ ap (locked_outcome m k (f.seg % 32768)) none
+    ap (locks_unless m k (f.seg % 32768)) none
     ∙ ap (λ (t : List Entry). gives (record m { table = t }) Done) (change-index {T = Head} (whole []) m.table f.seg (relocked (Some k.cred.uid))) in
     let signed : to_z w32 (of_z w32 c.args.id) ≡ c.args.id = search rules in
     let step = rw signed at (c.in_ok-found.ensures.ok (locks m k)) ∙ act ∙ rw (← c.self.view_is, c.set_locked.ensures.table, c.set_locked.ensures.only) refl in

@@ -1,7 +1,7 @@
-use Rattle.shm_life.proofs.Names.{◌≡◌, ◌+◌, ◌*◌, pieces_at, rest_segments, refl, ap, sym, ◌∙◌, rules, to_z, of_z, w32, Outcome, shmat, is_refusal, AreTrue, IsCaller, caller_seen, SegmentsView, piece_for, placed_outcome, PieceFits}
+use Rattle.shm_life.proofs.Names.{◌≡◌, ◌+◌, ◌*◌, pieces_at, rest_segments, refl, ap, sym, ◌∙◌, rules, to_z, of_z, w32, Outcome, shmat, is_refusal, AreTrue, IsCaller, caller_seen, SegmentsView, piece_for, attaches_if, PieceFits}
 use Rattle.shm_life.proofs.Going.{Goes, attached-goes, attached-first, renewed-first, renewed-same, rests-live, well-gone}
 use Rattle.shm_base.specs.Rules.{rest_is_attached}
-use Rattle.shm_life.proofs.Attaching.{shmat-placed, on-err}
+use Rattle.shm_life.proofs.Attaching.{on-err}
 use Rattle.shm_life.proofs.Running.{granted, kept_refl, answered_as}
 use Rattle.shm_life.proofs.Indexed.{only-at}
 use Rattle.shm_life.proofs.kernel.Kernel.shmat.Given.{Over}
@@ -61,12 +61,12 @@ invariant_of-self-2 g c = (
 -- what the flat machine does
 outcome : (g : Over) (c : After-place_for g)
     → shmat c.args.self.now.flat c.args.time (caller_seen c.args.caller.now c.args.self.now.flat.runners) c.args.id c.args.addr c.args.flags
-    ≡ placed_outcome c.args.self.now.flat c.args.time (caller_seen c.args.caller.now c.args.self.now.flat.runners) c.args.flags c.place_for.result
+    ≡ attaches_if c.args.self.now.flat c.args.time (caller_seen c.args.caller.now c.args.self.now.flat.runners) c.args.flags c.place_for.result
 outcome g c =
     let m = c.args.self.now.flat in
     let k = caller_seen c.args.caller.now m.runners in
     let signed : to_z w32 (of_z w32 c.args.id) ≡ c.args.id = search rules in
-    shmat-placed m c.args.time k c.args.flags c.args.id c.args.addr ∙ ap (placed_outcome m c.args.time k c.args.flags) (rw signed at (sym c.place_for.ensures.value))
+    ap (attaches_if m c.args.time k c.args.flags) (rw signed at (sym c.place_for.ensures.value))
 
 pub returns-clause-served : goal.returns-clause-served
 returns-clause-served g c =
