@@ -344,6 +344,8 @@ def test_terminal(programs: Programs) -> None:
     """In a shell with a terminal: Ctrl-C ends the command, Ctrl-Z stops it, and fg lets it continue."""
     pid, terminal = pty.fork()
     if pid == 0:
+        # a test in the background of a shell has SIGINT ignored, and a shell can't trap what was ignored when it began
+        signal.signal(signal.SIGINT, signal.SIG_DFL)
         os.execvp("bash", ["bash", "--norc", "-i"])
     fcntl.ioctl(terminal, termios.TIOCSWINSZ, b"\x18\0\x50\0\0\0\0\0")
     seen = b""
