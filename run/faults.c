@@ -257,18 +257,32 @@ static void try_waiting(void) {
     }
 }
 
+/* The next event; 0 if threads wait for a page and there is none. To be woken takes longer than a fault, and after one the next
+   often comes soon: so we stay awake for a moment, and let others run. */
+static int next_event(struct epoll_event *event, uint64_t awake_until) {
+    int ready;
+    while ((ready = epoll_wait(poller, event, 1, 0)) == 0 && waiting_count == 0) {
+        if (now_us() >= awake_until) return epoll_wait(poller, event, 1, -1);
+        sched_yield();
+    }
+    return ready;
+}
+
 void serve_faults(void) {
-    enum { PAUSE_US = 20, LONG_US = 2000 };
+    enum { PAUSE_US = 20, AWAKE_US = 50, LONG_US = 2000 };
     struct epoll_event event;
     struct signalfd_siginfo signal;
+    static uint64_t awake_until;
     for (;;) {
-        int ready = epoll_wait(poller, &event, 1, waiting_count ? 0 : -1);
+        int ready = next_event(&event, awake_until);
         if (ready == 0) usleep(PAUSE_US);
-        if (ready == 1 && event.data.ptr) handle_faults(event.data.ptr);
+        if (ready == 1 && event.data.ptr) {
+            handle_faults(event.data.ptr);
+            awake_until = now_us() + AWAKE_US;
+        }
         if (ready == 0 || (waiting_count && now_us() - waiting[0].since > LONG_US)) try_waiting();
         if (ready != 1 || event.data.ptr) continue;
         while (read(children, &signal, sizeof signal) == sizeof signal) continue;
         return;
     }
 }
-
