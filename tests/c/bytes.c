@@ -12,6 +12,7 @@ enum {
     MARK = 1,         /* of a block of 64 frames: whether the clock's hand skips it */
     PAGE_PLACE = 20,  /* of a page of a segment: a flag and a frame; a flag, an area and a slot */
     TRANSLATION = 8,  /* of an attached page: a flag and a frame */
+    RUN_PLACE = 4,    /* of 256 pages: where their places, or their translations, are stored */
     PIECE = 32,       /* an address and a key of 8 bytes, a segment, its first page, its pages, and whether it is writable */
     MOST_PIECES = 256,
     ROOM = 16,        /* of a slot of a sparse area: a flag and where its page is, 8 bytes each */
@@ -83,13 +84,13 @@ static void first_segment(uint64_t pages, uint64_t *get, uint64_t *attach) {
     *attach = asked;
 }
 
-/* a list of so few items has room for four */
+/* each page has the room of its place and its translation, and each run that of two more */
 static void segments(void) {
     uint64_t get_one, get_all, attach_one, attach_all;
     first_segment(1, &get_one, &attach_one);
     first_segment(4096, &get_all, &attach_all);
-    TEST(get_all - get_one == 4095 * PAGE_PLACE);
-    TEST(attach_all - attach_one == 4092 * TRANSLATION);
+    TEST(get_all - get_one == 4095 * PAGE_PLACE + 15 * RUN_PLACE);
+    TEST(attach_all - attach_one == 4095 * TRANSLATION + 15 * RUN_PLACE);
 }
 
 /* after the first attach of the largest segment */

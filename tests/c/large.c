@@ -1,6 +1,6 @@
 /* large: what only a large machine shows. A call that gave up as out of memory at some size would keep every rule, so
    these tests make 5,000 segments, 300 pieces, snapshots of both, 70,000 segments one after the other, a copy of
-   1 MiB and a segment of 64 GiB, and let calls of the third and the fourth swap area fail. */
+   1 MiB, a segment of 64 GiB and one of 1 TiB with pages far apart, and let calls of the third and the fourth swap area fail. */
 #include "testing.h"
 
 enum { SEGMENTS = 5000, PIECES = 300, PAIRS = 70000, LIVES_OF_AN_INDEX = 65536, SEQUENCE = 32768, MEBIBYTE = 1 << 20 };
@@ -115,6 +115,44 @@ static void test_large_segment(void) {
     }
 }
 
+/* a segment of 1 TiB of which 1,000 pages are stored, far from each other and the last one first */
+static void test_spread_pages(void) {
+    enum { SPREAD = 1000, APART = (1 << 28) / SPREAD };
+    static const nog_limits vast = {.shmmax = UINT64_C(1) << 40, .shmmni = 1, .shmall = 1 << 28, .frames = 64, .memlock = 1,
+                                    .most_pieces = 2, .most_processes = 3, .most_slots = 1 << 28};
+    static const nog_area slots = {NOG_SPARSE, 1 << 28};
+    uint64_t at = 0, number = 0;
+    ANSWER(nog_open(&machine, &vast, &slots, 1, &none, 0, processes, 3), NOG_DONE);
+    int32_t id = -1;
+    ANSWER(nog_get(&machine, ROOT, NOG_PRIVATE, vast.shmmax, 0666, 0, &id), NOG_DONE);
+    for (uint64_t times = 0; times < 2; times++) {
+        ANSWER(nog_attach(&machine, ROOT, id, 0, 0, &at), NOG_DONE);
+        for (uint64_t i = SPREAD; i-- > 0;) {
+            uint64_t page = times == 0 && i == SPREAD - 1 ? (1 << 28) - 1 : i * APART;
+            ANSWER(nog_add(&machine, ROOT, at + page * PAGE, i + 1, &number), NOG_DONE);
+            TEST(number == (times == 0 || i == SPREAD - 1 ? 0 : i + 1));
+        }
+        ANSWER(nog_snapshot(&machine, &saved), NOG_DONE);
+        for (uint64_t i = 0; i < SPREAD; i++) {
+            uint64_t same = 1, near = 1;
+            ANSWER(nog_load(&machine, ROOT, at + i * APART * PAGE, &number, 8), NOG_DONE);
+            TEST(number == (i == SPREAD - 1 ? times * (i + 1) : (times + 1) * (i + 1)));
+            ANSWER(nog_load(&saved, ROOT, at + i * APART * PAGE, &same, 8), NOG_DONE);
+            TEST(same == number);
+            ANSWER(nog_load(&machine, ROOT, at + (i * APART + 1) * PAGE, &near, 8), NOG_DONE);
+            TEST(near == 0);
+        }
+        ANSWER(nog_load(&machine, ROOT, at + ((UINT64_C(1) << 28) - 1) * PAGE, &number, 8), NOG_DONE);
+        TEST(number == SPREAD);
+        if (times == 0) ANSWER(nog_detach(&machine, ROOT, at), NOG_DONE);
+    }
+    ANSWER(nog_remove(&machine, ROOT, id), NOG_DONE);
+    ANSWER(nog_detach(&machine, ROOT, at), NOG_DONE);
+    nog_usage sums;
+    ANSWER(nog_info(&machine, &sums), NOG_DONE);
+    TEST(sums.pages == 0 && sums.resident == 0 && sums.swapped == 0);
+}
+
 /* each area has one slot but the last, so the page that is written out next goes to the next area */
 static void flush(nog_machine *of, uint64_t written, uint64_t failed) {
     nog_flushed flushed = {9, 9};
@@ -152,6 +190,7 @@ int main(void) {
     test_pairs();
     test_copy();
     test_large_segment();
+    test_spread_pages();
     test_later_areas();
     ANSWER(nog_close(&saved), NOG_DONE);
     ANSWER(nog_close(&machine), NOG_DONE);

@@ -1,38 +1,61 @@
--- Tables of which only a beginning is written.
-use Rattle.std.proofs.Common.{◌≡◌, ℕ, ◌+◌, ◌<◌, ◌≤◌, List, Option, None, length, get_or, set, sym, ◌∙◌, arith, inl, inr, length-append, ◌⊎◌}
+-- Tables whose frames become known.
+use Rattle.std.proofs.Common.{◌≡◌, ℕ, ◌+◌, ◌<◌, ◌≤◌, List, Option, None, length, get_or, set, sym, ap, ◌∙◌, arith, inl, inr, ◌⊎◌}
 use Rattle.std.proofs.lemmas.Grind.{common_steps}
-use Rattle.std.proofs.lemmas.List.{get_or_past}
 use Rattle.std.proofs.lemmas.Bool.{cases_lt}
+use Rattle.std.proofs.lemmas.List.{get_or_past, get_or-set_same, get_or-set_other}
 use Rattle.shm_base.specs.declared.paging.PageRef.{PageRef}
 use Rattle.shm_base.specs.Stored.{padded}
-use Rattle.shm_base.proofs.Stored.{get_or-padded, length-padded, set-padded, padded-padded, within-padded}
+use Rattle.shm_base.proofs.Stored.{get_or-padded}
 use Rattle.shm_attach.specs.Table.{TableView, TrueTable, with_frame}
 
 abbrev table_of : ℕ → ℕ → List (Option ℕ) → TableView
 table_of seg count fs = record { seg = seg; count = count; frames = fs }
 
 -- another frame for one page
-true-set : (at : ℕ → ℕ → Option ℕ) (seg count : ℕ) (fs : List (Option ℕ)) (r : PageRef) (f : Option ℕ) → r.seg ≡ seg → r.page < length fs → TrueTable at (table_of seg count fs)
+pub true-set : (at : ℕ → ℕ → Option ℕ) (seg count : ℕ) (fs : List (Option ℕ)) (r : PageRef) (f : Option ℕ) → r.seg ≡ seg → r.page < length fs → TrueTable at (table_of seg count fs)
     → TrueTable (with_frame r f at) (table_of seg count (set fs r.page f))
 true-set at seg count fs r f same there h = λ j lt. grind (arith, common_steps, h j)
 
--- the same where only a beginning is written, which has the page
-pub true-noted : (at : ℕ → ℕ → Option ℕ) (seg count n : ℕ) (fs : List (Option ℕ)) (r : PageRef) (f : Option ℕ) → r.seg ≡ seg → r.page < length fs → TrueTable at (table_of seg count (padded fs n None))
-    → TrueTable (with_frame r f at) (table_of seg count (padded (set fs r.page f) n None))
-true-noted at seg count n fs r f same there h =
-    rw (set-padded fs n r.page f None there) (true-set at seg count (padded fs n None) r f same (rw (length-append fs _) (omega (arith, there))) h)
+-- another frame for a page that the table does not have
+pub true-beyond : (at : ℕ → ℕ → Option ℕ) (seg count : ℕ) (fs : List (Option ℕ)) (r : PageRef) (f : Option ℕ) → length fs ≤ r.page → TrueTable at (table_of seg count fs)
+    → TrueTable (with_frame r f at) (table_of seg count fs)
+true-beyond at seg count fs r f past h = λ j lt. grind (arith, common_steps, h j)
 
--- the same once the page is written
-pub true-reached : (at : ℕ → ℕ → Option ℕ) (seg count n : ℕ) (fs : List (Option ℕ)) (r : PageRef) (f : Option ℕ) → r.seg ≡ seg → r.page < n → length fs ≤ n → TrueTable at (table_of seg count (padded fs n None))
-    → TrueTable (with_frame r f at) (table_of seg count (padded (set (padded fs (r.page + 1) None) r.page f) n None))
-true-reached at seg count n fs r f same there within h =
-    true-noted at seg count n (padded fs (r.page + 1) None) r f same (within-padded fs (r.page + 1) r.page None (omega arith)) (rw (padded-padded fs (r.page + 1) n None (omega (arith, there)) within) h)
+-- the frames of the pages before one are known, and no other page is resident in the table
+pub record KnownBelow (at : ℕ → Option ℕ) (page : ℕ) (fs : List (Option ℕ)) : Type 0 where
+  pub known : (j : ℕ) → j < page → get_or fs j None ≡ at j
+  pub rest : (j : ℕ) → page ≤ j → get_or fs j None ≡ None
 
--- no page after those that are written is resident
-pub true-rest : (at : ℕ → ℕ → Option ℕ) (seg count n : ℕ) (fs : List (Option ℕ)) → length fs ≤ n → TrueTable at (table_of seg count fs) → ((page : ℕ) → length fs ≤ page → page < n → at seg page ≡ None)
-    → TrueTable at (table_of seg count (padded fs n None))
-true-rest at seg count n fs within h rest = λ j lt. get_or-padded fs n j None ∙ by j (rw (length-padded fs n None within) at lt) (cases_lt j (length fs))
+-- pages that are not resident are known at once
+pub known-over : (at : ℕ → Option ℕ) (first next : ℕ) (fs : List (Option ℕ)) → first ≤ next → ((page : ℕ) → first ≤ page → page < next → at page ≡ None) → KnownBelow at first fs → KnownBelow at next fs
+known-over at first next fs on none k =
+    record {
+      known = λ j lt. by j lt (cases_lt j first);
+      rest = λ j past. k.rest j (omega (arith, past, on));
+    }
   where
-    by : (j : ℕ) → j < n → (j < length fs) ⊎ (length fs ≤ j) → get_or fs j None ≡ at seg j
-    by j lt (inl written) = h j written
-    by j lt (inr past) = get_or_past fs j None past ∙ sym (rest j past lt)
+    by : (j : ℕ) → j < next → (j < first) ⊎ (first ≤ j) → get_or fs j None ≡ at j
+    by j lt (inl before) = k.known j before
+    by j lt (inr from) = k.rest j from ∙ sym (none j from lt)
+
+-- one more page is known
+pub known-more : (at : ℕ → Option ℕ) (page : ℕ) (fs : List (Option ℕ)) (f : Option ℕ) → page < length fs → f ≡ at page → KnownBelow at page fs → KnownBelow at (page + 1) (set fs page f)
+known-more at page fs f there is k =
+    record {
+      known = λ j lt. by j lt (cases_lt j page);
+      rest = λ j past. get_or-set_other fs page j f None (λ same. omega (arith, past, same)) ∙ k.rest j (omega (arith, past));
+    }
+  where
+    by : (j : ℕ) → j < page + 1 → (j < page) ⊎ (page ≤ j) → get_or (set fs page f) j None ≡ at j
+    by j lt (inl before) = get_or-set_other fs page j f None (λ same. omega (arith, before, same)) ∙ k.known j before
+    by j lt (inr from) =
+        let e : page ≡ j = omega (arith, lt, from) in
+        ap (λ n. get_or (set fs page f) n None) (sym e) ∙ get_or-set_same fs page f None there ∙ is ∙ ap at e
+
+-- the pages of a true table are known, and those that are new to it are not
+pub known-first : (at : ℕ → Option ℕ) (n : ℕ) (fs : List (Option ℕ)) → ((j : ℕ) → j < length fs → get_or fs j None ≡ at j) → KnownBelow at (length fs) (padded fs n None)
+known-first at n fs true =
+    record {
+      known = λ j lt. get_or-padded fs n j None ∙ true j lt;
+      rest = λ j past. get_or-padded fs n j None ∙ get_or_past fs j None past;
+    }

@@ -1,15 +1,15 @@
 //! The frames of the pages of a segment: its translations.
 //!
-//! Room for the frames of all pages is reserved when a segment is attached. A frame is written once its page is
-//! resident, together with those of the pages before it. So pages that nobody touches cost nothing.
-ghost use Rattle.std.specs.Prelude.{◌≡◌, ℕ, ◌+◌, ◌-◌, ◌^◌, ◌<◌, ◌≤◌, Option, Some, None, length, [], OnOk, OnErr, vec_capacity};
-ghost use Rattle.shm_base.specs.Stored.{padded};
+//! Room for the frames of all pages is reserved when a segment is attached. Frames are written in runs of 256, once a
+//! page of the run is resident. So runs that nobody touches cost next to nothing.
+ghost use Rattle.std.specs.Prelude.{◌≡◌, ℕ, ◌+◌, ◌-◌, ◌^◌, ◌<◌, ◌≤◌, Option, Some, length, [], OnOk, OnErr};
 ghost use Rattle.shm_fault.specs.Store.{frame_of};
 ghost use Rattle.shm_attach.specs.Table.{frame_in, TrueTable, with_frame};
 
 use shm_base::{FrameNo, HostMemory, PageRef};
 use shm_fault::PageStore;
 use shm_pager::Pager;
+use shm_sparse::SparseVec;
 use std::alloc::{AllocError, Global};
 use std::marker::Model;
 
@@ -17,9 +17,7 @@ use std::marker::Model;
 pub(crate) struct Table {
     seg: u32,
     count: u32,
-    // How many pages the table has, and the frames of the first of them. The other pages are not resident.
-    pages: u32,
-    frames: Vec<Option<FrameNo>>,
+    frames: SparseVec<Option<FrameNo>>,
 }
 
 impl Drop for Table {
@@ -27,49 +25,31 @@ impl Drop for Table {
         let Table {
             seg: _,
             count: _,
-            pages: _,
             frames: _,
         } = self;
     }
 }
 
 impl Model for Table {
-    ghost use Rattle.std.specs.Prelude.{◌≤◌, None, length, vec_capacity};
-    ghost use Rattle.shm_base.specs.Stored.{padded};
+    ghost use Rattle.std.specs.Prelude.{◌≡◌, None};
     ghost use Rattle.shm_attach.specs.Table.{TableView};
 
     ghost Value = { TableView };
 
-    ghost view = { λ t. record { seg = t.seg; count = t.count; frames = padded t.frames.items t.pages None } };
+    ghost view = { λ t. record { seg = t.seg; count = t.count; frames = t.frames.items } };
 
-    ghost invariant = { λ t. (length t.frames.items ≤ t.pages) × (t.pages ≤ vec_capacity t.frames) };
+    ghost invariant = { λ t. t.frames.other ≡ None };
 }
 
 impl Clone for Table {
     ghost is_clone = { λ table copy. copy ≡ table };
 
     fn clone(&self) -> Result<Table, AllocError> {
-        let mut frames = Vec::with_capacity(*self.frames.allocator(), self.pages as usize)?;
-        frames.extend_from_slice(&self.frames)?;
         Ok(Table {
             seg: self.seg,
             count: self.count,
-            pages: self.pages,
-            frames,
+            frames: self.frames.clone()?,
         })
-    }
-}
-
-// Writes that pages are not resident, until there are at least this many.
-fn reach(frames: &mut Vec<Option<FrameNo>>, count: usize)
-    requires { count ≤ vec_capacity frames.old }
-    ensures frames { frames.new.items ≡ padded frames.old.items count None }
-    ensures room { vec_capacity frames.old ≤ vec_capacity frames.new }
-{
-    if frames.len() < count {
-        let Ok(()) = frames.resize(count, None) else {
-            unreachable!();
-        };
     }
 }
 
@@ -81,8 +61,7 @@ impl Table {
         Table {
             seg,
             count: 1,
-            pages: 0,
-            frames: Vec::new(alloc),
+            frames: SparseVec::empty(alloc, None),
         }
     }
 
@@ -104,8 +83,8 @@ impl Table {
         self.count
     }
 
-    /// Extends the table to this many pages, by the frames that they have in the store. Asks the store only
-    /// for pages that were touched.
+    /// Extends the table to this many pages, by the frames that they have in the store. Asks the store only for pages
+    /// that are in a frame or a slot.
     pub(crate) fn extend<P: Pager>(
         &mut self,
         store: &PageStore<P>,
@@ -118,23 +97,30 @@ impl Table {
         ensures translated { let at = frame_of store.now in
             TrueTable at self.old → TrueTable at self.new }
     {
-        if pages <= self.pages {
+        let seg = self.seg;
+        let known = self.frames.len();
+        if pages <= known {
             return Ok(());
         }
-        let known = self.frames.len();
-        self.frames.reserve(pages as usize - known)?;
-        for page in known as u32..store.touched(self.seg).min(pages) {
-            self.frames.push_reserved(store.frame(self.seg, page));
+        self.frames.extend(pages)?;
+        let mut page = store.next_placed(PageRef { seg, page: known }, pages);
+        while page < pages {
+            self.frames.set(page as usize, store.frame(seg, page));
+            let next = PageRef {
+                seg,
+                page: page + 1,
+            };
+            page = store.next_placed(next, pages);
         }
-        self.pages = pages;
         Ok(())
     }
 
     /// The frame of one of the pages.
+    #[inline(always)]
     pub(crate) fn frame(&self, page: usize) -> Option<FrameNo>
         ensures { result ≡ frame_in (Some self.now) page }
     {
-        self.frames.get(page).copied().flatten()
+        self.frames.get(page)
     }
 
     /// Notes the frame of a page of the segment.
@@ -145,11 +131,8 @@ impl Table {
         ensures translated { (at : ℕ → ℕ → Option ℕ) → TrueTable at self.old
             → TrueTable (with_frame page frame at) self.new }
     {
-        if page.page >= self.pages {
-            return;
+        if page.page < self.frames.len() {
+            self.frames.set(page.page as usize, frame);
         }
-        let k = page.page as usize;
-        reach(&mut self.frames, k + 1);
-        self.frames[k] = frame;
     }
 }

@@ -1,42 +1,43 @@
--- Page tables of which only a beginning is written.
-use Rattle.shm_fault.proofs.Names.{◌≡◌, ℕ, ◌-◌, ◌+◌, ◌<◌, ◌≤◌, ◌&&◌, Bool, true, eqb, Option, None, Some, refl, Slot, List, length, replicate, set, cond, ap, arith, ◌∙◌, count_by, get_or, get_or_past, length-set, sym, sum_by-append, PageRec, SegRec, no_page, rec_at, is_swapped}
-use Rattle.std.proofs.lemmas.List.Folds.{sum_by-replicate}
-use Rattle.std.proofs.lemmas.List.{get_or_default}
+-- Pages that are nowhere.
+use Rattle.shm_fault.proofs.Names.{◌≡◌, ℕ, zero, suc, ◌-◌, ◌+◌, ◌<◌, ◌≤◌, ◌&&◌, Bool, true, false, eqb, Option, None, Some, refl, Slot, List, length, take, cond, ap, arith, count_by, PageRec, no_page, rec_at, is_swapped}
+use Rattle.std.proofs.lemmas.List.Sums.{sum_by_more}
 use Rattle.std.specs.Option.{option_eq}
-use Rattle.shm_base.specs.Stored.{padded}
-use Rattle.shm_base.proofs.Stored.{get_or-padded, length-padded, set-padded, padded-padded, within-padded, fits-padded}
+use Rattle.shm_fault.specs.Segs.{is_placed}
 
--- the pages without a record are not swapped
-pub swapped-padded : (ps : List PageRec) (n : ℕ) → count_by is_swapped (padded ps n no_page) ≡ count_by is_swapped ps
-swapped-padded ps n = rw (sum_by-append (λ p. cond (is_swapped p) 1 0) ps (replicate (n - length ps) no_page), sum_by-replicate (λ p. cond (is_swapped p) 1 0) (n - length ps) no_page) (omega arith)
+-- a page that is in no frame and no slot
+pub not-placed : (p : PageRec) → is_placed p ≡ false → p ≡ no_page
+not-placed p e = by p.frame p.slot e
+  where
+    by : (f : Option ℕ) (k : Option Slot) → is_placed (record { frame = f; slot = k }) ≡ false → record { frame = f; slot = k } ≡ no_page
+    by None None e = refl
+    by None (Some k) e = cc
+    by (Some f) k e = cc
 
--- they are nowhere
-pub rest-padded : (ps : List PageRec) (n page : ℕ) → length ps ≤ page → rec_at (padded ps n no_page) page ≡ no_page
-rest-padded ps n page past = get_or-padded ps n page no_page ∙ get_or_past ps page no_page past
+-- 1 for a page that is in a slot and in no frame
+abbrev pub one_if_swapped : PageRec → ℕ
+one_if_swapped p = cond (is_swapped p) 1 0
 
--- what is noted of a page when it has a record
-edit-reached : (ps : List PageRec) (n page : ℕ) (p : PageRec) → length ps ≤ n → page < n → padded (set (padded ps (page + 1) no_page) page p) n no_page ≡ set (padded ps n no_page) page p
-edit-reached ps n page p within there =
-    set-padded (padded ps (page + 1) no_page) n page p no_page (within-padded ps (page + 1) page no_page (omega arith))
-    ∙ ap (λ qs. set qs page p) (padded-padded ps (page + 1) n no_page (omega (arith, there)) within)
+module _ (ps : List PageRec) where
+  -- one more page is counted
+  pub swapped-more : (page : ℕ) → page < length ps → count_by is_swapped (take (page + 1) ps) ≡ count_by is_swapped (take page ps) + one_if_swapped (rec_at ps page)
+  swapped-more page there = sum_by_more one_if_swapped ps page no_page there
 
-abbrev table_with : ℕ → Bool → List PageRec → SegRec
-table_with id locked pages = record { id = id; locked = locked; pages = pages }
+  over : (first count : ℕ) → first + count ≤ length ps → ((page : ℕ) → first ≤ page → page < first + count → rec_at ps page ≡ no_page)
+      → count_by is_swapped (take (first + count) ps) ≡ count_by is_swapped (take first ps)
+  over first zero there none = ap (λ n. count_by is_swapped (take n ps)) (omega arith)
+  over first (suc count) there none =
+      let before = over first count (omega (arith, there)) (λ page on under. none page on (omega (arith, under))) in
+      let more = swapped-more (first + count) (omega (arith, there)) in
+      let last = ap one_if_swapped (none (first + count) (omega arith) (omega arith)) in
+      let sum : first + suc count ≡ first + count + 1 = omega arith in
+      rw sum (omega (arith, before, more, last))
 
--- the table in which it is noted
-pub table-reached : (id : ℕ) (locked : Bool) (ps : List PageRec) (n page : ℕ) (p : PageRec) → length ps ≤ n → page < length (padded ps n no_page)
-    → table_with id locked (padded (set (padded ps (page + 1) no_page) page p) n no_page) ≡ table_with id locked (set (padded ps n no_page) page p)
-table-reached id locked ps n page p within there = ap (table_with id locked) (edit-reached ps n page p within (rw (length-padded ps n no_page within) at there))
-
--- what is read of a page once it has a record
-pub read-reached : (ps : List PageRec) (n page : ℕ) (x : PageRec) → x ≡ get_or (padded ps (page + 1) no_page) page x → x ≡ rec_at (padded ps n no_page) page
-read-reached ps n page x is =
-    is ∙ get_or_default (padded ps (page + 1) no_page) page x no_page (within-padded ps (page + 1) page no_page (omega arith))
-    ∙ get_or-padded ps (page + 1) page no_page ∙ sym (get_or-padded ps n page no_page)
-
--- the number of pages is unchanged
-pub fits-reached : (ps : List PageRec) (n page : ℕ) (p : PageRec) → length ps ≤ n → page < n → length (set (padded ps (page + 1) no_page) page p) ≤ n
-fits-reached ps n page p within there = rw (length-set (padded ps (page + 1) no_page) page p) (fits-padded ps (page + 1) n no_page (omega (arith, there)) within)
+  -- pages that are nowhere are not swapped
+  pub swapped-over : (first next : ℕ) → first ≤ next → next ≤ length ps → ((page : ℕ) → first ≤ page → page < next → rec_at ps page ≡ no_page)
+      → count_by is_swapped (take next ps) ≡ count_by is_swapped (take first ps)
+  swapped-over first next on there none =
+      let sum : first + (next - first) ≡ next = omega (arith, on) in
+      rw sum at (over first (next - first) (omega (arith, on, there)) (λ page from under. none page from (omega (arith, on, under))))
 
 -- a record that was compared with that of a page that is nowhere
 pub nowhere : (same : Slot → Slot → Bool) (p : PageRec) → (option_eq eqb p.frame None && option_eq same p.slot None) ≡ true → p ≡ no_page

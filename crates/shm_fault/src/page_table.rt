@@ -1,14 +1,14 @@
 //! The page table of one segment: whether it is locked, and where its pages are.
 //!
-//! Room for the records of all its pages is reserved when the table is made. A record is written once its page
-//! is somewhere, together with those of the pages before it. So pages that nobody touches cost nothing, neither
-//! when the table is made nor when it goes.
-ghost use Rattle.std.specs.Prelude.{◌≡◌, ℕ, ◌+◌, ◌<◌, ◌≤◌, ◌^◌, length, count_by, set, vec_capacity, false, true, IfOk};
-ghost use Rattle.shm_base.specs.Stored.{padded};
+//! Room for the records of all its pages is reserved when the table is made. Records are written in runs of 256, once
+//! a page of the run is somewhere. So runs that nobody touches cost next to nothing, neither when the table is made
+//! nor when it goes.
+ghost use Rattle.std.specs.Prelude.{◌≡◌, ℕ, ◌<◌, ◌≤◌, length, count_by, set, true, IfOk};
 ghost use Rattle.shm_fault.specs.Segs.{rec_at, no_page, new_seg, is_placed};
 ghost use Rattle.shm_fault.specs.Store.{is_swapped};
 
 use crate::page_tables::PageRec;
+use shm_sparse::SparseVec;
 use std::alloc::{AllocError, Global};
 use std::marker::Model;
 
@@ -16,9 +16,7 @@ use std::marker::Model;
 pub(crate) struct PageTable {
     id: u32,
     locked: bool,
-    // How many pages the segment has, and the records of the first of them. The other pages are nowhere.
-    count: u32,
-    pages: Vec<PageRec>,
+    pages: SparseVec<PageRec>,
 }
 
 impl Drop for PageTable {
@@ -26,117 +24,46 @@ impl Drop for PageTable {
         let PageTable {
             id: _,
             locked: _,
-            count: _,
             pages: _,
         } = self;
     }
 }
 
 impl Model for PageTable {
-    ghost use Rattle.std.specs.Prelude.{◌<◌, ◌≤◌, ◌^◌, length, vec_capacity};
-    ghost use Rattle.shm_base.specs.Stored.{padded};
+    ghost use Rattle.std.specs.Prelude.{◌≡◌};
     ghost use Rattle.shm_fault.specs.Segs.{SegRec, no_page};
 
     ghost Value = { SegRec };
 
-    ghost view = { λ t. record {
-      id = t.id;
-      locked = t.locked;
-      pages = padded t.pages.items t.count no_page;
-    } };
+    ghost view = { λ t. record { id = t.id; locked = t.locked; pages = t.pages.items } };
 
-    ghost invariant = { λ t. (length t.pages.items ≤ t.count) × (t.count ≤ vec_capacity t.pages)
-        × (t.count < 2 ^ 32) };
+    ghost invariant = { λ t. t.pages.other ≡ no_page };
 }
 
 impl Clone for PageTable {
     ghost is_clone = { λ table copy. copy ≡ table };
 
     fn clone(&self) -> Result<PageTable, AllocError> {
-        let mut pages = Vec::with_capacity(*self.pages.allocator(), self.count as usize)?;
-        pages.extend_from_slice(&self.pages)?;
         Ok(PageTable {
             id: self.id,
             locked: self.locked,
-            count: self.count,
-            pages,
+            pages: self.pages.clone()?,
         })
     }
 }
 
-// How many records are written at once.
-const RUN: usize = 64;
-
-// Writes records of pages that are nowhere, until there are this many.
-#[inline(always)]
-fn grow(pages: &mut Vec<PageRec>, count: usize)
-    requires more { length pages.old.items ≤ count }
-    requires room { count ≤ vec_capacity pages.old }
-    ensures pages { pages.new.items ≡ padded pages.old.items count no_page }
-    ensures room { vec_capacity pages.old ≤ vec_capacity pages.new }
+// Whether a page is in a frame or a slot.
+fn is_placed(page: PageRec) -> bool
+    ensures { result ≡ is_placed page }
 {
-    let Ok(()) = pages.resize(count, PageRec::NOWHERE) else {
-        unreachable!();
-    };
+    page.frame.is_some() || page.slot.is_some()
 }
 
-// Writes the records of the pages up to this one, in runs. Kept out of line, so that a page that has a record
-// costs one comparison.
-#[inline(never)]
-fn extend(pages: &mut Vec<PageRec>, page: u32)
-    requires new { length pages.old.items ≤ page }
-    requires room { page < vec_capacity pages.old }
-    ensures pages { pages.new.items ≡ padded pages.old.items (page + 1) no_page }
-    ensures room { vec_capacity pages.old ≤ vec_capacity pages.new }
+// Whether a page is in a slot and in no frame.
+fn is_swapped(page: PageRec) -> bool
+    ensures { result ≡ is_swapped page }
 {
-    let count = page as usize + 1;
-    for _run in 0..(count - pages.len()) / RUN {
-        let more = pages.len() + RUN;
-        grow(pages, more);
-    }
-    grow(pages, count);
-}
-
-// Writes the records of the pages up to this one, if it has none.
-#[inline(always)]
-fn reach(pages: &mut Vec<PageRec>, page: u32)
-    requires { page < vec_capacity pages.old }
-    ensures pages { pages.new.items ≡ padded pages.old.items (page + 1) no_page }
-    ensures room { vec_capacity pages.old ≤ vec_capacity pages.new }
-{
-    if page as usize >= pages.len() {
-        extend(pages, page);
-    }
-}
-
-// The first of these pages, from `first` up to `last`, that is somewhere; `last` if there is none.
-fn next_placed_in(pages: &Vec<PageRec>, first: u32, last: u32) -> u32
-    requires { first ≤ last }
-    ensures on { first ≤ result }
-    ensures within { result ≤ last }
-    ensures over { (page : ℕ) → first ≤ page → page < result → rec_at pages.now.items page ≡ no_page }
-    ensures stop { result < last → is_placed (rec_at pages.now.items result) ≡ true }
-{
-    for page in first as usize..pages.len().min(last as usize) {
-        if pages[page].frame.is_some() || pages[page].slot.is_some() {
-            return page as u32;
-        }
-    }
-    last
-}
-
-// How many of these pages are in a slot and in no frame.
-fn swapped_in(pages: &Vec<PageRec>) -> u32
-    requires { length pages.now.items < 2 ^ 32 }
-    ensures { result ≡ count_by is_swapped pages.now.items }
-{
-    let mut count = 0;
-    for page in pages {
-        if page.frame.is_none() && page.slot.is_some() {
-            count += 1;
-        }
-    }
-    count
+    page.frame.is_none() && page.slot.is_some()
 }
 
 impl PageTable {
@@ -147,8 +74,7 @@ impl PageTable {
         Ok(PageTable {
             id,
             locked: false,
-            count,
-            pages: Vec::with_capacity(alloc, count as usize)?,
+            pages: SparseVec::new(alloc, count, PageRec::NOWHERE)?,
         })
     }
 
@@ -178,7 +104,7 @@ impl PageTable {
         ensures few { result ≤ length self.now.pages }
         ensures rest { (page : ℕ) → result ≤ page → rec_at self.now.pages page ≡ no_page }
     {
-        self.pages.len() as u32
+        self.pages.end()
     }
 
     /// The first page from `first` up to `last` that is somewhere; `last` if there is none.
@@ -189,14 +115,27 @@ impl PageTable {
         ensures over { (page : ℕ) → first ≤ page → page < result → rec_at self.now.pages page ≡ no_page }
         ensures stop { result < last → is_placed (rec_at self.now.pages result) ≡ true }
     {
-        next_placed_in(&self.pages, first, last)
+        let mut page = self.pages.next_stored(first, last);
+        while page < last && !is_placed(self.page(page)) {
+            page = self.pages.next_stored(page + 1, last);
+        }
+        page
     }
 
     /// How many pages are in a slot and in no frame. Walks those that may be somewhere.
     pub(crate) fn swapped(&self) -> u32
         ensures { result ≡ count_by is_swapped self.now.pages }
     {
-        swapped_in(&self.pages)
+        let end = self.pages.len();
+        let mut count = 0;
+        let mut page = self.next_placed(0, end);
+        while page < end {
+            if is_swapped(self.page(page)) {
+                count += 1;
+            }
+            page = self.next_placed(page + 1, end);
+        }
+        count
     }
 
     /// Where a page is.
@@ -204,10 +143,7 @@ impl PageTable {
     pub(crate) fn page(&self, page: u32) -> PageRec
         ensures { result ≡ rec_at self.now.pages page }
     {
-        self.pages
-            .get(page as usize)
-            .copied()
-            .unwrap_or(PageRec::NOWHERE)
+        self.pages.get(page as usize)
     }
 
     /// Notes where a page is.
@@ -215,7 +151,6 @@ impl PageTable {
         requires { page < length self.old.pages }
         ensures { self.new ≡ record self.old { pages = set self.old.pages page rec } }
     {
-        reach(&mut self.pages, page);
-        self.pages[page as usize] = rec;
+        self.pages.set(page as usize, rec);
     }
 }

@@ -1,10 +1,10 @@
 //! The store: how it is made, its locks, and its counts.
-ghost use Rattle.std.specs.Prelude.{◌≡◌, ◌≢◌, ℕ, ◌+◌, ◌-◌, ◌≤◌, ◌^◌, true, false, length, map, min, replicate, None, IfOk, OnOk, OnErr};
+ghost use Rattle.std.specs.Prelude.{◌≡◌, ◌≢◌, ℕ, ◌+◌, ◌-◌, ◌<◌, ◌≤◌, ◌^◌, true, false, length, map, min, replicate, None, IfOk, OnOk, OnErr};
 ghost use Rattle.shm_fault.specs.Held.{is_held, pages_in_store, locked_pages_in_store, with_zeros, with_lock, IsIndexFree};
 ghost use Rattle.shm_slots.specs.View.{swap_slots, owner_of, AreCountsOf};
 ghost use Rattle.shm_slots.specs.Cause.{total};
 ghost use Rattle.shm_frames.specs.Frame.{IsFrameBlank};
-ghost use Rattle.shm_fault.specs.Segs.{count_by_id, find_seg, NowhereFrom, with_seg, with_seg_lock};
+ghost use Rattle.shm_fault.specs.Segs.{count_by_id, find_seg, is_placed, rec_by, NowhereFrom, NowhereUpTo, with_seg, with_seg_lock};
 ghost use Rattle.shm_fault.specs.Store.{fresh_store, held, frame_of, Still, resident, swapped, dirty, used};
 ghost use Rattle.shm_base.specs.declared.bounds.TheConstants.{MOST_FRAMES};
 ghost use Rattle.shm_fault.specs.Sound.{IsStoreSound};
@@ -121,6 +121,21 @@ impl<P: Pager> PageStore<P> {
         ensures nowhere { NowhereFrom result seg self.now.segs }
     {
         self.segs.touched(seg)
+    }
+
+    /// The first page of a segment, from `first` up to `last`, that is in a frame or a slot; `last` if there is none.
+    /// Passes 256 pages at once where none of them was ever in either.
+    pub fn next_placed(&self, first: PageRef, last: u32) -> u32
+        requires { first.page ≤ last }
+        ensures on { first.page ≤ result }
+        ensures within { result ≤ last }
+        ensures over { NowhereUpTo first.page result first.seg self.now.segs }
+        ensures frames { (page : ℕ) → first.page ≤ page → page < result
+            → frame_of self.now first.seg page ≡ None }
+        ensures stop { let page = record first { page = result } in
+            result < last → is_placed (rec_by self.now.segs page) ≡ true }
+    {
+        self.segs.next_placed(first, last)
     }
 
     /// Adds a segment of this many pages of zeros, which is not locked. It takes all memory that the segment

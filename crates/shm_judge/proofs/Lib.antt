@@ -1,4 +1,3 @@
 pub mod Verdicts
 pub mod Entries
-pub mod Ordering
 pub mod Drawing

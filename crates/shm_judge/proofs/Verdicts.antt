@@ -1,31 +1,39 @@
 -- The steps of the judge.
-use Rattle.std.specs.Prelude.{◌≡◌, ◌≤◌, ℕ, ◌+◌, ◌==◌, ◌⊎◌, IsPermutation, Bool, true, false, List, [], ◌∷◌, ◌++◌, All, Contains, map, length, slice_index_or}
-use Rattle.std.specs.List.{AllPairs}
+use Rattle.std.specs.Prelude.{◌≡◌, ◌≤◌, ℕ, ◌+◌, ◌==◌, ◌⊎◌, IsPermutation, Bool, true, false, List, [], ◌∷◌, ◌++◌, All, Contains, map, length, Option, Some, None, option_map, slice_index_or, IsTrue, cond, Result, Ok, Err, IfErr, IsErrAnd}
+use Rattle.std.specs.List.{AllPairs, list_any}
+use Rattle.indexmap.specs.IndexSet.{insert_key}
 use Rattle.std.proofs.Common.{ap, refl, sym, subst, ◌∙◌, arith, inl, inr, length-append}
 use Rattle.std.proofs.lemmas.Grind.{common_steps}
-use Rattle.std.proofs.lemmas.List.{length-map, map-append}
-use Rattle.std.proofs.lemmas.List.Elements.{All-contains, All-push, Contains-append_left, Contains-get_or, Contains-push, Contains-push_cases, filter-append}
+use Rattle.std.proofs.lemmas.List.{get_or_append_left, length-map, map-append}
+use Rattle.std.proofs.lemmas.List.Elements.{All-append, All-contains, All-push, Contains-append_left, Contains-append_right, Contains-get_or, Contains-push, Contains-push_cases, filter-append}
 use Rattle.std.proofs.lemmas.List.Quantifiers.{all_pairs_push}
 use Rattle.std.proofs.lemmas.List.Sorted.{All-permutation, Contains-permutation}
-use Rattle.std.proofs.lemmas.Option.{same_Some}
+use Rattle.std.proofs.lemmas.Map.Made.{is_member-Decides}
+use Rattle.std.proofs.lemmas.Option.{none-some}
 use Rattle.shm_base.specs.History.{is_refusal, own_part}
 use Rattle.shm_base.specs.State.{Machine}
+use Rattle.shm_base.specs.Calls.{ProcessCall}
+use Rattle.shm_base.specs.Processes.{has_pid}
 use Rattle.shm_base.specs.declared.call.Event.{Event}
+use Rattle.shm_base.specs.declared.call.Process.{Process}
 use Rattle.shm_base.specs.declared.call.Reply.{Reply}
 use Rattle.shm_text.specs.Script.{ScriptView}
-use Rattle.shm_schedules.specs.Alike.{AreAlike}
-use Rattle.shm_judge.specs.Judge.{AreApart, IsBeginning, IsDoubt, IsExplained, IsFound, IsStuck, IsUnexplained, stuck_at}
-use Rattle.shm_judge.specs.Searching.{AreSeen, IsLonger, IsMet, IsNew, IsSettled, IsTaken, IsTooMany}
+use Rattle.shm_judge.specs.Judge.{IsBeginning, IsDoubt, IsExplained, IsKeyOfBeginning, IsStuck, IsUnexplained, stuck_at}
+use Rattle.shm_judge.specs.Searching.{AreExplored, HasRun, IsAdmitted, IsExpanded, IsExplored, IsLonger, IsNew, IsNode, IsOpen, IsTooMany, one_successor, successors}
 use Rattle.shm_judge.specs.Stuck.{Stuck}
+use Rattle.shm_judge.specs.declared.verdict.Verdict.{Verdict}
 use Rattle.shm_judge.specs.Logs.{Answer, AllBegin, AllFill, Begins, Fits, FitsAs, is_any}
 use Rattle.shm_schedules.specs.Outcomes.{masked, masked_time, told}
-use Rattle.shm_schedules.specs.Schedules.{Run, fresh, replies_to, reply_of, Leads, IsOver, schedule_of, IsReached, followers}
-use Rattle.shm_schedules.specs.Finding.{Finding, finding_of}
+use Rattle.shm_schedules.specs.Schedules.{Run, after, fresh, goes, is_live, next, replies_to, reply_of, Leads, IsOver, IsReached, followers}
 use Rattle.shm_schedules.specs.Text.{reply_words, time_text}
 use Rattle.shm_schedules.specs.declared.search_error.SearchError.{SearchError}
 use Rattle.shm_schedules.specs.declared.search_error.SearchError.TheVariants.{HostMemory, Bound}
-use Rattle.shm_schedules.proofs.Going.{GoAlike, alike-go, go-refl, go-sym, go-trans, goes-alike, leads-redone, over-alike, told-at}
-use Rattle.shm_schedules.proofs.Walking.{contains-none, follower-reached, followers-all, followers-contain, last-of, none-over, over-none, rest-of}
+use Rattle.shm_outcomes.specs.Keys.{AreOther, Key, key_of}
+use Rattle.shm_outcomes.specs.Nodes.{Node, key_at, root, successor}
+use Rattle.shm_outcomes.proofs.Carrying.{keys-alike, successor-key}
+use Rattle.shm_outcomes.proofs.Same.{key_eq, same-key}
+use Rattle.shm_schedules.proofs.Going.{GoAlike, go-trans, goes-alike, leads-redone, over-alike, told-at}
+use Rattle.shm_schedules.proofs.Walking.{follower-reached, has-cases, made-by, none-over, over-none, test-first}
 
 -- WHAT BEGINS A LOG
 
@@ -95,323 +103,408 @@ fill-begins script log es h i p lt at = (h i p lt at).0
 pub first-begins : (script : ScriptView) (log : List (List Answer)) (machine : Machine) → IsBeginning script log (fresh machine) (fresh machine)
 first-begins script log machine = (refl, λ i p lt at. begins-nil (slice_index_or log i []))
 
--- A SCHEDULE LEADS TO ONE RUN
+-- SUCCESSORS
 
-pub leads-unique : (script : ScriptView) (schedule : List ℕ) (a b c : Run) → Leads script schedule a b → Leads script schedule a c → b ≡ c
-leads-unique script [] a b c h k = sym h ∙ k
-leads-unique script (pid ∷ schedule) a b c h k =
-    let mid : k.0 ≡ h.0 = same_Some _ _ (sym k.1 ∙ h.1) in
-    leads-unique script schedule h.0 b c h.2 (subst (λ (m : Run). Leads script schedule m c) mid k.2)
+no-nodes : {X : Type 0} → (x : X) → Contains ([]) x → ⊥
+no-nodes x h = omega (arith, h.1)
 
-reached-unique : (script : ScriptView) (first a b : Run) → a.events ≡ b.events → IsReached script first a → IsReached script first b → a ≡ b
-reached-unique script first a b same h k =
-    leads-unique script (schedule_of a.events) first a b h (subst (λ (es : List Event). Leads script (schedule_of es) first b) (sym same) k)
+one-all : (script : ScriptView) (P : Node → Type 0) (b : Node) (pid : ℕ) (o : Option ProcessCall) → ((call : ProcessCall) → o ≡ Some call → P (successor script b pid call)) → All P (one_successor script b pid o)
+one-all script P b pid None each = λ k d lt. absurd (omega (arith, lt))
+one-all script P b pid (Some call) each = λ k d lt. (let e : k ≡ 0 = omega (arith, lt) in rw e (each call refl))
 
--- TAKING IN
+-- what holds for the node after each next call holds for all successors
+successors-all : (script : ScriptView) (P : Node → Type 0) (b : Node) → ((pid : ℕ) (call : ProcessCall) → next script b.run pid ≡ Some call → P (successor script b pid call))
+    → (ps : List Process) → All P (successors script ps b)
+successors-all script P b each [] = λ k d lt. absurd (omega (arith, lt))
+successors-all script P b each (p ∷ ps) =
+    All-append P (one_successor script b p.pid (next script b.run p.pid)) (successors script ps b)
+    (one-all script P b p.pid (next script b.run p.pid) (each p.pid)) (successors-all script P b each ps)
 
-alike-refl : (f : Finding) → AreAlike f f
-alike-refl f = record { count = refl; told = refl; changes = refl }
+successors-some : (script : ScriptView) (b : Node) (pid : ℕ) (call : ProcessCall) → next script b.run pid ≡ Some call
+    → (ps : List Process) → has_pid pid ps ≡ true → Contains (successors script ps b) (successor script b pid call)
+successors-some script b pid call is [] has = absurd (cc)
+successors-some script b pid call is (p ∷ ps) has =
+    elim (has-cases pid p ps has) [
+      | inl same ↦
+          Contains-append_left (one_successor script b p.pid (next script b.run p.pid)) (successors script ps b) (successor script b pid call)
+          (subst (λ (q : ℕ). Contains (one_successor script b q (next script b.run q)) (successor script b pid call)) (sym same)
+          (subst (λ (o : Option ProcessCall). Contains (one_successor script b pid o) (successor script b pid call)) (sym is) (0, omega arith, refl)))
+      | inr more ↦ Contains-append_right (one_successor script b p.pid (next script b.run p.pid)) (successors script ps b) (successor script b pid call) (successors-some script b pid call is ps more)
+    ]
 
-met-more : (seen : List Finding) (f g : Finding) → IsMet seen g → IsMet (seen ++ f ∷ []) g
-met-more seen f g met = (met.0, Contains-append_left seen (f ∷ []) met.0 met.1, met.2)
+-- each run that follows is that of a successor
+successors-have : (script : ScriptView) (b : Node) (pid : ℕ) (m : Run) → goes script pid b.run ≡ Some m → HasRun (successors script script.processes b) m
+successors-have script b pid m h =
+    let made = made-by (next script b.run pid) b.run pid m h in
+    let has = test-first (has_pid pid script.processes) (is_live b.run.machine pid) _ made.0 made.1 in
+    (successor script b pid made.0, successors-some script b pid made.0 made.1 script.processes has, made.2)
 
-met-last : (seen : List Finding) (f : Finding) → IsMet (seen ++ f ∷ []) f
-met-last seen f = (f, Contains-push seen f, alike-refl f)
+-- without successors a run has no followers
+pub none-follow : (script : ScriptView) (b : Node) → successors script script.processes b ≡ [] → followers script script.processes b.run ≡ []
+none-follow script b none = over-none script b.run over
+  where
+    over : IsOver script b.run
+    over pid = by (goes script pid b.run) refl
+      where
+        by : (o : Option Run) → goes script pid b.run ≡ o → o ≡ None
+        by None is = refl
+        by (Some m) is = (let there = successors-have script b pid m is in absurd (no-nodes there.0 (subst (λ (l : List Node). Contains l there.0) none there.1)))
 
-apart-more : (seen : List Finding) (f : Finding) → AllPairs AreApart seen → (IsMet seen f → ⊥) → AllPairs AreApart (seen ++ f ∷ [])
-apart-more seen f apart unmet = all_pairs_push AreApart seen f apart (λ k d lt alike. unmet (slice_index_or seen k d, Contains-get_or seen k d lt, alike))
+-- and without followers it has no successors
+pub none-succeed : (script : ScriptView) (b : Node) → followers script script.processes b.run ≡ [] → successors script script.processes b ≡ []
+none-succeed script b none = by script.processes
+  where
+    over : IsOver script b.run
+    over = none-over script b.run none
 
-pub taken-count : (script : ScriptView) (log : List (List Answer)) (seen news : List Finding) (runs new_runs : List Run) (m : Run) → IsTaken script log m seen news runs new_runs → length new_runs + length seen ≡ length runs + length news
-taken-count script log seen news runs new_runs m (inl left) = rw (left.seen, left.runs) refl
-taken-count script log seen news runs new_runs m (inr new) =
-    let a = length-append seen (finding_of script m.events ∷ []) in
-    let b = length-append runs (m ∷ []) in
-    rw (new.1.seen, new.1.runs) (omega (arith, a, b))
+    call-none : (pid : ℕ) (o : Option ProcessCall) → option_map (after b.run pid) o ≡ None → one_successor script b pid o ≡ []
+    call-none pid None h = refl
+    call-none pid (Some call) h = absurd (none-some _ (sym h))
 
-none-apart : AllPairs AreApart []
+    by : (ps : List Process) → successors script ps b ≡ []
+    by [] = refl
+    by (p ∷ ps) = rw (call-none p.pid (next script b.run p.pid) (over p.pid)) (by ps)
+
+-- ADMITTING
+
+-- a key is found exactly when it is there
+pub key-there : (keys : List Key) (k : Key) (b : Bool) → b ≡ list_any (key_eq k) keys → (IsTrue b → Contains keys k) × (Contains keys k → IsTrue b)
+key-there keys k b is = (let d = is_member-Decides same-key keys k in (λ t. d.0 (sym is ∙ t), λ there. is ∙ d.1 there))
+
+-- a key that is not there goes last
+pub key-last : (keys : List Key) (k : Key) → (Contains keys k → ⊥) → insert_key key_eq keys k ≡ keys ++ k ∷ []
+key-last keys k other = by (list_any (key_eq k) keys) refl
+  where
+    by : (b : Bool) → b ≡ list_any (key_eq k) keys → cond b keys (keys ++ k ∷ []) ≡ keys ++ k ∷ []
+    by true is = absurd (other ((key-there keys k true is).0 refl))
+    by false is = refl
+
+none-apart : AllPairs AreOther []
 none-apart = λ i j d ij none. absurd (omega (arith, none))
+
+apart-more : (explored : List Key) (k : Key) → AllPairs AreOther explored → (Contains explored k → ⊥) → AllPairs AreOther (explored ++ k ∷ [])
+apart-more explored k apart other = all_pairs_push AreOther explored k apart (λ i d lt same. other (subst (Contains explored) same (Contains-get_or explored i d lt)))
+
+last-node : (P : Node → Type 0) (rest : List Node) (b : Node) → All P (rest ++ b ∷ []) → P b
+last-node P rest b all = All-contains P (rest ++ b ∷ []) b all (Contains-push rest b)
+
+rest-nodes : (P : Node → Type 0) (rest : List Node) (b : Node) → All P (rest ++ b ∷ []) → All P rest
+rest-nodes P rest b all k d lt =
+    let long : length (rest ++ b ∷ []) ≡ length rest + 1 = length-append rest (b ∷ []) in
+    subst P (get_or_append_left rest (b ∷ []) d k lt) (all k d (omega (arith, long, lt)))
+
+pub admitted-count : (script : ScriptView) (log : List (List Answer)) (olds news : List Key) (frontier others : List Node) (b : Node) → IsAdmitted script log b olds news frontier others → length others + length olds ≡ length frontier + length news
+admitted-count script log olds news frontier others b (inl left) = rw (left.explored, left.frontier) refl
+admitted-count script log olds news frontier others b (inr new) =
+    let e = length-append olds (key_at b ∷ []) in
+    let f = length-append frontier (b ∷ []) in
+    rw (new.1.explored, new.1.frontier) (omega (arith, e, f))
+
+-- a search that gets no memory has a reason
+pub refused : (script : ScriptView) (log : List (List Answer)) (first : Run) (most : ℕ) (r : Result Verdict SearchError) → IsErrAnd r (λ e. e ≡ HostMemory) → IfErr r (IsDoubt script log first most)
+refused script log first most (Ok v) h = absurd h
+refused script log first most (Err e) h = rw h tt
 
 module _ (script : ScriptView) (log : List (List Answer)) (machine : Machine) where
   abbrev first : Run
   first = fresh machine
 
-  taken-left :
-      (seen : List Finding) (runs rest : List Run) (longest : ℕ) (m : Run)
-      → AreSeen script log first seen runs (rest ++ m ∷ []) longest
-      → (AllBegin script log m.events → ⊥) ⊎ IsMet seen (finding_of script m.events) → AreSeen script log first seen runs rest longest
-  taken-left seen runs rest longest m all why =
+  -- a node that is left: it does not begin the log, or its key was explored
+  left-out :
+      (explored : List Key) (frontier rest : List Node) (longest : ℕ) (b : Node)
+      → AreExplored script log first explored frontier (rest ++ b ∷ []) longest
+      → (AllBegin script log b.run.events → ⊥) ⊎ Contains explored (key_at b) → AreExplored script log first explored frontier rest longest
+  left-out explored frontier rest longest b all why =
       record {
         begun = all.begun;
-        found = all.found;
+        each = λ key is. (let x = all.each key is in (x.0, x.1, x.2, by x.0 x.3));
         apart = all.apart;
-        begin = all.begin;
-        reached = rest-of (IsReached script first) rest m all.reached;
-        settled =
-            λ run is here.
-            elim (all.settled run is here) [
-              | inl left ↦ inl left
-              | inr s ↦ inr (record { part = s.part; short = s.short; onwards = λ pid n goes begins. onwards pid n begins (s.onwards pid n goes begins) })
-            ];
+        unexpanded = all.unexpanded;
+        nodes = rest-nodes (IsNode script first) rest b all.nodes;
       }
     where
-      onwards : (pid : ℕ) (n : Run) → AllBegin script log n.events → IsMet seen (finding_of script n.events) ⊎ Contains (rest ++ m ∷ []) n → IsMet seen (finding_of script n.events) ⊎ Contains rest n
-      onwards pid n begins (inl met) = inl met
-      onwards pid n begins (inr offered) =
-          elim (Contains-push_cases rest m n offered) [
-            | inl there ↦ inr there
+      own : key_at b ≡ key_of script first b.run
+      own = (last-node (IsNode script first) rest b all.nodes).1
+
+      onwards : (n : Run) → AllBegin script log n.events → Contains explored (key_of script first n) ⊎ HasRun (rest ++ b ∷ []) n → Contains explored (key_of script first n) ⊎ HasRun rest n
+      onwards n begins (inl there) = inl there
+      onwards n begins (inr has) =
+          elim (Contains-push_cases rest b has.0 has.1) [
+            | inl there ↦ inr (has.0, there, has.2)
             | inr same ↦
+                let run : b.run ≡ n = ap (λ (x : Node). x.run) same ∙ has.2 in
                 elim why [
-                  | inl not ↦ absurd (not (subst (λ (r : Run). AllBegin script log r.events) (sym same) begins))
-                  | inr met ↦ inl (subst (λ (r : Run). IsMet seen (finding_of script r.events)) same met)
+                  | inl not ↦ absurd (not (subst (λ (r : Run). AllBegin script log r.events) (sym run) begins))
+                  | inr there ↦ inl (subst (Contains explored) (own ∙ ap (key_of script first) run) there)
                 ]
           ]
 
-  taken-new :
-      (seen : List Finding) (runs rest : List Run) (longest : ℕ) (m : Run)
-      → AreSeen script log first seen runs (rest ++ m ∷ []) longest
-      → IsNew script log seen m → AreSeen script log first (seen ++ finding_of script m.events ∷ []) (runs ++ m ∷ []) rest longest
-  taken-new seen runs rest longest m all new =
+      by : (run : Run) → HasRun frontier run ⊎ IsExpanded script log first explored (rest ++ b ∷ []) longest run → HasRun frontier run ⊎ IsExpanded script log first explored rest longest run
+      by run (inl waits) = inl waits
+      by run (inr x) = inr (record { part = x.part; short = x.short; onwards = λ pid n goes begins. onwards n begins (x.onwards pid n goes begins) })
+
+  -- a new node
+  put-in :
+      (explored : List Key) (frontier rest : List Node) (longest : ℕ) (b : Node)
+      → AreExplored script log first explored frontier (rest ++ b ∷ []) longest
+      → IsNew script log explored b → AreExplored script log first (explored ++ key_at b ∷ []) (frontier ++ b ∷ []) rest longest
+  put-in explored frontier rest longest b all new =
       record {
-        begun = Contains-append_left seen (f ∷ []) (finding_of script first.events) all.begun;
-        found = All-push (IsFound script log first) seen f all.found (m, begins, refl);
-        apart = apart-more seen f all.apart new.unmet;
-        begin = All-push (IsBeginning script log first) runs m all.begin begins;
-        reached = rest-of (IsReached script first) rest m all.reached;
-        settled = λ run is here. by run is (Contains-push_cases seen f (finding_of script run.events) here);
+        begun = Contains-append_left explored (key_at b ∷ []) (key_of script first first) all.begun;
+        each = λ key is. by key (Contains-push_cases explored (key_at b) key is);
+        apart = apart-more explored (key_at b) all.apart new.other;
+        unexpanded = All-push (IsOpen script log first) frontier b all.unexpanded (node, new.begins);
+        nodes = rest-nodes (IsNode script first) rest b all.nodes;
       }
     where
-      f : Finding
-      f = finding_of script m.events
+      node : IsNode script first b
+      node = last-node (IsNode script first) rest b all.nodes
 
-      reached : IsReached script first m
-      reached = last-of (IsReached script first) rest m all.reached
-
-      begins : IsBeginning script log first m
-      begins = (reached, new.begins)
-
-      onwards : (n : Run) → IsMet seen (finding_of script n.events) ⊎ Contains (rest ++ m ∷ []) n → IsMet (seen ++ f ∷ []) (finding_of script n.events) ⊎ Contains rest n
-      onwards n (inl met) = inl (met-more seen f (finding_of script n.events) met)
-      onwards n (inr offered) =
-          elim (Contains-push_cases rest m n offered) [
-            | inl there ↦ inr there
-            | inr same ↦ inl (subst (λ (r : Run). IsMet (seen ++ f ∷ []) (finding_of script r.events)) same (met-last seen f))
+      onwards : (n : Run) → Contains explored (key_of script first n) ⊎ HasRun (rest ++ b ∷ []) n → Contains (explored ++ key_at b ∷ []) (key_of script first n) ⊎ HasRun rest n
+      onwards n (inl there) = inl (Contains-append_left explored (key_at b ∷ []) (key_of script first n) there)
+      onwards n (inr has) =
+          elim (Contains-push_cases rest b has.0 has.1) [
+            | inl there ↦ inr (has.0, there, has.2)
+            | inr same ↦
+                let run : b.run ≡ n = ap (λ (x : Node). x.run) same ∙ has.2 in
+                inl (subst (Contains (explored ++ key_at b ∷ [])) (node.1 ∙ ap (key_of script first) run) (Contains-push explored (key_at b)))
           ]
 
-      by : (run : Run) → IsBeginning script log first run → Contains seen (finding_of script run.events) ⊎ (f ≡ finding_of script run.events)
-          → Contains (runs ++ m ∷ []) run ⊎ IsSettled script log (seen ++ f ∷ []) rest longest run
-      by run is (inl there) =
-          elim (all.settled run is there) [
-            | inl left ↦ inl (Contains-append_left runs (m ∷ []) run left)
-            | inr s ↦ inr (record { part = s.part; short = s.short; onwards = λ pid n goes begins. onwards n (s.onwards pid n goes begins) })
-          ]
-      by run is (inr same) =
-          let one : m ≡ run = reached-unique script first m run (ap (λ (g : Finding). g.events) same) reached is.0 in
-          inl (subst (Contains (runs ++ m ∷ [])) one (Contains-push runs m))
+      waits : (run : Run) → HasRun frontier run ⊎ IsExpanded script log first explored (rest ++ b ∷ []) longest run → HasRun (frontier ++ b ∷ []) run ⊎ IsExpanded script log first (explored ++ key_at b ∷ []) rest longest run
+      waits run (inl has) = inl (has.0, Contains-append_left frontier (b ∷ []) has.0 has.1, has.2)
+      waits run (inr x) = inr (record { part = x.part; short = x.short; onwards = λ pid n goes begins. onwards n (x.onwards pid n goes begins) })
 
-  -- one that was offered is taken in
-  pub taken :
-      (seen news : List Finding) (runs new_runs rest : List Run) (longest : ℕ) (m : Run)
-      → AreSeen script log first seen runs (rest ++ m ∷ []) longest → IsTaken script log m seen news runs new_runs → AreSeen script log first news new_runs rest longest
-  taken seen news runs new_runs rest longest m all (inl left) = rw (left.seen, left.runs) (taken-left seen runs rest longest m all left.why)
-  taken seen news runs new_runs rest longest m all (inr new) = rw (new.1.seen, new.1.runs) (taken-new seen runs rest longest m all new.0)
+      by : (key : Key) → Contains explored key ⊎ (key_at b ≡ key) → IsExplored script log first (explored ++ key_at b ∷ []) (frontier ++ b ∷ []) rest longest key
+      by key (inl there) = (let x = all.each key there in (x.0, x.1, x.2, waits x.0 x.3))
+      by key (inr same) = (b.run, (node.0, new.begins), sym same ∙ node.1, inl (b, Contains-push frontier b, refl))
 
-  too-many : (seen : List Finding) (m : Run) (most : ℕ) (error : SearchError)
-      → All (IsFound script log first) seen → AllPairs AreApart seen → IsReached script first m → IsTooMany script log m seen most error → IsDoubt script log first most error
-  too-many seen m most HostMemory found apart reached h = tt
-  too-many seen m most Bound found apart reached h =
-      let f = finding_of script m.events in (
-        seen ++ f ∷ [],
-        (let e = length-append seen (f ∷ []) in omega (arith, e, h.1)),
-        All-push (IsFound script log first) seen f found (m, (reached, h.0.begins), refl),
-        apart-more seen f apart h.0.unmet,
-      )
+  -- the last of the nodes that were offered is admitted, or left
+  pub admitted :
+      (olds news : List Key) (frontier others rest : List Node) (longest : ℕ) (b : Node)
+      → AreExplored script log first olds frontier (rest ++ b ∷ []) longest → IsAdmitted script log b olds news frontier others → AreExplored script log first news others rest longest
+  admitted olds news frontier others rest longest b all (inl left) = rw (left.explored, left.frontier) (left-out olds frontier rest longest b all left.why)
+  admitted olds news frontier others rest longest b all (inr new) = rw (new.1.explored, new.1.frontier) (put-in olds frontier rest longest b all new.0)
 
-  pub doubt : (seen : List Finding) (runs rest : List Run) (longest most : ℕ) (m : Run) (error : SearchError)
-      → AreSeen script log first seen runs (rest ++ m ∷ []) longest → IsTooMany script log m seen most error → IsDoubt script log first most error
-  doubt seen runs rest longest most m error all h = too-many seen m most error all.found all.apart (last-of (IsReached script first) rest m all.reached) h
+  key-begins : (explored : List Key) (frontier offered : List Node) (longest : ℕ) → AreExplored script log first explored frontier offered longest → All (IsKeyOfBeginning script log first) explored
+  key-begins explored frontier offered longest all k d lt =
+      let x = all.each (slice_index_or explored k d) (Contains-get_or explored k d lt) in
+      (x.0, x.1, x.2)
 
-  -- THE FIRST RUN
+  too-many : (explored : List Key) (b : Node) (most : ℕ) (error : SearchError)
+      → All (IsKeyOfBeginning script log first) explored → AllPairs AreOther explored → IsNode script first b → IsTooMany script log b explored most error → IsDoubt script log first most error
+  too-many explored b most HostMemory keys apart node h = tt
+  too-many explored b most Bound keys apart node h = (
+    explored ++ key_at b ∷ [],
+    (let e = length-append explored (key_at b ∷ []) in omega (arith, e, h.1)),
+    All-push (IsKeyOfBeginning script log first) explored (key_at b) keys (b.run, (node.0, h.0.begins), node.1),
+    apart-more explored (key_at b) apart h.0.other,
+  )
 
-  pub first-doubt : (most : ℕ) (error : SearchError) → IsTooMany script log first [] most error → IsDoubt script log first most error
-  first-doubt most error h = too-many [] first most error (λ k d lt. absurd (omega (arith, lt))) none-apart (first-begins script log machine).0 h
+  pub doubt : (explored : List Key) (frontier rest : List Node) (longest most : ℕ) (b : Node) (error : SearchError)
+      → AreExplored script log first explored frontier (rest ++ b ∷ []) longest → IsTooMany script log b explored most error → IsDoubt script log first most error
+  doubt explored frontier rest longest most b error all h =
+      too-many explored b most error (key-begins explored frontier (rest ++ b ∷ []) longest all) all.apart (last-node (IsNode script first) rest b all.nodes) h
 
-  pub first-seen : (news : List Finding) (runs : List Run) (longest : ℕ) → IsTaken script log first [] news [] runs → AreSeen script log first news runs [] longest
-  first-seen news runs longest (inl left) =
+  -- THE ROOT
+
+  root-node : IsNode script first (root script first)
+  root-node = (refl, refl)
+
+  pub first-doubt : (most : ℕ) (error : SearchError) → IsTooMany script log (root script first) [] most error → IsDoubt script log first most error
+  first-doubt most error h = too-many [] (root script first) most error (λ k d lt. absurd (omega (arith, lt))) none-apart root-node h
+
+  pub first-explored : (news : List Key) (frontier : List Node) (longest : ℕ) → IsAdmitted script log (root script first) [] news [] frontier → AreExplored script log first news frontier [] longest
+  first-explored news frontier longest (inl left) =
       elim left.why [
         | inl not ↦ absurd (not (first-begins script log machine).1)
-        | inr met ↦ absurd (omega (arith, met.1.1))
+        | inr there ↦ absurd (omega (arith, there.1))
       ]
-  first-seen news runs longest (inr new) =
-      rw (new.1.seen, new.1.runs)
+  first-explored news frontier longest (inr new) =
+      rw (new.1.explored, new.1.frontier)
       (record {
         begun = (0, omega arith, refl);
-        found = All-push (IsFound script log first) [] f (λ k d lt. absurd (omega (arith, lt))) (first, first-begins script log machine, refl);
-        apart = apart-more [] f none-apart new.0.unmet;
-        begin = All-push (IsBeginning script log first) [] first (λ k d lt. absurd (omega (arith, lt))) (first-begins script log machine);
-        reached = λ k d lt. absurd (omega (arith, lt));
-        settled = λ run is here. inl (subst (Contains (first ∷ [])) (one run is here) (0, omega arith, refl));
+        each = λ key is. (first, first-begins script log machine, by key (Contains-push_cases [] (key_at (root script first)) key is), inl (root script first, (0, omega arith, refl), refl));
+        apart = apart-more [] (key_at (root script first)) none-apart new.0.other;
+        unexpanded = All-push (IsOpen script log first) [] (root script first) (λ k d lt. absurd (omega (arith, lt))) (root-node, new.0.begins);
+        nodes = λ k d lt. absurd (omega (arith, lt));
       })
     where
-      f : Finding
-      f = finding_of script []
+      by : (key : Key) → Contains [] key ⊎ (key_at (root script first) ≡ key) → key ≡ key_of script first first
+      by key (inl there) = absurd (omega (arith, there.1))
+      by key (inr same) = sym same
 
-      one : (run : Run) → IsBeginning script log first run → Contains (f ∷ []) (finding_of script run.events) → first ≡ run
-      one run is here =
-          elim (Contains-push_cases [] f (finding_of script run.events) here) [
-            | inl there ↦ absurd (omega (arith, there.1))
-            | inr same ↦ reached-unique script first first run (ap (λ (g : Finding). g.events) same) (first-begins script log machine).0 is.0
-          ]
+  -- AN EXPANSION
 
-  -- A VISIT
-
-  pub visited :
-      (seen : List Finding) (rest : List Run) (run : Run) (short long : ℕ)
-      → AreSeen script log first seen (rest ++ run ∷ []) [] short → (IsOver script run → AllFill script log run.events → ⊥) → length run.events ≤ long → short ≤ long
-      → AreSeen script log first seen rest (followers script script.processes run) long
-  visited seen rest run short long all part within longer =
+  pub expanded :
+      (explored : List Key) (rest : List Node) (b : Node) (short long : ℕ)
+      → AreExplored script log first explored (rest ++ b ∷ []) [] short → (IsOver script b.run → AllFill script log b.run.events → ⊥) → length b.run.events ≤ long → short ≤ long
+      → AreExplored script log first explored rest (successors script script.processes b) long
+  expanded explored rest b short long all part within longer =
       record {
         begun = all.begun;
-        found = all.found;
+        each = λ key is. (let x = all.each key is in (x.0, x.1, x.2, by x.0 x.3));
         apart = all.apart;
-        begin = rest-of (IsBeginning script log first) rest run all.begin;
-        reached = followers-all script (IsReached script first) run (follower-reached script first run (last-of (IsBeginning script log first) rest run all.begin).0) script.processes;
-        settled = λ r is here. by r (all.settled r is here);
+        unexpanded = rest-nodes (IsOpen script log first) rest b all.unexpanded;
+        nodes = successors-all script (IsNode script first) b after-node script.processes;
       }
     where
-      offered : List Run
-      offered = followers script script.processes run
+      node : IsNode script first b
+      node = (last-node (IsOpen script log first) rest b all.unexpanded).0
 
-      own : IsSettled script log seen offered long run
-      own = record { part = part; short = within; onwards = λ pid m goes begins. inr (followers-contain script pid run m goes) }
+      after-node : (pid : ℕ) (call : ProcessCall) → next script b.run pid ≡ Some call → IsNode script first (successor script b pid call)
+      after-node pid call is = (
+        follower-reached script first b.run node.0 pid (after b.run pid call) (ap (option_map (after b.run pid)) is),
+        successor-key script machine b node.0 node.1 pid call,
+      )
 
-      onwards : (n : Run) → IsMet seen (finding_of script n.events) ⊎ Contains [] n → IsMet seen (finding_of script n.events) ⊎ Contains offered n
-      onwards n (inl met) = inl met
-      onwards n (inr none) = absurd (contains-none n none)
+      own : IsExpanded script log first explored (successors script script.processes b) long b.run
+      own = record { part = part; short = within; onwards = λ pid m goes begins. inr (successors-have script b pid m goes) }
 
-      by : (r : Run) → Contains (rest ++ run ∷ []) r ⊎ IsSettled script log seen [] short r → Contains rest r ⊎ IsSettled script log seen offered long r
-      by r (inl left) =
-          elim (Contains-push_cases rest run r left) [
-            | inl there ↦ inl there
-            | inr same ↦ inr (subst (IsSettled script log seen offered long) same own)
+      onwards : (n : Run) → Contains explored (key_of script first n) ⊎ HasRun [] n → Contains explored (key_of script first n) ⊎ HasRun (successors script script.processes b) n
+      onwards n (inl there) = inl there
+      onwards n (inr none) = absurd (no-nodes none.0 none.1)
+
+      by : (run : Run) → HasRun (rest ++ b ∷ []) run ⊎ IsExpanded script log first explored [] short run
+          → HasRun rest run ⊎ IsExpanded script log first explored (successors script script.processes b) long run
+      by run (inl has) =
+          elim (Contains-push_cases rest b has.0 has.1) [
+            | inl there ↦ inl (has.0, there, has.2)
+            | inr same ↦ inr (subst (IsExpanded script log first explored (successors script script.processes b) long) (ap (λ (x : Node). x.run) same ∙ has.2) own)
           ]
-      by r (inr s) =
+      by run (inr x) =
           inr
           (record {
-            part = s.part;
-            short = (let a = s.short in omega (arith, a, longer));
-            onwards = λ pid n goes begins. onwards n (s.onwards pid n goes begins);
+            part = x.part;
+            short = (let a = x.short in omega (arith, a, longer));
+            onwards = λ pid n goes begins. onwards n (x.onwards pid n goes begins);
           })
 
-  -- the runs that are offered are taken in in any order
+  -- the order of the nodes that are offered does not matter
   pub permuted :
-      (seen : List Finding) (runs offered others : List Run) (longest : ℕ)
-      → IsPermutation offered others → AreSeen script log first seen runs offered longest → AreSeen script log first seen runs others longest
-  permuted seen runs offered others longest same all =
+      (explored : List Key) (frontier offered others : List Node) (longest : ℕ)
+      → IsPermutation offered others → AreExplored script log first explored frontier offered longest → AreExplored script log first explored frontier others longest
+  permuted explored frontier offered others longest same all =
       record {
         begun = all.begun;
-        found = all.found;
+        each = λ key is. (let x = all.each key is in (x.0, x.1, x.2, by x.0 x.3));
         apart = all.apart;
-        begin = all.begin;
-        reached = All-permutation (IsReached script first) offered others same all.reached;
-        settled =
-            λ run is here.
-            elim (all.settled run is here) [
-              | inl left ↦ inl left
-              | inr s ↦ inr (record { part = s.part; short = s.short; onwards = λ pid n goes begins. moved n (s.onwards pid n goes begins) })
-            ];
+        unexpanded = all.unexpanded;
+        nodes = All-permutation (IsNode script first) offered others same all.nodes;
       }
     where
-      moved : (n : Run) → IsMet seen (finding_of script n.events) ⊎ Contains offered n → IsMet seen (finding_of script n.events) ⊎ Contains others n
-      moved n (inl met) = inl met
-      moved n (inr there) = inr (Contains-permutation offered others n same there)
+      moved : (n : Run) → Contains explored (key_of script first n) ⊎ HasRun offered n → Contains explored (key_of script first n) ⊎ HasRun others n
+      moved n (inl there) = inl there
+      moved n (inr has) = inr (has.0, Contains-permutation offered others has.0 same has.1, has.2)
 
-  -- AFTER THE LAST VISIT
+      by : (run : Run) → HasRun frontier run ⊎ IsExpanded script log first explored offered longest run → HasRun frontier run ⊎ IsExpanded script log first explored others longest run
+      by run (inl waits) = inl waits
+      by run (inr x) = inr (record { part = x.part; short = x.short; onwards = λ pid n goes begins. moved n (x.onwards pid n goes begins) })
 
-  module _ (seen : List Finding) (longest : ℕ) (all : AreSeen script log first seen [] [] longest) where
-    settled-at : (b : Run) → IsBeginning script log first b → Contains seen (finding_of script b.events) → IsSettled script log seen [] longest b
-    settled-at b is here =
-        elim (all.settled b is here) [
-          | inl left ↦ absurd (contains-none b left)
-          | inr s ↦ s
+  -- WHEN THE FRONTIER IS EMPTY
+
+  module _ (explored : List Key) (longest : ℕ) (all : AreExplored script log first explored [] [] longest) where
+    -- a run with this key was expanded
+    abbrev Has : Key → Type 0
+    Has key = (run : Run) × IsBeginning script log first run × (key ≡ key_of script first run) × IsExpanded script log first explored [] longest run
+
+    has-expanded : (key : Key) → Contains explored key → Has key
+    has-expanded key is =
+        let x = all.each key is in
+        elim x.3 [
+          | inl waits ↦ absurd (no-nodes waits.0 waits.1)
+          | inr done ↦ (x.0, x.1, x.2, done)
         ]
 
-    -- a schedule whose replies begin the log leads to a run that is like one that was seen
+    abbrev Equivalent : Run → Type 0
+    Equivalent end = (c : Run) × IsBeginning script log first c × IsExpanded script log first explored [] longest c × GoAlike script end c
+
+    -- a schedule whose replies begin the log leads to a run that is equivalent to one that was expanded
     follow : (schedule : List ℕ) (a b end : Run) → Leads script schedule a end → AllBegin script log end.events → GoAlike script a b
-        → IsBeginning script log first b → Contains seen (finding_of script b.events)
-        → (c : Run) × IsBeginning script log first c × Contains seen (finding_of script c.events) × GoAlike script end c
-    follow [] a b end h begins alike is here = (b, is, here, subst (λ (r : Run). GoAlike script r b) h alike)
-    follow (pid ∷ schedule) a b end h begins alike is here =
+        → IsBeginning script log first b → IsExpanded script log first explored [] longest b → Equivalent end
+    follow [] a b end h begins alike is done = (b, is, done, subst (λ (r : Run). GoAlike script r b) h alike)
+    follow (pid ∷ schedule) a b end h begins alike is done =
         let m = h.0 in
         let more = leads-redone script schedule m end h.2 in
         let m-begins = all-prefix script log m.events more.0 end.events more.1 begins in
         let there = goes-alike script a b pid m alike h.1 in
         let n = there.0 in
         let n-begins = all-begin-alike script log m n there.2 m-begins in
-        elim ((settled-at b is here).onwards pid n there.1 n-begins) [
+        elim (done.onwards pid n there.1 n-begins) [
           | inl met ↦
-              let found = All-contains (IsFound script log first) seen met.0 all.found met.1 in
-              let c = found.0 in
-              let same : AreAlike (finding_of script c.events) (finding_of script n.events) = subst (λ (g : Finding). AreAlike g (finding_of script n.events)) found.2 met.2 in
-              let back = alike-go script c n first refl found.1.0 (follower-reached script first b is.0 pid n there.1) same in
-              follow schedule m c end h.2 begins (go-trans script m n c there.2 (go-sym script c n back)) found.1 (subst (Contains seen) found.2 met.1)
-          | inr none ↦ absurd (contains-none n none)
+              let x = has-expanded (key_of script first n) met in
+              let same = keys-alike script machine n x.0 (follower-reached script first b is.0 pid n there.1) x.1.0 x.2 in
+              follow schedule m x.0 end h.2 begins (go-trans script m n x.0 there.2 same) x.1 x.3
+          | inr none ↦ absurd (no-nodes none.0 none.1)
         ]
+
+    from-first : (schedule : List ℕ) (end : Run) → Leads script schedule first end → AllBegin script log end.events → Equivalent end
+    from-first schedule end leads begins =
+        let x = has-expanded (key_of script first first) all.begun in
+        let same = keys-alike script machine first x.0 (first-begins script log machine).0 x.1.0 x.2 in
+        follow schedule first x.0 end leads begins same x.1 x.3
 
     pub unexplained : IsUnexplained script log first
     unexplained schedule end is fills =
-        let c = follow schedule first first end is.0 (fill-begins script log end.events fills) (go-refl script first first refl) (first-begins script log machine) all.begun in
-        (settled-at c.0 c.1 c.2).part (over-alike script end c.0 c.3 is.1) (all-fill-alike script log end c.0 c.3 fills)
+        let c = from-first schedule end is.0 (fill-begins script log end.events fills) in
+        c.2.part (over-alike script end c.0 c.3 is.1) (all-fill-alike script log end c.0 c.3 fills)
 
     pub longest-all : (schedule : List ℕ) (run : Run) → Leads script schedule first run → AllBegin script log run.events → length run.events ≤ longest
     longest-all schedule run leads begins =
-        let c = follow schedule first first run leads begins (go-refl script first first refl) (first-begins script log machine) all.begun in
-        let short = (settled-at c.0 c.1 c.2).short in
+        let c = from-first schedule run leads begins in
+        let short = c.2.short in
         let count = c.3.count in
         omega (arith, short, count)
 
--- A VISIT AS THE CODE MAKES IT
+-- AN EXPANSION AS THE CODE MAKES IT
 
--- what a run that has all of the log is
+-- what a node that has all of the log is
 pub legal :
-    (script : ScriptView) (log : List (List Answer)) (machine : Machine) (seen : List Finding) (runs rest : List Run) (run : Run) (short : ℕ)
-    → AreSeen script log (fresh machine) seen runs [] short → runs ≡ rest ++ run ∷ [] → followers script script.processes run ≡ [] → AllFill script log run.events
-    → IsExplained script log (fresh machine) run.events
-legal script log machine seen runs rest run short all was none fills =
-    let begins = last-of (IsBeginning script log (fresh machine)) rest run (subst (All (IsBeginning script log (fresh machine))) was all.begin) in
-    (run, (begins.0, none-over script run none), refl, fills)
+    (script : ScriptView) (log : List (List Answer)) (machine : Machine) (explored : List Key) (frontier rest : List Node) (b : Node) (short : ℕ)
+    → AreExplored script log (fresh machine) explored frontier [] short → frontier ≡ rest ++ b ∷ [] → successors script script.processes b ≡ [] → AllFill script log b.run.events
+    → IsExplained script log (fresh machine) b.run.events
+legal script log machine explored frontier rest b short all was none fills =
+    let node = (last-node (IsOpen script log (fresh machine)) rest b (subst (All (IsOpen script log (fresh machine))) was all.unexpanded)).0 in
+    (b.run, (node.0, none-over script b.run (none-follow script b none)), refl, fills)
 
 pub goes-on :
-    (script : ScriptView) (log : List (List Answer)) (machine : Machine) (seen : List Finding) (runs rest : List Run) (run : Run) (old new : Stuck)
-    → AreSeen script log (fresh machine) seen runs [] (length old.events) → runs ≡ rest ++ run ∷ []
-    → ((followers script script.processes run ≡ []) × AllFill script log run.events → ⊥) → IsLonger script run old new
-    → AreSeen script log (fresh machine) seen rest (followers script script.processes run) (length new.events)
-goes-on script log machine seen runs rest run old new all was part longer =
-    visited script log machine seen rest run (length old.events) (length new.events)
-    (subst (λ (rs : List Run). AreSeen script log (fresh machine) seen rs [] (length old.events)) was all)
-    (λ over fills. part (over-none script run over, fills)) (within longer) (grown longer)
+    (script : ScriptView) (log : List (List Answer)) (machine : Machine) (explored : List Key) (frontier rest : List Node) (b : Node) (old new : Stuck)
+    → AreExplored script log (fresh machine) explored frontier [] (length old.events) → frontier ≡ rest ++ b ∷ []
+    → ((successors script script.processes b ≡ []) × AllFill script log b.run.events → ⊥) → IsLonger script b.run old new
+    → AreExplored script log (fresh machine) explored rest (successors script script.processes b) (length new.events)
+goes-on script log machine explored frontier rest b old new all was part longer =
+    expanded script log machine explored rest b (length old.events) (length new.events)
+    (subst (λ (f : List Node). AreExplored script log (fresh machine) explored f [] (length old.events)) was all)
+    (λ over fills. part (none-succeed script b (over-none script b.run over), fills)) (within longer) (longer-yet longer)
   where
-    within : IsLonger script run old new → length run.events ≤ length new.events
+    within : IsLonger script b.run old new → length b.run.events ≤ length new.events
     within (inl l) = rw l.1 (omega arith)
     within (inr l) = rw l.1 l.0
 
-    grown : IsLonger script run old new → length old.events ≤ length new.events
-    grown (inl l) = (let e = l.0 in rw l.1 (omega (arith, e)))
-    grown (inr l) = rw l.1 (omega arith)
+    longer-yet : IsLonger script b.run old new → length old.events ≤ length new.events
+    longer-yet (inl l) = (let e = l.0 in rw l.1 (omega (arith, e)))
+    longer-yet (inr l) = rw l.1 (omega arith)
 
 abbrev pub IsStuckAt : ScriptView → List (List Answer) → Run → Stuck → Type 0
 IsStuckAt script log first s = (run : Run) × IsBeginning script log first run × (s ≡ stuck_at script run)
 
 pub stuck-on :
-    (script : ScriptView) (log : List (List Answer)) (first : Run) (rest runs : List Run) (run : Run) (old new : Stuck)
-    → All (IsBeginning script log first) runs → runs ≡ rest ++ run ∷ [] → IsLonger script run old new → IsStuckAt script log first old → IsStuckAt script log first new
-stuck-on script log first rest runs run old new all was (inl l) before = (run, last-of (IsBeginning script log first) rest run (subst (All (IsBeginning script log first)) was all), l.1)
-stuck-on script log first rest runs run old new all was (inr l) before = rw l.1 before
+    (script : ScriptView) (log : List (List Answer)) (first : Run) (rest frontier : List Node) (b : Node) (old new : Stuck)
+    → All (IsOpen script log first) frontier → frontier ≡ rest ++ b ∷ [] → IsLonger script b.run old new → IsStuckAt script log first old → IsStuckAt script log first new
+stuck-on script log first rest frontier b old new all was (inl l) before =
+    let open-node = last-node (IsOpen script log first) rest b (subst (All (IsOpen script log first)) was all) in
+    (b.run, (open-node.0.0, open-node.1), l.1)
+stuck-on script log first rest frontier b old new all was (inr l) before = rw l.1 before
 
--- when no run is left
+-- when no node is left
 pub illegal :
-    (script : ScriptView) (log : List (List Answer)) (machine : Machine) (seen : List Finding) (runs : List Run) (s : Stuck)
-    → AreSeen script log (fresh machine) seen runs [] (length s.events) → runs ≡ [] → IsStuckAt script log (fresh machine) s
+    (script : ScriptView) (log : List (List Answer)) (machine : Machine) (explored : List Key) (frontier : List Node) (s : Stuck)
+    → AreExplored script log (fresh machine) explored frontier [] (length s.events) → frontier ≡ [] → IsStuckAt script log (fresh machine) s
     → IsUnexplained script log (fresh machine) × IsStuck script log (fresh machine) s
-illegal script log machine seen runs s all none at =
-    let last = subst (λ (rs : List Run). AreSeen script log (fresh machine) seen rs [] (length s.events)) none all in
-    (unexplained script log machine seen (length s.events) last, record { beginning = at; longest = longest-all script log machine seen (length s.events) last })
+illegal script log machine explored frontier s all none at =
+    let last = subst (λ (f : List Node). AreExplored script log (fresh machine) explored f [] (length s.events)) none all in
+    (unexplained script log machine explored (length s.events) last, record { beginning = at; longest = longest-all script log machine explored (length s.events) last })
+
+-- the calls of a schedule that has the replies of the log
+pub explained : (script : ScriptView) (log : List (List Answer)) (start run : Run) → IsReached script start run → followers script script.processes run ≡ [] → AllFill script log run.events
+    → IsExplained script log start run.events
+explained script log start run reached none fills = (run, (reached, none-over script run none), refl, fills)

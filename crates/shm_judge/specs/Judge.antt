@@ -3,10 +3,9 @@ use Rattle.std.specs.Prelude.{◌≡◌, ◌<◌, ◌≤◌, ℕ, List, [], All,
 use Rattle.std.specs.List.{AllPairs}
 use Rattle.shm_base.specs.declared.call.Event.{Event}
 use Rattle.shm_text.specs.Script.{ScriptView}
-use Rattle.shm_schedules.specs.Alike.{AreAlike}
+use Rattle.shm_outcomes.specs.Keys.{AreOther, Key, key_of}
 use Rattle.shm_judge.specs.Logs.{Answer, AllBegin, AllFill}
 use Rattle.shm_schedules.specs.Schedules.{Run, Leads, IsSchedule, schedule_of, IsReached, followers}
-use Rattle.shm_schedules.specs.Finding.{Finding, finding_of}
 use Rattle.shm_judge.specs.Stuck.{Stuck}
 use Rattle.shm_judge.specs.declared.verdict.Verdict.{Verdict}
 use Rattle.shm_judge.specs.declared.verdict.Verdict.TheVariants.{Legal, Illegal}
@@ -46,15 +45,13 @@ abbrev pub IsRight : ScriptView → List (List Answer) → Run → Verdict → T
 IsRight script log first (Legal events) = IsExplained script log first events.items
 IsRight script log first (Illegal stuck) = IsUnexplained script log first × IsStuck script log first stuck
 
-abbrev pub AreApart : Finding → Finding → Type 0
-AreApart f g = AreAlike f g → ⊥
+-- a run that begins the log has this key
+abbrev pub IsKeyOfBeginning : ScriptView → List (List Answer) → Run → Key → Type 0
+IsKeyOfBeginning script log first key = (run : Run) × IsBeginning script log first run × (key ≡ key_of script first run)
 
-abbrev pub IsFound : ScriptView → List (List Answer) → Run → Finding → Type 0
-IsFound script log first f = (run : Run) × IsBeginning script log first run × (f ≡ finding_of script run.events)
-
--- the log has more beginnings than the bound, all of them different
+-- the log has more beginnings than the bound, no two of them with the same key
 abbrev pub AreMore : ScriptView → List (List Answer) → Run → ℕ → Type 0
-AreMore script log first most = (found : List Finding) × (most < length found) × All (IsFound script log first) found × AllPairs AreApart found
+AreMore script log first most = (keys : List Key) × (most < length keys) × All (IsKeyOfBeginning script log first) keys × AllPairs AreOther keys
 
 -- why a judge has no verdict
 abbrev pub IsDoubt : ScriptView → List (List Answer) → Run → ℕ → SearchError → Type 0

@@ -1,70 +1,92 @@
--- The state of a judge's search, and the order of a log's lines.
-use Rattle.std.specs.Prelude.{◌≡◌, ◌⊎◌, ◌<◌, ◌≤◌, ℕ, List, [], ◌∷◌, ◌++◌, map, All, Contains, length, Some}
+-- The state of a judge's search. It explores the beginnings of a log. Of those with one key it explores one, because they have the
+-- same continuations. The frontier has the nodes whose successors are still to be generated.
+use Rattle.std.specs.Prelude.{◌≡◌, ◌⊎◌, ◌<◌, ◌≤◌, ℕ, List, [], ◌∷◌, ◌++◌, All, Contains, flat_map, length, Option, Some, None}
 use Rattle.std.specs.List.{AllPairs}
+use Rattle.shm_base.specs.Calls.{ProcessCall}
+use Rattle.shm_base.specs.declared.call.Process.{Process}
 use Rattle.shm_text.specs.Script.{ScriptView}
-use Rattle.shm_schedules.specs.Alike.{AreAlike}
-use Rattle.shm_judge.specs.Logs.{Answer, AllBegin, AllFill, Entry}
-use Rattle.shm_schedules.specs.Schedules.{Run, goes, IsOver, IsSchedule, IsReached}
-use Rattle.shm_schedules.specs.Finding.{Finding, finding_of}
+use Rattle.shm_judge.specs.Logs.{Answer, AllBegin, AllFill}
+use Rattle.shm_outcomes.specs.Keys.{AreOther, Key, key_of}
+use Rattle.shm_outcomes.specs.Nodes.{Node, key_at, successor}
+use Rattle.shm_schedules.specs.Schedules.{Run, goes, next, IsOver, IsReached}
 use Rattle.shm_judge.specs.Stuck.{Stuck}
 use Rattle.shm_schedules.specs.declared.search_error.SearchError.{SearchError}
 use Rattle.shm_schedules.specs.declared.search_error.SearchError.TheVariants.{HostMemory, Bound}
-use Rattle.shm_judge.specs.Judge.{AreApart, IsBeginning, IsFound, stuck_at}
+use Rattle.shm_judge.specs.Judge.{IsBeginning, stuck_at}
 
--- THE SEARCH
+-- SUCCESSORS
 
--- a run like this one is among them
-abbrev pub IsMet : List Finding → Finding → Type 0
-IsMet seen g = (f : Finding) × Contains seen f × AreAlike f g
+abbrev pub one_successor : ScriptView → Node → ℕ → Option ProcessCall → List Node
+one_successor script b pid None = []
+one_successor script b pid (Some call) = successor script b pid call ∷ []
 
--- a run is added to those to be visited: it begins the log, and no run like it was met before
-pub record IsNew (script : ScriptView) (log : List (List Answer)) (seen : List Finding) (run : Run) : Type 0 where
-  pub begins : AllBegin script log run.events
-  pub unmet : IsMet seen (finding_of script run.events) → ⊥
+-- the nodes after one more call of one of these processes, in their order
+abbrev pub successors : ScriptView → List Process → Node → List Node
+successors script processes b = flat_map (λ (p : Process). one_successor script b p.pid (next script b.run p.pid)) processes
 
-pub record IsPut (run : Run) (f : Finding) (seens news : List Finding) (olds others : List Run) : Type 0 where
-  pub seen : news ≡ seens ++ f ∷ []
-  pub runs : others ≡ olds ++ run ∷ []
+-- NODES
 
-pub record IsLeft (script : ScriptView) (log : List (List Answer)) (run : Run) (seens news : List Finding) (olds others : List Run) : Type 0 where
-  pub why : (AllBegin script log run.events → ⊥) ⊎ IsMet seens (finding_of script run.events)
-  pub seen : news ≡ seens
-  pub runs : others ≡ olds
+-- a schedule leads to the node's run, and the node has the run's key
+abbrev pub IsNode : ScriptView → Run → Node → Type 0
+IsNode script first b = IsReached script first b.run × (key_at b ≡ key_of script first b.run)
 
-abbrev pub IsTaken : ScriptView → List (List Answer) → Run → List Finding → List Finding → List Run → List Run → Type 0
-IsTaken script log run seens news olds runs =
-    IsLeft script log run seens news olds runs ⊎ (IsNew script log seens run × IsPut run (finding_of script run.events) seens news olds runs)
+-- and the run begins the log
+abbrev pub IsOpen : ScriptView → List (List Answer) → Run → Node → Type 0
+IsOpen script log first b = IsNode script first b × AllBegin script log b.run.events
 
-abbrev pub IsTooMany : ScriptView → List (List Answer) → Run → List Finding → ℕ → SearchError → Type 0
-IsTooMany script log run seen most HostMemory = Unit {0}
-IsTooMany script log run seen most Bound = IsNew script log seen run × (most ≤ length seen)
+-- one of the nodes has this run
+abbrev pub HasRun : List Node → Run → Type 0
+HasRun nodes run = (b : Node) × Contains nodes b × (b.run ≡ run)
 
--- a run that was visited does not have all of the log, is no longer than the longest, and all runs that follow it were met, or
--- are among these
-pub record IsSettled (script : ScriptView) (log : List (List Answer)) (seen : List Finding) (offered : List Run) (longest : ℕ) (run : Run) : Type 0 where
+-- ADMITTING
+
+-- it begins the log, and no node with its key was admitted
+pub record IsNew (script : ScriptView) (log : List (List Answer)) (explored : List Key) (b : Node) : Type 0 where
+  pub begins : AllBegin script log b.run.events
+  pub other : Contains explored (key_at b) → ⊥
+
+pub record IsPut (b : Node) (olds news : List Key) (before later : List Node) : Type 0 where
+  pub explored : news ≡ olds ++ key_at b ∷ []
+  pub frontier : later ≡ before ++ b ∷ []
+
+pub record IsLeft (script : ScriptView) (log : List (List Answer)) (b : Node) (olds news : List Key) (before later : List Node) : Type 0 where
+  pub why : (AllBegin script log b.run.events → ⊥) ⊎ Contains olds (key_at b)
+  pub explored : news ≡ olds
+  pub frontier : later ≡ before
+
+-- a new node is added to the frontier, and its key to those that were explored
+abbrev pub IsAdmitted : ScriptView → List (List Answer) → Node → List Key → List Key → List Node → List Node → Type 0
+IsAdmitted script log b olds news before later =
+    IsLeft script log b olds news before later ⊎ (IsNew script log olds b × IsPut b olds news before later)
+
+abbrev pub IsTooMany : ScriptView → List (List Answer) → Node → List Key → ℕ → SearchError → Type 0
+IsTooMany script log b explored most HostMemory = Unit {0}
+IsTooMany script log b explored most Bound = IsNew script log explored b × (most ≤ length explored)
+
+-- THE STATE
+
+-- a run whose successors were generated: it does not have all of the log, is no longer than the longest, and each run after it that
+-- begins the log was explored, or is among those offered
+pub record IsExpanded (script : ScriptView) (log : List (List Answer)) (first : Run) (explored : List Key) (offered : List Node) (longest : ℕ) (run : Run) : Type 0 where
   pub part : IsOver script run → AllFill script log run.events → ⊥
   pub short : length run.events ≤ longest
-  pub onwards : (pid : ℕ) (m : Run) → goes script pid run ≡ Some m → AllBegin script log m.events → IsMet seen (finding_of script m.events) ⊎ Contains offered m
+  pub onwards : (pid : ℕ) (m : Run) → goes script pid run ≡ Some m → AllBegin script log m.events → Contains explored (key_of script first m) ⊎ HasRun offered m
 
--- the state of the search: the runs still to be visited, and those still to be taken in
-pub record AreSeen (script : ScriptView) (log : List (List Answer)) (first : Run) (seen : List Finding) (runs offered : List Run) (longest : ℕ) : Type 0 where
-  pub begun : Contains seen (finding_of script first.events)
-  pub found : All (IsFound script log first) seen
-  pub apart : AllPairs AreApart seen
-  pub begin : All (IsBeginning script log first) runs
-  pub reached : All (IsReached script first) offered
-  pub settled : (run : Run) → IsBeginning script log first run → Contains seen (finding_of script run.events) → Contains runs run ⊎ IsSettled script log seen offered longest run
+-- a run with this key begins the log, and is in the frontier, or was expanded
+abbrev pub IsExplored : ScriptView → List (List Answer) → Run → List Key → List Node → List Node → ℕ → Key → Type 0
+IsExplored script log first explored frontier offered longest key =
+    (run : Run) × IsBeginning script log first run × (key ≡ key_of script first run)
+    × (HasRun frontier run ⊎ IsExpanded script log first explored offered longest run)
+
+-- the keys that were explored, the frontier, and the nodes still to be admitted
+pub record AreExplored (script : ScriptView) (log : List (List Answer)) (first : Run) (explored : List Key) (frontier offered : List Node) (longest : ℕ) : Type 0 where
+  pub begun : Contains explored (key_of script first first)
+  pub each : (key : Key) → Contains explored key → IsExplored script log first explored frontier offered longest key
+  pub apart : AllPairs AreOther explored
+  pub unexpanded : All (IsOpen script log first) frontier
+  pub nodes : All (IsNode script first) offered
 
 -- the longer of two beginnings
 abbrev pub IsLonger : ScriptView → Run → Stuck → Stuck → Type 0
 IsLonger script run old new =
     ((length old.events < length run.events) × (new ≡ stuck_at script run)) ⊎ ((length run.events ≤ length old.events) × (new ≡ old))
-
--- THE ORDER OF A LOG'S LINES
-
-abbrev pub pid_in : Entry → ℕ
-pid_in e = e.pid
-
--- the schedule in the order of these lines does not have the log's replies
-abbrev pub DiffersInOrder : ScriptView → List (List Answer) → Run → List Entry → Type 0
-DiffersInOrder script log first entries = (end : Run) → IsSchedule script first (map pid_in entries) end → AllFill script log end.events → ⊥

@@ -1,62 +1,21 @@
-//! The judge: searches a schedule that has the replies of a log. It continues from a run only if the run's
-//! replies begin the log, and if no run like it was met before.
-ghost use Rattle.std.specs.Prelude.{◌≡◌, [], ◌↔◌, ◌+◌, ◌<◌, ◌≤◌, ℕ, IfErr, IfOk, IsPermutation, IsTrue, OnOk, length};
-ghost use Rattle.shm_schedules.specs.Alike.{AreAlike};
+//! The judge: searches a schedule that has the replies of a log. It is a depth-first search that admits a node only if
+//! its replies begin the log, and if no equivalent node was admitted before.
+ghost use Rattle.std.specs.Prelude.{◌≡◌, ◌↔◌, ◌∷◌, [], ◌+◌, ◌++◌, ◌<◌, ◌≤◌, ℕ, Contains, IfErr, IfOk, IsPermutation, IsTrue, OnOk, length};
 ghost use Rattle.shm_judge.specs.Judge.{IsDoubt, IsRight, newest, stuck_at};
-ghost use Rattle.shm_judge.specs.Searching.{AreSeen, IsLonger, IsMet, IsTaken, IsTooMany};
-ghost use Rattle.shm_schedules.specs.Schedules.{fresh};
+ghost use Rattle.shm_judge.specs.Searching.{AreExplored, IsAdmitted, IsLonger, IsTooMany, one_successor, successors};
+ghost use Rattle.shm_schedules.specs.Schedules.{fresh, next};
 ghost use Rattle.shm_base.specs.State.{Machine};
-ghost use Rattle.shm_schedules.specs.Finding.{finding_of};
 
+use crate::guess::{explained, is_whole};
 use crate::log::{Entry, Log};
-use crate::ordered::{explained, is_whole};
 use crate::plan::last_line;
 use crate::verdict::{Stuck, Verdict};
-use shm_base::{Event, HostMemory};
-use shm_schedules::{
-    Engine, Finding, Outcome, Run, SearchError, are_same_events, changes, push_followers,
-};
+use indexmap::IndexSet;
+use shm_base::{Event, HostMemory, Process};
+use shm_outcomes::{Key, Node};
+use shm_schedules::{Engine, Lists, Run, SearchError, push_followers};
 use shm_text::Script;
-use std::alloc::Global;
-
-// Whether two runs are equivalent.
-fn are_alike(alloc: Global, finding: &Finding, other: &Finding) -> Result<bool, HostMemory>
-    ensures { IfOk result (λ r. IsTrue r ↔ AreAlike finding.now other.now) }
-{
-    if finding.events.len() != other.events.len() {
-        return Ok(false);
-    }
-    if finding.outcome != other.outcome {
-        return Ok(false);
-    }
-    let own = changes(alloc, &finding.events)?;
-    let others = changes(alloc, &other.events)?;
-    Ok(are_same_events(&own, &others))
-}
-
-// Whether a run like this one was met before.
-fn is_met(alloc: Global, seen: &[Finding], found: &Finding) -> Result<bool, HostMemory>
-    ensures { IfOk result (λ r. IsTrue r ↔ IsMet seen.now found.now) }
-{
-    for finding in seen {
-        if are_alike(alloc, finding, found)? {
-            return Ok(true);
-        }
-    }
-    Ok(false)
-}
-
-fn finding_at<M: Engine>(
-    alloc: Global,
-    script: &Script,
-    run: &Run<M>,
-) -> Result<Finding, HostMemory>
-    ensures { IfOk result (λ f. f ≡ finding_of script.now run.now.events) }
-{
-    let outcome = Outcome::of(alloc, script, run.events())?;
-    let events = Vec::from_slice(alloc, run.events())?;
-    Ok(Finding { events, outcome })
-}
+use std::alloc::{AllocError, Global};
 
 // The run, and the calls by which it can continue.
 fn stuck_at<M: Engine>(alloc: Global, script: &Script, run: &Run<M>) -> Result<Stuck, HostMemory>
@@ -85,8 +44,8 @@ fn newest<'a, M: Engine>(run: &Run<M>, next: &'a Run<M>) -> &'a [Event]
 }
 
 /// Whether some schedule of a script has the replies of a log, whose lines are these entries. The machine has
-/// made no call. It tries the order of the lines first, then orders near it, and else at most `most` prefixes of
-/// schedules, of which no two are equivalent.
+/// made no call. It tries an order near that of the lines first, and else at most `most` prefixes of schedules, of
+/// which no two are equivalent.
 pub fn judge_log<M: Engine>(
     alloc: Global,
     script: &Script,
@@ -102,28 +61,91 @@ pub fn judge_log<M: Engine>(
     if let Some(events) = explained(alloc, script, log, entries, &machine)? {
         return Ok(Verdict::Legal(events));
     }
+    searched(alloc, script, log, entries, machine, most)
+}
+
+// The same by the search alone. It visits the successor first whose last call comes first in the log.
+fn searched<M: Engine>(
+    alloc: Global,
+    script: &Script,
+    log: &Log,
+    entries: &[Entry],
+    machine: M,
+    most: u64,
+) -> Result<Verdict, SearchError>
+    requires new { M.calls machine ≡ 0 }
+    ensures ok { IfOk result (IsRight script.now log.now (fresh (M.flat machine))) }
+    ensures err { IfErr result (IsDoubt script.now log.now (fresh (M.flat machine)) most) }
+{
     let first = Run::first(alloc, machine)?;
     let mut stuck = stuck_at(alloc, script, &first)?;
-    let mut seen = Vec::new(alloc);
-    let mut runs = Vec::new(alloc);
-    if let Err(error) = take_in_one(alloc, script, log, most, first, &mut runs, &mut seen) {
+    let mut lists = Lists::new(alloc);
+    let mut explored = IndexSet::new(alloc);
+    let mut frontier = Vec::new(alloc);
+    let root = Node::first(alloc, script, &first)?;
+    if let Err(error) = admit(alloc, script, log, most, root, &mut frontier, &mut explored) {
         return Err(error);
     }
     let mut visited = 0u64;
-    'runs: while let Some(run) = runs.pop() {
+    'nodes: while let Some(node) = frontier.pop() {
         let mut offered = Vec::new(alloc);
-        push_followers(alloc, script, &run, &mut offered)?;
-        if is_whole(alloc, script, log, &run, &offered)? {
-            return Ok(Verdict::Legal(run.into_events()));
+        push_successors(alloc, script, &node, &mut lists, &mut offered)?;
+        if is_whole(alloc, script, log, node.run().events(), &offered)? {
+            return Ok(Verdict::Legal(node.into_run().into_events()));
         }
-        keep_longest(alloc, script, &run, &mut stuck)?;
+        keep_longest(alloc, script, node.run(), &mut stuck)?;
         put_in_order(entries, &mut offered);
-        if let Err(error) = take_in(alloc, script, log, most, &mut offered, &mut runs, &mut seen) {
+        if let Err(error) = admit_all(
+            alloc,
+            script,
+            log,
+            most,
+            &mut offered,
+            &mut frontier,
+            &mut explored,
+        ) {
             return Err(error);
         }
         visited += 1;
     }
     Ok(Verdict::Illegal(stuck))
+}
+
+// Appends each node that extends this one by a call, in the script's order of processes.
+fn push_successors<M: Engine>(
+    alloc: Global,
+    script: &Script,
+    node: &Node<M>,
+    lists: &mut Lists,
+    offered: &mut Vec<Node<M>>,
+) -> Result<(), HostMemory>
+    ensures { OnOk result (offered.new.items
+        ≡ offered.old.items ++ successors script.now script.now.processes node.now) }
+{
+    for process in &script.processes {
+        push_successor(alloc, script, node, process, lists, offered)?;
+    }
+    Ok(())
+}
+
+// Appends the node that extends this one by the next call of a process, if it has one.
+fn push_successor<M: Engine>(
+    alloc: Global,
+    script: &Script,
+    node: &Node<M>,
+    process: &Process,
+    lists: &mut Lists,
+    offered: &mut Vec<Node<M>>,
+) -> Result<(), HostMemory>
+    ensures { OnOk result (offered.new.items ≡ offered.old.items
+        ++ one_successor script.now node.now process.now.pid (next script.now node.now.run process.now.pid)) }
+{
+    let Some(call) = node.run().next(script, process.pid) else {
+        return Ok(());
+    };
+    let after = node.after(alloc, script, process.pid, &call, lists)?;
+    offered.push(after)?;
+    Ok(())
 }
 
 // Keeps the longer of two beginnings.
@@ -141,12 +163,12 @@ fn keep_longest<M: Engine>(
     Ok(())
 }
 
-// The index of the run, from an index on, whose last call comes first in the log.
-fn nearest<M: Engine>(entries: &[Entry], offered: &[Run<M>], from: usize) -> usize {
+// The index of the node, from an index on, whose last call comes first in the log.
+fn nearest<M: Engine>(entries: &[Entry], offered: &[Node<M>], from: usize) -> usize {
     let mut found = from;
     let mut line = entries.len();
-    for (place, run) in offered.iter().enumerate() {
-        let own = last_line(entries, run.events());
+    for (place, node) in offered.iter().enumerate() {
+        let own = last_line(entries, node.run().events());
         if place >= from && own < line {
             found = place;
             line = own;
@@ -155,8 +177,8 @@ fn nearest<M: Engine>(entries: &[Entry], offered: &[Run<M>], from: usize) -> usi
     found
 }
 
-// Moves that run to the index.
-fn put_nearest<M: Engine>(entries: &[Entry], offered: &mut Vec<Run<M>>, place: usize)
+// Moves that node to the index.
+fn put_nearest<M: Engine>(entries: &[Entry], offered: &mut Vec<Node<M>>, place: usize)
     ensures { IsPermutation offered.old.items offered.new.items }
 {
     let found = nearest(entries, offered, place);
@@ -165,8 +187,8 @@ fn put_nearest<M: Engine>(entries: &[Entry], offered: &mut Vec<Run<M>>, place: u
     }
 }
 
-// Sorts the runs by the log lines of their last calls. The first one is taken in last and visited next.
-fn put_in_order<M: Engine>(entries: &[Entry], offered: &mut Vec<Run<M>>)
+// Sorts the nodes by the log lines of their last calls. The first one is admitted last and visited next.
+fn put_in_order<M: Engine>(entries: &[Entry], offered: &mut Vec<Node<M>>)
     ensures { IsPermutation offered.old.items offered.new.items }
 {
     for place in 0..offered.len() {
@@ -174,62 +196,81 @@ fn put_in_order<M: Engine>(entries: &[Entry], offered: &mut Vec<Run<M>>)
     }
 }
 
-// Takes in each of these runs.
-fn take_in<M: Engine>(
+// Admits those of these nodes that are new.
+fn admit_all<M: Engine>(
     alloc: Global,
     script: &Script,
     log: &Log,
     most: u64,
-    offered: &mut Vec<Run<M>>,
-    runs: &mut Vec<Run<M>>,
-    seen: &mut Vec<Finding>,
+    offered: &mut Vec<Node<M>>,
+    frontier: &mut Vec<Node<M>>,
+    explored: &mut IndexSet<Key>,
 ) -> Result<(), SearchError>
-    requires few { length seen.old.items ≤ most }
+    requires few { length explored.old.keys ≤ most }
     ensures kept { OnOk result ((machine : Machine) (longest : ℕ) →
-        AreSeen script.now log.now (fresh machine) seen.old.items runs.old.items offered.old.items longest →
-        AreSeen script.now log.now (fresh machine) seen.new.items runs.new.items [] longest) }
-    ensures count { OnOk result (
-        length runs.new.items + length seen.old.items ≡ length runs.old.items + length seen.new.items) }
-    ensures few { OnOk result (length seen.new.items ≤ most) }
+        AreExplored script.now log.now (fresh machine)
+        explored.old.keys frontier.old.items offered.old.items longest →
+        AreExplored script.now log.now (fresh machine)
+        explored.new.keys frontier.new.items [] longest) }
+    ensures count { OnOk result (length frontier.new.items + length explored.old.keys
+        ≡ length frontier.old.items + length explored.new.keys) }
+    ensures few { OnOk result (length explored.new.keys ≤ most) }
     ensures err { IfErr result (λ e. (machine : Machine) (longest : ℕ) →
-        AreSeen script.now log.now (fresh machine) seen.old.items runs.old.items offered.old.items longest →
+        AreExplored script.now log.now (fresh machine)
+        explored.old.keys frontier.old.items offered.old.items longest →
         IsDoubt script.now log.now (fresh machine) most e) }
 {
-    while let Some(run) = offered.pop() {
-        if let Err(error) = take_in_one(alloc, script, log, most, run, runs, seen) {
+    while let Some(node) = offered.pop() {
+        if let Err(error) = admit(alloc, script, log, most, node, frontier, explored) {
             return Err(error);
         }
     }
     Ok(())
 }
 
-// Adds a run to those to be visited, if it begins the log and no run like it was met before.
-fn take_in_one<M: Engine>(
+// Adds a node to the frontier, if it begins the log and no equivalent one was admitted before.
+fn admit<M: Engine>(
     alloc: Global,
     script: &Script,
     log: &Log,
     most: u64,
-    run: Run<M>,
-    runs: &mut Vec<Run<M>>,
-    seen: &mut Vec<Finding>,
+    node: Node<M>,
+    frontier: &mut Vec<Node<M>>,
+    explored: &mut IndexSet<Key>,
 ) -> Result<(), SearchError>
-    requires few { length seen.old.items ≤ most }
-    ensures taken { OnOk result (
-        IsTaken script.now log.now run seen.old.items seen.new.items runs.old.items runs.new.items) }
-    ensures few { OnOk result (length seen.new.items ≤ most) }
-    ensures err { IfErr result (IsTooMany script.now log.now run seen.old.items most) }
+    requires few { length explored.old.keys ≤ most }
+    ensures admitted { OnOk result (IsAdmitted script.now log.now node
+        explored.old.keys explored.new.keys frontier.old.items frontier.new.items) }
+    ensures few { OnOk result (length explored.new.keys ≤ most) }
+    ensures err { IfErr result (IsTooMany script.now log.now node explored.old.keys most) }
 {
-    if !log.begins(alloc, script, run.events())? {
+    if !log.begins(alloc, script, node.run().events())? {
         return Ok(());
     }
-    let found = finding_at(alloc, script, &run)?;
-    if is_met(alloc, seen, &found)? {
+    let key = Key::of(alloc, &node)?;
+    if has(explored, &key) {
         return Ok(());
     }
-    if seen.len() as u64 >= most {
+    if explored.len() as u64 >= most {
         return Err(SearchError::Bound);
     }
-    seen.push(found)?;
-    runs.push(run)?;
+    put(explored, key)?;
+    frontier.push(node)?;
+    Ok(())
+}
+
+// Whether the key is among them.
+fn has(explored: &IndexSet<Key>, key: &Key) -> bool
+    ensures { IsTrue result ↔ Contains explored.now.keys key.now }
+{
+    explored.contains(key)
+}
+
+// Appends a key that is not among them.
+fn put(explored: &mut IndexSet<Key>, key: Key) -> Result<(), AllocError>
+    requires new { Contains explored.old.keys key → ⊥ }
+    ensures { OnOk result (explored.new.keys ≡ explored.old.keys ++ key ∷ []) }
+{
+    explored.insert(key)?;
     Ok(())
 }

@@ -2,10 +2,9 @@
 #![tactic(auto)]
 
 mod fault;
+mod guess;
 mod judging;
 mod log;
-mod near;
-mod ordered;
 mod plan;
 mod reading;
 mod report;

@@ -1,5 +1,5 @@
-//! Which line of a log to try next, if the order of the lines fails. The lines are tried in order, and a line
-//! that does not fit is left for later.
+//! Which line of a log to try next. The lines are tried in order, and a line that does not fit is left for later. If
+//! no line near the first remaining one fits, another line is tried instead of the last one that was placed.
 //!
 //! A plan is a guess. The replies decide whatever it tries, so no contract says which line it picks.
 use crate::log::Entry;
@@ -8,25 +8,8 @@ use shm_schedules::reply_count;
 use shm_text::Script;
 use std::alloc::{AllocError, Global};
 
-// How a plan continues if no line fits.
-#[derive(Clone, Copy)]
-pub(crate) enum Way {
-    // Puts the first remaining line before lines that were placed, at the last place where it fits.
-    Early,
-    // Tries other lines instead of the last one, so that no lines change places that are farther apart than
-    // this.
-    Near(usize),
-}
-
-// How far after the first remaining line a line may be tried, before that first line is put early.
-const LATEST: usize = 16;
-
-fn latest(way: Way) -> usize {
-    match way {
-        Way::Early => LATEST,
-        Way::Near(latest) => latest,
-    }
-}
+// How far after the first remaining line a line may be tried.
+const LATEST: usize = 2;
 
 // The next line of a process; the number of lines if it has none.
 #[derive(Clone, Copy)]
@@ -69,15 +52,6 @@ fn first_head(heads: &[Head], from: usize, count: usize) -> usize {
     found
 }
 
-fn is_head(heads: &[Head], line: usize) -> bool {
-    for head in heads {
-        if head.line == line {
-            return true;
-        }
-    }
-    false
-}
-
 fn set_head(heads: &mut [Head], pid: u32, line: usize) {
     for head in heads.iter_mut() {
         if head.pid == pid {
@@ -106,14 +80,11 @@ pub(crate) fn last_line(entries: &[Entry], events: &[Event]) -> usize {
 
 #[derive(Drop)]
 pub(crate) struct Plan {
-    way: Way,
     heads: Vec<Head>,
     // the lines that were placed, in order
     taken: Vec<usize>,
     // lines before this one were tried
     from: usize,
-    // the line that is put before others
-    early: Option<usize>,
 }
 
 impl Plan {
@@ -121,7 +92,6 @@ impl Plan {
         alloc: Global,
         script: &Script,
         entries: &[Entry],
-        way: Way,
     ) -> Result<Plan, AllocError> {
         let mut heads = Vec::new(alloc);
         for process in &script.processes {
@@ -132,32 +102,20 @@ impl Plan {
             })?;
         }
         Ok(Plan {
-            way,
             heads,
             taken: Vec::new(alloc),
             from: 0,
-            early: None,
         })
     }
 
     // The next move, in a log of this many lines.
     pub(crate) fn next(&self, count: usize) -> Move {
-        if let Some(line) = self.early {
-            if self.from > line {
-                return Move::Back;
-            }
-            return if is_head(&self.heads, line) {
-                Move::Try(line)
-            } else {
-                Move::End
-            };
-        }
         let first = first_head(&self.heads, 0, count);
         if first >= count {
             return Move::End;
         }
         let line = first_head(&self.heads, self.from, count);
-        if line >= count || line.saturating_sub(first) > latest(self.way) {
+        if line >= count || line.saturating_sub(first) > LATEST {
             return Move::Back;
         }
         Move::Try(line)
@@ -167,7 +125,6 @@ impl Plan {
     pub(crate) fn took(&mut self, entries: &[Entry], line: usize) -> Result<(), AllocError> {
         self.taken.push(line)?;
         self.from = 0;
-        self.early = None;
         if line < entries.len() {
             let entry = &entries[line];
             set_head(
@@ -184,9 +141,8 @@ impl Plan {
         self.from = line.saturating_add(1);
     }
 
-    // Notes that the last line that was placed is open again.
+    // Notes that the last line that was placed is open again, and that it was tried here.
     pub(crate) fn back(&mut self, entries: &[Entry]) {
-        let first = first_head(&self.heads, 0, entries.len());
         let Some(line) = self.taken.pop() else {
             return;
         };
@@ -194,19 +150,6 @@ impl Plan {
             let entry = &entries[line];
             set_head(&mut self.heads, entry.pid, line);
         }
-        self.goes_back(first, line);
-    }
-
-    // Chooses what to try instead of this line, if no line fitted before `first`.
-    fn goes_back(&mut self, first: usize, line: usize) {
-        match self.way {
-            Way::Early => {
-                self.from = 0;
-                if self.early.is_none() {
-                    self.early = Some(first);
-                }
-            }
-            Way::Near(_) => self.from = line.saturating_add(1),
-        }
+        self.from = line.saturating_add(1);
     }
 }

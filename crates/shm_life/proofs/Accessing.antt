@@ -1,34 +1,35 @@
 -- The replies to an access that succeeded, and to one that was refused or at which a pager failed.
-use Rattle.shm_life.proofs.Names.{All, InPage, SegmentsView, eq-eqb, ◌≤◌, ◌≡◌, ◌∙◌, ℕ, ◌+◌, ◌%◌, Bool, true, false, if◌then◌else◌, List, length, Some, None, refl, sym, ap, arith, common_steps, OnOk, OnErr, Entry, Span, Place, Outcome, gives, Bytes, Machine, Piece, wanted_in, load-wanted, store-wanted, loaded, span_places, SameTable, same-refl, stored-same, Bounds, Runner, StoreView, sizes}
+use Rattle.shm_life.proofs.Names.{All, InPage, SegmentsView, eq-eqb, ◌≤◌, ◌≡◌, ◌∙◌, ℕ, ◌+◌, ◌%◌, Bool, true, false, if◌then◌else◌, List, length, Some, None, refl, sym, ap, arith, common_steps, OnOk, OnErr, Entry, Span, Place, Outcome, gives, refuses, Bytes, Done, Machine, Piece, wanted_in, load-wanted, store-wanted, loaded, span_places, SameTable, same-refl, stored-same, Bounds, Runner, StoreView, sizes}
 use Rattle.std.specs.Borrow.{Bor}
 use Rattle.std.specs.Int.{w64, from_le_bytes, to_le_bytes}
-use Rattle.std.specs.Prelude.{◌^◌, is_some, map, Option, Result, Ok, Err, IfOk, IfErr, option_map}
-use Rattle.std.specs.Result.{result_and, result_or}
+use Rattle.std.specs.Prelude.{◌==◌, ◌^◌, is_some, map, Option, Result, Ok, Err, IfOk, IfErr, option_map}
+use Rattle.std.specs.Result.{result_or}
 use Rattle.std.proofs.lemmas.Result.{IfOk-weaker}
 use Rattle.shm_base.specs.Access.{places, same_bytes, stored, writable_places}
 use Rattle.shm_base.specs.Callers.{Caller, caller_of}
-use Rattle.shm_base.specs.Step.{compare_exchange, exchange, load, step_by, store, xadd}
+use Rattle.shm_base.specs.Calls.{ProcessCall}
+use Rattle.shm_base.specs.Step.{acts, compare_exchange, exchange, load, step_by, store, xadd}
 use Rattle.shm_base.specs.History.{is_failure, is_refusal}
 use Rattle.shm_base.specs.declared.call.Call.TheVariants as call
 use Rattle.shm_base.specs.declared.call.Reply.{Reply}
 use Rattle.shm_base.specs.declared.call.Reply.TheVariants.{Number, Refused}
 use Rattle.shm_base.specs.declared.errno.Errno.{Errno}
-use Rattle.shm_base.specs.declared.errno.Errno.TheVariants.{Sigbus}
+use Rattle.shm_base.specs.declared.errno.Errno.TheVariants.{Esrch, Sigbus, Sigsegv}
 use Rattle.shm_attach.specs.Spaces.{IsCaller, caller_seen}
 use Rattle.shm_attach.specs.Spans.{unmarked}
 use Rattle.shm_attach.specs.declared.process.Caller.{Caller as Called}
 use Rattle.shm_attach.proofs.FlatSteps.{are_asked, loaded-unmarked, stored-unmarked}
 use Rattle.shm_fault.specs.Access.{answer_of}
-use Rattle.shm_fault.specs.Acting.{bytes_in, place_after, put_by, size_of}
+use Rattle.shm_fault.specs.Acting.{FitsRoom, bytes_in, place_after, put_by, size_of, writes}
 use Rattle.shm_fault.specs.declared.act.Act.{Act}
 use Rattle.shm_fault.specs.declared.act.Act.TheVariants.{Nothing, Put, PutIfEqual, Add}
 use Rattle.shm_fault.specs.declared.touched.Touched.{Touched}
 use Rattle.shm_segments.specs.Table.{table_with}
-use Rattle.shm_life.specs.Accessing.{Does, DoesAt, DoesBy, LeavesOrFails}
+use Rattle.shm_life.specs.Accessing.{Does, DoesAt, DoesBy, LeavesOrFails, call_of, reply_of}
 use Rattle.shm_segments.specs.Acted.{Acted}
-use Rattle.shm_life.specs.MachineView.{Answered, AnsweredTo, MachineView, done, replied, reply_in}
-use Rattle.shm_life.specs.Paging.{page_spans}
-use Rattle.shm_life.specs.Paging.Paging.{Touches}
+use Rattle.shm_life.specs.MachineView.{Answered, AnsweredTo, MachineView, is_lock, replied, reply_in}
+use Rattle.shm_life.specs.Paging.{Paging, comparing, page_spans, paging_by, touching}
+use Rattle.shm_life.specs.Paging.Paging.{Rests, Touches}
 use Rattle.shm_life.proofs.Touching.{comes-in, comes-up-to, have-pages}
 use Rattle.shm_life.proofs.Running.{answered_as, failing, granted}
 
@@ -100,11 +101,41 @@ pub by-caller : (act : Act) (addr pid : ℕ) (c : Called) (before after : List �
     → DoesBy act addr (Some (caller_seen c s.flat.runners)) before after s r t → DoesBy act addr (caller_of s.flat pid) before after s r t
 by-caller act addr pid c before after s t r same is d = rw (← same, is) d
 
--- WHAT THE FLAT MACHINE DOES AT THE PLACES OF AN ACCESS, AND WITHOUT ANY
+-- WHAT AN ACCESS LEAVES IN THE PLACE FOR THE OLD BYTES
+
+-- a place for the old bytes that is as long as they are
+pub filled : (n : ℕ) (old before : List ℕ) → n ≡ length before → place_after n old before ≡ old
+filled n old before long = rw (eq-eqb n (length before) long) refl
+
+if-puts : (b : Bool) (bytes : List ℕ) → is_some (if b then Some bytes else None) ≡ b
+if-puts true bytes = refl
+if-puts false bytes = refl
+
+pub on-ok : {A E : Type 0} (P Q : Type 0) (r : Result A E) → (P → Q) → OnOk r P → OnOk r Q
+on-ok P Q (Ok a) f p = f p
+on-ok P Q (Err e) f p = tt
+
+-- refused before anything was done, the place for the old bytes is as it was
+pub does-kept : (act : Act) (addr : ℕ) (who : Option Caller) (before after : List ℕ) (s t : MachineView) (r : Result (Unit {0}) Errno) → DoesBy act addr who before after s r t → OnErr r (after ≡ before)
+does-kept act addr None before after s t r d = rw d.by.0 d.by.1.0
+does-kept act addr (Some c) before after s t r d = at _ d.by
+  where
+    at : (o : Option (List Place)) → DoesAt act o before after s r t → OnErr r (after ≡ before)
+    at None d = rw d.0 d.1.0
+    at (Some asked) d = d.kept
+
+-- A CALL THAT IS AN ACT
 
 none-asked : (o : Option (List Place)) → option_map (map unmarked) o ≡ None → o ≡ None
 none-asked None is = refl
 none-asked (Some ps) is = cc
+
+-- what the flat machine does in a call, and the pages that it touches, are those of an act at these places
+abbrev Steps : Act → (List ℕ → Reply) → Option (List Place) → Machine → Outcome → Paging → Type 0
+Steps act reply None s o does = (o ≡ refuses s Sigsegv) × (does ≡ Rests)
+Steps act reply (Some places) s o does =
+    let old = loaded s.table places in
+    (o ≡ gives (record s { table = table_with s.table places (put_by act old) }) (reply old)) × (does ≡ Touches (is_some (put_by act old)) places)
 
 module _ (s : Machine) (ps : List Piece) (addr : ℕ) where
   add-wanted : (add : ℕ) (wanted : List Place) → wanted_in true ps addr 8 ≡ Some wanted
@@ -125,105 +156,82 @@ module _ (s : Machine) (ps : List Piece) (addr : ℕ) where
       ≡ gives (record s { table = table_with s.table wanted (if same_bytes (loaded s.table wanted) expected then Some bytes else None) }) (Bytes (loaded s.table wanted))
   compare-wanted expected bytes wanted is = grind (arith, common_steps, are_asked, loaded-unmarked, stored-unmarked)
 
--- WHAT AN ACCESS REPLIES
+  load-steps : (len : ℕ) (o : Option (List Place)) → wanted_in false ps addr len ≡ o → Steps Nothing Bytes o s (load s (places ps addr len)) (touching false o)
+  load-steps len None is = rw (none-asked (places ps addr len) is) (refl, refl)
+  load-steps len (Some wanted) is = (load-wanted s ps addr len wanted is, refl)
 
--- a result with another value instead of its own
-and-leaves : (table : List Entry) (puts : Bool) (ps : List Span) (s t : MachineView) (x : ℕ) (r : Result (Unit {0}) Errno) → LeavesOrFails table puts ps s r t → LeavesOrFails table puts ps s (result_and r (Ok x)) t
-and-leaves table puts ps s t x (Ok a) l = record { written = l.written; same = tt; keeps = l.keeps; err = tt; came = l.came; stopped = tt }
-and-leaves table puts ps s t x (Err e) l = record { written = tt; same = l.same; keeps = l.keeps; err = l.err; came = tt; stopped = l.stopped }
+  store-steps : (b : Bor (List ℕ)) (o : Option (List Place)) → wanted_in true ps addr (length b.now) ≡ o → Steps (Put b) (λ _. Done) o s (store s b.now (writable_places ps addr (length b.now))) (touching true o)
+  store-steps b None is = rw (none-asked (writable_places ps addr (length b.now)) is) (refl, refl)
+  store-steps b (Some wanted) is = (store-wanted s ps addr b.now wanted is, refl)
 
--- a place for the old bytes that is as long as they are
-pub filled : (n : ℕ) (old before : List ℕ) → n ≡ length before → place_after n old before ≡ old
-filled n old before long = rw (eq-eqb n (length before) long) refl
+  exchange-steps : (b : Bor (List ℕ)) (o : Option (List Place)) → wanted_in true ps addr (length b.now) ≡ o → Steps (Put b) Bytes o s (exchange s b.now (writable_places ps addr (length b.now))) (touching true o)
+  exchange-steps b None is = rw (none-asked (writable_places ps addr (length b.now)) is) (refl, refl)
+  exchange-steps b (Some wanted) is = (exchange-wanted b.now wanted is, refl)
 
-if-puts : (b : Bool) (bytes : List ℕ) → is_some (if b then Some bytes else None) ≡ b
-if-puts true bytes = refl
-if-puts false bytes = refl
+  compare-steps : (e b : Bor (List ℕ)) (o : Option (List Place)) → wanted_in true ps addr (length b.now) ≡ o
+      → Steps (PutIfEqual e b) Bytes o s (compare_exchange s e.now b.now (writable_places ps addr (length b.now))) (comparing s.table e.now o)
+  compare-steps e b None is = rw (none-asked (writable_places ps addr (length b.now)) is) (refl, refl)
+  compare-steps e b (Some wanted) is =
+      (compare-wanted e.now b.now wanted is, rw (if-puts (same_bytes (loaded s.table wanted) e.now) b.now) refl)
 
-pub on-ok : {A E : Type 0} (P Q : Type 0) (r : Result A E) → (P → Q) → OnOk r P → OnOk r Q
-on-ok P Q (Ok a) f p = f p
-on-ok P Q (Err e) f p = tt
+  add-steps : (add : ℕ) (o : Option (List Place)) → wanted_in true ps addr 8 ≡ o → Steps (Add add) (reply_of (Add add) 8) o s (xadd s add (writable_places ps addr 8)) (touching true o)
+  add-steps add None is = rw (none-asked (writable_places ps addr 8) is) (refl, refl)
+  add-steps add (Some wanted) is = (add-wanted add wanted is, refl)
 
-and-ok : (n x : ℕ) (r : Result (Unit {0}) Errno) → OnOk r (x ≡ n) → IfOk (result_and r (Ok x)) (λ y. y ≡ n)
-and-ok n x (Ok a) is = is
-and-ok n x (Err e) is = tt
-
--- refused before anything was done, the place for the old bytes is as it was
-pub does-kept : (act : Act) (addr : ℕ) (who : Option Caller) (before after : List ℕ) (s t : MachineView) (r : Result (Unit {0}) Errno) → DoesBy act addr who before after s r t → OnErr r (after ≡ before)
-does-kept act addr None before after s t r d = rw d.by.0 d.by.1.0
-does-kept act addr (Some c) before after s t r d = at _ d.by
+steps : (act : Act) (room addr n : ℕ) (s : Machine) (c : Caller) → FitsRoom act room
+    → Steps act (reply_of act room) (wanted_in (writes act) c.pieces addr (size_of act room)) s (acts s n c (call_of act addr room)) (paging_by s.table (call_of act addr room) c)
+steps Nothing room addr n s c fit = load-steps s c.pieces addr room _ refl
+steps (Put b) room addr n s c fit = by (length b.now == room)
   where
-    at : (o : Option (List Place)) → DoesAt act o before after s r t → OnErr r (after ≡ before)
-    at None d = rw d.0 d.1.0
-    at (Some asked) d = d.kept
+    by : (x : Bool) → (let called = if x then call.Exchange b.now addr else call.Store b.now addr in
+        Steps (Put b) (λ old. if x then Bytes old else Done) (wanted_in true c.pieces addr (length b.now)) s (acts s n c called) (paging_by s.table called c))
+    by true = exchange-steps s c.pieces addr b _ refl
+    by false = store-steps s c.pieces addr b _ refl
+steps (PutIfEqual e b) room addr n s c fit = rw (← fit) (compare-steps s c.pieces addr e b _ refl)
+steps (Add add) room addr n s c fit = rw fit (add-steps s c.pieces addr add _ refl)
 
--- a reply counts only if it was written
-pub told_as : (r : Result (Unit {0}) Errno) (p q : Reply) → OnOk r (p ≡ q) → reply_in p r ≡ reply_in q r
-told_as (Ok a) p q same = same
-told_as (Err e) p q same = refl
+-- such a call locks nothing, and of its replies only SIGBUS names a pager's failure
+record Fails (called : ProcessCall) (reply : List ℕ → Reply) : Type 0 where
+  locks : is_lock called ≡ false
+  bus : is_failure called (Refused Sigbus) ≡ true
+  segv : is_failure called (Refused Sigsegv) ≡ false
+  dead : is_failure called (Refused Esrch) ≡ false
+  grant : (old : List ℕ) → IsGrant (is_failure called) (reply old)
 
-module _ (s t : MachineView) (n addr : ℕ) (before after : List ℕ) (r : Result (Unit {0}) Errno) where
-  pub loads : (len : ℕ) → len ≡ length before → (who : Option Caller) → DoesBy Nothing addr who before after s r t
-      → AnsweredTo (step_by s.flat n (call.Load addr len) who) who (call.Load addr len) (reply_in (Bytes after) r) s t
-  loads len size None d = rw (d.by.0, d.by.1.1) (answered_as _ _ _ s refl)
-  loads len size (Some c) d = at (wanted_in false c.pieces addr len) refl (rw (← size) at d.by)
-    where
-      at : (o : Option (List Place)) → wanted_in false c.pieces addr len ≡ o → DoesAt Nothing o before after s r t
-          → AnsweredTo (load s.flat (places c.pieces addr len)) (Some c) (call.Load addr len) (reply_in (Bytes after) r) s t
-      at None is d = rw (d.0, d.1.1, none-asked (places c.pieces addr len) is) (answered_as _ _ _ s refl)
-      at (Some asked) is d =
-          let step = load-wanted s.flat c.pieces addr len asked is in
-          rw is (accessed _ _ false asked (is_failure (call.Load addr len)) (λ _. Bytes after) s t r refl (rw step refl) (λ _. (refl, refl)) (IfOk-weaker r _ _ (λ _ same. rw same step) (on-ok _ _ r (λ f. f ∙ filled _ _ before refl) d.there)) d.leaves)
+fails : (act : Act) (room addr : ℕ) → Fails (call_of act addr room) (reply_of act room)
+fails Nothing room addr = record { locks = refl; bus = refl; segv = refl; dead = refl; grant = λ old. (refl, refl) }
+fails (Put b) room addr = by (length b.now == room)
+  where
+    by : (x : Bool) → Fails (if x then call.Exchange b.now addr else call.Store b.now addr) (λ old. if x then Bytes old else Done)
+    by true = record { locks = refl; bus = refl; segv = refl; dead = refl; grant = λ old. (refl, refl) }
+    by false = record { locks = refl; bus = refl; segv = refl; dead = refl; grant = λ old. (refl, refl) }
+fails (PutIfEqual e b) room addr = record { locks = refl; bus = refl; segv = refl; dead = refl; grant = λ old. (refl, refl) }
+fails (Add add) room addr = record { locks = refl; bus = refl; segv = refl; dead = refl; grant = λ old. (refl, refl) }
 
-  pub stores : (b : Bor (List ℕ)) (who : Option Caller) → DoesBy (Put b) addr who before after s r t → AnsweredTo (step_by s.flat n (call.Store b.now addr) who) who (call.Store b.now addr) (replied done r) s t
-  stores b None d = rw (d.by.0, d.by.1.1) (answered_as _ _ _ s refl)
-  stores b (Some c) d = at (wanted_in true c.pieces addr (length b.now)) refl d.by
-    where
-      at : (o : Option (List Place)) → wanted_in true c.pieces addr (length b.now) ≡ o → DoesAt (Put b) o before after s r t
-          → AnsweredTo (store s.flat b.now (writable_places c.pieces addr (length b.now))) (Some c) (call.Store b.now addr) (replied done r) s t
-      at None is d = rw (d.0, d.1.1, none-asked (writable_places c.pieces addr (length b.now)) is) (answered_as _ _ _ s refl)
-      at (Some asked) is d =
-          let step = store-wanted s.flat c.pieces addr b.now asked is in
-          rw is (accessed _ _ true asked (is_failure (call.Store b.now addr)) done s t r refl (rw step refl) (λ _. (refl, refl)) (IfOk-weaker r _ _ (λ _ _. step) d.leaves.written) d.leaves)
+-- the reply has the old bytes, whatever was in the place for them
+replies-old : (act : Act) (old before : List ℕ) → reply_of act (length before) (place_after (size_of act (length before)) old before) ≡ reply_of act (length before) old
+replies-old Nothing old before = ap Bytes (filled _ old before refl)
+replies-old (Put b) old before = by (length b.now == length before)
+  where
+    by : (x : Bool) → (if x then Bytes (if x then old else before) else Done) ≡ (if x then Bytes old else Done)
+    by true = refl
+    by false = refl
+replies-old (PutIfEqual e b) old before = ap Bytes (filled _ old before refl)
+replies-old (Add add) old before = ap (λ (bs : List ℕ). Number (from_le_bytes w64 bs)) (filled _ old before refl)
 
-  -- the number in the old bytes
-  abbrev number : ℕ
-  number = from_le_bytes w64 after
+module _ (act : Act) (s t : MachineView) (n addr : ℕ) (before after : List ℕ) (r : Result (Unit {0}) Errno) where
+  -- an act of a caller, as a call that does the same
+  at-places : (c : Caller) (called : ProcessCall) (reply : List ℕ → Reply) → Fails called reply → ((old : List ℕ) → reply (place_after (size_of act (length before)) old before) ≡ reply old)
+      → (o : Option (List Place)) → Steps act reply o s.flat (acts s.flat n c called) (paging_by s.flat.table called c) → DoesAt act o before after s r t
+      → AnsweredTo (acts s.flat n c called) (Some c) called (reply_in (reply after) r) s t
+  at-places c called reply can old None step d = rw (d.0, d.1.1, step.0, step.1, can.locks, can.segv) (answered_as _ _ _ s refl)
+  at-places c called reply can old (Some places) step d =
+      rw (step.1, can.locks)
+      (accessed _ _ _ places (is_failure called) (λ _. reply after) s t r can.bus (rw step.0 (can.grant (loaded s.flat.table places)).1) (λ _. can.grant after) (IfOk-weaker r _ _ (λ _ has. rw (has, old (loaded s.flat.table places)) step.0) d.there) d.leaves)
 
-  pub adds : (add : ℕ) (who : Option Caller) → length before ≡ 8 → DoesBy (Add add) addr who before after s r t
-      → AnsweredTo (step_by s.flat n (call.Xadd addr add) who) who (call.Xadd addr add) (replied Number (result_and r (Ok number))) s t
-  adds add None eight d = rw (d.by.0, d.by.1.1) (answered_as _ _ _ s refl)
-  adds add (Some c) eight d = at (wanted_in true c.pieces addr 8) refl (rw eight at d.by)
-    where
-      at : (o : Option (List Place)) → wanted_in true c.pieces addr 8 ≡ o → DoesAt (Add add) o before after s r t
-          → AnsweredTo (xadd s.flat add (writable_places c.pieces addr 8)) (Some c) (call.Xadd addr add) (replied Number (result_and r (Ok number))) s t
-      at None is d = rw (d.0, d.1.1, none-asked (writable_places c.pieces addr 8) is) (answered_as _ _ _ s refl)
-      at (Some asked) is d =
-          let step = add-wanted s.flat c.pieces addr add asked is in
-          let read = on-ok _ _ r (λ f. ap (from_le_bytes w64) (f ∙ filled _ _ before refl)) d.there in
-          rw is (accessed _ _ true asked (is_failure (call.Xadd addr add)) Number s t (result_and r (Ok number)) refl (rw step refl) (λ _. (refl, refl)) (IfOk-weaker (result_and r (Ok number)) _ _ (λ x same. rw same step) (and-ok _ number r read)) (and-leaves _ _ _ s t number r d.leaves))
-
-  pub exchanges : (b : Bor (List ℕ)) (who : Option Caller) → length before ≡ length b.now → DoesBy (Put b) addr who before after s r t
-      → AnsweredTo (step_by s.flat n (call.Exchange b.now addr) who) who (call.Exchange b.now addr) (reply_in (Bytes after) r) s t
-  exchanges b None long d = rw (d.by.0, d.by.1.1) (answered_as _ _ _ s refl)
-  exchanges b (Some c) long d = at (wanted_in true c.pieces addr (length b.now)) refl d.by
-    where
-      at : (o : Option (List Place)) → wanted_in true c.pieces addr (length b.now) ≡ o → DoesAt (Put b) o before after s r t
-          → AnsweredTo (exchange s.flat b.now (writable_places c.pieces addr (length b.now))) (Some c) (call.Exchange b.now addr) (reply_in (Bytes after) r) s t
-      at None is d = rw (d.0, d.1.1, none-asked (writable_places c.pieces addr (length b.now)) is) (answered_as _ _ _ s refl)
-      at (Some asked) is d =
-          let step = exchange-wanted s.flat c.pieces addr b.now asked is in
-          rw is (accessed _ _ true asked (is_failure (call.Exchange b.now addr)) (λ _. Bytes after) s t r refl (rw step refl) (λ _. (refl, refl)) (IfOk-weaker r _ _ (λ _ same. rw same step) (on-ok _ _ r (λ f. f ∙ filled _ _ before (sym long)) d.there)) d.leaves)
-
-  pub compares : (e b : Bor (List ℕ)) (who : Option Caller) → length before ≡ length b.now → DoesBy (PutIfEqual e b) addr who before after s r t
-      → AnsweredTo (step_by s.flat n (call.CompareExchange e.now b.now addr) who) who (call.CompareExchange e.now b.now addr) (reply_in (Bytes after) r) s t
-  compares e b None long d = rw (d.by.0, d.by.1.1) (answered_as _ _ _ s refl)
-  compares e b (Some c) long d = at (wanted_in true c.pieces addr (length b.now)) refl (rw long at d.by)
-    where
-      at : (o : Option (List Place)) → wanted_in true c.pieces addr (length b.now) ≡ o → DoesAt (PutIfEqual e b) o before after s r t
-          → AnsweredTo (compare_exchange s.flat e.now b.now (writable_places c.pieces addr (length b.now))) (Some c) (call.CompareExchange e.now b.now addr) (reply_in (Bytes after) r) s t
-      at None is d = rw (d.0, d.1.1, none-asked (writable_places c.pieces addr (length b.now)) is) (answered_as _ _ _ s refl)
-      at (Some asked) is d =
-          let step = compare-wanted s.flat c.pieces addr e.now b.now asked is in
-          let leaves = rw (if-puts (same_bytes (loaded s.flat.table asked) e.now) b.now) at d.leaves in
-          rw is (accessed _ _ _ asked (is_failure (call.CompareExchange e.now b.now addr)) (λ _. Bytes after) s t r refl (rw step refl) (λ _. (refl, refl)) (IfOk-weaker r _ _ (λ _ same. rw same step) (on-ok _ _ r (λ f. f ∙ filled _ _ before refl) d.there)) leaves)
+  -- who did an act made the call that it is
+  pub acted : (who : Option Caller) → FitsRoom act (length before) → DoesBy act addr who before after s r t
+      → (let called = call_of act addr (length before) in AnsweredTo (step_by s.flat n called who) who called (reply_in (reply_of act (length before) after) r) s t)
+  acted None fit d = let can = fails act (length before) addr in rw (d.by.0, d.by.1.1, can.locks, can.dead) (answered_as _ _ _ s refl)
+  acted (Some c) fit d =
+      at-places c _ _ (fails act (length before) addr) (λ old. replies-old act old before) _ (steps act (length before) addr n s.flat c fit) d.by

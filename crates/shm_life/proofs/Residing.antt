@@ -1,5 +1,5 @@
 -- How many pages of a segment are in frames, and how many only in slots.
-use Rattle.shm_life.proofs.Names.{◌≡◌, ◌≤◌, ◌+◌, ◌∙◌, ℕ, if◌then◌else◌, zero, suc, None, refl, sym, ap, arith, length, List, ◌++◌, replicate, Entry, pages_held, pages_of, pages_at, IsFound, live-found, sum_by-append, StoreView, frame_of, PageRef}
+use Rattle.shm_life.proofs.Names.{◌≡◌, ◌<◌, ◌≤◌, ◌+◌, ◌∙◌, ℕ, if◌then◌else◌, zero, suc, None, refl, sym, ap, arith, length, List, ◌++◌, replicate, Entry, pages_held, pages_of, pages_at, IsFound, live-found, sum_by-append, StoreView, frame_of, PageRef}
 use Rattle.std.proofs.Common.{◌-◌, Option, count_by}
 use Rattle.shm_base.specs.Stored.{padded}
 use Rattle.shm_segments.specs.declared.head.Found.{Found}
@@ -14,16 +14,16 @@ and-nothing n = omega arith
 next : (m n : ℕ) → suc m + n ≡ suc (m + n)
 next m n = omega arith
 
--- pages that were never touched are in no frame
-untouched : (s : StoreView) (seg first more : ℕ) → ((page : ℕ) → first ≤ page → frame_of s seg page ≡ None) → resident_below s seg (more + first) ≡ resident_below s seg first
-untouched s seg first zero none = ap (resident_below s seg) (nothing first)
-untouched s seg first (suc more) none =
-    rw (next more first, none (more + first) (omega arith)) (omega (arith, untouched s seg first more none))
+passed-more : (s : StoreView) (seg first more : ℕ) → ((page : ℕ) → first ≤ page → page < more + first → frame_of s seg page ≡ None) → resident_below s seg (more + first) ≡ resident_below s seg first
+passed-more s seg first zero none = ap (resident_below s seg) (nothing first)
+passed-more s seg first (suc more) none =
+    rw (next more first, none (more + first) (omega arith) (omega arith)) (omega (arith, passed-more s seg first more (λ page on before. none page on (omega (arith, before)))))
 
-pub all-touched : (s : StoreView) (seg first pages : ℕ) → first ≤ pages → ((page : ℕ) → first ≤ page → frame_of s seg page ≡ None) → resident_below s seg first ≡ resident_below s seg pages
-all-touched s seg first pages le none =
-    let same : (pages - first) + first ≡ pages = omega (arith, le) in
-    sym (untouched s seg first (pages - first) none) ∙ ap (resident_below s seg) same
+-- pages in no frame are passed
+pub passed : (s : StoreView) (seg first last : ℕ) → first ≤ last → ((page : ℕ) → first ≤ page → page < last → frame_of s seg page ≡ None) → resident_below s seg last ≡ resident_below s seg first
+passed s seg first last le none =
+    let same : (last - first) + first ≡ last = omega (arith, le) in
+    ap (resident_below s seg) (sym same) ∙ passed-more s seg first (last - first) (λ page on before. none page on (omega (arith, before, same)))
 
 -- free slots have no page
 none-away : (s : StoreView) (seg n : ℕ) → count_by (is_away s seg) (replicate n None) ≡ 0

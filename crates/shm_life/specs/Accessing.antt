@@ -1,9 +1,12 @@
 -- Accesses of bytes by a process.
-use Rattle.std.specs.Prelude.{ℕ, ◌≡◌, Bool, true, if◌then◌else◌, List, [], ◌∷◌, length, replicate, Option, Some, None, Result, Err, is_some, IfErr, OnOk, OnErr}
+use Rattle.std.specs.Prelude.{ℕ, ◌≡◌, ◌==◌, Bool, true, if◌then◌else◌, List, [], ◌∷◌, length, Option, Some, None, Result, Err, is_some, IfErr, OnOk, OnErr}
+use Rattle.std.specs.Int.{w64, from_le_bytes}
 use Rattle.shm_base.specs.Access.{Place, loaded}
 use Rattle.shm_base.specs.Callers.{Caller}
+use Rattle.shm_base.specs.Calls.{ProcessCall}
+use Rattle.shm_base.specs.declared.call.Call.TheVariants.{Load, Store, Xadd, Exchange, CompareExchange}
 use Rattle.shm_base.specs.declared.call.Reply.{Reply}
-use Rattle.shm_base.specs.declared.call.Reply.TheVariants.{Bytes}
+use Rattle.shm_base.specs.declared.call.Reply.TheVariants.{Bytes, Number, Done}
 use Rattle.shm_base.specs.declared.errno.Errno.{Errno}
 use Rattle.shm_base.specs.declared.errno.Errno.TheVariants.{Esrch, Sigbus, Sigsegv}
 use Rattle.shm_base.specs.declared.paging.Span.{Span}
@@ -11,6 +14,7 @@ use Rattle.shm_base.specs.State.{Entry}
 use Rattle.shm_attach.specs.Spans.{wanted_in}
 use Rattle.shm_fault.specs.Acting.{place_after, put_by, size_of, writes}
 use Rattle.shm_fault.specs.declared.act.Act.{Act}
+use Rattle.shm_fault.specs.declared.act.Act.TheVariants.{Nothing, Put, PutIfEqual, Add}
 use Rattle.shm_segments.specs.Table.{table_with}
 use Rattle.shm_slots.specs.Cause.{had_cause}
 use Rattle.shm_fault.specs.Store.{StoreView}
@@ -72,10 +76,17 @@ pub record DoesBy
     (r : Result (Unit {0}) Errno) (t : MachineView) : Type 0 where
   pub by : DoesFor act addr who before after s r t
 
--- an act at this many bytes, whose reply has the old ones if it was done
-pub record RepliesOld
-    (act : Act) (addr len : ℕ) (who : Option Caller) (reply : Reply) (s : MachineView) (r : Result (Unit {0}) Errno)
-    (t : MachineView) : Type 0 where
-  pub old : List ℕ
-  pub by : DoesBy act addr who (replicate len 0) old s r t
-  pub has_old : OnOk r (reply ≡ Bytes old)
+-- The call that an act at the bytes from an address on is, if the place for the old bytes has room for this many. Who puts bytes
+-- and has room for the old ones exchanges them.
+abbrev pub call_of : Act → ℕ → ℕ → ProcessCall
+call_of Nothing addr room = Load addr room
+call_of (Put bytes) addr room = if length bytes.now == room then Exchange bytes.now addr else Store bytes.now addr
+call_of (PutIfEqual expected bytes) addr room = CompareExchange expected.now bytes.now addr
+call_of (Add more) addr room = Xadd addr more
+
+-- the reply to that call, with these old bytes
+abbrev pub reply_of : Act → ℕ → List ℕ → Reply
+reply_of Nothing room old = Bytes old
+reply_of (Put bytes) room old = if length bytes.now == room then Bytes old else Done
+reply_of (PutIfEqual expected bytes) room old = Bytes old
+reply_of (Add more) room old = Number (from_le_bytes w64 old)

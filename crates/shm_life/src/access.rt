@@ -1,9 +1,7 @@
-//! Accesses: acts at the bytes from an address on, and the calls of scripts that do them.
-ghost use Rattle.std.specs.Prelude.{◌≡◌, ◌∷◌, [], ◌≤◌, ℕ, None, Some, false, length, IfErr, IfOk, IfSome, OnErr};
+//! Accesses: acts at the bytes from an address on, and the replies to the calls that they are.
+ghost use Rattle.std.specs.Prelude.{◌≡◌, ◌∷◌, [], ◌≤◌, ◌-◌, ◌++◌, ℕ, None, Some, false, length, replicate, take, IfErr, IfOk, IfSome};
 ghost use Rattle.shm_base.specs.Spans.{span_places};
 ghost use Rattle.shm_base.specs.Callers.{caller_of};
-ghost use Rattle.shm_base.specs.declared.call.Call.TheVariants as call;
-ghost use Rattle.shm_base.specs.declared.call.Reply.TheVariants.{Number};
 ghost use Rattle.shm_base.specs.declared.paging.TheConstants.{PAGE_SIZE};
 ghost use Rattle.shm_fault.specs.Access.{NameFrames};
 ghost use Rattle.shm_fault.specs.Acting.{FitsRoom, size_of, writes};
@@ -11,8 +9,8 @@ ghost use Rattle.shm_fault.specs.Allowed.{IsAccess};
 ghost use Rattle.shm_attach.specs.Spaces.{IsCaller, caller_seen, pieces_at};
 ghost use Rattle.shm_attach.specs.Spans.{wanted_in};
 ghost use Rattle.shm_segments.specs.Table.{SpanFits};
-ghost use Rattle.shm_life.specs.Accessing.{Does, DoesBy, RepliesOld, sole_resident};
-ghost use Rattle.shm_life.specs.MachineView.{Served, done, replied, reply_in};
+ghost use Rattle.shm_life.specs.Accessing.{Does, DoesBy, call_of, reply_of, sole_resident};
+ghost use Rattle.shm_life.specs.MachineView.{Served, reply_in};
 
 use crate::kernel::Kernel;
 use shm_attach::{Caller, Spans};
@@ -35,13 +33,23 @@ fn resident(spans: &[Span]) -> Option<Span>
     Some(*span)
 }
 
-// How many bytes these are.
+// The reply to an act that found these bytes; zeros follow them.
 #[inline(always)]
-fn length_of(bytes: &[u8]) -> AccessLen
-    requires { (1 ≤ length bytes.now) × (length bytes.now ≤ 64) }
-    ensures { result ≡ length bytes.now }
+fn reply_with(act: &Act<'_>, old: [u8; LONGEST_ACCESS], room: usize) -> Reply
+    requires fits { FitsRoom act.now room }
+    requires size { (1 ≤ size_of act.now room) × (room ≤ 64) }
+    requires zeros { old ≡ take room old ++ replicate (64 - room) 0 }
+    ensures { result ≡ reply_of act.now room (take room old) }
 {
-    AccessLen::new(bytes.len() as u64).unwrap()
+    match act {
+        Act::Add(_) => {
+            let mut number = [0; 8];
+            number.copy_from_slice(&old[..8]);
+            Reply::Number(u64::from_le_bytes(number))
+        }
+        Act::Put(bytes) if bytes.len() != room => Reply::Done,
+        _ => Reply::Bytes(Chunk::from_array(old, AccessLen::new(room as u64).unwrap())),
+    }
 }
 
 impl<P: Pager> Kernel<P> {
@@ -148,105 +156,28 @@ impl<P: Pager> Kernel<P> {
         self.access(&caller, addr, act, there)
     }
 
-    // Does an act at this many bytes, and replies with the old ones; refused as [`Kernel::access`] is.
-    #[inline(always)]
-    fn reply_old(
+    /// Serves the access that does an act at the bytes from an address on, with room for this many old ones;
+    /// refused as [`Kernel::access`] is.
+    pub(crate) fn serve_access(
         &mut self,
         caller: &Caller,
         addr: u64,
         act: Act<'_>,
-        len: AccessLen,
+        room: usize,
         reply: &mut Reply,
     ) -> Result<(), Errno>
         requires caller { IsCaller caller.now self.old.flat.runners }
-        requires room { FitsRoom act len }
-        requires size { size_of act len ≡ len }
-        ensures { let seen = Some (caller_seen caller.now self.old.flat.runners) in
-            RepliesOld act.entry addr len seen reply.new self.old result self.new }
+        requires fits { FitsRoom act room }
+        requires size { let size = size_of act room in (1 ≤ size) × (size ≤ PAGE_SIZE) }
+        requires most { room ≤ 64 }
+        ensures { let called = call_of act.entry addr room in
+            (n : ℕ) → Served self.old n caller.now called (reply_in reply.new result) self.new }
     {
-        let mut bytes = [0; LONGEST_ACCESS];
-        if let Err(errno) = self.access(caller, addr, act, &mut bytes[..len.get()]) {
+        let mut old = [0; LONGEST_ACCESS];
+        if let Err(errno) = self.access(caller, addr, act, &mut old[..room]) {
             return Err(errno);
         }
-        *reply = Reply::Bytes(Chunk::from_array(bytes, len));
+        *reply = reply_with(&act, old, room);
         Ok(())
-    }
-
-    /// Reads bytes into a reply; refused as [`Kernel::access`] is.
-    pub(crate) fn load(
-        &mut self,
-        caller: &Caller,
-        addr: u64,
-        len: AccessLen,
-        reply: &mut Reply,
-    ) -> Result<(), Errno>
-        requires { IsCaller caller.now self.old.flat.runners }
-        ensures { let reply = reply_in reply.new result in
-            (n : ℕ) → Served self.old n caller.now (call.Load addr len) reply self.new }
-    {
-        self.reply_old(caller, addr, Act::Nothing, len, reply)
-    }
-
-    /// Replaces bytes, and replies with the old ones; refused as [`Kernel::access`] is. Kept out of line, so
-    /// that other calls do not pay for its stack frame.
-    #[inline(never)]
-    pub(crate) fn exchange(
-        &mut self,
-        caller: &Caller,
-        addr: u64,
-        bytes: &[u8],
-        reply: &mut Reply,
-    ) -> Result<(), Errno>
-        requires caller { IsCaller caller.now self.old.flat.runners }
-        requires size { (1 ≤ length bytes.now) × (length bytes.now ≤ 64) }
-        ensures { let reply = reply_in reply.new result in
-            (n : ℕ) → Served self.old n caller.now (call.Exchange bytes.now addr) reply self.new }
-    {
-        self.reply_old(caller, addr, Act::Put(bytes), length_of(bytes), reply)
-    }
-
-    /// As [`Kernel::exchange`], but replaces the bytes only if they equal the expected ones.
-    #[inline(never)]
-    pub(crate) fn compare_exchange(
-        &mut self,
-        caller: &Caller,
-        addr: u64,
-        expected: &[u8],
-        desired: &[u8],
-        reply: &mut Reply,
-    ) -> Result<(), Errno>
-        requires caller { IsCaller caller.now self.old.flat.runners }
-        requires size { (1 ≤ length desired.now) × (length desired.now ≤ 64) }
-        ensures { let compare = call.CompareExchange expected.now desired.now addr in
-            let reply = reply_in reply.new result in
-            (n : ℕ) → Served self.old n caller.now compare reply self.new }
-    {
-        let act = Act::PutIfEqual {
-            expected,
-            bytes: desired,
-        };
-        self.reply_old(caller, addr, act, length_of(desired), reply)
-    }
-
-    /// Replaces bytes; refused as [`Kernel::access`] is.
-    pub(crate) fn store(&mut self, caller: &Caller, addr: u64, bytes: &[u8]) -> Result<(), Errno>
-        requires caller { IsCaller caller.now self.old.flat.runners }
-        requires size { (1 ≤ length bytes.now) × (length bytes.now ≤ PAGE_SIZE) }
-        ensures { let store = call.Store bytes.now addr in
-            (n : ℕ) → Served self.old n caller.now store (replied done result) self.new }
-    {
-        self.access(caller, addr, Act::Put(bytes), &mut [])
-    }
-
-    /// Adds to eight little-endian bytes, modulo 2^64, and returns the old number; refused as
-    /// [`Kernel::access`] is.
-    pub(crate) fn xadd(&mut self, caller: &Caller, addr: u64, add: u64) -> Result<u64, Errno>
-        requires { IsCaller caller.now self.old.flat.runners }
-        ensures { let reply = replied Number result in
-            (n : ℕ) → Served self.old n caller.now (call.Xadd addr add) reply self.new }
-    {
-        let mut there = [0; 8];
-        let added = self.access(caller, addr, Act::Add(add), &mut there);
-        added.and(Ok(u64::from_le_bytes(there)))
     }
 }

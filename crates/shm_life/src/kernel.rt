@@ -7,6 +7,7 @@ ghost use Rattle.shm_base.specs.Memory.{TakesNoMemory};
 
 use shm_attach::{Caller, Spaces};
 use shm_base::{Call, Errno, HostMemory, Limits, Reply};
+use shm_fault::Act;
 use shm_pager::Pager;
 use shm_segments::Segments;
 use std::marker::Model;
@@ -127,25 +128,27 @@ impl<P: Pager> Kernel<P> {
             Call::Rmid { id } => self.rmid(caller, *id),
             Call::Lock { id } => self.lock(caller, *id),
             Call::Unlock { id } => self.unlock(caller, *id),
-            Call::Load { addr, len } => self.load(caller, *addr, *len, reply),
-            Call::Store { addr, chunk } => self.store(caller, *addr, chunk.as_slice()),
-            Call::Xadd { addr, add } => match self.xadd(caller, *addr, *add) {
-                Ok(number) => {
-                    *reply = Reply::Number(number);
-                    Ok(())
-                }
-                Err(errno) => Err(errno),
-            },
+            Call::Load { addr, len } => {
+                self.serve_access(caller, *addr, Act::Nothing, len.get(), reply)
+            }
+            Call::Store { addr, chunk } => {
+                self.serve_access(caller, *addr, Act::Put(chunk.as_slice()), 0, reply)
+            }
+            Call::Xadd { addr, add } => {
+                self.serve_access(caller, *addr, Act::Add(*add), 8, reply)
+            }
             Call::Exchange { chunk, addr } => {
-                self.exchange(caller, *addr, chunk.as_slice(), reply)
+                let bytes = chunk.as_slice();
+                self.serve_access(caller, *addr, Act::Put(bytes), bytes.len(), reply)
             }
             Call::CompareExchange {
                 expected,
                 desired,
                 addr,
             } => {
-                let (expected, desired) = (expected.as_slice(), desired.as_slice());
-                self.compare_exchange(caller, *addr, expected, desired, reply)
+                let (expected, bytes) = (expected.as_slice(), desired.as_slice());
+                let act = Act::PutIfEqual { expected, bytes };
+                self.serve_access(caller, *addr, act, bytes.len(), reply)
             }
             Call::Fork { child } => self.fork(time, caller, *child),
             Call::Exec => {

@@ -17,15 +17,21 @@ pub struct SegmentPages {
     pub swapped: u64,
 }
 
-// How many of the pages of a segment, of which there are this many, are in frames. Walks the touched ones.
+// How many of the pages of a segment, of which there are this many, are in frames. Walks those in frames or slots.
 fn resident_of<P: Pager>(store: &PageStore<P>, seg: u32, pages: u32) -> u64
     ensures { result ≡ resident_below store.now seg pages }
 {
     let mut count = 0;
-    for page in 0..store.touched(seg).min(pages) {
+    let mut page = store.next_placed(PageRef { seg, page: 0 }, pages);
+    while page < pages {
         if store.frame(seg, page).is_some() {
             count += 1;
         }
+        let next = PageRef {
+            seg,
+            page: page + 1,
+        };
+        page = store.next_placed(next, pages);
     }
     count
 }
@@ -68,7 +74,7 @@ fn swapped_of<P: Pager>(store: &PageStore<P>, seg: u32) -> u64
 
 impl<P: Pager> System<P> {
     /// Where the pages of a segment are. None if no segment has the identifier. Walks the pages of the segment
-    /// that were touched, and all slots that were ever used.
+    /// that are in a frame or a slot, and all slots that were ever used.
     pub fn pages_of(&self, seg: u32) -> Option<SegmentPages>
         ensures { ShowsPages self.now.machine self.now.memory seg result }
     {

@@ -5,6 +5,8 @@ ghost use Rattle.std.specs.Prelude.{◌≡◌, ◌<◌, ◌≤◌, true, false, 
 ghost use Rattle.shm_base.specs.declared.call.Call.TheVariants as call;
 ghost use Rattle.shm_base.specs.declared.call.Reply.TheVariants.{Bytes, Number};
 ghost use Rattle.shm_base.specs.declared.paging.TheConstants.{PAGE_SIZE};
+ghost use Rattle.shm_fault.specs.Acting.{FitsRoom, size_of, writes};
+ghost use Rattle.shm_life.specs.Accessing.{call_of, reply_of};
 ghost use Rattle.shm_life.specs.MachineView.{done, replied, reply_in};
 ghost use Rattle.shm_life.specs.SystemState.{Replied, most_calls};
 ghost use Rattle.shm_life.specs.Lending.{KeepsLoans, pages_asked};
@@ -15,6 +17,38 @@ use shm_fault::Act;
 use shm_pager::Pager;
 
 impl<P: Pager> System<P> {
+    /// The access of a process that does an act at the bytes from an address on. If `there` is as long as they
+    /// are, it gets the old ones.
+    ///
+    /// - Esrch: the process is not live.
+    /// - Sigsegv: an address has no piece, or a read-only one and the act needs more.
+    /// - Sigbus: a pager failed.
+    ///
+    /// If it is refused, neither a byte nor `there` changed.
+    #[inline(always)]
+    pub fn access(
+        &mut self,
+        pid: u32,
+        addr: u64,
+        act: Act<'_>,
+        there: &mut [u8],
+    ) -> Result<(), Errno>
+        requires room { self.old.calls < most_calls }
+        requires fits { FitsRoom act (length there.old) }
+        requires size { let size = size_of act (length there.old) in (1 ≤ size) × (size ≤ PAGE_SIZE) }
+        ensures replied { let room = length there.old in
+            let reply = reply_in (reply_of act.entry room there.new) result in
+            Replied self.old pid (call_of act.entry addr room) reply self.new }
+        ensures kept { OnErr result (there.new ≡ there.old) }
+        ensures loans { let size = size_of act.entry (length there.old) in
+            let pages = pages_asked self.old.machine pid addr size (writes act.entry) in
+            KeepsLoans pages self.old.memory self.new.memory }
+    {
+        let done = self.kernel.access_by(pid, addr, act, there);
+        self.calls += 1;
+        done
+    }
+
     /// A load of a process straight into a buffer of 1 to 4,096 bytes.
     ///
     /// - Esrch: the process is not live.
@@ -32,9 +66,7 @@ impl<P: Pager> System<P> {
         ensures loans { let pages = pages_asked self.old.machine pid addr (length out.old) false in
             KeepsLoans pages self.old.memory self.new.memory }
     {
-        let loaded = self.kernel.access_by(pid, addr, Act::Nothing, out);
-        self.calls += 1;
-        loaded
+        self.access(pid, addr, Act::Nothing, out)
     }
 
     /// A store of a process of 1 to 4,096 bytes.
@@ -52,9 +84,7 @@ impl<P: Pager> System<P> {
         ensures loans { let pages = pages_asked self.old.machine pid addr (length bytes.now) true in
             KeepsLoans pages self.old.memory self.new.memory }
     {
-        let stored = self.kernel.access_by(pid, addr, Act::Put(bytes), &mut []);
-        self.calls += 1;
-        stored
+        self.access(pid, addr, Act::Put(bytes), &mut [])
     }
 
     /// An addition of a process to eight little-endian bytes, modulo 2^64. Returns the old number. Refused as
@@ -67,8 +97,7 @@ impl<P: Pager> System<P> {
             KeepsLoans pages self.old.memory self.new.memory }
     {
         let mut there = [0; 8];
-        let added = self.kernel.access_by(pid, addr, Act::Add(add), &mut there);
-        self.calls += 1;
+        let added = self.access(pid, addr, Act::Add(add), &mut there);
         added.and(Ok(u64::from_le_bytes(there)))
     }
 
@@ -95,9 +124,7 @@ impl<P: Pager> System<P> {
         ensures loans { let pages = pages_asked self.old.machine pid addr (length bytes.now) true in
             KeepsLoans pages self.old.memory self.new.memory }
     {
-        let exchanged = self.kernel.access_by(pid, addr, Act::Put(bytes), before);
-        self.calls += 1;
-        exchanged
+        self.access(pid, addr, Act::Put(bytes), before)
     }
 
     /// As [`System::exchange`], but replaces the bytes only if they equal the expected ones (cmpxchg).
@@ -119,9 +146,6 @@ impl<P: Pager> System<P> {
         ensures loans { let pages = pages_asked self.old.machine pid addr (length bytes.now) true in
             KeepsLoans pages self.old.memory self.new.memory }
     {
-        let act = Act::PutIfEqual { expected, bytes };
-        let compared = self.kernel.access_by(pid, addr, act, before);
-        self.calls += 1;
-        compared
+        self.access(pid, addr, Act::PutIfEqual { expected, bytes }, before)
     }
 }

@@ -1,18 +1,16 @@
 -- An access that was made, and one for which no way could be made.
-use Rattle.std.proofs.Common.{ℕ, Bool, List, ap, inl, inr, subst}
-use Rattle.std.specs.Prelude.{Result, Ok, Err}
+use Rattle.std.proofs.Common.{ℕ, Bool, List, ap, inr, subst}
+use Rattle.std.specs.Prelude.{Err}
 use Rattle.shm_base.specs.Calls.{ProcessCall}
 use Rattle.shm_base.specs.State.{Machine as Flat}
 use Rattle.shm_base.specs.declared.call.Reply.{Reply}
-use Rattle.shm_base.specs.declared.errno.Errno.{Errno}
 use Rattle.shm_base.specs.declared.paging.PageRef.{PageRef}
 use Rattle.shm_fault.proofs.Lending.{stay-trans}
 use Rattle.shm_fault.specs.Placing.{places}
 use Rattle.shm_life.specs.Lending.{KeepsLoans, pages_asked}
-use Rattle.shm_life.specs.MachineView.{replied}
 use Rattle.shm_life.specs.SystemState.{SystemState, Replied}
 use Rattle.shm_machine.specs.Answered.{as_reply}
-use Rattle.shm_machine.specs.Ready.{AccessMade, AccessedBy, IsReady, NotMade, refused_by}
+use Rattle.shm_machine.specs.Ready.{AccessMade, AccessedBy, IsReady, NotMade}
 use Rattle.shm_machine.specs.declared.refusal.Refusal.{Refusal}
 use Rattle.shm_machine.specs.declared.refusal.Refusal.TheVariants.{Refused, HostMemory, Spent, Lent}
 
@@ -22,24 +20,10 @@ not_made pid call T reply_of rs before after HostMemory n = n
 not_made pid call T reply_of rs before after Spent n = n
 not_made pid call T reply_of rs before after Lent n = n
 
-made-one : (rs : List PageRef) (before mid after : SystemState) (pid : ℕ) (call : ProcessCall) (reply : Reply) → IsReady rs before mid → KeepsLoans rs mid.memory after.memory → Replied mid pid call reply after → AccessMade rs before pid call reply after
-made-one rs before mid after pid call reply ready keeps access = record {
-  mid = mid;
-  ready = ready;
-  access = access;
-  stay = stay-trans (places before.memory) (places mid.memory) (places after.memory) ready.ready.stay (keeps ready.ready.ok.0);
-}
-
 -- making way does not change the flat machine, so the pages are those that were asked for before it
-pub made : (call : ProcessCall) (T : Type 0) (reply_of : T → Reply) (before mid after : SystemState) (pid addr len : ℕ) (puts : Bool) (r : Result T Errno) → IsReady (pages_asked before.machine pid addr len puts) before mid
-    → KeepsLoans (pages_asked mid.machine pid addr len puts) mid.memory after.memory → Replied mid pid call (replied reply_of r) after → AccessedBy (pages_asked before.machine pid addr len puts) before pid call (as_reply reply_of (refused_by r)) after
-made call T reply_of before mid after pid addr len puts r ready keeps access = by r access
-  where
-    stays : KeepsLoans (pages_asked before.machine pid addr len puts) mid.memory after.memory
-    stays =
-        let same = ap (λ (s : SystemState). s.machine) ready.rest in
-        subst (λ (m : Flat). KeepsLoans (pages_asked m pid addr len puts) mid.memory after.memory) same keeps
-
-    by : (q : Result T Errno) → Replied mid pid call (replied reply_of q) after → AccessedBy (pages_asked before.machine pid addr len puts) before pid call (as_reply reply_of (refused_by q)) after
-    by (Ok t) did = made-one _ before mid after pid call (reply_of t) ready stays did
-    by (Err e) did = inl (made-one _ before mid after pid call (replied {T = T} reply_of (Err e)) ready stays did)
+pub made : (call : ProcessCall) (reply : Reply) (before mid after : SystemState) (pid addr len : ℕ) (puts : Bool) → IsReady (pages_asked before.machine pid addr len puts) before mid
+    → KeepsLoans (pages_asked mid.machine pid addr len puts) mid.memory after.memory → Replied mid pid call reply after → AccessMade (pages_asked before.machine pid addr len puts) before pid call reply after
+made call reply before mid after pid addr len puts ready keeps access =
+    let same = ap (λ (s : SystemState). s.machine) ready.rest in
+    let stays = subst (λ (m : Flat). KeepsLoans (pages_asked m pid addr len puts) mid.memory after.memory) same keeps in
+    record { mid = mid; ready = ready; access = access; stay = stay-trans (places before.memory) (places mid.memory) (places after.memory) ready.ready.stay (stays ready.ready.ok.0) }

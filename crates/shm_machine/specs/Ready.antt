@@ -3,7 +3,6 @@ use Rattle.std.specs.Prelude.{ℕ, ◌≡◌, ◌⊎◌, List, Result, Ok, Err}
 use Rattle.shm_base.specs.Calls.{ProcessCall}
 use Rattle.shm_base.specs.declared.call.Reply.{Reply}
 use Rattle.shm_base.specs.declared.call.Reply.TheVariants as replies
-use Rattle.shm_base.specs.declared.errno.Errno.{Errno}
 use Rattle.shm_base.specs.declared.errno.Errno.TheVariants.{Sigbus}
 use Rattle.shm_base.specs.declared.paging.PageRef.{PageRef}
 use Rattle.shm_frames.specs.Frame.{lent_of}
@@ -30,11 +29,6 @@ pub record Waits (rs : List PageRef) (why : NotReady) (before after : SystemStat
 abbrev pub refusal_of : NotReady → Refusal
 refusal_of ready.Lent = Lent
 refusal_of ready.Sigbus = Refused Sigbus
-
--- a result with its errno as a refusal
-abbrev pub refused_by : {T : Type 0} → Result T Errno → Result T Refusal
-refused_by (Ok t) = Ok t
-refused_by (Err e) = Err (Refused e)
 
 -- why the access was not made; it is not counted then
 abbrev pub NotMade : List PageRef → Refusal → SystemState → SystemState → Type 0

@@ -5,14 +5,17 @@ ghost use Rattle.std.specs.Prelude.{◌≡◌, ◌<◌, ◌≤◌, true, false, 
 ghost use Rattle.shm_base.specs.declared.call.Call.TheVariants as call;
 ghost use Rattle.shm_base.specs.declared.call.Reply.TheVariants as reply;
 ghost use Rattle.shm_base.specs.declared.paging.TheConstants.{PAGE_SIZE};
+ghost use Rattle.shm_fault.specs.Acting.{FitsRoom, size_of, writes};
+ghost use Rattle.shm_life.specs.Accessing.{call_of, reply_of};
 ghost use Rattle.shm_life.specs.Lending.{pages_asked};
 ghost use Rattle.shm_life.specs.SystemState.{most_calls};
 ghost use Rattle.shm_machine.specs.Answered.{as_reply, done};
-ghost use Rattle.shm_machine.specs.Ready.{AccessedBy, IsReady, NotMade, refusal_of, refused_by};
+ghost use Rattle.shm_machine.specs.Ready.{AccessedBy, IsReady, NotMade, refusal_of};
 
 use crate::machine::Machine;
 use crate::refusal::Refusal;
 use shm_base::Errno;
+use shm_fault::Act;
 use shm_life::NotReady;
 
 // The refusal of an access that is not ready.
@@ -22,17 +25,6 @@ fn refusal_of(why: NotReady) -> Refusal
     match why {
         NotReady::Lent => Refusal::Lent,
         NotReady::Sigbus => Refusal::Refused(Errno::Sigbus),
-    }
-}
-
-// The result of an access, with its errno as a refusal.
-#[inline(always)]
-fn answer(done: Result<(), Errno>) -> Result<(), Refusal>
-    ensures { result ≡ refused_by done }
-{
-    match done {
-        Ok(()) => Ok(()),
-        Err(errno) => Err(Refusal::Refused(errno)),
     }
 }
 
@@ -56,6 +48,34 @@ impl Machine {
         }
     }
 
+    /// The access of a process that does an act at the bytes from an address on. If `there` is as long as they
+    /// are, it gets the old ones. If it is refused, neither a byte nor `there` changed.
+    #[inline(always)]
+    pub fn access(
+        &mut self,
+        pid: u32,
+        addr: u64,
+        act: Act<'_>,
+        there: &mut [u8],
+    ) -> Result<(), Refusal>
+        requires fits { FitsRoom act (length there.old) }
+        requires size { let size = size_of act (length there.old) in (1 ≤ size) × (size ≤ PAGE_SIZE) }
+        ensures answered { let room = length there.old in
+            let pages = pages_asked self.old.system.machine pid addr (size_of act.entry room) (writes act.entry) in
+            let answer = as_reply (λ _. reply_of act.entry room there.new) result in
+            AccessedBy pages self.old.system pid (call_of act.entry addr room) answer self.new.system }
+        ensures kept { OnErr result (there.new ≡ there.old) }
+    {
+        let len = act.size(there.len()) as u64;
+        if let Err(refusal) = self.make_ready(pid, addr, len, act.writes()) {
+            return Err(refusal);
+        }
+        match self.system.access(pid, addr, act, there) {
+            Ok(()) => Ok(()),
+            Err(errno) => Err(Refusal::Refused(errno)),
+        }
+    }
+
     /// Reads 1 to 4,096 bytes of attached memory into the buffer in one step. As [`Machine::load`], but
     /// without another copy. If it is refused, the buffer is unchanged.
     #[inline(always)]
@@ -68,10 +88,7 @@ impl Machine {
         ensures kept { OnErr result (bytes.new ≡ bytes.old) }
         ensures size { length bytes.new ≡ length bytes.old }
     {
-        if let Err(refusal) = self.make_ready(pid, addr, bytes.len() as u64, false) {
-            return Err(refusal);
-        }
-        answer(self.system.load_into(pid, addr, bytes))
+        self.access(pid, addr, Act::Nothing, bytes)
     }
 
     /// Replaces 1 to 4,096 bytes of attached memory in one step.
@@ -82,10 +99,7 @@ impl Machine {
             let store = call.Store bytes.now addr in
             AccessedBy pages self.old.system pid store (as_reply done result) self.new.system }
     {
-        if let Err(refusal) = self.make_ready(pid, addr, bytes.len() as u64, true) {
-            return Err(refusal);
-        }
-        answer(self.system.store_from(pid, addr, bytes))
+        self.access(pid, addr, Act::Put(bytes), &mut [])
     }
 
     /// Adds to eight little-endian bytes of attached memory, modulo 2^64, and returns the old number.
@@ -95,13 +109,9 @@ impl Machine {
             let answer = as_reply reply.Number result in
             AccessedBy pages self.old.system pid (call.Xadd addr add) answer self.new.system }
     {
-        if let Err(refusal) = self.make_ready(pid, addr, 8, true) {
-            return Err(refusal);
-        }
-        match self.system.add_to(pid, addr, add) {
-            Ok(number) => Ok(number),
-            Err(errno) => Err(Refusal::Refused(errno)),
-        }
+        let mut there = [0; 8];
+        let added = self.access(pid, addr, Act::Add(add), &mut there);
+        added.and(Ok(u64::from_le_bytes(there)))
     }
 
     /// Replaces 1 to 4,096 bytes in one step (xchg); `before` gets the old ones. Refused as a store is; then
@@ -120,10 +130,7 @@ impl Machine {
             AccessedBy pages self.old.system pid (call.Exchange bytes.now addr) answer self.new.system }
         ensures kept { OnErr result (before.new ≡ before.old) }
     {
-        if let Err(refusal) = self.make_ready(pid, addr, bytes.len() as u64, true) {
-            return Err(refusal);
-        }
-        answer(self.system.exchange(pid, addr, bytes, before))
+        self.access(pid, addr, Act::Put(bytes), before)
     }
 
     /// As [`Machine::exchange`], but replaces the bytes only if they equal the expected ones (cmpxchg).
@@ -144,12 +151,6 @@ impl Machine {
             AccessedBy pages self.old.system pid compare answer self.new.system }
         ensures kept { OnErr result (before.new ≡ before.old) }
     {
-        if let Err(refusal) = self.make_ready(pid, addr, bytes.len() as u64, true) {
-            return Err(refusal);
-        }
-        answer(
-            self.system
-                .compare_exchange(pid, addr, expected, bytes, before),
-        )
+        self.access(pid, addr, Act::PutIfEqual { expected, bytes }, before)
     }
 }

@@ -7,7 +7,7 @@ use Rattle.shm_base.specs.Access.{byte_set, entry_byte_set, set_in}
 use Rattle.shm_base.specs.Segments.{attach_all, attached, change, with_entry}
 use Rattle.shm_base.specs.State.{Entry, Machine, Segment}
 use Rattle.shm_outcomes.specs.Changes.{is_above, is_below, put}
-use Rattle.shm_outcomes.specs.declared.trail.Write.{Write}
+use Rattle.shm_outcomes.specs.declared.effects.Write.{Write}
 
 -- ONE ELEMENT OF A LIST
 

@@ -8,7 +8,7 @@ use Rattle.std.proofs.lemmas.List.Elements.{All-append, All-cons, All-contains, 
 use Rattle.shm_base.specs.State.{Machine}
 use Rattle.shm_base.specs.declared.call.Event.{Event}
 use Rattle.shm_text.specs.Script.{ScriptView}
-use Rattle.shm_outcomes.specs.Branches.{sprout}
+use Rattle.shm_outcomes.specs.Nodes.{root}
 use Rattle.shm_outcomes.specs.Groups.{IsAt, Groups, mark_by, mark_of}
 use Rattle.shm_outcomes.specs.Keys.{AreMoreKeys, AreOther, IsKeyOf, Key, key_of}
 use Rattle.shm_outcomes.specs.Levels.{IsFirstCause, IsLevelCause, IsLevelFull, IsNextLevel, Level, first_level}
@@ -20,7 +20,7 @@ use Rattle.shm_schedules.specs.Outcomes.{outcome_of}
 use Rattle.shm_schedules.specs.Schedules.{Run, fresh, goes, IsOver, Leads, schedule_of, IsReached}
 use Rattle.shm_outcomes.specs.Search.{AreMoreRuns, AreOutcomes, IsFinding, outcomes_in}
 use Rattle.shm_schedules.specs.Finding.{Finding}
-use Rattle.shm_outcomes.proofs.Branching.{AreCarried}
+use Rattle.shm_outcomes.proofs.Carrying.{AreCarried}
 use Rattle.shm_outcomes.proofs.Grouping.{AreGroups, IsGroup, IsOne, at-once, group-of, next-groups, one-long, own-mark}
 use Rattle.shm_outcomes.proofs.Searching.{AreKnown, AreMembers, HasOne, IsWay, Steps, adds-all, members-push, no-ways, step-all, ways-after}
 use Rattle.shm_schedules.proofs.Walking.{follower-reached, goes-length, goes-schedule}
@@ -89,14 +89,14 @@ module _ (script : ScriptView) (machine : Machine) (n : ℕ) (g : Groups) (all :
 
   -- the key of a member's runs
   abbrev key_in : Way → Key
-  key_in w = record { count = n; told = w.member.told; trail = (slice_index_or g.all w.member.group (sprout script first)).trail }
+  key_in w = record { count = n; told = w.member.told; effects = (slice_index_or g.all w.member.group (root script first)).effects }
 
   key-is : (w : Way) (is : IsWay script machine g w) → key_in w ≡ key_of script first is.run
   key-is w is =
       let own = group-of script machine n g w.member is.run all is.one in
-      let trail = ap (λ b. b.trail) (get_or_default g.all w.member.group (sprout script first) own.b own.within ∙ own.at) ∙ own.is.carried.trail ∙ sym own.same.trail in
+      let effects = ap (λ b. b.effects) (get_or_default g.all w.member.group (root script first) own.b own.within ∙ own.at) ∙ own.is.carried.effects ∙ sym own.same.effects in
       let count = sym (one-long script machine n g w.member is.run all is.one) in
-      λ j. record { count = count j; told = is.one.told j; trail = trail j }
+      λ j. record { count = count j; told = is.one.told j; effects = effects j }
 
   -- members with one key are the same
   key-once : (v w : Way) → IsWay script machine g v → IsWay script machine g w → key_in v ≡ key_in w → v.member ≡ w.member
@@ -330,9 +330,9 @@ less-left most level next some counted few = by level.members.ways refl (length 
 pub first-searched : (script : ScriptView) (machine : Machine) (most : ℕ) → 0 < most → AreSearched script machine most (first_level script (fresh machine)) []
 first-searched script machine most some =
     let first = fresh machine in
-    let b = sprout script first in
+    let b = root script first in
     let level = first_level script first in
-    let carried : AreCarried script machine b = record { told = refl; trail = refl } in
+    let carried : AreCarried script machine b = record { told = refl; effects = refl } in
     let is : IsGroup script machine 0 b = record { reached = refl; long = refl; carried = carried } in
     let one : (run : Run) → IsReached script first run → length run.events ≡ 0 → HasOne script machine level.groups level.members.ways run =
     λ run reached long.
@@ -361,12 +361,12 @@ first-searched script machine most some =
       few = omega (arith, some);
     }
   where
-    start-one : (script : ScriptView) (machine : Machine) → IsOne script machine (first_level script (fresh machine)).groups (member 0 (sprout script (fresh machine)).told) (fresh machine)
+    start-one : (script : ScriptView) (machine : Machine) → IsOne script machine (first_level script (fresh machine)).groups (member 0 (root script (fresh machine)).told) (fresh machine)
     start-one script machine =
         record {
           reached = refl;
           told = refl;
-          at = (omega arith, λ d. own-mark script machine (sprout script (fresh machine)) (record { told = refl; trail = refl }));
+          at = (omega arith, λ d. own-mark script machine (root script (fresh machine)) (record { told = refl; effects = refl }));
         }
 
 -- at a bound of 0 the first run is one too many

@@ -14,14 +14,14 @@ use Rattle.shm_base.specs.declared.call.Event.{Event}
 use Rattle.shm_base.specs.declared.call.Process.{Process}
 use Rattle.shm_base.specs.declared.call.Reply.{Reply}
 use Rattle.shm_text.specs.Script.{ScriptView}
-use Rattle.shm_outcomes.specs.Branches.{Branch, event_after, grown}
+use Rattle.shm_outcomes.specs.Nodes.{Node, event_after, successor}
 use Rattle.shm_outcomes.specs.Groups.{IsAt, AreAllMoves, AreMoves, AreMovesBy, ArePut, Groups, IsFrom, IsMove, IsMoveBy, IsPut, StayThere, are_over, mark_at, mark_by, mark_of, no_groups}
 use Rattle.shm_outcomes.specs.Keys.{AreOther, Key}
 use Rattle.shm_outcomes.specs.Members.{Member, member}
 use Rattle.shm_schedules.specs.Outcomes.{masked, outcome_of, told_after}
 use Rattle.shm_schedules.specs.Schedules.{Run, after, fresh, goes, next, IsOver, IsReached}
 use Rattle.shm_outcomes.specs.declared.moves.Move.{Move}
-use Rattle.shm_outcomes.proofs.Branching.{AreCarried, grown-carried, key-same}
+use Rattle.shm_outcomes.proofs.Carrying.{AreCarried, successor-carried, key-same}
 use Rattle.shm_schedules.proofs.Going.{told-one}
 use Rattle.shm_outcomes.proofs.Keeping.{GoSame, after-same, go-same, next-same, reply-same, same-mark}
 use Rattle.shm_schedules.proofs.Telling.{told-after}
@@ -65,23 +65,23 @@ take-next (y ∷ ys) (suc i) x lt is =
 
 -- PUTTING
 
-pub put-none : (script : ScriptView) (froms : List Branch) (g : Groups) → ArePut script froms g g
+pub put-none : (script : ScriptView) (froms : List Node) (g : Groups) → ArePut script froms g g
 put-none script froms g = record { stay = stay-same g.marks; marked = λ h. h; apart = λ h. h; from = λ k d lt. inl (Contains-get_or g.all k d lt) }
 
-pub put-trans : (script : ScriptView) (froms : List Branch) (a b c : Groups) → ArePut script froms a b → ArePut script froms b c → ArePut script froms a c
+pub put-trans : (script : ScriptView) (froms : List Node) (a b c : Groups) → ArePut script froms a b → ArePut script froms b c → ArePut script froms a c
 put-trans script froms a b c h k =
     record {
       stay = stay-trans a.marks b.marks c.marks h.stay k.stay;
       marked = λ m. k.marked (h.marked m);
       apart = λ m. k.apart (h.apart m);
       from = λ i d lt. (let x = slice_index_or c.all i d in elim (k.from i d lt) [
-        | inl there ↦ All-contains (λ (y : Branch). Contains a.all y ⊎ IsFrom script froms y) b.all x h.from there
+        | inl there ↦ All-contains (λ (y : Node). Contains a.all y ⊎ IsFrom script froms y) b.all x h.from there
         | inr new ↦ inr new
       ]);
     }
 
 -- more groups may be those that one comes from
-pub put-wider : (script : ScriptView) (bs : List Branch) (b : Branch) (a c : Groups) → Contains bs b → ArePut script (b ∷ []) a c → ArePut script bs a c
+pub put-wider : (script : ScriptView) (bs : List Node) (b : Node) (a c : Groups) → Contains bs b → ArePut script (b ∷ []) a c → ArePut script bs a c
 put-wider script bs b a c there h =
     record {
       stay = h.stay;
@@ -89,16 +89,16 @@ put-wider script bs b a c there h =
       apart = h.apart;
       from = λ i d lt. elim (h.from i d lt) [
         | inl old ↦ inl old
-        | inr new ↦ inr (new.0, new.1, new.2, subst (Contains bs) (one-branch b new.0 new.3) there, new.4, new.5)
+        | inr new ↦ inr (new.0, new.1, new.2, subst (Contains bs) (one-node b new.0 new.3) there, new.4, new.5)
       ];
     }
   where
-    one-branch : (b x : Branch) → Contains (b ∷ []) x → b ≡ x
-    one-branch b x (zero, lt, at) = at
-    one-branch b x (suc i, lt, at) = absurd (omega (arith, lt))
+    one-node : (b x : Node) → Contains (b ∷ []) x → b ≡ x
+    one-node b x (zero, lt, at) = at
+    one-node b x (suc i, lt, at) = absurd (omega (arith, lt))
 
 -- one group was put, or was there
-pub put-one : (script : ScriptView) (froms : List Branch) (olds news : Groups) (b : Branch) (place : ℕ) → IsFrom script froms b → IsPut script olds b place news → ArePut script froms olds news
+pub put-one : (script : ScriptView) (froms : List Node) (olds news : Groups) (b : Node) (place : ℕ) → IsFrom script froms b → IsPut script olds b place news → ArePut script froms olds news
 put-one script froms olds news b place from (at, inl same) = rw same (put-none script froms olds)
 put-one script froms olds news b place from (at, inr (unmet, is)) =
     let mark = mark_at script b in
@@ -107,12 +107,12 @@ put-one script froms olds news b place from (at, inr (unmet, is)) =
       stay = stay-more olds.marks mark;
       marked = λ h. ap (λ (l : List Key). l ++ mark ∷ []) h ∙ sym (map-append (mark_at script) olds.all (b ∷ []));
       apart = λ h. all_pairs_push AreOther olds.marks mark h (λ k d lt same. unmet (subst (Contains olds.marks) same (Contains-get_or olds.marks k d lt)));
-      from = All-push (λ (x : Branch). Contains olds.all x ⊎ IsFrom script froms x) olds.all b (λ k d lt. inl (Contains-get_or olds.all k d lt)) (inr from);
+      from = All-push (λ (x : Node). Contains olds.all x ⊎ IsFrom script froms x) olds.all b (λ k d lt. inl (Contains-get_or olds.all k d lt)) (inr from);
     })
 
 -- what a list's images have at a place is the image of what the list has there
-map-at : (script : ScriptView) (bs : List Branch) (i : ℕ) (mark : Key) → IsAt (map (mark_at script) bs) i mark
-    → (b : Branch) × (i < length bs) × (slice_index_or bs i b ≡ b) × (mark_at script b ≡ mark)
+map-at : (script : ScriptView) (bs : List Node) (i : ℕ) (mark : Key) → IsAt (map (mark_at script) bs) i mark
+    → (b : Node) × (i < length bs) × (slice_index_or bs i b ≡ b) × (mark_at script b ≡ mark)
 map-at script [] i mark (lt, at) = absurd (omega (arith, lt))
 map-at script (b ∷ bs) zero mark (lt, at) = (b, omega arith, refl, at mark)
 map-at script (b ∷ bs) (suc i) mark (lt, at) =
@@ -122,7 +122,7 @@ map-at script (b ∷ bs) (suc i) mark (lt, at) =
 -- GROUPS OF ONE LEVEL
 
 -- a run of a group with this many calls
-pub record IsGroup (script : ScriptView) (machine : Machine) (n : ℕ) (b : Branch) : Type 0 where
+pub record IsGroup (script : ScriptView) (machine : Machine) (n : ℕ) (b : Node) : Type 0 where
   pub reached : IsReached script (fresh machine) b.run
   pub long : length b.run.events ≡ n
   pub carried : AreCarried script machine b
@@ -132,16 +132,16 @@ pub record AreGroups (script : ScriptView) (machine : Machine) (n : ℕ) (g : Gr
   pub marked : g.marks ≡ map (mark_at script) g.all
   pub apart : AllPairs AreOther g.marks
 
-pub own-mark : (script : ScriptView) (machine : Machine) (b : Branch) → AreCarried script machine b → mark_at script b ≡ mark_of script (fresh machine) b.run
+pub own-mark : (script : ScriptView) (machine : Machine) (b : Node) → AreCarried script machine b → mark_at script b ≡ mark_of script (fresh machine) b.run
 own-mark script machine b carried = ap (mark_by script) (key-same script machine b carried)
 
-grown-group : (script : ScriptView) (machine : Machine) (n : ℕ) (b : Branch) → IsGroup script machine n b → (pid : ℕ) (call : ProcessCall) → next script b.run pid ≡ Some call → IsGroup script machine (n + 1) (grown script b pid call)
-grown-group script machine n b is pid call then =
+successor-group : (script : ScriptView) (machine : Machine) (n : ℕ) (b : Node) → IsGroup script machine n b → (pid : ℕ) (call : ProcessCall) → next script b.run pid ≡ Some call → IsGroup script machine (n + 1) (successor script b pid call)
+successor-group script machine n b is pid call then =
     let follows : goes script pid b.run ≡ Some (after b.run pid call) = ap (option_map (after b.run pid)) then in
     record {
       reached = follower-reached script (fresh machine) b.run is.reached pid (after b.run pid call) follows;
       long = goes-length script pid b.run (after b.run pid call) follows ∙ ap (λ (k : ℕ). k + 1) is.long;
-      carried = grown-carried script machine b is.reached is.carried pid call;
+      carried = successor-carried script machine b is.reached is.carried pid call;
     }
 
 -- the groups to which those of a level go are those of the next one
@@ -153,21 +153,21 @@ next-groups script machine n olds news all put =
       apart = put.apart (λ i j d ij none. absurd (omega (arith, none)));
     }
   where
-    by : (b : Branch) → Contains ([]) b ⊎ IsFrom script olds.all b → IsGroup script machine (n + 1) b
+    by : (b : Node) → Contains ([]) b ⊎ IsFrom script olds.all b → IsGroup script machine (n + 1) b
     by b (inl (i, lt, at)) = absurd (omega (arith, lt))
-    by b (inr f) = subst (IsGroup script machine (n + 1)) (sym f.5) (grown-group script machine n f.0 (All-contains (IsGroup script machine n) olds.all f.0 all.each f.3) f.1 f.2 f.4)
+    by b (inr f) = subst (IsGroup script machine (n + 1)) (sym f.5) (successor-group script machine n f.0 (All-contains (IsGroup script machine n) olds.all f.0 all.each f.3) f.1 f.2 f.4)
 
 -- MOVES, ONE AFTER ANOTHER
 
-move-stays : (script : ScriptView) (olds news : Groups) (b : Branch) (pid : ℕ) (c : Option ProcessCall) (o : Option Move) → StayThere olds.marks news.marks → IsMoveBy script olds b pid c o → IsMoveBy script news b pid c o
+move-stays : (script : ScriptView) (olds news : Groups) (b : Node) (pid : ℕ) (c : Option ProcessCall) (o : Option Move) → StayThere olds.marks news.marks → IsMoveBy script olds b pid c o → IsMoveBy script news b pid c o
 move-stays script olds news b pid None o stay is = is
-move-stays script olds news b pid (Some call) o stay is = (is.0, is.1, is.2, stay is.0.group (mark_at script (grown script b pid call)) is.3)
+move-stays script olds news b pid (Some call) o stay is = (is.0, is.1, is.2, stay is.0.group (mark_at script (successor script b pid call)) is.3)
 
-moves-stay : (script : ScriptView) (olds news : Groups) (b : Branch) (ps : List Process) (moves : List (Option Move)) → StayThere olds.marks news.marks → AreMovesBy script olds b ps moves → AreMovesBy script news b ps moves
+moves-stay : (script : ScriptView) (olds news : Groups) (b : Node) (ps : List Process) (moves : List (Option Move)) → StayThere olds.marks news.marks → AreMovesBy script olds b ps moves → AreMovesBy script news b ps moves
 moves-stay script olds news b ps moves stay are = (are.0, λ i p lt at. move-stays script olds news b p.pid (next script b.run p.pid) (slice_index_or moves i None) stay (are.1 i p lt at))
 
 moves-more :
-    (script : ScriptView) (olds news : Groups) (b : Branch) (ps : List Process) (moves : List (Option Move)) (i : ℕ) (p : Process) (o : Option Move)
+    (script : ScriptView) (olds news : Groups) (b : Node) (ps : List Process) (moves : List (Option Move)) (i : ℕ) (p : Process) (o : Option Move)
     → i < length ps → p ≡ slice_index_or ps i p → StayThere olds.marks news.marks
     → AreMovesBy script olds b (take i ps) moves → IsMove script news b p.pid o → AreMovesBy script news b (take (i + 1) ps) (moves ++ o ∷ [])
 moves-more script olds news b ps moves i p o lt is stay are one =
@@ -191,20 +191,20 @@ moves-more script olds news b ps moves i p o lt is stay are one =
     )
 
 pub moves-more-at :
-    (script : ScriptView) (olds news : Groups) (b : Branch) (ps : List Process) (moves : List (Option Move)) (i : ℕ) (d : Process) (o : Option Move)
+    (script : ScriptView) (olds news : Groups) (b : Node) (ps : List Process) (moves : List (Option Move)) (i : ℕ) (d : Process) (o : Option Move)
     → i < length ps → StayThere olds.marks news.marks
     → AreMovesBy script olds b (take i ps) moves → IsMove script news b (slice_index_or ps i d).pid o → AreMovesBy script news b (take (i + 1) ps) (moves ++ o ∷ [])
 moves-more-at script olds news b ps moves i d o lt stay are one =
     moves-more script olds news b ps moves i (slice_index_or ps i d) o lt (get_or_default ps i d (slice_index_or ps i d) lt) stay are one
 
 pub all-moves-more :
-    (script : ScriptView) (olds news : Groups) (bs : List Branch) (moves : List (List (Option Move))) (i : ℕ) (b : Branch) (o : List (Option Move))
+    (script : ScriptView) (olds news : Groups) (bs : List Node) (moves : List (List (Option Move))) (i : ℕ) (b : Node) (o : List (Option Move))
     → i < length bs → b ≡ slice_index_or bs i b → StayThere olds.marks news.marks
     → AreAllMoves script olds (take i bs) moves → AreMoves script news b o → AreAllMoves script news (take (i + 1) bs) (moves ++ o ∷ [])
 all-moves-more script olds news bs moves i b o lt is stay are one =
-    subst (λ (l : List Branch). AreAllMoves script news l (moves ++ o ∷ [])) (sym (take-next bs i b lt is)) (push (take i bs) are)
+    subst (λ (l : List Node). AreAllMoves script news l (moves ++ o ∷ [])) (sym (take-next bs i b lt is)) (push (take i bs) are)
   where
-    push : (cs : List Branch) → AreAllMoves script olds cs moves → AreAllMoves script news (cs ++ b ∷ []) (moves ++ o ∷ [])
+    push : (cs : List Node) → AreAllMoves script olds cs moves → AreAllMoves script news (cs ++ b ∷ []) (moves ++ o ∷ [])
     push cs all = (
       (let e = all.0 in let l = length-append moves (o ∷ []) in let m = length-append cs (b ∷ []) in omega (arith, e, l, m)),
       λ k c k-lt at.
@@ -217,26 +217,26 @@ all-moves-more script olds news bs moves i b o lt is stay are one =
             | inr above ↦
                 let last : k ≡ length cs = omega (arith, m, k-lt, above) in
                 let same : b ≡ c = sym (get_or_push cs b c k (sym last)) ∙ at in
-                subst (AreMoves script news c) (sym (get_or_push moves o [] k (omega (arith, even, last)))) (subst (λ (x : Branch). AreMoves script news x o) same one)
+                subst (AreMoves script news c) (sym (get_or_push moves o [] k (omega (arith, even, last)))) (subst (λ (x : Node). AreMoves script news x o) same one)
           ]),
     )
 
-pub no-moves : (script : ScriptView) (g : Groups) (b : Branch) (moves : List (Option Move)) → moves ≡ [] → AreMovesBy script g b [] moves
+pub no-moves : (script : ScriptView) (g : Groups) (b : Node) (moves : List (Option Move)) → moves ≡ [] → AreMovesBy script g b [] moves
 no-moves script g b moves none = (ap (λ (l : List (Option Move)). length l) none, λ i p lt at. absurd (omega (arith, lt)))
 
 pub no-all-moves : (script : ScriptView) (g : Groups) (moves : List (List (Option Move))) → moves ≡ [] → AreAllMoves script g [] moves
 no-all-moves script g moves none = (ap (λ (l : List (List (Option Move))). length l) none, λ i b lt at. absurd (omega (arith, lt)))
 
-pub one-from : (script : ScriptView) (b : Branch) (pid : ℕ) (call : ProcessCall) (x : Branch) → next script b.run pid ≡ Some call → x ≡ grown script b pid call → IsFrom script (b ∷ []) x
+pub one-from : (script : ScriptView) (b : Node) (pid : ℕ) (call : ProcessCall) (x : Node) → next script b.run pid ≡ Some call → x ≡ successor script b pid call → IsFrom script (b ∷ []) x
 one-from script b pid call x then is = (b, pid, call, (0, omega arith, refl), then, is)
 
 -- the move by a process that makes this call next
-pub move-some : (script : ScriptView) (nexts : Groups) (b : Branch) (pid : ℕ) (call : ProcessCall) (x : Branch) (m : Move) → next script b.run pid ≡ Some call → x ≡ grown script b pid call
+pub move-some : (script : ScriptView) (nexts : Groups) (b : Node) (pid : ℕ) (call : ProcessCall) (x : Node) (m : Move) → next script b.run pid ≡ Some call → x ≡ successor script b pid call
     → m.event ≡ slice_index_or x.run.events (length b.run.events) m.event → IsAt nexts.marks m.group (mark_at script x) → IsMove script nexts b pid (Some m)
 move-some script nexts b pid call x m then is event at =
     let e = event_after b.run pid call in
-    let last : m.event ≡ e = event ∙ ap (λ (y : Branch). slice_index_or y.run.events (length b.run.events) m.event) is ∙ get_or_push b.run.events e m.event (length b.run.events) refl in
-    subst (λ (o : Option ProcessCall). IsMoveBy script nexts b pid o (Some m)) (sym then) (m, refl, last, subst (λ (y : Branch). IsAt nexts.marks m.group (mark_at script y)) is at)
+    let last : m.event ≡ e = event ∙ ap (λ (y : Node). slice_index_or y.run.events (length b.run.events) m.event) is ∙ get_or_push b.run.events e m.event (length b.run.events) refl in
+    subst (λ (o : Option ProcessCall). IsMoveBy script nexts b pid o (Some m)) (sym then) (m, refl, last, subst (λ (y : Node). IsAt nexts.marks m.group (mark_at script y)) is at)
 
 -- A RUN OF A GROUP
 
@@ -248,7 +248,7 @@ pub record IsOne (script : ScriptView) (machine : Machine) (g : Groups) (x : Mem
 
 -- the run of its group, which has the same continuations
 pub record HasGroup (script : ScriptView) (machine : Machine) (n : ℕ) (g : Groups) (x : Member) (run : Run) : Type 0 where
-  pub b : Branch
+  pub b : Node
   pub within : x.group < length g.all
   pub at : slice_index_or g.all x.group b ≡ b
   pub is : IsGroup script machine n b
@@ -309,7 +309,7 @@ module _ (script : ScriptView) (machine : Machine) (n : ℕ) (olds nexts : Group
   own = group-of script machine n olds x run all one
 
   -- the run after a call of the group is one of the group after it
-  core : (pid : ℕ) (call : ProcessCall) (m : Move) → next script run pid ≡ Some call → m.event ≡ event_after own.b.run pid call → IsAt nexts.marks m.group (mark_at script (grown script own.b pid call)) → IsOne script machine nexts (moved script x m) (after run pid call)
+  core : (pid : ℕ) (call : ProcessCall) (m : Move) → next script run pid ≡ Some call → m.event ≡ event_after own.b.run pid call → IsAt nexts.marks m.group (mark_at script (successor script own.b pid call)) → IsOne script machine nexts (moved script x m) (after run pid call)
   core pid call m there event at =
       let e = event_after run pid call in
       let f = event_after own.b.run pid call in
@@ -319,8 +319,8 @@ module _ (script : ScriptView) (machine : Machine) (n : ℕ) (olds nexts : Group
       ∙ told-same script.processes f e refl (sym replies) x.told
       ∙ ap (told_after script.processes e) one.told
       ∙ told-after script.processes run.events e in
-      let marks : mark_at script (grown script own.b pid call) ≡ mark_of script (fresh machine) (after run pid call) =
-      own-mark script machine (grown script own.b pid call) (grown-carried script machine own.b own.is.reached own.is.carried pid call)
+      let marks : mark_at script (successor script own.b pid call) ≡ mark_of script (fresh machine) (after run pid call) =
+      own-mark script machine (successor script own.b pid call) (successor-carried script machine own.b own.is.reached own.is.carried pid call)
       ∙ sym (same-mark script machine (after run pid call) (after own.b.run pid call) (after-same script machine run own.b.run pid call one.reached own.is.reached own.same)) in
       record {
         reached = follower-reached script (fresh machine) run one.reached pid (after run pid call) (ap (option_map (after run pid)) there);
@@ -341,7 +341,7 @@ module _ (script : ScriptView) (machine : Machine) (n : ℕ) (olds nexts : Group
           let follows : goes script pid run ≡ Some (after run pid call) = ap (option_map (after run pid)) there in (
             after run pid call,
             subst (λ (q : ℕ). goes script q run ≡ Some (after run pid call)) (sym (ap (λ (e : Event). e.pid) event)) follows,
-            core pid call m there event (subst (λ (v : Move). IsAt nexts.marks v.group (mark_at script (grown script own.b pid call))) same is.3),
+            core pid call m there event (subst (λ (v : Move). IsAt nexts.marks v.group (mark_at script (successor script own.b pid call))) same is.3),
           )
 
   module _ (moves : List (List (Option Move))) (are : AreAllMoves script nexts olds.all moves) where

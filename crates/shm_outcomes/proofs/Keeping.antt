@@ -18,16 +18,16 @@ use Rattle.shm_text.specs.Variables.{no_values, values_after}
 use Rattle.shm_text.specs.declared.script.Line.{Line}
 use Rattle.shm_text.specs.declared.script.Line.TheVariants.{Command, Flush}
 use Rattle.shm_schedules.specs.Alike.{is_change, is_void, looks}
-use Rattle.shm_outcomes.specs.Branches.{event_after}
-use Rattle.shm_outcomes.specs.Changes.{Trail, noted, patch_by, trail_after, trail_of, all_changes}
+use Rattle.shm_outcomes.specs.Nodes.{event_after}
+use Rattle.shm_outcomes.specs.Changes.{Effects, noted, patch_by, effects_after, effects_of, all_changes}
 use Rattle.shm_outcomes.specs.Groups.{kept, kept_all, kept_reply, mark_of}
 use Rattle.shm_outcomes.specs.Keys.{Key}
 use Rattle.shm_schedules.specs.Outcomes.{masked, told}
 use Rattle.shm_schedules.specs.Schedules.{Run, after, fresh, is_live, next, next_call, replies_to, IsReached}
 use Rattle.shm_schedules.specs.Times.{timeless}
-use Rattle.shm_outcomes.specs.declared.trail.Patch.{Patch}
+use Rattle.shm_outcomes.specs.declared.effects.Patch.{Patch}
 use Rattle.shm_schedules.proofs.Going.{first-true, map-head, map-tail, masked-next, same-if, same-step, told-more, told-one}
-use Rattle.shm_outcomes.proofs.Trails.{changed, puts-same, reached-changed, reached-next}
+use Rattle.shm_outcomes.proofs.Replaying.{changed, puts-same, reached-changed, reached-next}
 
 -- WHAT A PROCESS KEEPS
 
@@ -180,9 +180,9 @@ abbrev event_with : ℕ → ProcessCall → Reply → Event
 event_with pid call reply = record { pid = pid; call = call; reply = reply }
 
 -- it is the same if the machines, and the replies, differ only in times
-trail-same : (s m : Machine) (pid : ℕ) (call : ProcessCall) (r q : Reply) (t : Trail) → timeless s ≡ timeless m → masked r ≡ masked q
-    → trail_after s (event_with pid call r) t ≡ trail_after m (event_with pid call q) t
-trail-same s m pid call r q t machines replies =
+effects-same : (s m : Machine) (pid : ℕ) (call : ProcessCall) (r q : Reply) (t : Effects) → timeless s ≡ timeless m → masked r ≡ masked q
+    → effects_after s (event_with pid call r) t ≡ effects_after m (event_with pid call q) t
+effects-same s m pid call r q t machines replies =
     let voids : is_void call r ≡ is_void call q = sym (void-masked call r) ∙ ap (is_void call) replies ∙ void-masked call q in
     let looked : looks call r ≡ looks call q = sym (looks-masked call r) ∙ ap (looks call) replies ∙ looks-masked call q in
     let patches : patch_by call r ≡ patch_by call q = sym (patch-masked call r) ∙ ap (patch_by call) replies ∙ patch-masked call q in
@@ -190,7 +190,7 @@ trail-same s m pid call r q t machines replies =
     ap (λ (b : Bool). cond (not b && not (looks call r)) (noted s (event_with pid call r) (patch_by call r) t) t) voids
     ∙ ap (λ (b : Bool). cond (not (is_void call q) && not b) (noted s (event_with pid call r) (patch_by call r) t) t) looked
     ∙ ap (λ (p : Option Patch). cond (is_change (event_with pid call q)) (noted s (event_with pid call r) p t) t) patches
-    ∙ ap (λ (n : Trail). cond (is_change (event_with pid call q)) n t) (by (patch_by call q) callers)
+    ∙ ap (λ (n : Effects). cond (is_change (event_with pid call q)) n t) (by (patch_by call q) callers)
   where
     by : (p : Option Patch) → caller_of s pid ≡ caller_of m pid → noted s (event_with pid call r) p t ≡ noted m (event_with pid call q) p t
     by None callers = refl
@@ -202,7 +202,7 @@ pub record GoSame (script : ScriptView) (machine : Machine) (a b : Run) : Type 0
   pub state : timeless a.machine ≡ timeless b.machine
   pub count : length a.events ≡ length b.events
   pub kept : map (kept_in script a.events) script.processes ≡ map (kept_in script b.events) script.processes
-  pub trail : trail_of machine a.events ≡ trail_of machine b.events
+  pub effects : effects_of machine a.events ≡ effects_of machine b.events
 
 abbrev mark : ScriptView → Machine → Run → Key
 mark script machine run = mark_of script (fresh machine) run
@@ -210,16 +210,16 @@ mark script machine run = mark_of script (fresh machine) run
 pub go-same : (script : ScriptView) (machine : Machine) (a b : Run) → IsReached script (fresh machine) a → IsReached script (fresh machine) b → mark script machine a ≡ mark script machine b → GoSame script machine a b
 go-same script machine a b left right same =
     record {
-      state = sym (reached-changed script machine a left) ∙ ap (λ (k : Key). changed (timeless machine) (all_changes k.trail)) same ∙ reached-changed script machine b right;
+      state = sym (reached-changed script machine a left) ∙ ap (λ (k : Key). changed (timeless machine) (all_changes k.effects)) same ∙ reached-changed script machine b right;
       count = ap (λ (k : Key). k.count) same;
       kept = sym (kept-map script.lines a.events script.processes) ∙ ap (λ (k : Key). k.told) same ∙ kept-map script.lines b.events script.processes;
-      trail = ap (λ (k : Key). k.trail) same;
+      effects = ap (λ (k : Key). k.effects) same;
     }
 
 pub same-mark : (script : ScriptView) (machine : Machine) (a b : Run) → GoSame script machine a b → mark script machine a ≡ mark script machine b
 same-mark script machine a b h =
     let kept = kept-map script.lines a.events script.processes ∙ h.kept ∙ sym (kept-map script.lines b.events script.processes) in
-    λ j. record { count = h.count j; told = kept j; trail = h.trail j }
+    λ j. record { count = h.count j; told = kept j; effects = h.effects j }
 
 -- they make the same calls next
 pub next-same : (script : ScriptView) (machine : Machine) (a b : Run) (pid : ℕ) → GoSame script machine a b → next script a pid ≡ next script b pid
@@ -251,8 +251,8 @@ after-same script machine a b pid call left right same =
       state = ap (λ (o : Outcome). o.state) (same-step a b pid call same.state);
       count = length-append a.events _ ∙ ap (λ (n : ℕ). n + 1) same.count ∙ sym (length-append b.events _);
       kept = all-kept-more script a.events b.events e f refl replies script.processes same.kept;
-      trail = reached-next script machine a left e
-          ∙ ap (λ (t : Trail). trail_after a.machine e t) same.trail
-          ∙ trail-same a.machine b.machine pid call e.reply f.reply (trail_of machine b.events) same.state replies
+      effects = reached-next script machine a left e
+          ∙ ap (λ (t : Effects). effects_after a.machine e t) same.effects
+          ∙ effects-same a.machine b.machine pid call e.reply f.reply (effects_of machine b.events) same.state replies
           ∙ sym (reached-next script machine b right f);
     }

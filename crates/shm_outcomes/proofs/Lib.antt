@@ -1,7 +1,7 @@
 pub mod Searching
 pub mod Bytes
-pub mod Trails
-pub mod Branching
+pub mod Replaying
+pub mod Carrying
 pub mod Complete
 pub mod Hiding
 pub mod Keeping

@@ -13,19 +13,19 @@ use Rattle.shm_base.specs.declared.call.Reply.{Reply}
 use Rattle.shm_base.specs.declared.call.Reply.TheVariants.{Number}
 use Rattle.shm_schedules.specs.Alike.{is_change}
 use Rattle.shm_schedules.specs.Places.{place_of}
-use Rattle.shm_outcomes.specs.declared.trail.CallBy.{CallBy}
-use Rattle.shm_outcomes.specs.declared.trail.Change.{Change}
-use Rattle.shm_outcomes.specs.declared.trail.Change.TheVariants.{Made, Wrote}
-use Rattle.shm_outcomes.specs.declared.trail.Patch.{Patch}
-use Rattle.shm_outcomes.specs.declared.trail.Write.{Write}
+use Rattle.shm_outcomes.specs.declared.effects.CallBy.{CallBy}
+use Rattle.shm_outcomes.specs.declared.effects.Change.{Change}
+use Rattle.shm_outcomes.specs.declared.effects.Change.TheVariants.{Made, Wrote}
+use Rattle.shm_outcomes.specs.declared.effects.Patch.{Patch}
+use Rattle.shm_outcomes.specs.declared.effects.Write.{Write}
 
 -- the changes up to the last one that wrote no bytes, and the bytes written since
-pub record Trail : Type 0 where
+pub record Effects : Type 0 where
   pub past : List Change
   pub writes : List Write
 
-abbrev pub no_trail : Trail
-no_trail = record { past = []; writes = [] }
+abbrev pub no_effects : Effects
+no_effects = record { past = []; writes = [] }
 
 -- WRITTEN BYTES
 
@@ -68,7 +68,7 @@ patch_by call reply = None
 abbrev pub wrote : Write → Change
 wrote w = Wrote w
 
-abbrev pub all_changes : Trail → List Change
+abbrev pub all_changes : Effects → List Change
 all_changes t = t.past ++ map wrote t.writes
 
 -- a call that does the same before bytes are written and after it
@@ -80,24 +80,24 @@ is_fork call = false
 abbrev pub call_of : Event → CallBy
 call_of e = record { pid = e.pid; call = e.call }
 
-abbrev pub made : CallBy → Trail → Trail
+abbrev pub made : CallBy → Effects → Effects
 made c t =
     if is_fork c.call
     then record { past = t.past ++ Made c ∷ []; writes = t.writes }
     else record { past = all_changes t ++ Made c ∷ []; writes = [] }
 
-abbrev pub noted : Machine → Event → Option Patch → Trail → Trail
+abbrev pub noted : Machine → Event → Option Patch → Effects → Effects
 noted s e (Some p) t = record { past = t.past; writes = puts s e.pid p.addr p.bytes t.writes }
 noted s e None t = made (call_of e) t
 
--- the trail after one more call, made of this machine
-abbrev pub trail_after : Machine → Event → Trail → Trail
-trail_after s e t = if is_change e then noted s e (patch_by e.call e.reply) t else t
+-- the effects after one more call, made of this machine
+abbrev pub effects_after : Machine → Event → Effects → Effects
+effects_after s e t = if is_change e then noted s e (patch_by e.call e.reply) t else t
 
--- the trail after these calls, of which the first is made of this machine at this place of the history
-abbrev pub trail_from : Machine → ℕ → Trail → List Event → Trail
-trail_from s n t [] = t
-trail_from s n t (e ∷ events) = trail_from (step s n e.pid e.call).state (n + 1) (trail_after s e t) events
+-- the effects after these calls, of which the first is made of this machine at this place of the history
+abbrev pub effects_from : Machine → ℕ → Effects → List Event → Effects
+effects_from s n t [] = t
+effects_from s n t (e ∷ events) = effects_from (step s n e.pid e.call).state (n + 1) (effects_after s e t) events
 
-abbrev pub trail_of : Machine → List Event → Trail
-trail_of s events = trail_from s 1 no_trail events
+abbrev pub effects_of : Machine → List Event → Effects
+effects_of s events = effects_from s 1 no_effects events

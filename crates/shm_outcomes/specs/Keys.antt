@@ -3,7 +3,7 @@ use Rattle.std.specs.Prelude.{◌≡◌, ◌<◌, ℕ, List, All, length}
 use Rattle.std.specs.List.{AllPairs}
 use Rattle.shm_base.specs.declared.call.Reply.{Reply}
 use Rattle.shm_text.specs.Script.{ScriptView}
-use Rattle.shm_outcomes.specs.Changes.{Trail, trail_of}
+use Rattle.shm_outcomes.specs.Changes.{Effects, effects_of}
 use Rattle.shm_schedules.specs.Outcomes.{outcome_of}
 use Rattle.shm_schedules.specs.Schedules.{Run, IsReached}
 
@@ -11,12 +11,12 @@ use Rattle.shm_schedules.specs.Schedules.{Run, IsReached}
 pub record Key : Type 0 where
   pub count : ℕ
   pub told : List (List Reply)
-  pub trail : Trail
+  pub effects : Effects
 
 -- the key of a run that began as the first one
 abbrev pub key_of : ScriptView → Run → Run → Key
 key_of script first run =
-    record { count = length run.events; told = outcome_of script run.events; trail = trail_of first.machine run.events }
+    record { count = length run.events; told = outcome_of script run.events; effects = effects_of first.machine run.events }
 
 -- a schedule leads to a run with this key
 abbrev pub IsKeyOf : ScriptView → Run → Key → Type 0

@@ -1,7 +1,7 @@
 -- The levels of a search: level n has the runs with n calls.
 use Rattle.std.specs.Prelude.{◌≡◌, ◌<◌, ℕ, List, [], ◌∷◌, Contains, length, Option}
 use Rattle.shm_text.specs.Script.{ScriptView}
-use Rattle.shm_outcomes.specs.Branches.{sprout}
+use Rattle.shm_outcomes.specs.Nodes.{root}
 use Rattle.shm_outcomes.specs.Groups.{AreAllMoves, ArePut, Groups, mark_at, no_groups}
 use Rattle.shm_outcomes.specs.Members.{AreTakenUp, IsStopped, Members, Way, member, no_members, way}
 use Rattle.shm_schedules.specs.Schedules.{Run}
@@ -20,7 +20,7 @@ AreWithin level = (w : Way) → Contains level.members.ways w → w.member.group
 
 abbrev pub first_level : ScriptView → Run → Level
 first_level script first =
-    let b = sprout script first in
+    let b = root script first in
     record {
       groups = record { marks = mark_at script b ∷ []; all = b ∷ [] };
       members = record { ways = way (member 0 b.told) [] ∷ []; count = 1 };

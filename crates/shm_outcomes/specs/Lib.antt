@@ -5,7 +5,7 @@ pub mod Changes
 pub mod Keys
 pub mod Same
 pub mod Merging
-pub mod Branches
+pub mod Nodes
 pub mod Groups
 pub mod Levels
 pub mod Members

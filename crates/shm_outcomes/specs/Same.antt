@@ -1,4 +1,4 @@
--- Equality of what changed a machine.
+-- Equality of effects.
 use Rattle.std.specs.Prelude.{◌≡◌, Bool, ◌&&◌}
 use Rattle.std.specs.Bool.{Decides}
 use Rattle.std.specs.Cmp.{unsigned_Decides}
@@ -7,15 +7,15 @@ use Rattle.std.specs.Hash as fed
 use Rattle.std.proofs.Common.{rules}
 use Rattle.std.proofs.lemmas.Bool.Decides.{Decides-and, Decides-at, Decides-like}
 use Rattle.shm_schedules.specs.Same.{and-true, same-call}
-use Rattle.shm_outcomes.specs.Changes.{Trail}
-use Rattle.shm_outcomes.specs.declared.trail.CallBy.{CallBy}
-use Rattle.shm_outcomes.specs.declared.trail.Change.{Change}
-use Rattle.shm_outcomes.specs.declared.trail.Change.TheVariants.{Made, Wrote}
-use Rattle.shm_outcomes.specs.declared.trail.Write.{Write}
-use Rattle.shm_outcomes.specs.contracts.trail.CallByPartialEq.TheImpl as call_by
-use Rattle.shm_outcomes.specs.contracts.trail.ChangePartialEq.TheImpl as change
-use Rattle.shm_outcomes.specs.contracts.trail.WritePartialEq.TheImpl as write
-use Rattle.shm_outcomes.specs.contracts.trail.WriteHash.TheImpl as write_hash
+use Rattle.shm_outcomes.specs.Changes.{Effects}
+use Rattle.shm_outcomes.specs.declared.effects.CallBy.{CallBy}
+use Rattle.shm_outcomes.specs.declared.effects.Change.{Change}
+use Rattle.shm_outcomes.specs.declared.effects.Change.TheVariants.{Made, Wrote}
+use Rattle.shm_outcomes.specs.declared.effects.Write.{Write}
+use Rattle.shm_outcomes.specs.contracts.effects.CallByPartialEq.TheImpl as call_by
+use Rattle.shm_outcomes.specs.contracts.effects.ChangePartialEq.TheImpl as change
+use Rattle.shm_outcomes.specs.contracts.effects.WritePartialEq.TheImpl as write
+use Rattle.shm_outcomes.specs.contracts.effects.WriteHash.TheImpl as write_hash
 
 same-write : (a b : Write) → Decides (write.ghosts.eq a b) (a ≡ b)
 same-write a b =
@@ -31,15 +31,15 @@ same-change : (a b : Change) → Decides (change.ghosts.eq a b) (a ≡ b)
 same-change (Wrote w) b = search (same-write, rules)
 same-change (Made c) b = search (same-call-by, rules)
 
--- whether two trails are the same
-abbrev pub trail_eq : Trail → Trail → Bool
-trail_eq a b = pointwise write.ghosts.eq a.writes b.writes && pointwise change.ghosts.eq a.past b.past
+-- whether the effects of two runs are the same
+abbrev pub effects_eq : Effects → Effects → Bool
+effects_eq a b = pointwise write.ghosts.eq a.writes b.writes && pointwise change.ghosts.eq a.past b.past
 
-pub same-trail : (a b : Trail) → Decides (trail_eq a b) (a ≡ b)
-same-trail a b =
+pub same-effects : (a b : Effects) → Decides (effects_eq a b) (a ≡ b)
+same-effects a b =
     Decides-like _ (λ t i. record { writes = t.0 i; past = t.1 i }) (λ e. (λ i. (e i).writes, λ i. (e i).past))
     (Decides-and _ _ (pointwise_decides same-write a.writes b.writes) (pointwise_decides same-change a.past b.past))
 
--- what a hasher is fed for a trail: the bytes that were written since the last other change
-abbrev pub trail_hash : Trail → fed.HashWrites
-trail_hash t = fed.slice write_hash.ghosts.hash_input t.writes
+-- what a hasher is fed for effects: the bytes that were written since the last other change
+abbrev pub effects_hash : Effects → fed.HashWrites
+effects_hash t = fed.slice write_hash.ghosts.hash_input t.writes

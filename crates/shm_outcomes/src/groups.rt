@@ -2,8 +2,8 @@
 ghost use Rattle.std.specs.Prelude.{◌≡◌, IfOk};
 ghost use Rattle.shm_outcomes.specs.Groups.{IsPut, no_groups};
 
-use crate::branches::Branch;
 use crate::keys::Key;
+use crate::nodes::Node;
 use indexmap::IndexMap;
 use shm_schedules::Engine;
 use shm_text::Script;
@@ -11,7 +11,7 @@ use std::alloc::{AllocError, Global};
 use std::marker::Model;
 
 pub(crate) struct Groups<M: Engine> {
-    all: IndexMap<Key, Branch<M>>,
+    all: IndexMap<Key, Node<M>>,
 }
 
 impl<M: Engine> Drop for Groups<M> {
@@ -39,7 +39,7 @@ impl<M: Engine> Groups<M> {
     }
 
     // A run of each group.
-    pub(crate) fn all(&self) -> &[Branch<M>]
+    pub(crate) fn all(&self) -> &[Node<M>]
         ensures { result.now ≡ self.now.all }
     {
         self.all.values().as_slice()
@@ -50,16 +50,16 @@ impl<M: Engine> Groups<M> {
         &mut self,
         alloc: Global,
         script: &Script,
-        branch: Branch<M>,
+        node: Node<M>,
     ) -> Result<usize, AllocError>
-        ensures { IfOk result (λ place. IsPut script.now self.old branch place self.new) }
+        ensures { IfOk result (λ place. IsPut script.now self.old node place self.new) }
     {
-        let mark = Key::of_group(alloc, script, &branch)?;
+        let mark = Key::of_group(alloc, script, &node)?;
         if let Some(place) = self.all.get_index_of(&mark) {
             return Ok(place);
         }
         let place = self.all.len();
-        self.all.insert(mark, branch)?;
+        self.all.insert(mark, node)?;
         Ok(place)
     }
 }

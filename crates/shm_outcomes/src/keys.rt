@@ -1,22 +1,23 @@
-//! What a group of runs is known by.
+//! The keys of a search: runs with one key are equivalent.
 ghost use Rattle.std.specs.Prelude.{◌≡◌, IfOk};
 ghost use Rattle.shm_outcomes.specs.Groups.{mark_at};
+ghost use Rattle.shm_outcomes.specs.Nodes.{key_at};
 
-use crate::branches::Branch;
+use crate::effects::Effects;
 use crate::kept::kept_outcome;
-use crate::trail::Trail;
+use crate::nodes::Node;
 use shm_schedules::{Engine, Outcome};
 use shm_text::Script;
 use std::alloc::{AllocError, Global};
 use std::marker::Model;
 
-// What a group of runs is known by: how many calls they made, what each process keeps of its replies, and what changed
-// the machine.
+/// How many calls runs made, the replies to each process, and the effects on the machine. Of a group of runs it has
+/// the replies that each process keeps.
 #[derive(Drop, PartialEq, Eq, Hash)]
-pub(crate) struct Key {
+pub struct Key {
     count: u64,
     told: Outcome,
-    trail: Trail,
+    effects: Effects,
 }
 
 impl Model for Key {
@@ -24,23 +25,41 @@ impl Model for Key {
 
     ghost Value = { Key };
 
-    ghost view = { λ k. record { count = k.count; told = k.told; trail = k.trail } };
+    ghost view = { λ k. record { count = k.count; told = k.told; effects = k.effects } };
 
-    ghost inverse = { λ k. record { count = k.count; told = k.told; trail = k.trail } };
+    ghost inverse = { λ k. record { count = k.count; told = k.told; effects = k.effects } };
 }
 
 impl Key {
+    /// The key of a node. AllocError: the host refused memory.
+    pub fn of<M: Engine>(alloc: Global, node: &Node<M>) -> Result<Key, AllocError>
+        ensures { IfOk result (λ k. k ≡ key_at node.now) }
+    {
+        let told = node.told().copied(alloc)?;
+        let effects = node.effects().copied()?;
+        let count = node.run().events().len() as u64;
+        Ok(Key {
+            count,
+            told,
+            effects,
+        })
+    }
+
     // What the group of a run is known by.
     pub(crate) fn of_group<M: Engine>(
         alloc: Global,
         script: &Script,
-        branch: &Branch<M>,
+        node: &Node<M>,
     ) -> Result<Key, AllocError>
-        ensures { IfOk result (λ k. k ≡ mark_at script.now branch.now) }
+        ensures { IfOk result (λ k. k ≡ mark_at script.now node.now) }
     {
-        let told = kept_outcome(alloc, script, branch.told())?;
-        let trail = branch.trail().copied()?;
-        let count = branch.run().events().len() as u64;
-        Ok(Key { count, told, trail })
+        let told = kept_outcome(alloc, script, node.told())?;
+        let effects = node.effects().copied()?;
+        let count = node.run().events().len() as u64;
+        Ok(Key {
+            count,
+            told,
+            effects,
+        })
     }
 }

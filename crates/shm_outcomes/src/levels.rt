@@ -4,11 +4,11 @@ ghost use Rattle.shm_outcomes.specs.Levels.{AreWithin, IsFirstCause, IsLevelCaus
 ghost use Rattle.shm_outcomes.specs.Members.{Way, AreAdded, AreFull, AreTakenUp, IsEndNoted, IsStoppedBy, IsTakenUp, no_members, one_way, way, ways_on};
 ghost use Rattle.shm_schedules.specs.Schedules.{walked};
 
-use crate::branches::Branch;
 use crate::findings::Findings;
 use crate::groups::Groups;
 use crate::members::{Member, Members, Schedule};
 use crate::moves::{Move, Moves, all_moves};
+use crate::nodes::Node;
 use shm_base::HostMemory;
 use shm_schedules::{Engine, Lists, Outcome, Run, SearchError};
 use shm_text::Script;
@@ -50,9 +50,9 @@ impl<M: Engine> Level<M> {
         ensures err { IfErr result (IsFirstCause most) }
     {
         let mut groups = Groups::new(alloc, 1)?;
-        let branch = Branch::first(alloc, script, start)?;
-        let told = branch.told().copied(alloc)?;
-        let group = groups.put(alloc, script, branch)?;
+        let node = Node::first(alloc, script, start)?;
+        let told = node.told().copied(alloc)?;
+        let group = groups.put(alloc, script, node)?;
         let mut members = Members::new(alloc, 1, 0)?;
         members.add(most, Member::new(group, told), Schedule::new(alloc))?;
         Ok(Level { groups, members })

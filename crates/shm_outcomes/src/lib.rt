@@ -1,7 +1,7 @@
 //! Every outcome that a script can have, in any order of its processes.
 #![tactic(auto)]
 
-mod branches;
+mod effects;
 mod findings;
 mod groups;
 mod kept;
@@ -10,10 +10,12 @@ mod levels;
 mod masking;
 mod members;
 mod moves;
+mod nodes;
 mod search;
 mod text;
-mod trail;
 
+pub use keys::Key;
 pub use masking::masked_outcomes;
+pub use nodes::Node;
 pub use search::outcomes;
 pub use text::outcomes_text;

@@ -2,8 +2,8 @@
 ghost use Rattle.std.specs.Prelude.{◌≡◌, ◌∷◌, [], IfOk, OnOk};
 ghost use Rattle.shm_outcomes.specs.Groups.{AreAllMoves, AreMovesBy, ArePut, IsMove, are_over};
 
-use crate::branches::Branch;
 use crate::groups::Groups;
+use crate::nodes::Node;
 use shm_base::{Event, HostMemory, Process};
 use shm_schedules::{Engine, Lists};
 use shm_text::Script;
@@ -56,19 +56,19 @@ impl Moves {
 fn move_by<M: Engine>(
     alloc: Global,
     script: &Script,
-    branch: &Branch<M>,
+    node: &Node<M>,
     process: &Process,
     lists: &mut Lists,
     next: &mut Groups<M>,
 ) -> Result<Option<Move>, HostMemory>
-    ensures step { IfOk result (λ move. IsMove script.now next.new branch.now process.now.pid move) }
-    ensures put { OnOk result (ArePut script.now (branch.now ∷ []) next.old next.new) }
+    ensures step { IfOk result (λ move. IsMove script.now next.new node.now process.now.pid move) }
+    ensures put { OnOk result (ArePut script.now (node.now ∷ []) next.old next.new) }
 {
-    let Some(call) = branch.run().next(script, process.pid) else {
+    let Some(call) = node.run().next(script, process.pid) else {
         return Ok(None);
     };
-    let count = branch.run().events().len();
-    let after = branch.after(alloc, script, process.pid, &call, lists)?;
+    let count = node.run().events().len();
+    let after = node.after(alloc, script, process.pid, &call, lists)?;
     let event = after.run().events()[count];
     let group = next.put(alloc, script, after)?;
     Ok(Some(Move { group, event }))
@@ -79,16 +79,16 @@ fn moves_of<M: Engine>(
     alloc: Global,
     script: &Script,
     processes: &[Process],
-    branch: &Branch<M>,
+    node: &Node<M>,
     lists: &mut Lists,
     next: &mut Groups<M>,
 ) -> Result<Moves, HostMemory>
-    ensures moves { IfOk result (λ moves. AreMovesBy script.now next.new branch.now processes.now moves) }
-    ensures put { OnOk result (ArePut script.now (branch.now ∷ []) next.old next.new) }
+    ensures moves { IfOk result (λ moves. AreMovesBy script.now next.new node.now processes.now moves) }
+    ensures put { OnOk result (ArePut script.now (node.now ∷ []) next.old next.new) }
 {
     let mut all = Vec::with_capacity(alloc, processes.len())?;
     for process in processes {
-        let one = move_by(alloc, script, branch, process, lists, next)?;
+        let one = move_by(alloc, script, node, process, lists, next)?;
         all.push(one)?;
     }
     Ok(Moves { all })
@@ -98,7 +98,7 @@ fn moves_of<M: Engine>(
 pub(crate) fn all_moves<M: Engine>(
     alloc: Global,
     script: &Script,
-    groups: &[Branch<M>],
+    groups: &[Node<M>],
     lists: &mut Lists,
     next: &mut Groups<M>,
 ) -> Result<Vec<Moves>, HostMemory>

@@ -1,4 +1,4 @@
-//! Tests of all parts below the machine, through what each crate makes public: pagers, swap, frames, the
+//! Tests of all parts below the machine, through what each crate makes public: sparse lists, pagers, swap, frames, the
 //! clock, the page store, identifiers, address spaces, scripts and printed texts. The store has a twin here,
 //! which keeps segments as plain lists of bytes and has no paging. Both answer the same calls, under the same
 //! contracts.
@@ -32,6 +32,8 @@ mod reading;
 mod runs;
 #[cfg(test)]
 mod segment;
+#[cfg(test)]
+mod sparse;
 #[cfg(test)]
 mod store;
 #[cfg(test)]

@@ -3,7 +3,7 @@ use Rattle.std.specs.Prelude.{◌≡◌, ◌&&◌, Bool, true, false, List, ℕ}
 use Rattle.std.specs.Bool.{Decides}
 use Rattle.std.specs.Cmp.Lexicographic.{pointwise, pointwise_decides}
 use Rattle.std.proofs.Common.{refl, rules}
-use Rattle.std.proofs.lemmas.Bool.Decides.{Decides-and, Decides-at, Decides-like}
+use Rattle.std.proofs.lemmas.Bool.Decides.{Decides-and, Decides-like}
 use Rattle.std.specs.Cmp.{unsigned_Decides}
 use Rattle.shm_base.specs.Calls.{ProcessCall}
 use Rattle.shm_base.specs.declared.call.Call.TheVariants as calls
@@ -100,9 +100,3 @@ same-call (calls.Setuid uid gid) d = search rules
 pub and-true : (b : Bool) → b ≡ (b && true)
 and-true true = refl
 and-true false = refl
-
--- and whether two events are
-pub same-event : (a b : Event) → Decides (event.ghosts.eq a b) (a ≡ b)
-same-event a b =
-    Decides-like _ (λ t i. record { pid = t.0 i; call = t.1.0 i; reply = t.1.1 i }) (λ e. (λ i. (e i).pid, (λ i. (e i).call, λ i. (e i).reply)))
-    (Decides-and _ _ (unsigned_Decides _ _) (Decides-and _ _ (Decides-at _ _ (and-true _) (same-call a.call b.call)) (same-reply a.reply b.reply)))

@@ -1,11 +1,10 @@
-//! Which calls may have changed a machine, and whether two calls are the same.
-ghost use Rattle.std.specs.Prelude.{◌≡◌, ◌↔◌, IfOk, IsTrue};
+//! Which calls may have changed a machine.
+ghost use Rattle.std.specs.Prelude.{◌≡◌};
 ghost use Rattle.shm_base.specs.Access.{same_bytes};
 ghost use Rattle.shm_base.specs.History.{is_refusal};
-ghost use Rattle.shm_schedules.specs.Alike.{changes, is_change, is_void, looks};
+ghost use Rattle.shm_schedules.specs.Alike.{is_change, is_void, looks};
 
 use shm_base::{Call, Event, Reply};
-use std::alloc::{AllocError, Global};
 
 /// Whether a reply is an error.
 pub fn is_refusal(reply: &Reply) -> bool
@@ -55,24 +54,4 @@ pub fn is_change(event: &Event) -> bool
     ensures { result ≡ is_change event.now }
 {
     !is_void(&event.call, &event.reply) && !looks(&event.call, &event.reply)
-}
-
-/// The calls that may have changed the machine, in order. AllocError: the host refused memory.
-pub fn changes(alloc: Global, events: &[Event]) -> Result<Vec<Event>, AllocError>
-    ensures { IfOk result (λ v. v.items ≡ changes events.now) }
-{
-    let mut found = Vec::new(alloc);
-    for event in events {
-        if is_change(event) {
-            found.push(*event)?;
-        }
-    }
-    Ok(found)
-}
-
-/// Whether the two lists have the same calls with the same replies.
-pub fn are_same_events(events: &[Event], others: &[Event]) -> bool
-    ensures { IsTrue result ↔ events.now ≡ others.now }
-{
-    events == others
 }

@@ -15,7 +15,7 @@ mod simulated;
 mod text;
 
 pub use engine::Engine;
-pub use events::{are_same_events, changes, is_change, is_refusal};
+pub use events::{is_change, is_refusal};
 pub use finding::Finding;
 pub use followers::push_followers;
 pub use laws::times_reach_times;

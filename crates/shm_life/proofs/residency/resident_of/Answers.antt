@@ -1,21 +1,32 @@
-use Rattle.std.proofs.Common.{◌≡◌, ◌∙◌, ap, arith, inl, inr}
-use Rattle.std.proofs.lemmas.Bool.{cases_lt}
-use Rattle.shm_life.proofs.Residing.{all-touched}
+use Rattle.std.proofs.Common.{◌≡◌, ◌+◌, ◌∙◌, if◌then◌else◌, true, false, is_some, suc, ap, arith, sym}
+use Rattle.shm_fault.specs.Store.{frame_of}
+use Rattle.shm_life.proofs.Residing.{passed}
 use Rattle.shm_life.specs.Residency.{resident_below}
 use Rattle.shm_life.proofs.residency.resident_of.Goals as goal
+use Rattle.shm_life.proofs.residency.resident_of.Goals.{then-is_some, else-is_some}
 
-pub returns : goal.returns
-returns g c =
+pub loop-page-init : goal.loop-page-init
+loop-page-init g c =
+    let e = c.next_placed-page.ensures in
+    (sym (passed c.args.store.now c.args.seg 0 c.next_placed-page.result e.on e.frames), e.within, omega arith)
+
+pub loop-page-preserved : goal.loop-page-preserved
+loop-page-preserved g c =
     let s = c.args.store.now in
     let seg = c.args.seg in
-    let touched = c.touched.result in
-    let last = c.loop-page.page in
-    let at : last ≡ c.min-page-end.result = omega (arith, c.loop-page-test.false, c.loop-page.auto.page-end) in
-    let size = c.min-page-end.ensures in
-    let same : resident_below s seg last ≡ resident_below s seg c.args.pages = elim (cases_lt touched c.args.pages) [
-      | inl l ↦
-          let is : last ≡ touched = omega (arith, at, size, l) in
-          ap (resident_below s seg) is ∙ all-touched s seg touched c.args.pages (omega (arith, l)) c.touched.ensures.rest
-      | inr n ↦ ap (resident_below s seg) (omega (arith, at, size, n))
-    ] in
-    c.loop-page.invariant.0 ∙ same
+    let page = c.loop-page.page in
+    let k = c.loop-page.invariant in
+    let e = c.next_placed-page-in-loop-page.ensures in
+    let next = c.next_placed-page-in-loop-page.result in
+    let over = passed s seg (page + 1) next e.on e.frames in
+    let more : resident_below s seg (page + 1) ≡ resident_below s seg page + (if is_some (frame_of s seg page) then 1 else 0) = (let up : page + 1 ≡ suc page = omega arith in ap (resident_below s seg) up) in
+    elim c.if-is_some.branch [
+      | then-is_some w ↦
+          let one : is_some (frame_of s seg page) ≡ true = ap is_some (sym c.frame.ensures) ∙ sym c.is_some.ensures ∙ w.if-is_some.true in
+          let sum = rw one at more in
+          (omega (arith, w.count-is, k.0, sum, over), e.within, omega (arith, w.count-is, k.2, e.on))
+      | else-is_some w ↦
+          let none : is_some (frame_of s seg page) ≡ false = ap is_some (sym c.frame.ensures) ∙ sym c.is_some.ensures ∙ w.if-is_some.false in
+          let sum = rw none at more in
+          (omega (arith, w.count-is, k.0, sum, over), e.within, omega (arith, w.count-is, k.2, e.on))
+    ]

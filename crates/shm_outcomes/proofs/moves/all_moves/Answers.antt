@@ -1,13 +1,13 @@
 use Rattle.std.proofs.Common.{rules, ◌≡◌, ◌<◌, ◌+◌, List, length, subst, sym, take, ℕ}
 use Rattle.std.specs.Prelude.{slice_index_or}
-use Rattle.shm_outcomes.specs.Branches.{Branch}
+use Rattle.shm_outcomes.specs.Nodes.{Node}
 use Rattle.shm_outcomes.specs.Groups.{AreAllMoves, AreMovesBy}
 use Rattle.shm_outcomes.proofs.Grouping.{all-moves-more, no-all-moves, put-none, put-trans, put-wider}
 use Rattle.shm_outcomes.proofs.moves.all_moves.Goals as goal
 
 pub loop-group-preserved : goal.loop-group-preserved
 loop-group-preserved g c =
-    let bs : List Branch = c.args.groups.now in
+    let bs : List Node = c.args.groups.now in
     let i : ℕ = c.loop-group.group-index in
     let is : c.group-item.result ≡ slice_index_or bs i c.group-item.result = c.group-item.is in
     let lt : i < length bs = c.loop-group-test.true in

@@ -4,6 +4,6 @@ use Rattle.shm_outcomes.proofs.moves.moves_of.Given as goal
 
 abbrev pub invariant-loop-process : goal.invariant-loop-process
 invariant-loop-process g l = record {
-  moves : AreMovesBy l.script l.next l.branch (take l.process-index l.processes) l.all.items;
-  put : ArePut l.script (l.branch ∷ []) l.initial.next l.next;
+  moves : AreMovesBy l.script l.next l.node (take l.process-index l.processes) l.all.items;
+  put : ArePut l.script (l.node ∷ []) l.initial.next l.next;
 }

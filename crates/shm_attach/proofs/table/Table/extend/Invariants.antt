@@ -1,10 +1,10 @@
-use Rattle.std.specs.Prelude.{◌≡◌, ◌≤◌, None, length, vec_capacity}
-use Rattle.shm_base.specs.Stored.{padded}
+use Rattle.std.specs.Prelude.{◌≡◌, ◌≤◌, ◌-◌, None, length}
 use Rattle.shm_fault.specs.Store.{frame_of}
 use Rattle.shm_attach.specs.Table.{TrueTable}
+use Rattle.shm_attach.proofs.Untouched.{KnownBelow}
 use Rattle.shm_attach.proofs.table.Table.extend.Given as goal
 
--- the frames so far, and room for the others
+-- the frames so far
 abbrev pub invariant-loop-page : goal.invariant-loop-page
 invariant-loop-page g l =
     let old = l.initial.self-inside in
@@ -12,9 +12,11 @@ invariant-loop-page g l =
     record {
       seg : now.seg ≡ old.seg;
       count : now.count ≡ old.count;
-      pages : now.pages ≡ old.pages;
-      written : length now.frames.items ≡ l.page;
-      few : l.page ≤ l.pages;
-      room : l.pages ≤ vec_capacity now.frames;
-      translated : TrueTable (frame_of l.store) (record { seg = old.seg; count = old.count; frames = padded old.frames.items old.pages None }) → TrueTable (frame_of l.store) (record { seg = now.seg; count = now.count; frames = now.frames.items });
+      other : now.frames.other ≡ None;
+      size : length now.frames.items ≡ l.pages;
+      within : l.page ≤ l.pages;
+      known : TrueTable (frame_of l.store) l.fn.self → KnownBelow (frame_of l.store old.seg) l.page now.frames.items;
     }
+
+abbrev pub decreases-loop-page : goal.decreases-loop-page
+decreases-loop-page g l = l.pages - l.page

@@ -1,4 +1,4 @@
-use Rattle.shm_life.proofs.Names.{rules, ◌≡◌, to_z, of_z, w32}
+use Rattle.shm_life.proofs.Names.{rules, arith, eq-eqb, length, ne_eqb, refl, ◌≡◌, to_z, of_z, w32}
 use Rattle.shm_life.proofs.kernel.Kernel.serve.Goals as goal
 
 pub returns-in-Rmid-clause-served : goal.returns-in-Rmid-clause-served
@@ -16,12 +16,6 @@ returns-in-Unlock-clause-served g c =
     let signed : to_z w32 (of_z w32 c.in-Unlock.id) ≡ c.in-Unlock.id = search rules in
     rw c.in-Unlock.is (rw signed at (c.unlock-served.ensures c.args.time))
 
-pub returns-in-Store-clause-served : goal.returns-in-Store-clause-served
-returns-in-Store-clause-served g c = rw c.in-Store.is (rw c.as_slice.ensures.value at (c.store-served.ensures c.args.time))
-
-pub returns-in-Load-clause-served : goal.returns-in-Load-clause-served
-returns-in-Load-clause-served g c = rw c.in-Load.is (c.load-served.ensures c.args.time)
-
 pub returns-in-Fork-clause-served : goal.returns-in-Fork-clause-served
 returns-in-Fork-clause-served g c = rw c.in-Fork.is c.fork-served.ensures
 
@@ -33,23 +27,30 @@ returns-in-Ok-stat-clause-served g c =
     let signed : to_z w32 (of_z w32 c.in-Stat.id) ≡ c.in-Stat.id = search rules in
     rw c.in-Stat.is (rw (signed, c.in-Ok-stat.is) at (c.stat.ensures c.args.time))
 
-pub returns-in-Ok-xadd-clause-served : goal.returns-in-Ok-xadd-clause-served
-returns-in-Ok-xadd-clause-served g c = rw c.in-Xadd.is (rw c.in-Ok-xadd.is at (c.xadd.ensures c.args.time))
-
 pub returns-in-Err-stat-clause-served : goal.returns-in-Err-stat-clause-served
 returns-in-Err-stat-clause-served g c =
     let signed : to_z w32 (of_z w32 c.in-Stat.id) ≡ c.in-Stat.id = search rules in
     rw c.in-Stat.is (rw (signed, c.in-Err-stat.is) at (c.stat.ensures c.args.time))
 
-pub returns-in-Err-xadd-clause-served : goal.returns-in-Err-xadd-clause-served
-returns-in-Err-xadd-clause-served g c = rw c.in-Xadd.is (rw c.in-Err-xadd.is at (c.xadd.ensures c.args.time))
+pub returns-in-Setuid-clause-served : goal.returns-in-Setuid-clause-served
+returns-in-Setuid-clause-served g c = rw c.in-Setuid.is (c.setuid.ensures c.args.time)
+
+pub returns-in-Load-clause-served : goal.returns-in-Load-clause-served
+returns-in-Load-clause-served g c = rw c.in-Load.is (rw c.get.ensures.value at (c.serve_access-served.ensures c.args.time))
+
+pub returns-in-Store-clause-served : goal.returns-in-Store-clause-served
+returns-in-Store-clause-served g c =
+    let some = ne_eqb (length c.as_slice.result.now) 0 (λ e. omega (arith, e, c.as_slice.ensures.range.0)) in
+    rw c.in-Store.is (rw (some, c.as_slice.ensures.value) at (c.serve_access-served-in-Store.ensures c.args.time))
+
+pub returns-in-Xadd-clause-served : goal.returns-in-Xadd-clause-served
+returns-in-Xadd-clause-served g c = rw c.in-Xadd.is (c.serve_access-served-in-Xadd.ensures c.args.time)
 
 pub returns-in-Exchange-clause-served : goal.returns-in-Exchange-clause-served
-returns-in-Exchange-clause-served g c = rw c.in-Exchange.is (rw c.as_slice-in-Exchange.ensures.value at (c.exchange-served.ensures c.args.time))
+returns-in-Exchange-clause-served g c =
+    let size = length c.as_slice-bytes.result.now in
+    rw c.in-Exchange.is (rw (eq-eqb size size refl, c.as_slice-bytes.ensures.value) at (c.serve_access-served-in-Exchange.ensures c.args.time))
 
 pub returns-in-CompareExchange-clause-served : goal.returns-in-CompareExchange-clause-served
 returns-in-CompareExchange-clause-served g c =
-    rw c.in-CompareExchange.is (rw (c.as_slice-expected.ensures.value, c.as_slice-desired.ensures.value) at (c.compare_exchange-served.ensures c.args.time))
-
-pub returns-in-Setuid-clause-served : goal.returns-in-Setuid-clause-served
-returns-in-Setuid-clause-served g c = rw c.in-Setuid.is (c.setuid.ensures c.args.time)
+    rw c.in-CompareExchange.is (rw (c.as_slice-expected.ensures.value, c.as_slice-bytes-in-CompareExchange.ensures.value) at (c.serve_access-served-in-CompareExchange.ensures c.args.time))

@@ -13,7 +13,7 @@ use Rattle.shm_outcomes.proofs.groups.Groups.put.Goals as goal
 
 pub returns-in-Some : goal.returns-in-Some
 returns-in-Some g c =
-    let mark : Key = mark_at c.args.script.now c.args.branch in
+    let mark : Key = mark_at c.args.script.now c.args.node in
     let is : c.in_ok-mark.mark ≡ mark = c.in_ok-mark.ensures in
     let found : index_of key_eq c.self.inside.all c.in_ok-mark.mark ≡ Some c.in-Some.place = search rules in
     let at = is-at key_eq same-key c.self.inside.all c.in_ok-mark.mark c.in-Some.place found in
@@ -21,16 +21,16 @@ returns-in-Some g c =
 
 pub returns : goal.returns
 returns g c =
-    let mark : Key = mark_at c.args.script.now c.args.branch in
+    let mark : Key = mark_at c.args.script.now c.args.node in
     let is : c.in_ok-mark.mark ≡ mark = c.in_ok-mark.ensures in
     let none : is_some (get key_eq c.self.inside.all c.in_ok-mark.mark) ≡ false = search rules in
-    let put = c.in_ok-insert.ensures.entries ∙ goes-last key_eq same-key c.self.inside.all c.in_ok-mark.mark c.args.branch none in
+    let put = c.in_ok-insert.ensures.entries ∙ goes-last key_eq same-key c.self.inside.all c.in_ok-mark.mark c.args.node none in
     let marks : keys_of c.insert.new.self.entries ≡ c.args.self.now.marks ++ mark ∷ [] =
-    ap (λ es. keys_of es) put ∙ map-append (λ e. e.0) c.self.inside.all.entries ((c.in_ok-mark.mark, c.args.branch) ∷ [])
+    ap (λ es. keys_of es) put ∙ map-append (λ e. e.0) c.self.inside.all.entries ((c.in_ok-mark.mark, c.args.node) ∷ [])
     ∙ (λ j. (c.self.view_is j).marks ++ is j ∷ []) in
-    let all : values_of c.insert.new.self.entries ≡ c.args.self.now.all ++ c.args.branch ∷ [] =
-    ap (λ es. values_of es) put ∙ map-append (λ e. e.1) c.self.inside.all.entries ((c.in_ok-mark.mark, c.args.branch) ∷ [])
-    ∙ (λ j. (c.self.view_is j).all ++ c.args.branch ∷ []) in
+    let all : values_of c.insert.new.self.entries ≡ c.args.self.now.all ++ c.args.node ∷ [] =
+    ap (λ es. values_of es) put ∙ map-append (λ e. e.1) c.self.inside.all.entries ((c.in_ok-mark.mark, c.args.node) ∷ [])
+    ∙ (λ j. (c.self.view_is j).all ++ c.args.node ∷ []) in
     let long : c.len-place.result ≡ length c.args.self.now.marks = c.len-place.ensures.len ∙ sym (length-keys_of c.self.inside.all.entries) ∙ ap (λ (h : Groups). length h.marks) c.self.view_is in
     let at : IsAt (keys_of c.insert.new.self.entries) c.len-place.result mark =
     subst (λ l. IsAt l c.len-place.result mark) (sym marks) (subst (λ n. IsAt (c.args.self.now.marks ++ mark ∷ []) n mark) (sym long) (at-last c.args.self.now.marks mark)) in (

@@ -1,0 +1,12 @@
+use Rattle.std.proofs.Common.{rules, subst, sym}
+use Rattle.shm_judge.specs.Judge.{IsExplained}
+use Rattle.shm_schedules.specs.Schedules.{fresh, IsReached}
+use Rattle.shm_judge.proofs.Verdicts.{explained}
+use Rattle.shm_judge.proofs.guess.explained.Goals as goal
+
+pub returns : goal.returns
+returns g c =
+    let reached : IsReached c.args.script.now (fresh (g.M.Engine.flat c.args.machine.now)) c.in-Some.run' = search rules in
+    let whole = c.in_ok-is_whole_in.ensures.0 (search rules) in
+    subst (IsExplained c.args.script.now c.args.log.now (fresh (g.M.Engine.flat c.args.machine.now))) (sym c.into_events.ensures)
+    (explained c.args.script.now c.args.log.now (fresh (g.M.Engine.flat c.args.machine.now)) c.in-Some.run' reached whole.0 whole.1)

@@ -1,6 +1,0 @@
-use Rattle.std.proofs.Common.{All}
-use Rattle.shm_schedules.specs.Schedules.{fresh, IsReached}
-use Rattle.shm_judge.proofs.near.near_order.Given as goal
-
-abbrev pub invariant-loop : goal.invariant-loop
-invariant-loop g l = All (IsReached l.script (fresh (g.M.Engine.flat l.fn.machine))) l.path.items

@@ -1,0 +1,7 @@
+use Rattle.std.proofs.Common.{◌≡◌, ◌++◌, take}
+use Rattle.std.specs.Prelude.{filter}
+use Rattle.shm_outcomes.specs.Changes.{is_below}
+use Rattle.shm_outcomes.proofs.effects.push_below.Given as goal
+
+abbrev pub invariant-loop-other : goal.invariant-loop-other
+invariant-loop-other l = l.all.items ≡ l.initial.all.items ++ filter (is_below l.write) (take l.other-index l.writes)

@@ -1,6 +1,0 @@
-use Rattle.std.proofs.Common.{◌≡◌, ◌++◌, map, take}
-use Rattle.shm_outcomes.specs.Changes.{wrote}
-use Rattle.shm_outcomes.proofs.trail.push_changes.Given as goal
-
-abbrev pub invariant-loop-write : goal.invariant-loop-write
-invariant-loop-write l = l.past.items ≡ l.initial.past.items ++ map wrote (take l.write-index l.writes)

@@ -1,0 +1,6 @@
+//! Lists of which most items are alike.
+#![tactic(auto)]
+
+mod sparse;
+
+pub use sparse::SparseVec;
