@@ -3,6 +3,7 @@
    writes them there when memory is scarce. The file has its room on the disk from the start, because a store to a block for which
    there is none would be a SIGBUS here. It has no name any more once it is open, and ends with shmrun. */
 #include "shmrun.h"
+#include <err.h>
 #include <errno.h>
 #include <fcntl.h>
 #include <stdio.h>
@@ -25,7 +26,7 @@ void __wrap_free(void *old);
 
 void open_swap_file(const char *path) {
     file = open(path, O_RDWR | O_CREAT | O_EXCL | O_CLOEXEC, 0600);
-    if (file == -1 || unlink(path) == -1) stop(CANNOT_START, "--swap-file: %s: %s", path, strerror(errno));
+    if (file == -1 || unlink(path) == -1) err(CANNOT_START, "--swap-file: %s", path);
 }
 
 void use_swap_file(bool is_to_be_used) { is_used = is_to_be_used && file != -1; }
@@ -42,7 +43,7 @@ void *__wrap_malloc(size_t size) {
     void (*action)(int) = signal(SIGXFSZ, SIG_IGN);  /* a file that is too large for us is an error too */
     int error = posix_fallocate(file, file_size, (off_t)length);
     signal(SIGXFSZ, action);
-    if (error) stop(CANNOT_START, "--swap-file: the file has no room for %lu bytes more: %s", length, strerror(error));
+    if (error) errno = error, err(CANNOT_START, "--swap-file: the file has no room for %lu bytes more", length);
     void *begin = mmap(NULL, length, PROT_READ | PROT_WRITE, MAP_SHARED, file, file_size);
     if (begin == MAP_FAILED) return NULL;
     file_size += (off_t)length;

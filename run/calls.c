@@ -1,6 +1,7 @@
 /* shmget, shmat, shmdt and shmctl, in Linux's order of errors. */
 #include "shmrun.h"
 #include <nogcuvema_linux.h>
+#include <err.h>
 #include <errno.h>
 #include <fcntl.h>
 #include <stdio.h>
@@ -10,21 +11,52 @@
 #include <unistd.h>
 
 enum { NINE_BITS = 0777 };
-enum { GET_FLAGS = NOG_CREAT | NOG_EXCL | NOG_HUGETLB | NOG_NORESERVE, ATTACH_FLAGS = NOG_RDONLY | NOG_RND | NOG_REMAP | NOG_EXEC };
+enum { GET_FLAGS = NOG_CREAT | NOG_EXCL | NOG_HUGETLB | NOG_NORESERVE };
+enum { ATTACH_FLAGS = NOG_RDONLY | NOG_RND | NOG_REMAP | NOG_EXEC };
+
+/* ---- calls of a machine ---- */
+
+const char *const call_names[] = {"shmget", "shmat", "shmdt", "shmctl", "stat", "set", "rmid", "lock", "unlock", "info",
+                                  "fork", "exec", "exit", "munmap", "mprotect", "setuid"};
+
+void make_call(nog_machine *on, struct event *e) {
+    int32_t id = 0;
+    uint64_t at = 0;
+    uint32_t code = 0;
+    switch (e->kind) {
+    case GET: code = nog_get(on, e->pid, e->key, e->size, e->mode, e->flags, &id); break;
+    case ATTACH: code = nog_attach(on, e->pid, e->id, e->address, e->flags, &at); break;
+    case DETACH: code = nog_detach(on, e->pid, e->address); break;
+    case STAT: code = nog_stat(on, e->pid, e->id, &e->segment); break;
+    case SET: code = nog_set(on, e->pid, e->id, e->uid, e->gid, e->mode); break;
+    case REMOVE: code = nog_remove(on, e->pid, e->id); break;
+    case LOCK: code = nog_lock(on, e->pid, e->id); break;
+    case UNLOCK: code = nog_unlock(on, e->pid, e->id); break;
+    case FORK: code = nog_fork(on, e->pid, e->child); break;
+    case EXEC: code = nog_exec(on, e->pid); break;
+    case EXIT: code = nog_exit(on, e->pid); break;
+    case UNMAP: code = nog_unmap(on, e->pid, e->address, e->size); break;
+    case PROTECT: code = nog_protect(on, e->pid, e->address, e->size, e->is_writable); break;
+    case SET_USER: code = nog_set_user(on, e->pid, e->uid, e->gid); break;
+    case CONTROL:
+    case INFO: break;  /* the machine does not change */
+    }
+    e->result = code ? reply_of(code) : (int64_t)at + id;
+}
+
+int64_t perform(struct event *event) {
+    make_call(&machine, event);
+    record(*event);
+    return event->result;
+}
 
 /* ---- shmget ---- */
 
 static void do_get(struct call *call) {
-    struct guest *self = call->self;
-    enter(call->task, self);
-    uint32_t key = (uint32_t)call->args[0], mode = call->args[2] & NINE_BITS, flags = call->args[2] & GET_FLAGS;
-    int32_t id;
-    uint32_t code = nog_get(&machine, self->pid, key, call->args[1], mode, flags, &id);
-    int64_t result = code ? reply_of(code) : id;
-    if (flags & NOG_HUGETLB) note_left_out("the flag SHM_HUGETLB of a shmget");
-    record((struct event){.kind = GET, .pid = self->pid, .key = key, .size = call->args[1], .mode = mode,
-                          .flags = flags & (NOG_CREAT | NOG_EXCL), .result = result});
-    answer(call, result);
+    const uint64_t *args = call->args;
+    enter(call->task, call->self);
+    answer(call, perform(&(struct event){.kind = GET, .pid = call->self->pid, .key = (uint32_t)args[0], .size = args[1],
+                                        .mode = args[2] & NINE_BITS, .flags = args[2] & GET_FLAGS}));
 }
 
 /* ---- shmat ---- */
@@ -43,7 +75,7 @@ static bool is_refused_first(struct attach *a) {
     uint64_t at;
     bool is_wrong = a->asked == 0 ? a->flags & NOG_REMAP : !(a->flags & NOG_RND) && a->asked % PAGE;
     bool is_null_remap = a->asked != 0 && a->address == 0 && a->flags & NOG_REMAP;
-    if (is_wrong || is_null_remap || !segment_of(a->id, &a->segment)) return true;
+    if (is_wrong || is_null_remap || nog_segment_of(&machine, a->id, &a->segment) != NOG_DONE) return true;
     return nog_attach(&machine, a->space->pid, a->id, END_OF_ADDRESSES, a->flags & (NOG_RDONLY | NOG_EXEC), &at) == NOG_EACCES;
 }
 
@@ -70,7 +102,8 @@ static int64_t map_in(struct call *call, const struct attach *a) {
     bool is_readonly = a->flags & NOG_RDONLY;
     bool is_guarded = options.frames != 0;  /* userfaultfd watches only what could be made writable */
     if (is_guarded && !open_faults(call)) return -ENOMEM;
-    int file = is_readonly && !is_guarded ? file_for_reading(&a->segment) : file_of(&a->segment);
+    int file = file_of(&a->segment);
+    if (file != -1 && is_readonly && !is_guarded) file = open_for_reading(file);
     if (file == -1) return errno == EMFILE ? -ENFILE : -errno;
     int64_t there = give_file(call, file, O_CLOEXEC);
     if (is_readonly && !is_guarded) close(file);
@@ -84,15 +117,12 @@ static int64_t map_in(struct call *call, const struct attach *a) {
 
 /* Linux looks for other memory in the range before it looks at the range itself, unless the address is rounded to 0. */
 static bool meets_other_memory(const struct call *call, const struct attach *a) {
-    char path[64], line[512];
-    unsigned long begin, end;
+    uint64_t begin, end;
     bool is_met = false;
     if (a->address == 0 || a->flags & NOG_REMAP) return false;
-    snprintf(path, sizeof path, "/proc/%d/maps", call->tid);
-    FILE *maps = fopen(path, "r");
-    while (maps && !is_met && fgets(line, sizeof line, maps))
-        is_met = sscanf(line, "%lx-%lx", &begin, &end) == 2 && begin < END_OF_ADDRESSES &&
-                 (begin < a->address ? a->address < end : begin - a->address < a->length);
+    FILE *maps = file_of_process(call->tid, "maps");
+    while (maps && !is_met && fscanf(maps, "%lx-%lx%*[^\n]", &begin, &end) == 2)
+        is_met = begin < END_OF_ADDRESSES && (begin < a->address ? a->address < end : begin - a->address < a->length);
     if (maps) fclose(maps);
     return is_met;
 }
@@ -101,10 +131,7 @@ static bool meets_other_memory(const struct call *call, const struct attach *a) 
 static int64_t enter_attach(struct call *call, const struct attach *a, uint64_t address) {
     uint64_t at;
     uint32_t code = nog_attach(&machine, a->space->pid, a->id, address, a->flags & ~(uint32_t)NOG_RND, &at);
-    if (code == NOG_DONE) {
-        forget_advice(a->space, at, at + a->length);
-        return (int64_t)at;
-    }
+    if (code == NOG_DONE) return (int64_t)at;
     run_in(call, SYS_munmap, address, a->length, 0, 0, 0, 0);
     if (a->flags & NOG_REMAP) forget_range(a->space, address, address + a->length);
     return reply_of(code);
@@ -114,7 +141,7 @@ static int64_t enter_attach(struct call *call, const struct attach *a, uint64_t 
 static int64_t refuse(const struct attach *a) {
     uint64_t at;
     uint32_t code = nog_attach(&machine, a->space->pid, a->id, a->asked, a->flags, &at);
-    if (code == NOG_DONE) stop(CANNOT_GO_ON, "the machine attached segment %d at %lx, which it should refuse", a->id, at);
+    if (code == NOG_DONE) errx(CANNOT_GO_ON, "the machine attached segment %d at %lx, which it should refuse", a->id, at);
     return reply_of(code);
 }
 
@@ -134,9 +161,8 @@ static void do_attach(struct call *call) {
                        .flags = call->args[2] & ATTACH_FLAGS};
     a.address = a.flags & NOG_RND ? a.asked / PAGE * PAGE : a.asked;
     int64_t result = attach(call, &a);
-    if (a.flags & NOG_EXEC) note_left_out("the flag SHM_EXEC of a shmat");
     /* an address that the kernel chose is written as if the program had */
-    record((struct event){.kind = ATTACH, .pid = a.space->pid, .id = a.id, .flags = a.flags & ~(uint32_t)NOG_EXEC,
+    record((struct event){.kind = ATTACH, .pid = a.space->pid, .id = a.id, .flags = a.flags,
                           .address = a.asked == 0 && result > 0 ? (uint64_t)result : a.asked, .result = result});
     answer(call, result);
 }
@@ -148,32 +174,34 @@ static void do_detach(struct call *call) {
     uint64_t origin = call->args[0];
     nog_piece piece, lowest = {0};
     enter(call->task, space);
-    for (uint32_t i = piece_above(space, origin); nog_piece_at(&machine, space->pid, i, &piece) == NOG_DONE; i++) {
+    for (uint32_t i = 0; nog_piece_at(&machine, space->pid, i, &piece) == NOG_DONE; i++) {
         if (origin_of(&piece) != origin) continue;
         if (!lowest.pages) lowest = piece;
         if (piece.segment == lowest.segment) run_in(call, SYS_munmap, piece.base, (uint64_t)piece.pages * PAGE, 0, 0, 0, 0);
     }
-    int64_t result = reply_of(nog_detach(&machine, space->pid, origin));
-    record((struct event){.kind = DETACH, .pid = space->pid, .address = origin, .result = result});
-    answer(call, result);
+    answer(call, perform(&(struct event){.kind = DETACH, .pid = space->pid, .address = origin}));
 }
 
 /* ---- shmctl ---- */
 
-static int64_t show(struct call *call, uint32_t code, const nog_segment *segment, int64_t result) {
-    if (code) return reply_of(code);
-    nog_linux_shmid shown = nog_linux_shown(segment);
-    return write_memory(call, call->args[2], &shown, sizeof shown) ? result : -EFAULT;
+/* What it is to the machine: of the commands that only show something, a script has IPC_STAT alone. */
+static enum kind kind_of(int command) {
+    switch (command) {
+    case IPC_STAT: return STAT;
+    case IPC_SET: return SET;
+    case IPC_RMID: return REMOVE;
+    case SHM_LOCK: return LOCK;
+    case SHM_UNLOCK: return UNLOCK;
+    default: return INFO;
+    }
 }
 
-static int64_t show_limits(struct call *call) {
-    nog_usage usage = {0};
-    const nog_limits *l = &options.limits;
-    reply_of(nog_info(&machine, &usage));
-    nog_linux_shminfo info = {.shmmax = l->shmmax, .shmmin = 1, .shmmni = l->shmmni, .shmseg = l->shmmni, .shmall = l->shmall};
-    return write_memory(call, call->args[2], &info, sizeof info) ? (int64_t)usage.highest : -EFAULT;
+static int read_for_library(void *call, uint64_t from, void *to, size_t size) { return read_memory(call, from, to, size); }
+static int write_for_library(void *call, uint64_t to, const void *from, size_t size) {
+    return write_memory(call, to, from, size);
 }
 
+/* The machine has no page of ours in its frames unless there is --frames, so it can't count them. */
 static int64_t show_usage(struct call *call) {
     nog_usage usage = {0};
     nog_segment segment;
@@ -188,104 +216,65 @@ static int64_t show_usage(struct call *call) {
     return write_memory(call, call->args[2], &info, sizeof info) ? (int64_t)usage.highest : -EFAULT;
 }
 
-static int64_t set(struct call *call, const struct guest *self, int32_t id) {
-    nog_linux_shmid given;
-    if (!read_memory(call, call->args[2], &given, sizeof given)) return -EFAULT;
-    uint32_t uid = given.uid, gid = given.gid, mode = given.mode & NINE_BITS;
-    int64_t result = reply_of(nog_set(&machine, self->pid, id, uid, gid, mode));
-    record((struct event){.kind = SET, .pid = self->pid, .id = id, .uid = uid, .gid = gid, .mode = mode, .result = result});
-    return result;
-}
-
 /* Whether so few frames would be left for pages that are not locked that an instruction could not get its pages. */
 static bool is_too_much(int32_t id) {
     nog_segment segment;
     nog_tally now;
-    if (!options.frames || !segment_of(id, &segment) || segment.status & NOG_LOCKED) return false;
+    if (!options.frames || nog_segment_of(&machine, id, &segment) != NOG_DONE || segment.status & NOG_LOCKED) return false;
     reply_of(nog_tally_of(&machine, &now));
     return now.locked + pages_of(segment.size) / PAGE + NOT_LOCKED > options.frames;
 }
 
-static int64_t change(const struct guest *self, enum kind kind, int32_t id) {
-    if (kind == LOCK && is_too_much(id)) {
+static int64_t show(struct call *call, int32_t id, int command) {
+    const nog_linux_memory memory = {call, read_for_library, write_for_library};
+    if (command == IPC_INFO || command == SHM_INFO || command == SHM_STAT || command == SHM_STAT_ANY)
+        note_left_out("IPC_INFO, SHM_INFO, SHM_STAT and SHM_STAT_ANY");
+    if (command == SHM_INFO) return show_usage(call);
+    return nog_linux_shmctl(&machine, &options.limits, call->self->pid, id, command, call->args[2], &memory);
+}
+
+static int64_t control(struct call *call, enum kind kind) {
+    struct event event = {.kind = kind, .pid = call->self->pid, .id = (int32_t)call->args[0]};
+    nog_linux_shmid bytes;
+    if (event.id < 0) return -EINVAL;
+    if (kind == INFO) return show(call, event.id, (int)call->args[1]);
+    if (kind == LOCK && is_too_much(event.id)) {
         note_left_out("a lock that would leave too few frames");
         return -ENOMEM;
     }
-    uint32_t code = kind == REMOVE ? nog_remove(&machine, self->pid, id) :
-                    kind == LOCK ? nog_lock(&machine, self->pid, id) : nog_unlock(&machine, self->pid, id);
-    record((struct event){.kind = kind, .pid = self->pid, .id = id, .result = reply_of(code)});
-    return reply_of(code);
-}
-
-static int64_t stat(struct call *call, const struct guest *self, int32_t id) {
-    struct event event = {.kind = STAT, .pid = self->pid, .id = id};
-    uint32_t code = nog_stat(&machine, self->pid, id, &event.segment);
-    event.result = code ? reply_of(code) : 0;
-    record(event);
-    return show(call, code, &event.segment, 0);
-}
-
-static int64_t control(struct call *call, const struct guest *self) {
-    int32_t id = (int32_t)call->args[0];
-    int command = (int)call->args[1];
-    nog_segment segment;
-    uint32_t code;
-    if (id < 0 || command < 0) return -EINVAL;
-    if (command == IPC_INFO || command == SHM_INFO || command == SHM_STAT || command == SHM_STAT_ANY)
-        note_left_out("IPC_INFO, SHM_INFO, SHM_STAT and SHM_STAT_ANY");
-    switch (command) {
-    case IPC_INFO: return show_limits(call);
-    case SHM_INFO: return show_usage(call);
-    case SHM_STAT:
-        code = nog_stat_at(&machine, self->pid, (uint32_t)id, &segment);
-        return show(call, code, &segment, segment.id);
-    case SHM_STAT_ANY:
-        code = nog_segment_at(&machine, (uint32_t)id, &segment);
-        return show(call, code ? NOG_EINVAL : NOG_DONE, &segment, segment.id);
-    case IPC_STAT: return stat(call, self, id);
-    case IPC_SET: return set(call, self, id);
-    case IPC_RMID: return change(self, REMOVE, id);
-    case SHM_LOCK: return change(self, LOCK, id);
-    case SHM_UNLOCK: return change(self, UNLOCK, id);
-    default: return -EINVAL;
+    if (kind == SET) {
+        if (!read_memory(call, call->args[2], &bytes, sizeof bytes)) return -EFAULT;
+        event.uid = bytes.uid, event.gid = bytes.gid, event.mode = bytes.mode & NINE_BITS;
     }
-}
-
-static void do_control(struct call *call) {
-    enter(call->task, call->self);
-    answer(call, control(call, call->self));
+    if (perform(&event) < 0 || kind != STAT) return event.result;
+    bytes = nog_linux_shown(&event.segment);
+    return write_memory(call, call->args[2], &bytes, sizeof bytes) ? 0 : -EFAULT;
 }
 
 /* ---- which call it is ---- */
 
 /* The calls on demand fail before the machine sees them. */
-static bool is_failed(struct call *call, const char *name) {
-    int error = failure_of(name);
+static bool is_failed(struct call *call, enum kind kind) {
+    int error = failure_of(kind);
     if (!error) return false;
     note_left_out("a call that --fail let fail");
     answer(call, -error);
     return true;
 }
 
-static const char *name_of_command(int command) {
-    switch (command) {
-    case IPC_STAT: return "stat";
-    case IPC_SET: return "set";
-    case IPC_RMID: return "rmid";
-    case SHM_LOCK: return "lock";
-    case SHM_UNLOCK: return "unlock";
-    default: return "info";
-    }
+static void do_control(struct call *call) {
+    enum kind kind = kind_of((int)call->args[1]);
+    if (is_failed(call, CONTROL) || is_failed(call, kind)) return;
+    enter(call->task, call->self);
+    answer(call, control(call, kind));
 }
 
 static void dispatch(struct call *call) {
     switch (call->number) {
-    case SYS_shmget: if (!is_failed(call, "shmget")) do_get(call); break;
-    case SYS_shmat: if (!is_failed(call, "shmat")) do_attach(call); break;
-    case SYS_shmdt: if (!is_failed(call, "shmdt")) do_detach(call); break;
-    case SYS_shmctl:
-        if (!is_failed(call, "shmctl") && !is_failed(call, name_of_command((int)call->args[1]))) do_control(call);
-        break;
+    case SYS_shmget: if (!is_failed(call, GET)) do_get(call); break;
+    case SYS_shmat: if (!is_failed(call, ATTACH)) do_attach(call); break;
+    case SYS_shmdt: if (!is_failed(call, DETACH)) do_detach(call); break;
+    case SYS_shmctl: do_control(call); break;
     case SYS_munmap: do_unmap(call); break;
     case SYS_mmap: do_map_fixed(call); break;
     case SYS_mremap: do_move(call); break;
@@ -312,8 +301,6 @@ static void dispatch(struct call *call) {
 void handle_call(struct task *task) {
     struct call call;
     begin_call(&call, task);
-    call.self = task->process->self;
-    call.space = task->process->space;
     call.self->uses++;
     call.space->uses++;
     dispatch(&call);

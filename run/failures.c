@@ -6,7 +6,7 @@
 
 enum { RULES = 64, LAST_ERROR = 133 };
 static struct rule {
-    const char *call;
+    enum kind kind;
     uint64_t place;    /* the call that fails, from 1; 0: each by chance */
     double chance;
     int error;
@@ -15,18 +15,16 @@ static struct rule {
 } rules[RULES];
 static int rule_count;
 
-static const char *const calls[] = {"shmget", "shmat", "shmdt", "shmctl", "stat", "set", "rmid", "lock", "unlock", "info"};
-
 static int error_named(const char *name) {
     for (int i = 1; i <= LAST_ERROR; i++)
         if (strerrorname_np(i) && strcmp(strerrorname_np(i), name) == 0) return i;
     return 0;
 }
 
-static const char *call_named(const char *text, size_t length) {
-    for (size_t i = 0; i < sizeof calls / sizeof *calls; i++)
-        if (strlen(calls[i]) == length && memcmp(calls[i], text, length) == 0) return calls[i];
-    return NULL;
+static enum kind kind_named(const char *text, size_t length) {
+    enum kind kind = GET;
+    while (kind < KINDS_THAT_FAIL && (strncmp(call_names[kind], text, length) != 0 || call_names[kind][length])) kind++;
+    return kind;
 }
 
 const char *add_failure(const char *text) {
@@ -34,8 +32,9 @@ const char *add_failure(const char *text) {
     char *end;
     if (rule_count == RULES) return "there are at most 64 of them";
     if (!colon || !equals || equals < colon) return "the form is CALL:N=ERRNO or CALL:P%=ERRNO";
-    struct rule rule = {.call = call_named(text, (size_t)(colon - text)), .error = error_named(equals + 1)};
-    if (!rule.call) return "CALL is shmget, shmat, shmdt, shmctl, or one of shmctl's: stat, set, rmid, lock, unlock, info";
+    struct rule rule = {.kind = kind_named(text, (size_t)(colon - text)), .error = error_named(equals + 1)};
+    if (rule.kind == KINDS_THAT_FAIL)
+        return "CALL is shmget, shmat, shmdt, shmctl, or one of shmctl's: stat, set, rmid, lock, unlock, info";
     if (!rule.error) return "ERRNO is the name of an error, such as ENOMEM";
     if (equals[-1] == '%') {
         rule.chance = strtod(colon + 1, &end) / 100;
@@ -57,11 +56,11 @@ static double draw(struct rule *rule) {
     return (double)((z ^ z >> 31) >> 11) / (double)(UINT64_C(1) << 53);
 }
 
-int failure_of(const char *call) {
+int failure_of(enum kind kind) {
     int error = 0;
     for (int i = 0; i < rule_count; i++) {
         struct rule *rule = &rules[i];
-        if (strcmp(rule->call, call) != 0) continue;
+        if (rule->kind != kind) continue;
         if (rule->count++ == 0) rule->drawn = options.seed + (uint64_t)i;
         bool fails = rule->place ? rule->count == rule->place : draw(rule) < rule->chance;
         if (fails && !error) error = rule->error;

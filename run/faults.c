@@ -3,6 +3,7 @@
    Each event is handled: the page comes, or the thread is woken and repeats its access, which then finds the page or ends as it
    would without us. */
 #include "shmrun.h"
+#include <err.h>
 #include <errno.h>
 #include <fcntl.h>
 #include <linux/userfaultfd.h>
@@ -41,16 +42,15 @@ static bool set_up(int file) {
 
 static void add_to_poller(int file, void *what) {
     struct epoll_event event = {.events = EPOLLIN, .data.ptr = what};
-    if (epoll_ctl(poller, EPOLL_CTL_ADD, file, &event) == -1) stop(CANNOT_GO_ON, "epoll: %s", strerror(errno));
+    if (epoll_ctl(poller, EPOLL_CTL_ADD, file, &event) == -1) err(CANNOT_GO_ON, "epoll");
 }
 
 void check_faults(void) {
     device = open("/dev/userfaultfd", O_RDWR | O_CLOEXEC);
     if (device == -1)
-        stop(CANNOT_START, "--frames needs /dev/userfaultfd, which can't be opened: %s; only root may, unless root lets others",
-             strerror(errno));
+        err(CANNOT_START, "--frames needs /dev/userfaultfd, which only root may open, unless root lets others");
     int file = ioctl(device, USERFAULTFD_IOC_NEW, O_CLOEXEC);
-    if (file == -1 || !set_up(file)) stop(CANNOT_START, "--frames needs Linux 6.6 or later: userfaultfd: %s", strerror(errno));
+    if (file == -1 || !set_up(file)) err(CANNOT_START, "--frames needs Linux 6.6 or later: userfaultfd");
     close(file);
 }
 
@@ -87,7 +87,7 @@ pid_t start_keeper(int argc, char **argv) {
     memcpy(words, our_words, size);
     prctl(PR_SET_NAME, our_name);
     free(our_words);
-    if (made == -1) stop(CANNOT_START, "clone: %s", strerror(error));
+    if (made == -1) errno = error, err(CANNOT_START, "clone");
     return made;
 }
 
@@ -98,7 +98,7 @@ void open_poller(void) {
     sigprocmask(SIG_BLOCK, &child, NULL);
     children = signalfd(-1, &child, SFD_CLOEXEC | SFD_NONBLOCK);
     poller = epoll_create1(EPOLL_CLOEXEC);
-    if (children == -1 || poller == -1) stop(CANNOT_START, "epoll: %s", strerror(errno));
+    if (children == -1 || poller == -1) err(CANNOT_START, "epoll");
     add_to_poller(children, NULL);
 }
 
@@ -160,12 +160,10 @@ bool watch_child(struct task *task) {
     nog_piece piece;
     if (!space->is_to_be_watched) return false;
     space->is_to_be_watched = false;
-    begin_call(&call, task);
-    call.self = call.space = space;
-    if (call.where != GONE) call.where = AT_EXIT;
+    begin_stop(&call, task);
     bool is_open = open_faults(&call) || (call.where != GONE && open_faults_above_limit(&call));
     if (!is_open && call.where != GONE) {
-        complain("process %d is killed: it has no descriptor left for its userfaultfd", call.tgid);
+        warnx("process %d is killed: it has no descriptor left for its userfaultfd", call.tgid);
         kill(call.tgid, SIGKILL);
     }
     for (uint32_t i = 0; is_open && call.where != GONE && nog_piece_at(&machine, space->pid, i, &piece) == NOG_DONE; i++)
@@ -192,11 +190,8 @@ static void fail(const struct fault *fault) {
 static void take_poison(struct task *task, uint64_t page, siginfo_t *signal) {
     struct call call;
     struct guest *space = task->process->space;
-    begin_call(&call, task);
-    call.self = call.space = space;
-    call.instruction = space->instruction;
+    begin_stop(&call, task);
     space->uses++;  /* the process may end in the middle */
-    if (call.where != GONE) call.where = AT_EXIT;
     run_in(&call, SYS_madvise, page, PAGE, MADV_DONTNEED, 0, 0, 0);
     space->failing = 0;
     leave_call(&call, signal);

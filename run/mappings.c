@@ -1,15 +1,14 @@
 /* munmap, mremap, mprotect, mmap and madvise of attached memory. Most of these calls are about other memory of the program, and
    pass at once. */
 #include "shmrun.h"
+#include <err.h>
 #include <errno.h>
-#include <stdlib.h>
+#include <stdio.h>
 #include <sys/mman.h>
 
 /* The caller's attachments, if it has one in a page-aligned range; null if the call does not matter to the machine. */
 static struct guest *space_with(struct call *call, uint64_t begin, uint64_t length) {
-    nog_piece piece;
-    bool is_range = begin % PAGE == 0 && length <= END_OF_ADDRESSES && begin <= END_OF_ADDRESSES - length;
-    return is_range && find_piece(call->space, begin, begin + length, &piece) ? call->space : NULL;
+    return begin % PAGE == 0 && is_attached(call->space, begin, length) ? call->space : NULL;
 }
 
 /* ---- munmap, and what takes its effect ---- */
@@ -18,8 +17,7 @@ void forget_range(struct guest *guest, uint64_t begin, uint64_t end) {
     nog_piece piece;
     while (find_piece(guest, begin, end, &piece)) {
         uint64_t from = most(begin, piece.base), to = least(end, end_of(&piece));
-        if (nog_unmap(&machine, guest->pid, from, to - from) != NOG_DONE) break;
-        record((struct event){.kind = UNMAP, .pid = guest->pid, .address = from, .size = to - from});
+        if (perform(&(struct event){.kind = UNMAP, .pid = guest->pid, .address = from, .size = to - from}) < 0) break;
         begin = to;
     }
 }
@@ -44,18 +42,16 @@ void do_map_fixed(struct call *call) { replace_range(call, call->args[0], pages_
 
 /* ---- mprotect ---- */
 
-static uint32_t protect(const struct guest *space, uint64_t begin, uint64_t end, uint32_t is_writable) {
-    uint32_t code = nog_protect(&machine, space->pid, begin, end - begin, is_writable);
-    record((struct event){.kind = PROTECT, .pid = space->pid, .address = begin, .size = end - begin, .is_writable = is_writable,
-                          .result = -(int64_t)code});
-    return code;
+static int64_t protect(const struct guest *space, uint64_t begin, uint64_t end, uint32_t is_writable) {
+    return perform(&(struct event){.kind = PROTECT, .pid = space->pid, .address = begin, .size = end - begin,
+                                  .is_writable = is_writable});
 }
 
 static void protect_pieces(struct guest *space, uint64_t begin, uint64_t end, uint32_t is_writable) {
     nog_piece piece;
     for (; find_piece(space, begin, end, &piece); begin = end_of(&piece)) {
         uint64_t from = most(begin, piece.base), to = least(end, end_of(&piece));
-        if (piece.is_writable != is_writable && protect(space, from, to, is_writable) != NOG_DONE) return;
+        if (piece.is_writable != is_writable && protect(space, from, to, is_writable) < 0) return;
     }
 }
 
@@ -85,32 +81,22 @@ void do_protect(struct call *call) {
     else answer(call, result == 0 && is_cut ? -EACCES : result);
 }
 
-/* ---- madvise: what a child does not inherit ---- */
-
-static void add_range(struct guest *guest, uint64_t begin, uint64_t end) {
-    struct range *ranges = realloc(guest->not_inherited, ((size_t)guest->range_count + 1) * sizeof *ranges);
-    if (!ranges) stop(CANNOT_GO_ON, "out of memory");
-    guest->not_inherited = ranges;
-    ranges[guest->range_count++] = (struct range){begin, end};
-}
-
-void forget_advice(struct guest *guest, uint64_t begin, uint64_t end) {
-    for (int i = guest->range_count; i-- > 0;) {
-        struct range old = guest->not_inherited[i];
-        if (old.end <= begin || end <= old.begin) continue;
-        guest->not_inherited[i] = guest->not_inherited[--guest->range_count];
-        if (old.begin < begin) add_range(guest, old.begin, begin);
-        if (end < old.end) add_range(guest, end, old.end);
-    }
-}
+/* ---- madvise ---- */
 
 void do_advise(struct call *call) {
-    uint64_t begin = call->args[0], length = pages_of(call->args[1]);
-    struct guest *space = space_with(call, begin, length);
+    struct guest *space = space_with(call, call->args[0], pages_of(call->args[1]));
     if (space && call->args[2] == MADV_REMOVE) return answer(call, -EINVAL);  /* a hole of which the machine would not know */
-    if (space) forget_advice(space, begin, begin + length);
-    if (space && call->args[2] == MADV_DONTFORK) add_range(space, begin, begin + length);
+    if (space) space->has_advice = true;  /* MADV_DONTFORK */
     let_pass(call);
+}
+
+/* Between the mappings of a process that has just begun there are those that it did not inherit. */
+void forget_gaps(struct guest *guest, pid_t pid) {
+    uint64_t begin, end, before = 0;
+    FILE *maps = file_of_process(pid, "maps");
+    for (; maps && fscanf(maps, "%lx-%lx%*[^\n]", &begin, &end) == 2; before = end) forget_range(guest, before, begin);
+    if (maps) fclose(maps);
+    forget_range(guest, before, END_OF_ADDRESSES);
 }
 
 /* Only with --frames: other pages of the file at the same addresses. */
@@ -123,14 +109,11 @@ void do_remap_pages(struct call *call) {
 
 /* The right to attach was asked for when the first attach was made, so it is not asked for again. */
 static void enter_moved(const struct guest *space, const nog_piece *piece, uint64_t to) {
-    uint64_t at;
-    uint32_t flags = piece->may_write ? 0 : NOG_RDONLY;
-    set_user(space->pid, 0, 0);
-    uint32_t code = nog_attach(&machine, space->pid, (int32_t)piece->segment, to, flags, &at);
-    if (code != NOG_DONE) stop(CANNOT_GO_ON, "the machine does not attach segment %u again at %lx", piece->segment, to);
-    record((struct event){.kind = ATTACH, .pid = space->pid, .id = (int32_t)piece->segment, .address = to, .flags = flags,
-                          .result = (int64_t)at});
-    set_user(space->pid, space->uid, space->gid);
+    perform(&(struct event){.kind = SET_USER, .pid = space->pid});
+    int64_t at = perform(&(struct event){.kind = ATTACH, .pid = space->pid, .id = (int32_t)piece->segment, .address = to,
+                                        .flags = piece->may_write ? 0 : NOG_RDONLY});
+    if (at < 0) errx(CANNOT_GO_ON, "the machine does not attach segment %u again at %lx", piece->segment, to);
+    perform(&(struct event){.kind = SET_USER, .pid = space->pid, .uid = space->uid, .gid = space->gid});
     if (!piece->is_writable && piece->may_write) protect(space, to, to + (uint64_t)piece->pages * PAGE, 0);
 }
 
@@ -160,7 +143,7 @@ void do_move(struct call *call) {
     nog_segment segment;
     uint64_t from = call->args[0], length = most(pages_of(call->args[1]), PAGE);
     bool is_attached = space_with(call, from, length) && find_piece(call->space, from, from + PAGE, &piece);
-    if (is_attached && segment_of((int32_t)piece.segment, &segment))
+    if (is_attached && nog_segment_of(&machine, (int32_t)piece.segment, &segment) == NOG_DONE)
         answer(call, move(call, &piece, &segment));
     else if (call->args[3] & MREMAP_FIXED) replace_range(call, call->args[4], pages_of(call->args[2]));
     else let_pass(call);

@@ -1,5 +1,6 @@
 /* The words of the command line. */
 #include "shmrun.h"
+#include <err.h>
 #include <errno.h>
 #include <stdio.h>
 #include <stdlib.h>
@@ -30,8 +31,8 @@ static void read_rules(const char *text) {
         length = strcspn(text, ",");
         int i = 0;
         while (i < RULES && (strlen(rule_names[i]) != length || strncasecmp(rule_names[i], text, length) != 0)) i++;
-        if (i == RULES) complain("--rules: no such rule: %.*s; there are:", (int)length, text);
-        for (int k = 0; i == RULES && k < RULES; k++) complain("  %s", rule_names[k]);
+        if (i == RULES) warnx("--rules: no such rule: %.*s; there are:", (int)length, text);
+        for (int k = 0; i == RULES && k < RULES; k++) warnx("  %s", rule_names[k]);
         if (i == RULES) exit(CANNOT_START);
         options.limits.rules |= i == LINUX ? NOG_LINUX : i == PROFILE ? 0 : UINT64_C(1) << i;
     }
@@ -47,42 +48,24 @@ const char *words_of_rules(void) {
     return text;
 }
 
-static uint64_t read_number(const char *what, const char **text, uint64_t least, uint64_t most) {
+static uint64_t read_number(const char *what, const char *text, uint64_t least, uint64_t most) {
     char *end;
-    uint64_t number = strtoull(*text, &end, 0);
-    bool is_number = **text >= '0' && **text <= '9' && (*end == ',' || *end == 0);
-    if (!is_number || number < least || number > most)
-        stop(CANNOT_START, "--limits: %s is %.*s; it is a number from %lu to %lu", what, (int)strcspn(*text, ","), *text,
-             least, most);
-    *text = *end ? end + 1 : end;
+    uint64_t number = strtoull(text, &end, 0);
+    if (text[0] < '0' || text[0] > '9' || *end || number < least || number > most)
+        errx(CANNOT_START, "%s is %s; it is a number from %lu to %lu", what, text, least, most);
     return number;
 }
 
 static void read_limits(const char *text) {
+    char words[4][32], rest;
     nog_limits *l = &options.limits;
-    const char *commas = text;
-    int count = 0;
-    while ((commas = strchr(commas, ','))) commas++, count++;
-    if (count != 3) stop(CANNOT_START, "--limits: %s is not SHMMAX,SHMMNI,SHMALL,MEMLOCK: bytes, segments, pages, pages", text);
+    if (sscanf(text, "%31[^,],%31[^,],%31[^,],%31[^,]%c", words[0], words[1], words[2], words[3], &rest) != 4)
+        errx(CANNOT_START, "--limits: %s is not SHMMAX,SHMMNI,SHMALL,MEMLOCK: bytes, segments, pages, pages", text);
     options.has_limits = true;
-    l->shmmax = read_number("SHMMAX", &text, 1, UINT64_C(1) << 40);
-    l->shmmni = read_number("SHMMNI", &text, 1, 32768);
-    l->shmall = read_number("SHMALL", &text, 1, 1 << 28);
-    l->memlock = read_number("MEMLOCK", &text, 0, (1 << 24) - 2);
-}
-
-static void read_seed(const char *text) {
-    char *end;
-    options.seed = strtoull(text, &end, 0);
-    if (*end || text[0] < '0' || text[0] > '9') stop(CANNOT_START, "--seed: %s is not a number", text);
-}
-
-static void read_frames(const char *text) {
-    enum { MOST_FRAMES = 1 << 24 };
-    char *end;
-    options.frames = strtoull(text, &end, 0);
-    if (*end || text[0] < '0' || text[0] > '9' || options.frames < 2 || options.frames > MOST_FRAMES)
-        stop(CANNOT_START, "--frames: %s is not a number from 2 to %d", text, MOST_FRAMES);
+    l->shmmax = read_number("--limits: SHMMAX", words[0], 1, UINT64_C(1) << 40);
+    l->shmmni = read_number("--limits: SHMMNI", words[1], 1, 32768);
+    l->shmall = read_number("--limits: SHMALL", words[2], 1, 1 << 28);
+    l->memlock = read_number("--limits: MEMLOCK", words[3], 0, (1 << 24) - 2);
 }
 
 /* What follows the slots of a fuse: one or more of :rK and :wK, its reads and writes that fail. Null: it is not right. */
@@ -91,7 +74,8 @@ static const char *read_fuse(const char *text) {
     while (*text == ':') {
         char *end;
         nog_failure failure = {.area = (uint32_t)options.area_count, .is_write = text[1] == 'w'};
-        if ((text[1] != 'r' && text[1] != 'w') || text[2] < '1' || text[2] > '9' || options.failure_count == MOST_FAILURES) return NULL;
+        bool is_right = (text[1] == 'r' || text[1] == 'w') && text[2] >= '1' && text[2] <= '9';
+        if (!is_right || options.failure_count == MOST_FAILURES) return NULL;
         failure.call = strtoull(text + 2, &end, 10);
         options.failures[options.failure_count++] = failure;
         text = end;
@@ -109,8 +93,8 @@ static void read_area(const char *text) {
     uint64_t slots = end == number ? 0 : strtoull(number, NULL, 10);
     if (i == FUSE) end = read_fuse(end);
     if (!end || *end || slots < 1 || slots > MOST_SLOTS || options.area_count == MOST_AREAS)
-        stop(CANNOT_START, "--swap: %s is not ram:N, sparse:N, mirror:N, fuse:N:rK or fuse:N:wK, with N from 1 to %d; %d areas at most",
-             text, MOST_SLOTS, MOST_AREAS);
+        errx(CANNOT_START, "--swap: %s is not ram:N, sparse:N, mirror:N, fuse:N:rK or fuse:N:wK, with N from 1 to %d; "
+             "%d areas at most", text, MOST_SLOTS, MOST_AREAS);
     options.areas[options.area_count++] = (nog_area){kinds[i].kind, (uint32_t)slots};
 }
 
@@ -119,7 +103,7 @@ static void read_record(const char *name) {
     char path[4096];
     snprintf(path, sizeof path, "%s.shm", name);
     FILE *file = fopen(path, "w");
-    if (!file) stop(CANNOT_START, "--record: %s: %s", path, strerror(errno));
+    if (!file) err(CANNOT_START, "--record: %s", path);
     fclose(file);
     options.record = name;
 }
@@ -128,14 +112,14 @@ static void read_option(const char *name, const char *value) {
     const char *wrong = NULL;
     if (strcmp(name, "--limits") == 0) read_limits(value);
     else if (strcmp(name, "--rules") == 0) read_rules(value);
-    else if (strcmp(name, "--seed") == 0) read_seed(value);
+    else if (strcmp(name, "--seed") == 0) options.seed = read_number(name, value, 0, UINT64_MAX);
     else if (strcmp(name, "--record") == 0) read_record(value);
-    else if (strcmp(name, "--frames") == 0) read_frames(value);
+    else if (strcmp(name, "--frames") == 0) options.frames = read_number(name, value, 2, 1 << 24);
     else if (strcmp(name, "--swap") == 0) read_area(value);
     else if (strcmp(name, "--swap-file") == 0) options.swap_file = value;
     else if (strcmp(name, "--fail") == 0) wrong = add_failure(value);
-    else stop(CANNOT_START, "no such option: %s; %s", name, usage);
-    if (wrong) stop(CANNOT_START, "--fail: %s: %s", value, wrong);
+    else errx(CANNOT_START, "no such option: %s; %s", name, usage);
+    if (wrong) errx(CANNOT_START, "--fail: %s: %s", value, wrong);
 }
 
 /* As many locked pages as the caller may have. */
@@ -155,12 +139,12 @@ void read_options(int argc, char **argv) {
         size_t length = strcspn(argv[i], "=");
         bool is_joined = argv[i][length] == '=';
         snprintf(name, sizeof name, "%.*s", (int)length, argv[i]);
-        if (!is_joined && i + 1 == argc) stop(CANNOT_START, "%s has no value; %s", argv[i], usage);
+        if (!is_joined && i + 1 == argc) errx(CANNOT_START, "%s has no value; %s", argv[i], usage);
         read_option(name, is_joined ? argv[i] + length + 1 : argv[i + 1]);
         i += !is_joined;
     }
     if ((options.area_count || options.swap_file) && !options.frames)
-        stop(CANNOT_START, "--swap%s needs --frames", options.swap_file ? "-file" : "");
-    if (i == argc) stop(CANNOT_START, "there is no command; %s", usage);
+        errx(CANNOT_START, "--swap%s needs --frames", options.swap_file ? "-file" : "");
+    if (i == argc) errx(CANNOT_START, "there is no command; %s", usage);
     options.command = argv + i;
 }

@@ -9,6 +9,7 @@
    again. A page stays with the thread that asked for it for STAY_US; other threads wait for their pages until then, or TURN_US.
    So an access to two pages gets both, also if there are few frames. */
 #include "shmrun.h"
+#include <err.h>
 #include <errno.h>
 #include <fcntl.h>
 #include <linux/userfaultfd.h>
@@ -46,7 +47,7 @@ void open_paging(void) {
     held = allocate(count * sizeof *held);
     bytes_of_held = allocate(count * PAGE);
     for (uint64_t i = 0; i < count; i++) held[i].next = unused, unused = &held[i];
-    if (pipe2(pipe_ends, O_CLOEXEC)) stop(CANNOT_START, "pipe: %s", strerror(errno));
+    if (pipe2(pipe_ends, O_CLOEXEC)) err(CANNOT_START, "pipe");
 }
 
 /* ---- which there are ---- */
@@ -77,14 +78,15 @@ static void take_bytes(int file, uint32_t page, uint8_t *bytes) {
     if (splice(file, &at, pipe_ends[1], NULL, PAGE, 0) != PAGE ||
         fallocate(file, FALLOC_FL_PUNCH_HOLE | FALLOC_FL_KEEP_SIZE, (off_t)page * PAGE, PAGE) == -1 ||
         read(pipe_ends[0], bytes, PAGE) != PAGE)
-        stop(CANNOT_GO_ON, "page %u can't be taken out of its file: %s", page, strerror(errno));
+        err(CANNOT_GO_ON, "page %u can't be taken out of its file", page);
 }
 
 static void take(int32_t id, uint32_t page) {
     uint8_t bytes[PAGE];
     nog_segment segment;
     struct held *it = *place_of(id, page);
-    if (!it || !it->is_lent || !segment_of(id, &segment)) stop(CANNOT_GO_ON, "page %u of segment %d is not lent", page, id);
+    if (!it || !it->is_lent || nog_segment_of(&machine, id, &segment) != NOG_DONE)
+        errx(CANNOT_GO_ON, "page %u of segment %d is not lent", page, id);
     take_bytes(file_of(&segment), page, bytes);
     bool is_changed = memcmp(bytes, bytes_of(it), PAGE) != 0;
     it->is_lent = false;
@@ -157,7 +159,7 @@ static bool make_room(const struct fault *fault) {
 static uint32_t borrow(int32_t id, uint32_t page, const struct fault *fault, struct held **borrowed) {
     struct held *it = *place_of(id, page);
     if (!it && !make_room(fault)) return NOG_LENT;
-    if (!it && !unused) stop(CANNOT_GO_ON, "there are more pages than frames");
+    if (!it && !unused) errx(CANNOT_GO_ON, "there are more pages than frames");
     uint32_t code = nog_lend(&machine, id, page, bytes_of(it ? it : unused), PAGE);
     if (code != NOG_DONE) return code;
     if (!it) {
@@ -201,7 +203,7 @@ enum brought bring(const struct fault *fault) {
     case ENOMEM: return FAILED;
     case ENOENT:  /* the address has just gone */
     case ESRCH: return NOT_ATTACHED;  /* so has the process */
-    default: stop(CANNOT_GO_ON, "page %u of segment %d can't be brought: %s", page, id, strerror(error));
+    default: errno = error, err(CANNOT_GO_ON, "page %u of segment %d can't be brought", page, id);
     }
 }
 

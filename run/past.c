@@ -2,6 +2,7 @@
    what they write would be lost. Others look a page up in its file, where it may just be missing. */
 #include "shmrun.h"
 #include <dirent.h>
+#include <err.h>
 #include <errno.h>
 #include <fcntl.h>
 #include <linux/futex.h>
@@ -46,11 +47,6 @@ void end_watched_call(struct task *task) {
     resume(task->tid, PTRACE_CONT, 0);
 }
 
-static bool is_attached(const struct guest *space, uint64_t begin, uint64_t length) {
-    nog_piece piece;
-    return length <= END_OF_ADDRESSES && begin <= END_OF_ADDRESSES - length && find_piece(space, begin, begin + length, &piece);
-}
-
 void do_futex(struct call *call) {
     if (is_attached(call->space, call->args[0], sizeof(uint32_t)) || is_attached(call->space, call->args[4], sizeof(uint32_t)))
         let_pass_watched(call, call->args[1], call->args[2]);
@@ -75,11 +71,11 @@ static bool is_direct(int file, int flags) {
 
 void give_inherited_cache(void) {
     DIR *folder = opendir("/proc/self/fd");
-    if (!folder) stop(CANNOT_START, "/proc/self/fd: %s", strerror(errno));
+    if (!folder) err(CANNOT_START, "/proc/self/fd");
     for (struct dirent *entry; (entry = readdir(folder));) {
         int file = atoi(entry->d_name), flags = fcntl(file, F_GETFL);
         if (is_direct(file, flags) && fcntl(file, F_SETFL, flags & ~O_DIRECT) == -1)
-            stop(CANNOT_START, "descriptor %d has O_DIRECT, which can't be taken off: %s", file, strerror(errno));
+            err(CANNOT_START, "descriptor %d has O_DIRECT, which can't be taken off", file);
     }
     closedir(folder);
 }

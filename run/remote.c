@@ -5,6 +5,7 @@
    more calls. Before that its signals are blocked: they would come in between. SIGSTOP can't be blocked, so it is repeated
    later. SIGTRAP is not, because the step's own one would then change what the program does at it. */
 #include "shmrun.h"
+#include <err.h>
 #include <errno.h>
 #include <fcntl.h>
 #include <linux/seccomp.h>
@@ -21,16 +22,24 @@
 enum { SYSCALL_BYTES = 2, SYSCALL_STOP = SIGTRAP | 0x80, WAITED_MS = 20 };
 
 int listener = -1;
-uint64_t secret;
+uint32_t secret;
 
 void begin_call(struct call *call, struct task *task) {
-    *call = (struct call){.task = task, .tid = task->tid, .tgid = task->process->tgid, .has_threads = task->process->threads > 1};
+    const struct process *process = task->process;
+    *call = (struct call){.task = task, .tid = task->tid, .tgid = process->tgid, .self = process->self, .space = process->space,
+                          .has_threads = process->threads > 1};
     if (ptrace(PTRACE_GETREGS, task->tid, 0, &call->regs) == -1) call->where = GONE;
     const struct user_regs_struct *r = &call->regs;
     call->number = (long)r->orig_rax;
     const uint64_t args[6] = {r->rdi, r->rsi, r->rdx, r->r10, r->r8, r->r9};
     memcpy(call->args, args, sizeof args);
     call->instruction = r->rip - SYSCALL_BYTES;
+}
+
+void begin_stop(struct call *call, struct task *task) {
+    begin_call(call, task);
+    if (call->where != GONE) call->where = AT_EXIT;
+    if (call->space->instruction) call->instruction = call->space->instruction;
 }
 
 /* ---- system calls that the thread makes ---- */
@@ -54,7 +63,7 @@ static bool wait_for(const struct call *call, int *status) {
 
 static bool go_on(const struct call *call) {
     bool is_gone = ptrace(call->where == AT_EXIT ? PTRACE_SINGLESTEP : PTRACE_SYSCALL, call->tid, 0, 0) == -1;
-    if (is_gone && errno != ESRCH) stop(CANNOT_GO_ON, "process %d: %s", call->tid, strerror(errno));
+    if (is_gone && errno != ESRCH) err(CANNOT_GO_ON, "process %d", call->tid);
     return !is_gone;
 }
 
@@ -150,7 +159,7 @@ int64_t give_file(struct call *call, int file, uint32_t flags) {
     int64_t result = -INTERRUPTED;
     if (call->where != GONE) block_signals(call);
     while (result == -INTERRUPTED && call->where != GONE) {
-        set_call(call, SYS_getpid, args);
+        set_call(call, ASK_FOR_FILE, args);
         if (!go_on(call)) return -ESRCH;
         serve_listener(call, file, flags);
         if (reach_exit(call)) result = result_of(call);

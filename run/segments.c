@@ -12,10 +12,6 @@
 enum { INDEXES = 32768, BYTES_OF_BLOCK = 512 };
 static struct { int32_t id; int file; } files[INDEXES];  /* by index; file is 0, or a descriptor above 2 */
 
-bool segment_of(int32_t id, nog_segment *segment) {
-    return id >= 0 && nog_segment_at(&machine, (uint32_t)id % INDEXES, segment) == NOG_DONE && segment->id == id;
-}
-
 static int make_file(const nog_segment *segment) {
     char name[32];
     snprintf(name, sizeof name, "/SYSV%08x", segment->key);
@@ -46,10 +42,8 @@ int file_of(const nog_segment *segment) {
     return file;
 }
 
-int file_for_reading(const nog_segment *segment) {
+int open_for_reading(int file) {
     char path[64];
-    int file = file_of(segment);
-    if (file == -1) return -1;
     snprintf(path, sizeof path, "/proc/self/fd/%d", file);
     return open(path, O_RDONLY | O_CLOEXEC);
 }
@@ -72,9 +66,7 @@ void close_destroyed(void) {
     uint32_t count = 0;
     reply_of(nog_tally_of(&machine, &tally));
     if (tally.segments < before) reply_of(nog_indexes(&machine, &count));
-    for (uint32_t i = 0; i < count; i++) {
-        if (!files[i].file || segment_of(files[i].id, &segment)) continue;
-        close_file(i);
-    }
+    for (uint32_t i = 0; i < count; i++)
+        if (files[i].file && nog_segment_of(&machine, files[i].id, &segment) != NOG_DONE) close_file(i);
     before = tally.segments;
 }

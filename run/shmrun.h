@@ -4,8 +4,8 @@
    options.c   the words of the command line                        views.c     the files of /proc that show segments and limits
    filter.c    the seccomp filter: which system calls stop          users.c     the processes of the machine, and their users
    tracing.c   threads and processes: fork, exec, exit, signals     failures.c  calls that fail on demand
-   remote.c    what a stopped thread does and has                   record.c, replay.c, script.c
-   calls.c     shmget, shmat, shmdt and shmctl                                  what was called, as a script and a log
+   remote.c    what a stopped thread does and has
+   calls.c     shmget, shmat, shmdt and shmctl                      record.c    what was called, as a script and a log
    mappings.c  munmap, mremap, mprotect, mmap and madvise
    With --frames, few pages of segments are in memory:
    paging.c    how a page comes and leaves                          faults.c    accesses to pages that are not there
@@ -22,7 +22,9 @@
 #include <stdbool.h>
 #include <stddef.h>
 #include <stdint.h>
+#include <stdio.h>
 #include <sys/ptrace.h>
+#include <sys/syscall.h>
 #include <sys/types.h>
 #include <sys/user.h>
 
@@ -58,9 +60,7 @@ void read_options(int argc, char **argv);
 /* The machine's rules as a script names them; it has one, or more. */
 const char *words_of_rules(void);
 
-/* start.c: stop ends shmrun, and with it each program that it traces */
-__attribute__((noreturn, format(printf, 2, 3))) void stop(int status, const char *format, ...);
-__attribute__((format(printf, 1, 2))) void complain(const char *format, ...);
+/* start.c. If shmrun ends, each program that it traces is killed. */
 void *allocate(size_t size);
 void check_command(pid_t pid);
 /* A descriptor of ours for a file that a process has open; -1 and errno. */
@@ -75,8 +75,7 @@ struct guest {
     bool is_admitted;      /* the machine has it: from its first call on, or from the fork that gave it attachments */
     int uses;              /* processes that are it, those whose address space is its, and the call that is made */
     uint32_t uid, gid;     /* as the machine has them */
-    struct range { uint64_t begin, end; } *not_inherited;  /* MADV_DONTFORK */
-    int range_count;
+    bool has_advice;       /* its children do not inherit all of its memory */
     /* with --frames */
     int faults;            /* the userfaultfd of its attachments; 0: none */
     bool is_to_be_watched; /* a fork made it, and its first thread has not yet stopped */
@@ -107,16 +106,20 @@ struct guest *new_guest(uint32_t pid);
 void release_guest(struct guest *guest);
 /* The machine has the guest from now on, with the thread's user. */
 void enter(struct task *task, struct guest *guest);
-void set_user(uint32_t pid, uint32_t uid, uint32_t gid);
 /* A child that a fork made is in the machine with its parent's attachments, if there are any. */
 void inherit(struct task *maker, struct guest *parent, struct guest *child);
+/* A file in the process's folder of /proc; null if it has ended. */
+FILE *file_of_process(pid_t pid, const char *name);
 bool has_pieces(const struct guest *guest);
-/* The place of the first piece that ends above an address, and the first piece in a range. */
-uint32_t piece_above(const struct guest *guest, uint64_t address);
+/* The first piece in a range. */
 bool find_piece(const struct guest *guest, uint64_t begin, uint64_t end, nog_piece *piece);
+bool is_attached(const struct guest *guest, uint64_t begin, uint64_t length);
 
-/* filter.c: in the first process; returns the descriptor of the filter's listener */
-int install_filter(uint64_t secret);
+/* filter.c: in the first process; returns the descriptor of the filter's listener. A thread asks the listener for a file by a
+   call that Linux does not have, with the secret as its first argument, so that no program does that by chance. */
+enum { ASK_FOR_FILE = SYS_tuxcall };
+extern uint32_t secret;
+int install_filter(void);
 
 /* remote.c: a thread at the entry of a system call */
 struct call {
@@ -131,8 +134,9 @@ struct call {
     bool has_threads, is_masked, has_missed_stop;
 };
 extern int listener;
-extern uint64_t secret;
+/* At the entry of a call, or at another stop, from where the thread can make calls too. */
 void begin_call(struct call *call, struct task *task);
+void begin_stop(struct call *call, struct task *task);
 /* Makes a system call in the program; a negative number is its error. */
 int64_t run_in(struct call *call, long number, uint64_t a, uint64_t b, uint64_t c, uint64_t d, uint64_t e, uint64_t f);
 int64_t run_as_made(struct call *call);
@@ -159,6 +163,25 @@ void handle_status(pid_t tid, int status);
 void take_ends(pid_t tgid);
 struct task *find_task(pid_t tid);
 
+/* A call of the machine, and its reply. */
+struct event {
+    enum kind { GET, ATTACH, DETACH, CONTROL, STAT, SET, REMOVE, LOCK, UNLOCK, INFO, KINDS_THAT_FAIL,
+                FORK = KINDS_THAT_FAIL, EXEC, EXIT, UNMAP, PROTECT, SET_USER } kind;
+    uint32_t pid, key, mode, flags, uid, gid, child, is_writable;
+    int32_t id;
+    uint64_t size, address;
+    int64_t result;           /* as the program gets it: an identifier, an address or 0, or the negative number of an error */
+    nog_segment segment;      /* of stat */
+    bool is_dropped;          /* refused for a reason that a script does not have */
+    bool is_unclear;          /* stat shows what a script does not have */
+};
+/* as a script names them, and --fail */
+extern const char *const call_names[];
+/* Makes the call on a machine, and notes its result. */
+void make_call(nog_machine *on, struct event *event);
+/* Makes a call on our machine, and records it. */
+int64_t perform(struct event *event);
+
 /* calls.c, mappings.c, views.c */
 void handle_call(struct task *task);
 void do_unmap(struct call *call);
@@ -168,15 +191,15 @@ void do_protect(struct call *call);
 void do_advise(struct call *call);
 void do_open(struct call *call);
 void do_remap_pages(struct call *call);
-/* Takes a range out of the machine's attachments, or out of what children do not inherit. */
+/* Takes a range out of the machine's attachments, or all that is not in the memory of a new process. */
 void forget_range(struct guest *guest, uint64_t begin, uint64_t end);
-void forget_advice(struct guest *guest, uint64_t begin, uint64_t end);
+void forget_gaps(struct guest *guest, pid_t pid);
 
 /* segments.c */
-bool segment_of(int32_t id, nog_segment *segment);
-/* A descriptor of the segment's bytes; -1 and errno: there is none. The caller closes a file for reading only. */
+/* A descriptor of the segment's bytes; -1 and errno: there is none. */
 int file_of(const nog_segment *segment);
-int file_for_reading(const nog_segment *segment);
+/* The same file for reading only, which the caller closes; -1 and errno. */
+int open_for_reading(int file);
 /* How many of a segment's pages are in memory, and how many only in swap areas. */
 struct residency { uint64_t resident, swapped; };
 struct residency residency_of(int32_t id);
@@ -235,22 +258,11 @@ void keep_robust(struct task *task);
 /* failures.c: adds a rule such as shmat:3=ENOMEM; returns what is wrong with it, or null */
 const char *add_failure(const char *rule);
 /* The error that a call is to fail with, or 0. */
-int failure_of(const char *call);
+int failure_of(enum kind kind);
 
 /* record.c */
-struct event {
-    enum kind { GET, ATTACH, DETACH, STAT, SET, REMOVE, LOCK, UNLOCK, FORK, EXEC, EXIT, UNMAP, PROTECT, SET_USER } kind;
-    uint32_t pid, key, mode, flags, uid, gid, child, is_writable;
-    int32_t id;
-    uint64_t size, address;
-    int64_t result;           /* as the program got it, or the negative number of an error */
-    nog_segment segment;      /* of stat */
-    bool is_dropped;          /* refused for a reason that a script does not have */
-    bool is_unclear;          /* stat shows what a script does not have */
-};
 void record(struct event event);
-void record_process(const struct guest *guest, bool is_child);
-void end_record(const char *why);
+void record_process(const nog_process *process);
 void note_left_out(const char *what);
 void write_record(void);
 

@@ -1,10 +1,10 @@
 /* The first process, the signals that shmrun gets, and the exit status. */
 #include "shmrun.h"
 #include <elf.h>
+#include <err.h>
 #include <errno.h>
 #include <fcntl.h>
 #include <signal.h>
-#include <stdarg.h>
 #include <stdio.h>
 #include <stdlib.h>
 #include <string.h>
@@ -19,32 +19,9 @@ enum { MOST_FRAMES = 1 << 20, FEWEST_FRAMES = 1 << 12, SLOTS_IN_FILE = 1 << 16 }
 nog_machine machine = NOG_MACHINE_INITIALIZER;
 static volatile sig_atomic_t first;
 
-/* ---- messages ---- */
-
-static void say(const char *format, va_list rest) {
-    char line[1024];
-    int length = vsnprintf(line, sizeof line, format, rest);
-    fprintf(stderr, "shmrun: %s%s\n", line, length >= (int)sizeof line ? ".." : "");
-}
-
-void complain(const char *format, ...) {
-    va_list rest;
-    va_start(rest, format);
-    say(format, rest);
-    va_end(rest);
-}
-
-void stop(int status, const char *format, ...) {
-    va_list rest;
-    va_start(rest, format);
-    say(format, rest);
-    va_end(rest);
-    exit(status);
-}
-
 void *allocate(size_t size) {
     void *made = calloc(1, size);
-    if (!made) stop(CANNOT_GO_ON, "out of memory");
+    if (!made) errx(CANNOT_GO_ON, "out of memory");
     return made;
 }
 
@@ -56,7 +33,7 @@ int64_t reply_of(uint32_t code) {
     if (code <= NOG_EIDRM) return -(int64_t)code;
     if (code == NOG_NO_MEMORY) return -ENOMEM;
     nog_text(code, text, sizeof text, &length);
-    stop(CANNOT_GO_ON, "the library returned %u, %s, which ends all programs", code, (char *)text);
+    errx(CANNOT_GO_ON, "the library returned %u, %s, which ends all programs", code, (char *)text);
 }
 
 /* Bytes are in files, so the frames stay empty. They bound only the locked pages of all users, which are at most SHMALL. */
@@ -73,7 +50,7 @@ static void open_machine(void) {
         l->memlock = least(l->memlock, l->frames - 2);
     }
     if (code == NOG_NO_MEMORY)
-        stop(CANNOT_START, "there is not enough memory to reserve for SHMALL %lu and MEMLOCK %lu: --limits may give fewer",
+        errx(CANNOT_START, "there is not enough memory to reserve for SHMALL %lu and MEMLOCK %lu: --limits may give fewer",
              l->shmall, l->memlock);
     reply_of(code);
 }
@@ -88,13 +65,13 @@ static void open_machine_with_frames(void) {
     l->frames = options.frames;
     uint64_t most_locked = l->frames > NOT_LOCKED ? l->frames - NOT_LOCKED : 0;
     if (options.has_limits && l->memlock > most_locked)
-        stop(CANNOT_START, "--frames %lu: MEMLOCK is %lu; it is at most %lu, because %d frames are for pages that are not locked",
+        errx(CANNOT_START, "--frames %lu: MEMLOCK is %lu; it is at most %lu, because %d frames are for pages that are not locked",
              l->frames, l->memlock, most_locked, NOT_LOCKED);
     l->memlock = least(l->memlock, most_locked);
     use_swap_file(true);
     uint32_t code = nog_open(&machine, l, options.areas, options.area_count, options.failures, options.failure_count, NULL, 0);
     use_swap_file(false);
-    if (code == NOG_NO_MEMORY) stop(CANNOT_START, "there is not enough memory for the frames and the swap areas");
+    if (code == NOG_NO_MEMORY) errx(CANNOT_START, "there is not enough memory for the frames and the swap areas");
     reply_of(code);
     open_paging();
 }
@@ -112,9 +89,9 @@ void check_command(pid_t pid) {
     bool gets_user = found.st_mode & S_ISUID && found.st_uid != geteuid();
     bool gets_group = found.st_mode & S_ISGID && found.st_gid != getegid();
     if (geteuid() != 0 && (gets_user || gets_group))
-        stop(CANNOT_RUN, "%s is a set-user-ID or set-group-ID program, which only root can run under shmrun", options.command[0]);
+        errx(CANNOT_RUN, "%s is a set-user-ID or set-group-ID program, which only root can run under shmrun", options.command[0]);
     if (file != -1 && read(file, head, sizeof head) == (ssize_t)sizeof head && head[EI_CLASS] == ELFCLASS32)
-        stop(CANNOT_RUN, "%s is a 32-bit program: shmrun runs those of 64 bits", options.command[0]);
+        errx(CANNOT_RUN, "%s is a 32-bit program: shmrun runs those of 64 bits", options.command[0]);
     close(file);
 }
 
@@ -127,13 +104,13 @@ __attribute__((noreturn)) static void become_command(int in, int out) {
     struct news news = {0};
     char go;
     if (read(in, &go, 1) != 1) _exit(CANNOT_START);
-    news.listener = install_filter(secret);
+    news.listener = install_filter();
     news.error = news.listener < 0 ? errno : 0;
     if (write(out, &news, sizeof news) != sizeof news || read(in, &go, 1) != 1) _exit(CANNOT_START);
     close(news.listener);
     execvp(options.command[0], options.command);
     int status = errno == ENOENT ? NOT_FOUND : CANNOT_RUN;
-    fprintf(stderr, "shmrun: %s: %s\n", options.command[0], strerror(errno));
+    warn("%s", options.command[0]);
     _exit(status);
 }
 
@@ -151,22 +128,21 @@ static pid_t start_command(void) {
                      PTRACE_O_TRACESECCOMP | PTRACE_O_EXITKILL };
     int to[2], from[2];
     struct news news = {0, EPIPE};
-    if (pipe2(to, O_CLOEXEC) || pipe2(from, O_CLOEXEC)) stop(CANNOT_START, "pipe: %s", strerror(errno));
+    if (pipe2(to, O_CLOEXEC) || pipe2(from, O_CLOEXEC)) err(CANNOT_START, "pipe");
     pid_t child = fork();
-    if (child == -1) stop(CANNOT_START, "fork: %s", strerror(errno));
+    if (child == -1) err(CANNOT_START, "fork");
     if (child == 0) {
         close(to[1]);
         become_command(to[0], from[1]);
     }
     close(from[1]);
     if (ptrace(PTRACE_SEIZE, child, 0, OPTIONS | (options.frames ? PTRACE_O_TRACEEXIT : 0)) == -1)
-        stop(CANNOT_START, "the command can't be traced: %s; another program traces it, or kernel.yama.ptrace_scope forbids it",
-             strerror(errno));
+        err(CANNOT_START, "the command can't be traced: another program traces it, or kernel.yama.ptrace_scope forbids it");
     if (write(to[1], "t", 1) != 1 || read(from[0], &news, sizeof news) != sizeof news || news.error)
-        stop(CANNOT_START, "the filter can't be installed: %s; Linux 5.14 or later is needed", strerror(news.error));
+        errno = news.error, err(CANNOT_START, "the filter can't be installed: Linux 5.14 or later is needed");
     listener = take_file(child, news.listener);
-    if (listener == -1) stop(CANNOT_START, "the filter's listener can't be reached: %s", strerror(errno));
-    if (write(to[1], "g", 1) != 1) stop(CANNOT_START, "the command has ended before its start");
+    if (listener == -1) err(CANNOT_START, "the filter's listener can't be reached");
+    if (write(to[1], "g", 1) != 1) errx(CANNOT_START, "the command has ended before its start");
     close(to[0]), close(to[1]), close(from[0]);
     return child;
 }
@@ -212,13 +188,16 @@ static void raise_file_limit(void) {
 }
 
 int main(int argc, char **argv) {
+    static char name[] = "shmrun";
     int file;
+    program_invocation_short_name = name;
+    setlinebuf(stderr);  /* one write for each message */
     while ((file = open("/dev/null", O_RDWR | O_CLOEXEC)) >= 0 && file <= STDERR_FILENO) continue;  /* none of ours is 0, 1 or 2 */
     close(file);
     read_options(argc, argv);
     if (options.frames) give_inherited_cache(), check_faults(), open_machine_with_frames();
     else open_machine();
-    if (getrandom(&secret, sizeof secret, 0) != sizeof secret) stop(CANNOT_START, "getrandom: %s", strerror(errno));
+    if (getrandom(&secret, sizeof secret, 0) != sizeof secret) err(CANNOT_START, "getrandom");
     first = start_command();
     prepare_signals();
     raise_file_limit();

@@ -1,5 +1,6 @@
 /* Threads and processes: how they begin and end. Signals go through unchanged. */
 #include "shmrun.h"
+#include <err.h>
 #include <errno.h>
 #include <linux/kcmp.h>
 #include <signal.h>
@@ -41,7 +42,7 @@ static void forget_task(pid_t tid) {
 
 void resume(pid_t tid, enum __ptrace_request request, int signal) {
     /* ESRCH: it was killed; its end is seen next */
-    if (ptrace(request, tid, 0, signal) == -1 && errno != ESRCH) complain("process %d does not continue (errno %d)", tid, errno);
+    if (ptrace(request, tid, 0, signal) == -1 && errno != ESRCH) warnx("process %d does not continue (errno %d)", tid, errno);
 }
 
 /* ---- processes ---- */
@@ -102,11 +103,6 @@ static void note_birth(struct task *maker, int event) {
     if (has_stopped && !watch_child(child)) resume(child->tid, PTRACE_CONT, 0);
 }
 
-static void detach_all(const struct guest *guest) {
-    reply_of(nog_exec(&machine, guest->pid));
-    record((struct event){.kind = EXEC, .pid = guest->pid});
-}
-
 /* after an exec the thread has its process's number, and no other thread is left */
 static void note_exec(struct task *task) {
     static bool has_begun;
@@ -118,7 +114,7 @@ static void note_exec(struct task *task) {
     if (!has_begun) check_command(task->tid);
     has_begun = true;
     if (process->space == process->self && process->self->uses == 2) {
-        if (has_pieces(process->self)) detach_all(process->self);
+        if (has_pieces(process->self)) perform(&(struct event){.kind = EXEC, .pid = process->self->pid});
         close_faults(process->self);
         return;
     }

@@ -26,15 +26,13 @@ static void print_segments(FILE *to) {
                 of.resident * PAGE, of.swapped * PAGE);
     }
 }
-static void print_most_bytes(FILE *to) { fprintf(to, "%lu\n", options.limits.shmmax); }
-static void print_most_segments(FILE *to) { fprintf(to, "%lu\n", options.limits.shmmni); }
-static void print_most_pages(FILE *to) { fprintf(to, "%lu\n", options.limits.shmall); }
 
-static const struct view { const char *path; void (*print)(FILE *to); } views[] = {
-    {"/proc/sysvipc/shm", print_segments},
-    {"/proc/sys/kernel/shmmax", print_most_bytes},
-    {"/proc/sys/kernel/shmmni", print_most_segments},
-    {"/proc/sys/kernel/shmall", print_most_pages},
+/* what shows a limit, and what shows the segments */
+static const struct view { const char *path; const uint64_t *limit; } views[] = {
+    {"/proc/sysvipc/shm", NULL},
+    {"/proc/sys/kernel/shmmax", &options.limits.shmmax},
+    {"/proc/sys/kernel/shmmni", &options.limits.shmmni},
+    {"/proc/sys/kernel/shmall", &options.limits.shmall},
 };
 enum { VIEWS = sizeof views / sizeof *views };
 
@@ -58,14 +56,13 @@ static const struct view *view_of(const struct call *call, int folder, uint64_t 
 
 /* Returns a descriptor for reading, or the negative number of an error. */
 static int make_view(const struct view *view) {
-    char path[64];
     int file = memfd_create(view->path, MFD_CLOEXEC);
     FILE *to = file == -1 ? NULL : fdopen(file, "w");
     if (!to) return -ENFILE;
-    view->print(to);
+    if (view->limit) fprintf(to, "%lu\n", *view->limit);
+    else print_segments(to);
     fflush(to);
-    snprintf(path, sizeof path, "/proc/self/fd/%d", file);
-    int made = open(path, O_RDONLY | O_CLOEXEC);
+    int made = open_for_reading(file);
     fclose(to);
     return made == -1 ? -ENFILE : made;
 }

@@ -24,8 +24,7 @@ def number(word: str) -> Any:
 
 
 class Area:
-    """A swap area: the owner of each slot, its counts of calls, and the places of its failing read and write,
-    0 for none."""
+    """A swap area: the owner of each slot, its counts of calls, and its failing read and write, or 0."""
 
     def __init__(self, word: str) -> None:
         kind, slots, *place = word.split(":")
@@ -197,8 +196,7 @@ class Run:
             space[base // PAGE + n] = (segment, n), is_writable, base, is_writable
 
     def detach(self, space: Any, origin: Any) -> None:
-        """The lowest piece with this origin names the segment, and all its pieces with this origin are
-        detached."""
+        """The lowest piece with this origin names the segment, whose pieces with it are all detached."""
         segment = next(space[n][0][0] for n in sorted(space) if space[n][2] == origin)
         for n in [n for n in space if space[n][2] == origin and space[n][0][0] == segment]:
             del space[n]

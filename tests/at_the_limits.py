@@ -4,6 +4,10 @@ Each is NAME.shm with NAME.swap and NAME.out, as the stored scripts next to this
 stored. The output is worked out here from the rules of docs/MACHINE.md, each step with its reason, and
 without any program.
 """
+from __future__ import annotations
+
+from collections.abc import Callable
+from pathlib import Path
 from typing import Any
 
 PAGE, BASE = 4096, 0x40000000
@@ -28,18 +32,17 @@ class Script:
     def flush(self, pages: int) -> None:
         self.lines.append(f"0 flush {pages}")
 
-    def write(self, folder: str, name: str, swap: str, rows: list[tuple[Any, ...]],
-              usage: tuple[int, ...]) -> None:
+    def ends(self, swap: str, rows: list[tuple[Any, ...]], usage: tuple[int, ...]) -> Script:
+        """Adds the swap areas, and what is shown at the end: the segments and the counts."""
         text = "".join(line + "\n" for line in self.lines)
-        assert len(text) <= LONGEST and len(self.lines) - self.declared <= MOST_LINES, name
+        assert len(text) <= LONGEST and len(self.lines) - self.declared <= MOST_LINES
         cells = ("key", "shmid", "owner", "perms", "bytes", "nattch", "status")
         table = [" ".join([*(f"{cell!s:10}" for cell in row[:6]), row[6]]) for row in [cells, *rows]]
         counts = ("usage events {} segments {} reserved {} locked {}\n"
                   "usage frames {}/{} dirty {} slots {}/{}\nusage in {} out {} failures {}")
         out = "".join(line + "\n" for line in [*self.events, *table, counts.format(len(self.events), *usage)])
-        for end, content in ((".shm", text), (".swap", swap + "\n"), (".out", out)):
-            with open(f"{folder}/{name}{end}", "w", encoding="ascii") as file:
-                file.write(content)
+        self.files = {".shm": text, ".swap": swap + "\n", ".out": out}
+        return self
 
 
 def row(key: int, shmid: int, size: int, attached: int, status: str = "-",
@@ -53,7 +56,7 @@ def pair_bytes(pair: int, segment: int) -> str:
     return f"{pair % 251 + 1:02x}{segment + 1:02x}"
 
 
-def every_page(folder: str, name: str, swap: str, slots: int) -> None:
+def every_page(kind: str) -> Script:
     """Sixteen segments of 2^24 bytes: SHMALL to its last page, every frame and every slot in use.
 
     Each store crosses from an even page to the next one, so every page is stored to once, in order. The first
@@ -93,11 +96,11 @@ def every_page(folder: str, name: str, swap: str, slots: int) -> None:
                 pair_bytes(pair, segments - 1))
     script.call(f"1 load p+{last} 1", f"load 0x{starts[-1] + last:x} 1", "ee")
     rows = [row(number + 1, number, size, 1) for number in range(segments)]
-    script.write(folder, name, swap, rows, (segments, ALL_PAGES, 0, MOST_FRAMES, MOST_FRAMES, 0, ALL_PAGES,
-                                            slots, SEGMENT_PAGES + 2, ALL_PAGES, 0))
+    return script.ends(f"{kind}:{ALL_PAGES}", rows, (segments, ALL_PAGES, 0, MOST_FRAMES, MOST_FRAMES, 0,
+                                                     ALL_PAGES, ALL_PAGES, SEGMENT_PAGES + 2, ALL_PAGES, 0))
 
 
-def eight_areas(folder: str) -> None:
+def eight_areas() -> Script:
     """A page moves from the first area of 65536 slots to the eighth, as the others are taken away.
 
     Two pages that are loaded evict it. Nothing was stored to them, so they need no slot. swapoff moves it,
@@ -115,11 +118,10 @@ def eight_areas(folder: str) -> None:
     script.call("1 swapoff 7", "swapoff 7", "ENOMEM")
     script.call("1 load a 1", f"load 0x{BASE:x} 1", "2a")
     rows = [row(0, 0, 12288, 1, owner=0)]
-    script.write(folder, "eight_areas", " ".join(["sparse:65536"] * 8), rows,
-                 (1, 3, 0, 2, 2, 0, 1, 65536, 1, 1, 0))
+    return script.ends(" ".join(["sparse:65536"] * 8), rows, (1, 3, 0, 2, 2, 0, 1, 65536, 1, 1, 0))
 
 
-def most_segments(folder: str) -> None:
+def most_segments() -> Script:
     """4096 segments under keys of their own, each found by its key again; one more is refused."""
     script = Script("4096 4096 65536 2 0", "process 1 100 100")
     for key in range(1, 4097):
@@ -133,10 +135,10 @@ def most_segments(folder: str) -> None:
     script.call("1 shmget 4096 1 600", "shmget 0x00001000 1 600", "ENOENT")
     script.call("1 shmget 4096 1 600,creat", "shmget 0x00001000 1 600,creat", 4095 + 32768)
     rows = [row(key, key - 1, 1, 0) for key in range(1, 4096)] + [row(4096, 4095 + 32768, 1, 0)]
-    script.write(folder, "most_segments", "ram:4096", rows, (4096, 4096, 0, 0, 2, 0, 0, 4096, 0, 0, 0))
+    return script.ends("ram:4096", rows, (4096, 4096, 0, 0, 2, 0, 0, 4096, 0, 0, 0))
 
 
-def most_pieces(folder: str) -> None:
+def most_pieces() -> Script:
     """64 processes with 256 pieces each: the 63 children have those of the first one, by fork.
 
     The pieces are consecutive, each a page of the same segment. One more attach is refused in each process.
@@ -156,24 +158,21 @@ def most_pieces(folder: str) -> None:
         script.call(f"{pid} shmdt {last}", f"shmdt 0x{last:x}", "ok")
         script.call(f"{pid} load {last} 1", f"load 0x{last:x} 1", "SIGSEGV")
         script.call(f"{pid} load {last - PAGE} 1", f"load 0x{last - PAGE:x} 1", f"{count + 1:02x}")
-    rows = [row(0, 0, 4096, 64 * 255)]
-    script.write(folder, "most_pieces", "ram:64", rows, (1, 1, 0, 1, 2, 1, 0, 64, 0, 0, 0))
+    return script.ends("ram:64", [row(0, 0, 4096, 64 * 255)], (1, 1, 0, 1, 2, 1, 0, 64, 0, 0, 0))
 
 
-def many_attaches(folder: str) -> None:
-    """Five processes attach a segment 256 times each, by calls of their own: it has 1,280 attachments, all to
-    the same page."""
+def many_attaches() -> Script:
+    """Five processes attach a segment 256 times each: it has 1,280 attachments, all to the same page."""
     script = Script("4096 16 64 2 0", *(f"process {pid} 100 100" for pid in range(1, 6)))
     script.call("1 shmget 7 4096 600,creat", "shmget 0x00000007 4096 600,creat", 0)
     for pid in range(1, 6):
         for piece in range(256):
             script.call(f"{pid} shmat 0 null -", "shmat 0 null -", f"0x{BASE + PAGE * piece:x}")
         script.call(f"{pid} xadd {BASE + PAGE * 255} 1", f"xadd 0x{BASE + PAGE * 255:x} 1", pid - 1)
-    rows = [row(7, 0, 4096, 5 * 256)]
-    script.write(folder, "many_attaches", "ram:64", rows, (1, 1, 0, 1, 2, 1, 0, 64, 0, 0, 0))
+    return script.ends("ram:64", [row(7, 0, 4096, 5 * 256)], (1, 1, 0, 1, 2, 1, 0, 64, 0, 0, 0))
 
 
-def seventy_processes(folder: str) -> None:
+def seventy_processes() -> Script:
     """A sizes line admits 70 processes. The 69 children have the first one's attachment, by fork, and each
     adds to the same number."""
     children = range(2, 71)
@@ -185,11 +184,10 @@ def seventy_processes(folder: str) -> None:
         script.call(f"1 fork {pid}", f"fork {pid}", "ok")
     for count, pid in enumerate((1, *children)):
         script.call(f"{pid} xadd {BASE} 1", f"xadd 0x{BASE:x} 1", count)
-    rows = [row(0, 0, 4096, 70)]
-    script.write(folder, "seventy_processes", "ram:64", rows, (1, 1, 0, 1, 2, 1, 0, 64, 0, 0, 0))
+    return script.ends("ram:64", [row(0, 0, 4096, 70)], (1, 1, 0, 1, 2, 1, 0, 64, 0, 0, 0))
 
 
-def three_hundred_pieces(folder: str) -> None:
+def three_hundred_pieces() -> Script:
     """A sizes line admits 300 pieces of a process, and no 301st."""
     script = Script("4096 16 64 2 0", "process 1 100 100", sizes="300 1 64")
     script.call("1 s = shmget private 4096 600", "shmget 0x00000000 4096 600", 0)
@@ -199,11 +197,10 @@ def three_hundred_pieces(folder: str) -> None:
     last = BASE + PAGE * 299
     script.call(f"1 store {last} 2a", f"store 0x{last:x} 2a", "ok")
     script.call(f"1 load {BASE} 1", f"load 0x{BASE:x} 1", "2a")
-    rows = [row(0, 0, 4096, 300)]
-    script.write(folder, "three_hundred_pieces", "ram:64", rows, (1, 1, 0, 1, 2, 1, 0, 64, 0, 0, 0))
+    return script.ends("ram:64", [row(0, 0, 4096, 300)], (1, 1, 0, 1, 2, 1, 0, 64, 0, 0, 0))
 
 
-def two_thousand_processes(folder: str) -> None:
+def two_thousand_processes() -> Script:
     """A sizes line admits 2,000 processes, all but the first by fork of it. The last one adds to the first
     one's number. One that is declared but not born is not live."""
     children = range(2, 2000)
@@ -216,11 +213,10 @@ def two_thousand_processes(folder: str) -> None:
         script.call(f"1 fork {pid}", f"fork {pid}", "ok")
     script.call(f"1999 xadd {BASE} 1", f"xadd 0x{BASE:x} 1", 5)
     script.call("5000000 exit", "exit", "ESRCH")
-    rows = [row(0, 0, 4096, 1999)]
-    script.write(folder, "two_thousand_processes", "ram:1", rows, (1, 1, 0, 1, 2, 1, 0, 1, 0, 0, 0))
+    return script.ends("ram:1", [row(0, 0, 4096, 1999)], (1, 1, 0, 1, 2, 1, 0, 1, 0, 0, 0))
 
 
-def larger_area(folder: str) -> None:
+def larger_area() -> Script:
     """A sizes line admits an area of 1,000,000 slots, and a segment with as many pages. Two frames: the load
     of the last page evicts the first one, which is dirty, into slot 0, and the next load takes it from there.
     For it the second page leaves, which was never stored, so it needs no slot."""
@@ -231,11 +227,10 @@ def larger_area(folder: str) -> None:
     script.call("1 store a 2a", f"store 0x{BASE:x} 2a", "ok")
     for page, data in ((1, "00"), (999999, "00"), (0, "2a"), (999999, "00")):
         script.call(f"1 load a+{page * PAGE} 1", f"load 0x{BASE + page * PAGE:x} 1", data)
-    rows = [row(0, 0, size, 1)]
-    script.write(folder, "larger_area", "sparse:1000000", rows, (1, 1000000, 0, 2, 2, 0, 1, 1000000, 1, 1, 0))
+    return script.ends("sparse:1000000", [row(0, 0, size, 1)], (1, 1000000, 0, 2, 2, 0, 1, 1000000, 1, 1, 0))
 
 
-def largest_twice(folder: str) -> None:
+def largest_twice() -> Script:
     """Two processes attach a segment of 4096 pages, twice each. What one stores at the last page the other
     reads.
 
@@ -251,12 +246,10 @@ def largest_twice(folder: str) -> None:
     script.call(f"2 load {BASE + 2 * size - 1} 1", f"load 0x{BASE + 2 * size - 1:x} 1", "2a")
     script.call(f"2 store {BASE + size} 2b", f"store 0x{BASE + size:x} 2b", "ok")
     script.call(f"1 load {BASE} 1", f"load 0x{BASE:x} 1", "2b")
-    rows = [row(7, 0, size, 4)]
-    script.write(folder, "largest_twice", "sparse:4096", rows,
-                 (1, SEGMENT_PAGES, 0, 2, 2, 2, 0, 4096, 0, 0, 0))
+    return script.ends("sparse:4096", [row(7, 0, size, 4)], (1, SEGMENT_PAGES, 0, 2, 2, 2, 0, 4096, 0, 0, 0))
 
 
-def most_locked(folder: str) -> None:
+def most_locked() -> Script:
     """MEMLOCK to its last page: 4094 pages of a locked segment stay in 4096 frames, and all others share two.
 
     Each store crosses to the next page, so the locked pages take the first 4094 frames in order. Of the four
@@ -283,11 +276,10 @@ def most_locked(folder: str) -> None:
         offset = 2 * PAGE * pair + PAGE - 1
         script.call(f"1 load a+{offset} 2", f"load 0x{BASE + offset:x} 2", pair_bytes(pair, 0))
     rows = [row(1, 0, large, 1, "locked"), row(2, 1, small, 1)]
-    script.write(folder, "most_locked", "ram:65536", rows,
-                 (2, 4098, 4094, 4096, 4096, 4094, 4, 65536, 2, 4, 0))
+    return script.ends("ram:65536", rows, (2, 4098, 4094, 4096, 4096, 4094, 4, 65536, 2, 4, 0))
 
 
-def most_lines(folder: str) -> None:
+def most_lines() -> Script:
     """100,000 commands and flush lines in a script as long as one may be: blanks fill it up."""
     script = Script("4096 16 64 2 0", "process 1 100 100")
     script.call("1 exit", "exit", "ok")
@@ -297,37 +289,27 @@ def most_lines(folder: str) -> None:
     left = LONGEST - sum(len(line) + 1 for line in script.lines)
     script.lines.append(" " * (left - 1))
     script.declared += 1
-    script.write(folder, "most_lines", "ram:1", [], (0, 0, 0, 0, 2, 0, 0, 1, 0, 0, 0))
+    return script.ends("ram:1", [], (0, 0, 0, 0, 2, 0, 0, 1, 0, 0, 0))
 
 
-def most_events(folder: str) -> None:
+def most_events() -> Script:
     """100,000 commands, each with its event: the last one has the number 100000."""
     script = Script("4096 16 64 2 0", "process 1 100 100")
     script.call("1 exit", "exit", "ok")
     for _ in range(MOST_LINES - 1):
         script.call("1 exit", "exit", "ESRCH")
-    script.write(folder, "most_events", "ram:1", [], (0, 0, 0, 0, 2, 0, 0, 1, 0, 0, 0))
+    return script.ends("ram:1", [], (0, 0, 0, 0, 2, 0, 0, 1, 0, 0, 0))
 
 
 # what `main` writes
-NAMES = ("every_slot", "every_slot_of_a_mirror", "eight_areas", "most_segments", "most_pieces", "most_locked",
-         "many_attaches", "seventy_processes", "three_hundred_pieces", "two_thousand_processes",
-         "larger_area",
-         "largest_twice", "most_lines", "most_events")
+SCRIPTS: dict[str, Callable[[], Script]] = {
+    "every_slot": lambda: every_page("sparse"), "every_slot_of_a_mirror": lambda: every_page("mirror"),
+    **{it.__name__: it for it in (
+        eight_areas, most_segments, most_pieces, most_locked, many_attaches, seventy_processes,
+        three_hundred_pieces, two_thousand_processes, larger_area, largest_twice, most_lines, most_events)}}
 
 
 def main(folder: str) -> None:
-    every_page(folder, "every_slot", f"sparse:{ALL_PAGES}", ALL_PAGES)
-    every_page(folder, "every_slot_of_a_mirror", f"mirror:{ALL_PAGES}", ALL_PAGES)
-    eight_areas(folder)
-    most_segments(folder)
-    most_pieces(folder)
-    most_locked(folder)
-    many_attaches(folder)
-    seventy_processes(folder)
-    three_hundred_pieces(folder)
-    two_thousand_processes(folder)
-    larger_area(folder)
-    largest_twice(folder)
-    most_lines(folder)
-    most_events(folder)
+    for name, make in SCRIPTS.items():
+        for end, content in make().files.items():
+            Path(f"{folder}/{name}{end}").write_text(content, "ascii")

@@ -1,5 +1,4 @@
-"""The conformance cases by the limits that they need, for tests that run the peer for small kernels in a system of
-their own."""
+"""The conformance cases by the limits that they need, for tests of the peer for small kernels."""
 
 from __future__ import annotations
 

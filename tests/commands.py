@@ -5,7 +5,7 @@ from __future__ import annotations
 import os
 import subprocess
 from collections.abc import Callable, Sequence
-from typing import IO, Any, NamedTuple
+from typing import Any, NamedTuple
 
 TOP = os.path.dirname(os.path.dirname(os.path.realpath(__file__)))
 SECONDS = 120
@@ -76,7 +76,3 @@ class Conform:
         process = self.start(*words, **how)
         said, _ = process.communicate()
         return process.returncode, said.decode(errors="replace")
-
-
-def rest_of(stream: IO[bytes] | None) -> str:
-    return stream.read().decode(errors="replace") if stream else ""

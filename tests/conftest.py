@@ -148,6 +148,5 @@ def peer() -> Iterator[str]:
 
 @pytest.fixture
 def conform() -> Conform:
-    """Runs ./conform over the built program, which is looked for only if the words name nothing else to
-    test."""
+    """Runs ./conform over the built program, which is looked for only if the words name no other."""
     return Conform(lambda: built("shmsim"))

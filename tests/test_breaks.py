@@ -10,6 +10,7 @@ import os
 import re
 import shutil
 import sys
+from pathlib import Path
 from typing import NamedTuple
 
 import pytest
@@ -61,8 +62,7 @@ def broken_copy(bug: Break, room: str) -> None:
         elif name != ".git":
             os.symlink(source, to)
     text = text_of(bug.file)
-    with open(f"{room}/{bug.file}", "w", encoding="utf-8") as file:
-        file.write(text.replace(bug.old, bug.new))
+    Path(f"{room}/{bug.file}").write_text(text.replace(bug.old, bug.new), "utf-8")
 
 
 @pytest.mark.plants

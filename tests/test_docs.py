@@ -1,5 +1,4 @@
-"""The docs: each link leads somewhere, and README shows what it has to. Also the tools that work on the
-docs."""
+"""The docs: each link leads somewhere, and README shows what it has to. Also the tools for the docs."""
 
 from __future__ import annotations
 
@@ -68,8 +67,7 @@ def test_sentences(folder: str) -> None:
                                    ["tools/wrong_machines", "texts"]],
                          ids=" ".join)
 def test_is_current(words: list[str]) -> None:
-    """The numbers of docs/VERIFICATION.md are current, and texts that edits and wrong machines change occur
-    once."""
+    """The numbers of docs/VERIFICATION.md are current; texts of edits and wrong machines occur once."""
     ended = run([os.path.join(TOP, words[0]), *words[1:]])
     assert ended.status == 0, ended.out + ended.said
 

@@ -90,8 +90,7 @@ def other_areas(swaps: Any, asked: Any) -> Iterator[Any]:
 
 
 def test_scripts_ask() -> None:
-    """The stored outputs have enough reads, writes and discards, and moved pages: fewer would be scripts that
-    test nothing."""
+    """The stored outputs have enough reads, writes, discards and moved pages to test something."""
     sums, moved = [0, 0, 0], 0
     for script in SERIAL:
         out = text_of(f"{script[:-4]}.out")
@@ -132,8 +131,7 @@ def calls_in(profile: Any) -> Any:
 @pytest.mark.skipif(not shutil.which("valgrind"), reason="there is no valgrind")
 @pytest.mark.parametrize("script", [path for path in SERIAL if is_compared(path)], ids=name_of)
 def test_copies(script: str, proved_shmsim: str, folder: str) -> None:
-    """There are as many copies of pages as the usage has pages in and out, and no slot is cleared
-    meanwhile."""
+    """There are as many copies of pages as the usage has ins and outs, and no slot is cleared meanwhile."""
     profile = os.path.join(folder, "profile")
     words = ["valgrind", "-q", "--tool=callgrind", f"--callgrind-out-file={profile}", proved_shmsim, "serial",
              *swap_of(script)]

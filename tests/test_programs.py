@@ -50,8 +50,7 @@ def test_no_child_waits(proved_shmsim: str, place: int) -> None:
 
 
 def test_fault_of_an_unproved_program(folder: str) -> None:
-    """The start script says that nothing was proved, compiles the programs if none is there yet, and passes on
-    what the program says."""
+    """The start script says that nothing was proved, compiles the programs, and passes on what they say."""
     with open(write_file(folder, "bad.shm", "limits 65536 16 64 4 1\nno form\n"), encoding="ascii") as file:
         ended = run([f"{TOP}/shmsim", "--unproved", "serial", "ram:1"], file.read(), seconds=900)
     first, *compiled, last = ended.said.splitlines()

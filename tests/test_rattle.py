@@ -1,5 +1,4 @@
-"""The crate that docs/RATTLE.md shows, in a repository of its own, and the tool that copies crates there. ./test
-also proves it."""
+"""The crate of docs/RATTLE.md in a repository of its own, and the tool that copies crates there."""
 
 from __future__ import annotations
 
@@ -19,12 +18,10 @@ def take(*words: str) -> tuple[int, str, str]:
 
 
 def test_crates_are_taken(folder: str) -> None:
-    """A crate comes with all crates below it, without what is built and without edits; crates that are there
-    already stay."""
+    """A crate comes with all crates below it, without builds and edits; crates that are there stay."""
     write_file(folder, "crates.txt", "own: shm_pager\n")
     os.makedirs(f"{folder}/crates/own/src")
-    assert take(folder, "shm_pager") == (
-        0, f"{folder}/crates has 2 more crates: shm_base shm_pager\n", "")
+    assert take(folder, "shm_pager") == (0, f"{folder}/crates has 2 more crates: shm_base shm_pager\n", "")
     assert sorted(os.listdir(f"{folder}/crates")) == ["own", "shm_base", "shm_pager"]
     assert sorted(os.listdir(f"{folder}/crates/shm_pager")) == ["proofs", "specs", "src"]
     lines = text_of(f"{folder}/crates.txt")

@@ -180,8 +180,7 @@ def is_marked(ended: Run, printed: str) -> bool:
 
 
 def takers(lines: Any) -> Any:
-    """The lines whose calls take memory, by their place: they have a variable. The second attach of a segment
-    takes none."""
+    """The lines whose calls take memory, by place: they have a variable. A second attach takes none."""
     return [n for n, line in enumerate(lines) if " = shm" in line]
 
 
@@ -364,8 +363,7 @@ WHOLE = "1 1 exit = ok\nusage events 1\n"
     Run(4, "", ""), Run(4, "", "shmsim: write failed\n"),
     Run(2, "", "shmsim: usage: shmsim serial|threads SWAP...\n")])
 def test_is_not_stopped(ended: Run) -> None:
-    """A run that leaves something of a refused call, or prints another message, is not taken for one that
-    stopped."""
+    """A run that leaves something of a refused call, or prints another message, has not stopped."""
     assert not is_stopped(ended)
 
 

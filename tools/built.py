@@ -31,8 +31,7 @@ def newest_source() -> float:
 
 
 def program_of(crate: str, may_be_unproved: bool = False) -> str:
-    """Returns a crate's program that no source is newer than: the proved one, or else, if that will do, the
-    one that --unproved kept."""
+    """A crate's program that no source is newer than: the proved one, or, if allowed, an unproved one."""
     places = [f"{TOP}/crates/{crate}/out/{crate}",
               f"{TOP}/build/unproved/{crate}"][:2 if may_be_unproved else 1]
     newest = newest_source()

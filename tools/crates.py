@@ -14,6 +14,7 @@ import re
 import shutil
 import tempfile
 from collections.abc import Iterable, Iterator
+from pathlib import Path
 
 TOP = os.path.dirname(os.path.dirname(os.path.realpath(__file__)))
 ROOMS = f"{TOP}/build"
@@ -62,14 +63,12 @@ def lines(crate: str) -> int:
     for at, _, files in os.walk(f"{TOP}/crates/{crate}/src"):
         for name in files:
             if name.endswith(".rt") and "tests" not in name:
-                with open(f"{at}/{name}", "rb") as file:
-                    found += file.read().count(b"\n")
+                found += Path(f"{at}/{name}").read_bytes().count(b"\n")
     return found
 
 
 def free_memory() -> int:
-    with open("/proc/meminfo", encoding="utf-8") as file:
-        return 1024 * int(re.findall(r"MemAvailable:\s+(\d+)", file.read())[0])
+    return 1024 * int(re.findall(r"MemAvailable:\s+(\d+)", Path("/proc/meminfo").read_text("utf-8"))[0])
 
 
 def lanes() -> int:
@@ -85,8 +84,7 @@ def link_or_copy(source: str, to: str) -> None:
 
 
 def furnish(room: str, crate: str, below: Iterable[str]) -> None:
-    """Puts the sources of the crate and of those below it into the room, and the built libraries of those
-    below."""
+    """Puts the sources of the crate and of those below it into the room, with the latter's libraries."""
     with open(f"{TOP}/crates.txt", encoding="utf-8") as file:
         kept = [line for line in file if re.split(r"\W", line)[0] in {crate, *below}]
     with open(f"{room}/crates.txt", "w", encoding="utf-8") as written:

@@ -55,8 +55,7 @@ def is_proved(crate: str, folder: str, words: list[str], to: str) -> bool:
 
 
 def rattle(crate: str, folder: str, *words: str) -> bool:
-    """Runs the prover or a compiler in the crate's folder. Returns whether all is well; if not, it prints the
-    end of what that said."""
+    """Runs the prover or a compiler in the crate's folder. Whether all is well; if not, it prints why."""
     ran = subprocess.run([f"{kit()}/bin/rattle", *words], cwd=f"{folder}/crates/{crate}", stdin=subprocess.DEVNULL,
                          stdout=subprocess.PIPE, stderr=subprocess.STDOUT, text=True, errors="replace", check=False)
     if ran.returncode:

@@ -7,6 +7,7 @@ import hashlib
 import os
 import re
 import zipfile
+from pathlib import Path
 from typing import Any, Dict, Optional
 
 HERE = os.path.dirname(os.path.abspath(__file__))
@@ -20,8 +21,7 @@ class BuildError(Exception):
 
 
 def text_of(path: str) -> str:
-    with open(path, encoding="utf-8") as file:
-        return file.read()
+    return Path(path).read_text("utf-8")
 
 
 def found(pattern: str, text: str) -> str:
@@ -75,8 +75,7 @@ def contents_of(number: str, tag: str, shared: str) -> Dict[str, bytes]:
         paths[f"{NAME}/{SHARED}"] = shared
     contents = {}
     for name, path in paths.items():
-        with open(path, "rb") as file:
-            contents[name] = file.read()
+        contents[name] = Path(path).read_bytes()
     info = f"{NAME}-{number}.dist-info"
     contents[f"{info}/METADATA"] = metadata(number).encode()
     is_pure = str(not shared).lower()

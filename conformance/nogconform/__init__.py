@@ -1,2 +1,1 @@
-"""The conformance kit: it runs the same calls through this project and on another system, and compares the
-replies."""
+"""The conformance kit: it compares replies of this project and another system to the same calls."""

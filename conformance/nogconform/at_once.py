@@ -51,8 +51,7 @@ class Skipped(Exception):
 
 @dataclass
 class Log:
-    """The answers of each process, in the order in which the calls ended, and when each call began and
-    ended."""
+    """The answers of each process in the order of their ends, and when each call began and ended."""
 
     lines: list[str] = field(default_factory=list)
     spans: list[tuple[int, int]] = field(default_factory=list)
@@ -63,16 +62,14 @@ class Log:
         return tuple(sorted(self.lines, key=pid_of))
 
     def orders(self) -> Iterator[list[str]]:
-        """Orders that the times allow: the order of the ends, and some random ones that are the same at each
-        run."""
+        """Orders that the times allow: that of the ends, and some random ones, the same at each run."""
         yield self.lines
         chance = random.Random(0)
         for _ in range(ORDERS - 1):
             yield [self.lines[place] for place in self.order_by(chance)]
 
     def order_by(self, chance: random.Random) -> list[int]:
-        """A call may be next if it is the first remaining one of its process, and no other call ended before
-        it began."""
+        """A call may be next if it is the first left of its process, and no other call ended before it."""
         left: dict[str, list[int]] = {}
         order: list[int] = []
         for place, line in enumerate(self.lines):
@@ -115,7 +112,7 @@ class Generator:
         return self.pick("600", "600", "660", "640",
                          "444") if len(self.users) == 1 else self.pick("600", "660", "666", "644", "660")
 
-    def make_shmget(self, _own: list[int | str]) -> str:
+    def make_shmget(self) -> str:
         flags = self.pick(",creat", ",creat", ",creat", ",creat,excl", ",creat,excl", "")
         size = self.pick(4096, 4096, 4096, 4096, 4096, 8192, 1, 0)
         return f"s = shmget {self.random.choice(self.keys)} {size} {self.mode()}{flags}"
@@ -135,35 +132,8 @@ class Generator:
             return f"{at + offset:#x}"
         return f"{at}+{offset}" if offset else at
 
-    def make_shmdt(self, own: list[int | str]) -> str:
-        return f"shmdt {self.address(own)}"
-
     def base(self, own: list[int | str]) -> int:
         return self.random.choice([it for it in own if isinstance(it, int)] or [*BASES])
-
-    def make_munmap(self, own: list[int | str]) -> str:
-        """Of a whole attachment, which has at most two pages: Linux unmaps a part in several steps."""
-        return f"munmap {self.base(own):#x} 16384"
-
-    def make_mprotect(self, own: list[int | str]) -> str:
-        """Also of a whole attachment; if it is shorter, the page above it is refused."""
-        return f"mprotect {self.base(own):#x} {self.pick(8192, 16384)} {self.pick('ro', 'rw')}"
-
-    def make_setuid(self, _own: list[int | str]) -> str:
-        uid, gid = self.random.choice(self.users)
-        return f"setuid {uid} {gid}"
-
-    def make_load(self, own: list[int | str]) -> str:
-        return f"load {self.address(own, self.pick(0, 8))} {self.pick(1, 2, 4, 8, 8)}"
-
-    def make_store(self, own: list[int | str]) -> str:
-        return f"store {self.address(own, self.pick(0, 8))} {self.random.choice(WORDS)}"
-
-    def make_xadd(self, own: list[int | str]) -> str:
-        return f"xadd {self.address(own, self.pick(0, 0, 8))} {self.pick(1, 1, 255, 2 ** 64 - 1)}"
-
-    def make_swap(self, own: list[int | str]) -> str:
-        return f"swap {self.address(own, self.pick(0, 8))} {self.random.choice(WORDS)}"
 
     def make_cas(self, own: list[int | str]) -> str:
         """Mostly of a lock, which is zeros while nobody holds it."""
@@ -171,31 +141,39 @@ class Generator:
         expected = self.pick("00" * (len(new) // 2), new)
         return f"cas {self.address(own, self.pick(0, 0, 8))} {expected} {self.pick(new, '00' * (len(new) // 2))}"
 
-    def make_stat(self, _own: list[int | str]) -> str:
-        return "stat s"
+    def user(self) -> str:
+        return "{} {}".format(*self.random.choice(self.users))
 
-    def make_set(self, _own: list[int | str]) -> str:
-        uid, gid = self.random.choice(self.users)
-        return f"set s {uid} {gid} {self.mode()}"
-
-    def make_rmid(self, _own: list[int | str]) -> str:
-        return "rmid s"
+    def calls(self, own: list[int | str]) -> list[tuple[Callable[[], str], int]]:
+        """The calls of a process that may have attached at these addresses, each with its weight. Only whole
+        attachments are unmapped, which have at most two pages: Linux unmaps a part in several steps. The
+        same is true of mprotect: if the attachment is shorter, the page above it is refused."""
+        calls: list[tuple[Callable[[], str], int]] = [
+            (self.make_shmget, 1), (lambda: "stat s", 3), (lambda: f"set s {self.user()} {self.mode()}", 1),
+            (lambda: "rmid s", 2), (lambda: self.make_shmat(own), 2 if own else 8)]
+        if own:
+            calls += [
+                (lambda: f"shmdt {self.address(own)}", 2), (lambda: f"munmap {self.base(own):#x} 16384", 1),
+                (lambda: f"mprotect {self.base(own):#x} {self.pick(8192, 16384)} {self.pick('ro', 'rw')}", 2)]
+        if len(self.users) > 1:
+            calls += [(lambda: f"setuid {self.user()}", 1)]
+        if own:
+            calls += [
+                (lambda: f"load {self.address(own, self.pick(0, 8))} {self.pick(1, 2, 4, 8, 8)}", 4),
+                (lambda: f"store {self.address(own, self.pick(0, 8))} {self.random.choice(WORDS)}", 4),
+                (lambda: f"xadd {self.address(own, self.pick(0, 0, 8))} {self.pick(1, 1, 255, 2 ** 64 - 1)}", 4),
+                (lambda: f"swap {self.address(own, self.pick(0, 8))} {self.random.choice(WORDS)}", 2),
+                (lambda: self.make_cas(own), 4)]
+        return calls
 
     def lines(self, pid: int, count: int) -> list[str]:
         """The lines of a process; `own` are the addresses where it may have attached."""
         own: list[int | str] = []
         lines: list[str] = []
         for number in range(count):
-            makes = ((self.make_shmget, 1), (self.make_stat, 3), (self.make_set, 1), (self.make_rmid, 2),
-                     (self.make_shmat, 2 if own else 8), (self.make_shmdt, 2 if own else 0),
-                     (self.make_munmap, 1 if own else 0), (self.make_mprotect, 2 if own else 0),
-                     (self.make_setuid, 1 if len(self.users) > 1 else 0),
-                     (self.make_load, 4 if own else 0),
-                     (self.make_store, 4 if own else 0), (self.make_xadd, 4 if own else 0),
-                     (self.make_swap, 2 if own else 0), (self.make_cas, 4 if own else 0))
-            make = self.random.choices([m for m, _ in makes],
-                                       [w for _, w in makes])[0] if number else self.make_shmget
-            lines.append(f"{pid} {make(own)}")
+            makes, weights = zip(*self.calls(own))
+            make = self.random.choices(makes, weights)[0] if number else self.make_shmget
+            lines.append(f"{pid} {make()}")
         return lines
 
     def script(self) -> str:
@@ -297,8 +275,7 @@ class Judge:
         self.words = words
 
     def verdict(self, text: str, lines: list[str], most: int = MOST) -> tuple[str, str]:
-        """`legal`, `illegal` or `undecided`, and the judge's output. It tries the order of the lines
-        first."""
+        """`legal`, `illegal` or `undecided`, and the judge's output. The order of the lines comes first."""
         with tempfile.NamedTemporaryFile("w", encoding="ascii", prefix="conform.") as file:
             file.write("\n".join(lines) + "\n")
             file.flush()
@@ -396,8 +373,7 @@ def changed_logs(log: Log, changes_of: Changes) -> Iterator[Log]:
 
 
 def mixed_logs(log: Log) -> Iterator[tuple[Log, str]]:
-    """The same with the names of the explanations, if each line may have its own: those with the fewest
-    explanations first."""
+    """The same with the names of explanations, if each line may have its own: the fewest first."""
     choices = [[(line, "")] + [(other, name) for name,
                                changes_of in EXPLANATIONS for other in changes_of(line, log.lines)[1:]]
                for line in log.lines]
@@ -409,8 +385,7 @@ def mixed_logs(log: Log) -> Iterator[tuple[Log, str]]:
 
 
 def explanation_of(text: str, log: Log, tries: int, is_legal: Callable[[str, Log], object]) -> str:
-    """The name of the explanation of a log, or nothing. An explained log differs from a legal one only in
-    what the explanation allows."""
+    """The explanation of a log, or nothing: a legal log differs only in what the explanation allows."""
     for name, changes_of in EXPLANATIONS:
         if any(is_legal(text, other) for other in itertools.islice(changed_logs(log, changes_of), tries)):
             return name

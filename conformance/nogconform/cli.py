@@ -6,6 +6,7 @@ import os
 import re
 import sys
 from collections.abc import Sequence
+from pathlib import Path
 
 from .at_once import Judge, RacingPeer, find_judge, run_at_once
 from .explain import Machine, find_machine
@@ -96,8 +97,7 @@ def run(options: Options, folder: str, results: Results) -> int:
 def own_version() -> str:
     """The version; ./install wrote it into a file of its own."""
     if os.path.isfile(INSTALLED):
-        with open(INSTALLED, encoding="ascii") as file:
-            return file.read().strip()
+        return Path(INSTALLED).read_text("ascii").strip()
     with open(os.path.join(TOP, "CHANGELOG.md"), encoding="utf-8") as file:
         return str(re.findall(r"^## ([0-9][0-9.]*)", file.read(), re.M)[0])
 

@@ -33,8 +33,7 @@ class Difference:
 
 @dataclass
 class Result:
-    """The number of equal commands, the different ones with their rules, and those not compared with the
-    reasons."""
+    """How many commands are equal, the different ones with rules, and those not compared with reasons."""
 
     agree: int = 0
     by_rule: dict[str, int] = field(default_factory=dict)
@@ -111,8 +110,7 @@ def compare_one(result: Result, known: Explainer, index: int) -> bool:
 
 
 def told_events(case: Case, others: list[Event], is_linux: bool, has_clock: bool = False) -> list[Event]:
-    """The output of a program that gives each reply of the case; words of stat that the case leaves out are
-    the peer's."""
+    """An output with each reply of the case; words of stat that the case leaves out are the peer's."""
     events = []
     for command, other in zip(case.commands, others):
         told = command.told(is_linux)

@@ -15,7 +15,7 @@ from collections.abc import Iterator
 from dataclasses import dataclass, field, replace
 
 from nogcuvema.machine import LARGER, PROFILE, Rules
-from nogconform.script import Case, Command, Event
+from nogconform.script import Case, Event
 
 from .places import TOP
 from .running import run_program
@@ -144,8 +144,7 @@ def user_of(case: Case, events: list[Event], pid: int) -> int:
 
 
 def may_have_most_pieces(case: Case, events: list[Event]) -> bool:
-    """Whether so many pieces were made that a process may have as many as it may; a remap makes up to two
-    more."""
+    """Whether a process may have as many pieces as it may; a remap makes up to two more."""
     most = case.sizes[0] if case.sizes else PIECES
     made = {"shmat": 1, "munmap": 1, "mprotect": 2}
     return sum(made.get(it.word, 0) + 2 * ("remap" in " ".join(it.operands))

@@ -114,8 +114,7 @@ def converted(trace: Trace, slots: int) -> Converter:
         found = Converter(trace, order=order, loose=loose).run()
     found = fitted(trace, found, order, loose, slots)
     if not is_explained:
-        found.notes.add("not known", "no order of the calls that overlap was found that explains all replies",
-                        0)
+        found.notes.add("not known", "no order of the calls that overlap was found that explains all replies")
     return found
 
 
@@ -134,13 +133,12 @@ def fitted(trace: Trace, found: Converter, order: dict[Name, float] | None, loos
     sizes = {size: rank for rank, size in enumerate(asked, 1)}
     found = Converter(trace, sizes, order, loose).run()
     changed = ", ".join(f"{size} is {rank}" for size, rank in sizes.items())
-    found.notes.add("changed", f"sizes, in their order, so that the segments fit: {changed}", 0)
+    found.notes.add("changed", f"sizes, in their order, so that the segments fit: {changed}")
     return found
 
 
 def places_of(commands: list[Command]) -> dict[Name, float]:
-    """Places for calls in another order than that of their entries, each between its first and its last
-    line."""
+    """Places for calls in another order than their entries, each between its first and last line."""
     places: dict[Name, float] = {}
     place = 0
     for number, command in enumerate(commands):
@@ -201,8 +199,7 @@ def script_of(commands: list[Command], head: list[str], uid: int, gid: int) -> s
 
 
 def overlaps(commands: list[Command]) -> list[int]:
-    """For each command, how many overlap from it on; 0 if it overlaps with none or is not the first of
-    them."""
+    """For each command, how many overlap from it on; 0 if none, or if it is not the first of them."""
     counts = [0] * len(commands)
     begins = [command.first for command in commands]        # of this command or a later one, the earliest
     for place in reversed(range(len(commands) - 1)):
@@ -244,8 +241,7 @@ def schedule_in(text: str) -> list[int]:
 
 
 def fault_in_time(commands: list[Command], schedule: list[int]) -> tuple[Command, Command] | None:
-    """A command that the schedule has before one that had already returned when it began, and that one; or
-    None."""
+    """A command that the schedule has before one that returned before it began, and that one; or None."""
     own: dict[int, list[Command]] = {}
     for command in commands:
         own.setdefault(command.process.pid, []).append(command)
@@ -275,10 +271,10 @@ def user_of(found: Converter, words: argparse.Namespace) -> tuple[int, int]:
     """The user and group of all processes of the script."""
     uid, gid = next(iter(found.users)) if len(found.users) == 1 else (os.geteuid(), os.getegid())
     if len(found.users) == 1 and None in (words.uid, words.gid):
-        found.notes.add("assumed", f"user {uid} and group {gid}, whom stat shows", 0)
+        found.notes.add("assumed", f"user {uid} and group {gid}, whom stat shows")
     if len(found.users) > 1:
-        found.notes.add("not known", f"stat shows {len(found.users)} creators, and all processes begin as one user",
-                        0)
+        found.notes.add("not known",
+                        f"stat shows {len(found.users)} creators, and all processes begin as one user")
     return uid if words.uid is None else words.uid, gid if words.gid is None else words.gid
 
 
@@ -304,8 +300,7 @@ def write_all(texts: list[tuple[str, str]]) -> None:
 
 
 def command_of(path: str) -> str:
-    """How a program of this project is called from the current folder: by its name on the path if it is
-    installed."""
+    """How a program of this project is called from the current folder; by its name if it is installed."""
     if os.path.isfile(INSTALLED):
         return "nogcuvema-from-strace" if path.endswith("from_strace") else path
     near = os.path.relpath(os.path.join(TOP, path))

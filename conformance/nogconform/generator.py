@@ -1,5 +1,4 @@
-"""Random scripts: calls over several processes, owners and segments, from few values, so that states
-repeat."""
+"""Random scripts: calls over several processes, owners and segments. Values are few, so states repeat."""
 
 from __future__ import annotations
 
@@ -57,8 +56,7 @@ class Generator:
         return self.random.choice(values)
 
     def identifier(self, pid: int) -> str:
-        """Mostly one of the first segments, or a variable of the process; seldom a number that was never
-        given."""
+        """Mostly one of the first segments or a variable of the process; seldom a number never given."""
         if self.holds[pid] and self.one_in(3):
             return self.random.choice(sorted(self.holds[pid]))
         return str(self.random.choice((0, 0, 1, 1, 2, 2, 3, 4)) + 32768 * (self.one_in(6) + self.one_in(20)))
@@ -108,21 +106,6 @@ class Generator:
         is_left = self.has_flags and pid in self.roots and int(address, 16) < 0x10000
         return hex(self.random.choice(BASES)) if is_left and not self.one_in(4) else address
 
-    def make_shmdt(self, _pid: int) -> str:
-        return f"shmdt {self.random.choice(LETTERS) if self.one_in(5) else self.address()}"
-
-    def make_stat(self, pid: int) -> str:
-        return f"stat {self.identifier(pid)}"
-
-    def make_set(self, pid: int) -> str:
-        return f"set {self.identifier(pid)} {self.user()} {self.user()} {self.mode()}"
-
-    def make_rmid(self, pid: int) -> str:
-        return f"rmid {self.identifier(pid)}"
-
-    def make_lock(self, pid: int) -> str:
-        return f"{self.pick('lock', 'lock', 'unlock')} {self.identifier(pid)}"
-
     def make_load(self, _pid: int) -> str:
         if self.one_in(6):
             return f"load {self.random.choice(LETTERS)}+{self.pick(0, 100, 4090)} {self.pick(1, 8, 64)}"
@@ -134,12 +117,6 @@ class Generator:
     def make_store(self, _pid: int) -> str:
         data = self.bytes(1, 2, 8)
         return f"store {self.random.choice(LETTERS) if self.one_in(6) else self.place()} {data}"
-
-    def make_xadd(self, _pid: int) -> str:
-        return f"x = xadd {self.place()} {self.pick(1, 255, 2 ** 64 - 1)}"
-
-    def make_swap(self, _pid: int) -> str:
-        return f"x = swap {self.place()} {self.bytes(1, 2, 4, 8)}"
 
     def make_cas(self, _pid: int) -> str:
         """Of a lock's byte, which is mostly 0 or 1, or of some bytes that are mostly zeros."""
@@ -156,9 +133,6 @@ class Generator:
         if self.one_in(12):
             return f"{self.random.choice(LETTERS) + self.pick('', '+4096', '+8192')} {length}"
         return f"{self.address()} {length}"
-
-    def make_munmap(self, _pid: int) -> str:
-        return f"munmap {self.range()}"
 
     def make_setuid(self, pid: int) -> str:
         uid, gid = self.random.choice(USERS)
@@ -189,21 +163,27 @@ class Generator:
         return "exec"
 
     def command(self) -> str:
-        makes: tuple[tuple[Callable[[int], str], int], ...]
-        makes = ((self.make_shmget, 12), (self.make_shmat, 20), (self.make_shmdt, 12), (self.make_stat, 16),
-                 (self.make_set, 5), (self.make_rmid, 5), (self.make_lock, 5), (self.make_load, 10),
-                 (self.make_store, 10), (self.make_xadd, 3), (self.make_swap, 2), (self.make_cas, 3),
-                 (self.make_process_event, 2))
-        makes += ((self.make_munmap, 5), (self.make_setuid, 2)) if self.has_mappings else ()
+        """A call, of which the process is chosen too. Each has its weight."""
+        calls: list[tuple[Callable[[int], str], int]] = [
+            (self.make_shmget, 12), (self.make_shmat, 20),
+            (lambda _: f"shmdt {self.random.choice(LETTERS) if self.one_in(5) else self.address()}", 12),
+            (lambda pid: f"stat {self.identifier(pid)}", 16),
+            (lambda pid: f"set {self.identifier(pid)} {self.user()} {self.user()} {self.mode()}", 5),
+            (lambda pid: f"rmid {self.identifier(pid)}", 5),
+            (lambda pid: f"{self.pick('lock', 'lock', 'unlock')} {self.identifier(pid)}", 5),
+            (self.make_load, 10), (self.make_store, 10),
+            (lambda _: f"x = xadd {self.place()} {self.pick(1, 255, 2 ** 64 - 1)}", 3),
+            (lambda _: f"x = swap {self.place()} {self.bytes(1, 2, 4, 8)}", 2),
+            (self.make_cas, 3), (self.make_process_event, 2)]
+        calls += [(lambda _: f"munmap {self.range()}", 5), (self.make_setuid, 2)] if self.has_mappings else []
         often = 40 if self.has_ranges else 5
-        makes += ((self.make_mprotect, often),) if self.has_mappings and not self.has_exec else ()
-        make = self.random.choices([m for m, _ in makes], [w for _, w in makes])[0]
+        calls += [(self.make_mprotect, often)] if self.has_mappings and not self.has_exec else []
+        make = self.random.choices([it for it, _ in calls], [weight for _, weight in calls])[0]
         pid = self.random.choice(self.live)
         return f"{pid} {make(pid)}"
 
     def opening(self) -> None:
-        """A few segments, with attaches next to each other; with many mprotects also one that is long enough to be
-        split."""
+        """A few segments, attached next to each other; with many mprotects also one that can be split."""
         if self.has_ranges:
             self.lines.append(f"{self.live[0]} shmget private 24576 666")
             self.lines += [f"{pid} shmat 0 {self.random.choice(BASES[:7]):#x} -" for pid in self.live]

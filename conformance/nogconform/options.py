@@ -51,8 +51,7 @@ EXCLUDED = (
 
 
 class Once(argparse.Action):
-    """Keeps the value of an option, or that it was given. If it is given twice, the first value would be
-    ignored."""
+    """Keeps the value of an option, or that it was given. Given twice, the first would be ignored."""
 
     def __call__(self, parser: argparse.ArgumentParser, namespace: argparse.Namespace, values: Any,
                  option_string: str | None = None) -> None:
@@ -176,8 +175,7 @@ def parser_of_words() -> Words:
 
 
 def read_options(words: Sequence[str]) -> Options | str:
-    """The options, or the name of the only word: --help or --version. A peer's own words are not looked
-    at."""
+    """The options, or the only word: --help or --version. A peer's own words are not looked at."""
     at = words.index("--peer") if "--peer" in words else len(words)
     own, peer = [f"--library={TOP}/build" if word == "--library" else word
                  for word in words[:at]], words[at + 1:]

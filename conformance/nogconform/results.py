@@ -76,8 +76,7 @@ class Results:
 
 
 def junit_of(outcomes: list[Outcome]) -> str:
-    """A test suite with one test case for each outcome: DIFFER and FAILS are failures, STOPPED and MALFORMED
-    errors."""
+    """A suite with a test case for each outcome: DIFFER and FAILS are failures, STOPPED, MALFORMED errors."""
     def clean(text: str) -> str:
         return NO_TEXT.sub("?", text)
 

@@ -13,6 +13,7 @@ import subprocess
 import tempfile
 import time
 from collections.abc import Iterator
+from pathlib import Path
 from typing import IO
 
 from nogconform.script import Case, Event
@@ -39,8 +40,7 @@ def is_own(words: list[str]) -> bool:
 
 
 def start_own_program(words: list[str]) -> None:
-    """Builds this project's own program first if needed: without a time limit, and with its progress
-    shown."""
+    """Builds this project's own program if needed: without a time limit, and with its progress shown."""
     if not is_own(words):
         return
     done = subprocess.run(words + ["serial", "ram:1"], input=b"limits 1 1 1 2 0\n", stdout=subprocess.DEVNULL,
@@ -94,8 +94,7 @@ def build_library(folder: str, library: str) -> tuple[str, bool, bool]:
     if missing:
         raise Stopped(f"the library was not built: there is no {missing}; ./lib makes it, and "
                       f"--library=FOLDER names another folder")
-    with open(header, encoding="utf-8") as file:
-        text = file.read()
+    text = Path(header).read_text("utf-8")
     version, has_rules = re.search(r"NOG_VERSION (\d+)", text), re.search(r"\bNOG_LINUX\b", text) is not None
     has_mappings = version is not None and int(version[1]) >= 10100
     words = ["-I", library] + ["-DNOG_HAS_RULES"] * has_rules
@@ -162,8 +161,7 @@ class Peer:
 
 @contextlib.contextmanager
 def only_one() -> Iterator[None]:
-    """Only one peer at a time on this machine: Linux counts a user's locked pages over all of its
-    processes."""
+    """Only one peer at a time on this machine: Linux counts a user's locked pages over all processes."""
     folder = os.open(tempfile.gettempdir(), os.O_RDONLY)
     try:
         fcntl.flock(folder, fcntl.LOCK_EX)

@@ -96,10 +96,6 @@ class Command:
     expected: str | None = None
     linux: str | None = None    # if it differs
 
-    @property
-    def has_variable(self) -> bool:
-        return " = " in self.text
-
     def told(self, is_linux: bool) -> str:
         """The reply under Linux's rules, or under the profile's; nothing if the case has none."""
         return (self.linux if is_linux and self.linux else self.expected) or ""

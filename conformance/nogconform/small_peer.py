@@ -143,8 +143,7 @@ def write_replies(record: str, folder: str) -> int:
 
 
 def paths_of(names: list[str], is_linux: bool) -> list[str]:
-    """The files of the named cases: a file, or the name of a case. Without names all cases that the peer can
-    read."""
+    """The files of cases, which are named by file or by name. Without names all that the peer can read."""
     folders = [CASES] + [os.path.join(CASES, "rules")] * is_linux
     if not names:
         return [path for folder in folders for path in names_in(folder)]

@@ -34,8 +34,7 @@ class BadTrace(Exception):
 
 @dataclass
 class Call:
-    """A call of a thread. Without `last` it never returned. The end of a thread is `+++`, or `superseded` by
-    an execve of another one."""
+    """A call of a thread; without `last` it never returned. A thread's end is `+++`, or `superseded`."""
 
     thread: str
     name: str
@@ -44,6 +43,7 @@ class Call:
     last: int | None = None
     value: str = "?"
     error: str = ""
+    place: float = 0    # in the order of the script
 
     @property
     def thread_and_line(self) -> tuple[str, bool, int]:

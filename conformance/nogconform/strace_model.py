@@ -1,5 +1,4 @@
-"""The segments and attachments of a trace: where each is in the process, and where it is in the script's
-machine."""
+"""The segments and attachments of a trace: where each is in the process, and in the script's machine."""
 
 from __future__ import annotations
 
@@ -167,8 +166,7 @@ class Memory:
             self.destroy(segment)
 
     def known(self, identifier: int) -> Segment | None:
-        """The segment of an identifier; also a destroyed one, because a call that overlaps with its end may
-        come before it."""
+        """The segment of an identifier, also a destroyed one: a call that overlaps its end may come first."""
         return self.live.get(identifier) or self.gone.get(identifier)
 
     def had_key(self, key: int) -> bool:

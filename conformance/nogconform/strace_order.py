@@ -126,8 +126,7 @@ def slack_of(commands: list[Command]) -> dict[int, int]:
 
 
 class Search:
-    """A depth-first search, with the calls of each process in their order, and no call before one that had
-    returned when it began."""
+    """A depth-first search, with each process's calls in order, and none before one that had returned."""
 
     def __init__(self, commands: list[Command], slack: dict[int, int] | None = None) -> None:
         self.own: dict[str, list[Command]] = {}

@@ -80,8 +80,8 @@ class Notes:
 
     counts: dict[tuple[str, str], tuple[int, int]] = field(default_factory=dict)
 
-    def add(self, kind: str, text: str, line: int) -> None:
-        count, first = self.counts.get((kind, text), (0, line))
+    def add(self, kind: str, text: str, at: Call | Thread | None = None) -> None:
+        count, first = self.counts.get((kind, text), (0, at.first if at else 0))
         self.counts[kind, text] = (count + 1, first)
 
     def lines(self) -> Iterator[str]:
@@ -139,14 +139,14 @@ class Tree:
                 if made:
                     self.makers[made[0].name] = call
                     self.notes.add("assumed", f"{call.name} without a return made process {made[0].number}",
-                                   call.first)
+                                   call)
 
     def process_of(self, thread: Thread, used: set[int]) -> Process:
         call = self.makers.get(thread.name)
         if call is not None and kind_of(call) in ("thread", "memory") and call.thread in self.processes:
             if kind_of(call) == "memory":
                 self.notes.add("changed", "processes that share all memory with their maker count as it",
-                               call.first)
+                               call)
             return self.processes[call.thread]
         number = int(thread.name.split("#")[0]) or thread.number
         pid = number
@@ -154,14 +154,13 @@ class Tree:
             pid = next(it for it in range(1, len(self.taken) + 2) if it not in self.taken)
             self.taken.add(pid)
             self.notes.add("changed", f"process {number or 'without a number'} is {pid} in the script",
-                           thread.first)
+                           thread)
         used.add(pid)
         return Process(thread.name, pid)
 
 
 def kind_of(call: Call) -> str:
-    """What a call makes: a thread, a process that shares the memory for good or until an exec, or a process
-    with a copy."""
+    """What a call makes: a thread, a process that shares the memory (until an exec), or one with a copy."""
     if call.name in ("fork", "vfork"):
         return call.name
     flags = (member(call.text, "flags") or "").split("|")
@@ -192,24 +191,23 @@ class Converter:
     def run(self) -> Converter:
         self.makes = {id(call): name for name, call in self.tree.makers.items()}
         for place, _, call in sorted(self.placed(), key=lambda it: it[:2]):
-            process = self.tree.processes[call.thread]
+            call.place = place
             try:
-                self.take(process, call, place)
+                self.take(self.tree.processes[call.thread], call)
             except LeftOut as why:
-                self.notes.add("left out", str(why), call.first)
+                self.notes.add("left out", str(why), call)
         self.commands = [it for it in self.commands if self.is_told(it)]
         return self
 
     def placed(self) -> Iterator[tuple[float, int, Call]]:
-        """The calls with their places. A place is a call's first line, because a call is made soon after
-        strace lets it continue."""
+        """The calls with their places: the first lines, because strace soon lets a call continue."""
         for index, call in enumerate(self.trace.calls):
             made = self.makes.get(id(call))
             if made is not None:
                 first = self.trace.threads[made].first
                 call.last = first if call.last is None else min(call.last, first)
             if call.name in CALLS and call.last is None:
-                self.notes.add("left out", f"{call.name} without a return", call.first)
+                self.notes.add("left out", f"{call.name} without a return", call)
             elif call.name not in ENDS and call.last is not None:
                 yield self.order.get(call.thread_and_line, call.first), index, call
         own: dict[str, tuple[Process, list[Call]]] = {}
@@ -220,8 +218,7 @@ class Converter:
             yield from self.end_of(process, calls)
 
     def end_of(self, process: Process, own: list[Call]) -> Iterator[tuple[float, int, Call]]:
-        """The end of a process is that of its last thread. It begins at its last call, or after it where a
-        signal ends it."""
+        """A process ends with its last thread: at its last call, or after it where a signal ends it."""
         ends = [it for it in own if it.name in ENDS]
         if {it.thread for it in ends} != process.threads:
             return
@@ -248,28 +245,32 @@ class Converter:
 
     # each call
 
-    def take(self, process: Process, call: Call, place: float) -> None:
+    def take(self, process: Process, call: Call) -> None:
         if call.name in CALLS:
-            getattr(self, "take_" + call.name)(process, call, place)
+            getattr(self, "take_" + call.name)(process, call)
         elif call.name in MADE_BY:
-            self.take_making(process, call, place)
+            self.take_making(process, call)
         elif call.name in ("execve", "execveat"):
-            self.take_exec(process, call, place)
+            self.take_exec(process, call)
         elif call.name == "+++":
-            self.lose_all(process, call, place, "exit")
+            self.lose_all(process, call, "exit")
         elif call.name in MAPPINGS:
-            self.take_mapping(process, call, place)
+            self.take_mapping(process, call)
         elif CREDENTIALS.fullmatch(call.name):
-            self.take_user(process, call, place)
+            self.take_user(process, call)
         elif call.name not in ("exit", "exit_group"):
-            self.notes.add("left out", "calls that are not of shared memory", call.first)
+            self.notes.add("left out", "calls that are not of shared memory", call)
 
-    def put(self, process: Process, call: Call, place: float, word: str, parts: list[Part], shown: str,
-            reply: str, **more: Any) -> None:
+    def add(self, process: Process, call: Call, word: str, parts: list[Part], shown: str, reply: str = "ok",
+            **more: Any) -> None:
+        self.commands.append(Command(process, word, parts, shown, reply, call.place, call.first,
+                                     call.last or call.first, call=call, **more))
+
+    def put(self, process: Process, call: Call, word: str, parts: list[Part], shown: str, reply: str = "ok",
+            **more: Any) -> None:
+        """Adds a line of a process that is in the script because of it."""
         self.matter.add(process.name)
-        more |= {"effects": self.memory.take_changes(), "call": call}
-        self.commands.append(Command(process, word, parts, shown, reply, place, call.first,
-                                     call.last or call.first, **more))
+        self.add(process, call, word, parts, shown, reply, effects=self.memory.take_changes(), **more)
 
     @staticmethod
     def reply_of(call: Call, good: str) -> str:
@@ -282,8 +283,7 @@ class Converter:
         return call.error
 
     def segment_of(self, word: str, call: Call) -> Segment | None:
-        """The segment of an identifier, or None if it never was one. A refusal may be about a destroyed
-        segment."""
+        """The segment of an identifier, or None if it never was one. A refused call's may be destroyed."""
         identifier = number_of(word)
         segment = self.memory.known(identifier)
         if segment is None and not (call.is_refused and call.error in ("EINVAL", "EIDRM")):
@@ -292,7 +292,7 @@ class Converter:
             require_told(segment)
         return segment
 
-    def take_shmget(self, process: Process, call: Call, place: float) -> None:
+    def take_shmget(self, process: Process, call: Call) -> None:
         key_word, size_word, flags_word = call.words
         key, real_size = number_of(key_word) if key_word != "IPC_PRIVATE" else 0, number_of(size_word)
         reply = self.reply_of(call, "?")
@@ -306,22 +306,21 @@ class Converter:
         if call.is_refused and not self.memory.had_key(key) and call.error in ("EEXIST", "EACCES"):
             raise LeftOut("calls on keys from before the trace")
         if call.is_refused and call.error in ("ENOMEM", "ENOSPC", "EPERM"):
-            self.notes.add("not known", f"shmget that failed with {call.error}: {NO_LIMITS}, so give --limits",
-                           call.first)
+            self.notes.add("not known",
+                           f"shmget that failed with {call.error}: {NO_LIMITS}, so give --limits", call)
         size = self.size_of(real_size)
         segment, created = None, self.memory.created
         if not call.is_refused:
             segment = self.got(call, key, size, real_size, "creat" in flags, is_huge)
         for other in others:
-            self.notes.add("changed", f"shmget without {other}, which the script language lacks", call.first)
+            self.notes.add("changed", f"shmget without {other}, which the script language lacks", call)
         if call.error != "EINVAL" and not (found and found is segment):
             self.most_size = max(self.most_size, size)
         words = ",".join([f"{mode:03o}", *flags])
         key_text = "private" if key == 0 else f"0x{key & 0xffffffff:08x}"
         shown = f"0x{key & 0xffffffff:08x} {size} {words}"
-        self.put(process, call, place, "shmget", [f"{key_text} {size} {words}"], shown, reply, result=segment,
-                 key=key,
-                 is_new=self.memory.created > created)
+        self.put(process, call, "shmget", [f"{key_text} {size} {words}"], shown, reply, result=segment,
+                 key=key, is_new=self.memory.created > created)
 
     def got(self, call: Call, key: int, size: int, real_size: int, may_create: bool,
             is_huge: bool) -> Segment:
@@ -338,7 +337,7 @@ class Converter:
         require_told(segment)
         return segment
 
-    def take_shmat(self, process: Process, call: Call, place: float) -> None:
+    def take_shmat(self, process: Process, call: Call) -> None:
         id_word, address_word, flags_word = call.words
         reply = self.reply_of(call, "?")
         if not call.is_refused:
@@ -351,7 +350,7 @@ class Converter:
         if call.is_refused:
             self.refused_attach(process, call, segment, address, flags, others)
         for other in others:
-            self.notes.add("changed", f"shmat without {other}, which the script language lacks", call.first)
+            self.notes.add("changed", f"shmat without {other}, which the script language lacks", call)
         shown = f"{number_of(id_word)} {shown_address(address)} {','.join(flags) or '-'}"
         size = pages_of(segment.real_size) * PAGE if segment else PAGE
         rounded = address & -PAGE if "rnd" in flags else address
@@ -360,11 +359,10 @@ class Converter:
         if segment and not call.is_refused:
             attach, reply = self.attached(process, call, segment, where, rounded, size)
         parts = [id_part(segment), " ", *where.parts, " ", ",".join(flags) or "-"]
-        self.put(process, call, place, "shmat", parts, shown, reply, result=attach)
+        self.put(process, call, "shmat", parts, shown, reply, result=attach)
 
     def attach_unseen(self, process: Process, call: Call, segment: Segment | None, identifier: int) -> None:
-        """Notes an attach that the script does not have: it still replaces or occupies a range, if the
-        segment's size is known."""
+        """Notes an attach that the script lacks: it still takes a range, if the segment's size is known."""
         if segment is not None:
             size = pages_of(segment.real_size) * PAGE
             start = number_of(call.value)
@@ -401,7 +399,7 @@ class Converter:
         offset = address - piece.attach.address
         most = pages_of(piece.attach.segment.size) * PAGE
         if offset >= most > 0:
-            self.notes.add("changed", "addresses beyond the smaller size of a segment", call.first)
+            self.notes.add("changed", "addresses beyond the smaller size of a segment", call)
             offset %= PAGE
         number = piece.attach.number + offset
         if offset < 0 or piece.attach.is_literal:
@@ -422,7 +420,7 @@ class Converter:
         self.memory.put(process, [*rest, Piece(attach, 0, size, "SHM_RDONLY" not in call.words[2])])
         return attach, f"0x{machine:x}" if is_literal else "?"
 
-    def take_shmdt(self, process: Process, call: Call, place: float) -> None:
+    def take_shmdt(self, process: Process, call: Call) -> None:
         address = number_of(call.words[0])
         reply = self.reply_of(call, "ok")
         pieces = process.of_origin(address)
@@ -432,19 +430,19 @@ class Converter:
                 raise LeftOut("shmdt of attachments that the trace does not show")
             if any(it.attach.number == address for it in process.pieces):
                 raise LeftOut("shmdt of an address where the script has an attachment")
-            self.put(process, call, place, "shmdt", [shown], shown, reply)
+            self.put(process, call, "shmdt", [shown], shown, reply)
             return
         attach = min(pieces, key=lambda it: it.start).attach
         self.detach(process, call, attach)
         require_told(attach.segment)
-        self.put(process, call, place, "shmdt", [address_part(attach)], shown, reply)
+        self.put(process, call, "shmdt", [address_part(attach)], shown, reply)
 
     def detach(self, process: Process, call: Call, attach: Attach) -> None:
         if not call.is_refused:
             gone = [it for it in process.of_origin(attach.address) if it.attach.segment is attach.segment]
             self.memory.put(process, [it for it in process.pieces if it not in gone])
 
-    def take_shmctl(self, process: Process, call: Call, place: float) -> None:
+    def take_shmctl(self, process: Process, call: Call) -> None:
         id_word, command, *rest = call.words
         name = command.removeprefix("IPC_64|")
         if name not in CONTROLS:
@@ -457,38 +455,26 @@ class Converter:
             self.memory.remove(unseen)
             require_told(unseen)
         segment = self.segment_of(id_word, call)
-        operands = ""
-        if word == "set":
-            operands = set_operands(rest[0])
+        operands = set_operands(rest[0]) if word == "set" else ""
         if word == "lock" and call.error in ("ENOMEM", "EPERM"):
             self.notes.add("not known", f"lock that failed with {call.error}: {NO_LIMITS}, so give --limits",
-                           call.first)
-        if not call.is_refused:
-            if word == "stat" and segment:
-                reply = self.stat_reply(call, segment, rest[0])
-            elif word == "rmid" and segment:
-                self.memory.remove(segment)
-        self.put(process, call, place, word, [id_part(segment), operands], f"{number_of(id_word)}{operands}",
-                 reply)
+                           call)
+        if word == "stat" and segment and not call.is_refused:
+            reply = self.stat_reply(call, segment, rest[0])
+        elif word == "rmid" and segment and not call.is_refused:
+            self.memory.remove(segment)
+        self.put(process, call, word, [id_part(segment), operands], f"{number_of(id_word)}{operands}", reply)
 
     def stat_reply(self, call: Call, segment: Segment, text: str) -> str:
-        if segment.is_touched:
-            self.notes.add("changed",
-                           "stat of a segment with attachments that such calls changed, so it may be any",
-                           call.first)
-            return "?"
-        if call.thread_and_line in self.loose:
-            self.notes.add("changed",
-                           "stat while a shmat overlaps, whose count is too high, so it may be any",
-                           call.first)
-            return "?"
         told = {name: member(text, f"shm_{name}")
                 for name in ("segsz", "cpid", "lpid", "nattch", "atime", "dtime", "ctime")}
         told |= {name: member(text, name) for name in ("uid", "gid", "cuid", "cgid", "mode", "key")}
         names = {name: word for name, word in told.items() if word is not None}
-        if len(names) < len(told) or "..." in text:
-            self.notes.add("changed", "stat whose fields strace did not print, so they may be any",
-                           call.first)
+        unknown = ("of a segment with attachments that such calls changed" if segment.is_touched else
+                   "while a shmat overlaps, whose count is too high" if call.thread_and_line in self.loose else
+                   "whose fields strace did not print" if len(names) < len(told) or "..." in text else "")
+        if unknown:
+            self.notes.add("changed", f"stat {unknown}, so it may be any", call)
             return "?"
         self.users.add((int(names["cuid"]), int(names["cgid"])))
         mode, key = number_of_mode(names["mode"]), number_of(names["key"]) & 0xffffffff
@@ -497,60 +483,45 @@ class Converter:
         size = self.size_of(number_of(names["segsz"]))
         users = " ".join(f"{name}={names[name]}" for name in ("uid", "gid", "cuid", "cgid"))
         return (f"key=0x{key:08x} {users} mode={mode & 0o777:03o} status={status} size={size} "
-                f"cpid={names['cpid']} "
-                f"lpid={names['lpid']} nattch={names['nattch']} {' '.join(times)}")
+                f"cpid={names['cpid']} lpid={names['lpid']} nattch={names['nattch']} {' '.join(times)}")
 
     # processes
 
-    def take_making(self, process: Process, call: Call, place: float) -> None:
+    def take_making(self, process: Process, call: Call) -> None:
         made = self.makes.get(id(call))
         kind = kind_of(call)
         if call.is_refused:
             raise LeftOut(f"{call.name} that failed with {call.error}")
-        if kind in ("thread", "memory"):
-            if kind == "thread":
-                self.notes.add("changed", "threads, whose calls count as those of their process",
-                               call.first)
-            return
-        if made is None:
-            if process.pieces and call.value != "?":
-                self.notes.add("left out", f"{call.name} of a process of which the trace has no line",
-                               call.first)
+        if kind == "thread":
+            self.notes.add("changed", "threads, whose calls count as those of their process", call)
+        elif kind != "memory" and made is None and process.pieces and call.value != "?":
+            self.notes.add("left out", f"{call.name} of a process of which the trace has no line", call)
+        if kind in ("thread", "memory") or made is None:
             return
         child = self.tree.processes[made]
         child.program, child.user = process.program, process.user
         if kind == "vfork" and process.pieces:
             # it runs in its maker's memory until its exec, and inherits nothing
             self.notes.add("changed",
-                           "vfork of a process with attachments: its child is a process of its own",
-                           call.first)
+                           "vfork of a process with attachments: its child is a process of its own", call)
             return
         if process.pieces:
             self.matter |= {process.name, child.name}
         self.memory.put(child, list(process.pieces))
         pid = str(child.pid)
-        more: dict[str, Any] = {"child": child, "effects": self.memory.take_changes(), "call": call}
-        self.commands.append(Command(process, "fork", [pid], pid, "ok", place, call.first,
-                                     call.last or call.first, **more))
-        self.take_kept(child, call, place)
+        self.add(process, call, "fork", [pid], pid, child=child, effects=self.memory.take_changes())
+        self.take_kept(child, call)
 
-    def take_kept(self, child: Process, call: Call, place: float) -> None:
-        """In the script a child also inherits attachments with MADV_DONTFORK, so it begins with a shmdt of
-        them."""
+    def take_kept(self, child: Process, call: Call) -> None:
+        """In the script a child inherits attachments with MADV_DONTFORK too, so it begins by a shmdt."""
         for attach in {id(piece.attach): piece.attach
                        for piece in child.pieces if piece.attach.stays}.values():
-            self.notes.add("changed", "a child without an attachment of MADV_DONTFORK begins by shmdt",
-                           call.first)
+            self.notes.add("changed", "a child without an attachment of MADV_DONTFORK begins by shmdt", call)
             self.memory.put(child, [piece for piece in child.pieces if piece.attach is not attach])
             if not attach.segment.out:
-                shown = shown_address(attach.address)
-                self.matter.add(child.name)
-                parts = [address_part(attach)]
-                more: dict[str, Any] = {"effects": self.memory.take_changes(), "call": call}
-                self.commands.append(Command(child, "shmdt", parts, shown, "ok", place, call.first,
-                                             call.last or call.first, **more))
+                self.put(child, call, "shmdt", [address_part(attach)], shown_address(attach.address))
 
-    def take_exec(self, process: Process, call: Call, place: float) -> None:
+    def take_exec(self, process: Process, call: Call) -> None:
         if call.value != "0":
             return
         maker = self.tree.makers.get(call.thread)
@@ -559,19 +530,18 @@ class Converter:
                           "as its maker's")
         path = re.match(r'"([^"]*)"', call.words[0] if call.words else "")
         process.program = path[1].rsplit("/", 1)[-1] if path else process.program
-        self.lose_all(process, call, place, "exec")
+        self.lose_all(process, call, "exec")
 
-    def lose_all(self, process: Process, call: Call, place: float, word: str) -> None:
+    def lose_all(self, process: Process, call: Call, word: str) -> None:
         """An end or an exec without attachments changes nothing, and is left out of the script."""
         is_in_script = any(not it.attach.segment.out for it in process.pieces)
         if process.pieces:
             self.memory.put(process, [])
         if is_in_script:
-            self.put(process, call, place, word, [], "", "ok")
+            self.put(process, call, word, [], "")
 
-    def take_mapping(self, process: Process, call: Call, place: float) -> None:
-        """A call that may change attached memory. An munmap or mprotect has a line for each piece that it
-        reaches."""
+    def take_mapping(self, process: Process, call: Call) -> None:
+        """A call that may change attached memory. Each piece that it reaches has a line of its own."""
         words = call.words
         if call.is_refused or len(words) < 2 or words[0] == "NULL" or not words[1].isdigit():
             return
@@ -583,11 +553,11 @@ class Converter:
         is_whole = (process.of_origin(start) == [piece]
                     and pages_of(int(words[1])) * PAGE == piece.stop - piece.start)
         if call.name == "munmap" and is_whole and piece.start == start and not piece.attach.segment.out:
-            self.notes.add("changed", "munmap of a whole attachment, written as shmdt", call.first)
+            self.notes.add("changed", "munmap of a whole attachment, written as shmdt", call)
             self.detach(process, call, piece.attach)
-            self.put(process, call, place, "shmdt", [address_part(piece.attach)], shown_address(start), "ok")
+            self.put(process, call, "shmdt", [address_part(piece.attach)], shown_address(start))
             return
-        if call.name in ("munmap", "mprotect") and self.put_range(process, call, place):
+        if call.name in ("munmap", "mprotect") and self.put_range(process, call):
             return
         for it in process.pieces:
             if it.start < start + int(words[1]) and start < it.stop:
@@ -597,8 +567,7 @@ class Converter:
         advice = f" {words[-1]}" if call.name == "madvise" else ""
         raise LeftOut(f"{call.name}{advice} of attached memory; later replies may differ")
 
-
-    def put_range(self, process: Process, call: Call, place: float) -> bool:
+    def put_range(self, process: Process, call: Call) -> bool:
         """The lines of an munmap or mprotect; whether the script can have them."""
         start, protection = number_of(call.words[0]), PROTECTIONS.get(call.words[-1])
         stop = start + pages_of(int(call.words[1])) * PAGE
@@ -616,11 +585,11 @@ class Converter:
                 continue
             low, high = max(start, it.start), min(stop, it.stop)
             rest = f" {high - low} {protection}" if protection and call.name == "mprotect" else f" {high - low}"
-            self.put(process, call, place, call.name, [address_part(it.attach, low - it.attach.address), rest],
-                     shown_address(low) + rest, "ok")
+            self.put(process, call, call.name, [address_part(it.attach, low - it.attach.address), rest],
+                     shown_address(low) + rest)
         return True
 
-    def take_user(self, process: Process, call: Call, place: float) -> None:
+    def take_user(self, process: Process, call: Call) -> None:
         """A process with another effective user or group has a line setuid, if it is in the script."""
         if call.value != "0":
             return
@@ -636,8 +605,7 @@ class Converter:
             return
         process.user = user
         parts: list[Part] = [" ".join(name if it is None else str(it) for name, it in zip(FIRST_USER, user))]
-        self.commands.append(Command(process, "setuid", parts, str(parts[0]), "ok", place, call.first,
-                                     call.last or call.first, call=call))
+        self.add(process, call, "setuid", parts, str(parts[0]))
 
 
 @dataclass

@@ -12,7 +12,7 @@ from collections.abc import Sequence
 
 import pytest
 
-from at_the_limits import NAMES as AT_THE_LIMITS, main as write_scripts_at_the_limits
+from at_the_limits import SCRIPTS as AT_THE_LIMITS, main as write_scripts_at_the_limits
 from commands import SECONDS, TOP, Conform, environment, run, text_of, write_file
 from conftest import libraries_of
 from crates import all_below, graph
@@ -93,8 +93,7 @@ def c_parameters(parameter: str) -> list[str]:
 
 
 def test_prototypes() -> None:
-    """Each prototype of the header has the parameters of the library's function, by type and name, in their
-    order."""
+    """Each prototype of the header has the parameters of the library's function: types, names, order."""
     sources = "".join(text_of(path)
                       for path in sorted(glob.glob(os.path.join(TOP, "crates", "nogcuvema", "src", "*.rt"))))
     functions = re.findall(r'extern "C" fn (nog_\w+)\(([^)]*)\) -> u32', sources)
@@ -133,8 +132,7 @@ NAMES = [os.path.basename(name) for name, _ in PROGRAMS]
 
 
 def check_program(name: str, words: list[str]) -> None:
-    """A program ends with status 0, writes nothing to standard error, and prints the stored text, if there is
-    one."""
+    """A program ends with status 0 and no message, and prints the stored text, if there is one."""
     ended = run(words)
     assert (ended.status, ended.said, ended.out) == (0, "", text_of(f"{name}.out", ended.out))
 

@@ -9,6 +9,7 @@ import re
 import subprocess
 import sys
 from collections.abc import Sequence
+from pathlib import Path
 from typing import Any
 
 import pytest
@@ -224,8 +225,7 @@ def test_words(folder: str, conform: Conform) -> None:
     """Wrong words, missing tools, and the output for a log that no order has."""
     fake = os.path.join(folder, "all_so.py")
     for reply in ("ok", "skipped: here"):
-        with open(fake + reply[:2], "w", encoding="ascii") as file:
-            file.write(ALL_SO.replace("REPLY", reply))
+        Path(fake + reply[:2]).write_text(ALL_SO.replace("REPLY", reply), "ascii")
     peer = ["--peer", sys.executable, fake + "ok"]
     no, yes = ["--judge", "sh -c echo${IFS}illegal;exit${IFS}6"], ["--judge", "sh -c exit${IFS}5"]
     run = ["--runs", "2", "at-once", "1", "7"]
@@ -291,8 +291,7 @@ def test_logs_of_the_peer(peer: str) -> None:
         unmade = "skipped: an access at once is of 1, 2, 4 or 8 aligned bytes"
         told = {pid: [line.partition(" = ")[2].replace(unmade, "skipped")
                       for line in log.lines if line.startswith(pid)] for pid in "12"}
-        replies = ["; ".join(" ".join(told[pid]) for pid in "12")]
-        assert replies == [REPLIES]
+        assert ["; ".join(" ".join(told[pid]) for pid in "12")] == [REPLIES]
         assert all(began <= ended for began, ended in log.spans)
         assert [it[1] for it in log.spans] == sorted(it[1] for it in log.spans)
 
@@ -316,8 +315,7 @@ def test_not_at_once(peer: str, line: str, wanted: int, said: str) -> None:
 
 
 def test_races(peer: str) -> None:
-    """In the system's own namespace no script is run at once; and of two creations of one key one is
-    refused."""
+    """In the system's own namespace no script is run at once; of two creations of a key one is refused."""
     done = subprocess.run([peer, "--at-once", "2", "--shared"], input=TWO.encode(), capture_output=True,
                           check=False)
     assert done.returncode == 4

@@ -1,5 +1,4 @@
-"""The cases through the program and through the peer, as root and as an ordinary user, and what a user may do
-wrong."""
+"""The cases through program and peer, as root and as an ordinary user, and what a user may do wrong."""
 
 from __future__ import annotations
 
@@ -112,8 +111,7 @@ def has_one_user(name: str) -> bool:
 
 
 def test_without_root(conform: Conform, peer: str) -> None:
-    """An ordinary user is the script's first user: the other users' calls are skipped, and none of the first
-    user's."""
+    """An ordinary user is the script's first user: only the other users' calls are skipped."""
     words = words_without_root()
     if words is None:
         pytest.skip("this is not root, or user 65534 has no user namespace")
@@ -135,8 +133,7 @@ def test_documents(rule: str) -> None:
 
 
 def test_seconds(conform: Conform, peer: str, folder: str) -> None:
-    """With a second between calls the times are compared. Without locked pages the run may have its own
-    lock."""
+    """With a second between calls times are compared. Without locked pages a run may have its own lock."""
     path = write_file(folder, "seconds.shm", TIMES)
     status, said = conform("--seconds", path, "--peer", peer, env={**os.environ, "TMPDIR": folder})
     assert status == 0

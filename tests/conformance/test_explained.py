@@ -68,8 +68,7 @@ def changed(others: list[Event], index: int, reply: str) -> list[Event]:
 
 
 def check(machine: Machine, case: Case, others: list[Event], name: str, **how: bool) -> Result:
-    """Under the profile the name explains each difference, and nothing explains a wrong reply in its
-    place."""
+    """Under the profile the name explains each difference, and nothing explains a wrong reply."""
     events = machine.events(case, 0)
     result = against_peer(case, events, others, machine, **how)
     assert not result.different

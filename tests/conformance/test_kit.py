@@ -124,7 +124,7 @@ ok 6 - undone # SKIP no command can be made there
 JUNIT = (("right", None, ""), ("bad", "error", "MALFORMED"), ("other", "failure", "FAILS"),
          ("broken", "error", "STOPPED"),
          ("missing", "skipped", None), ("undone", "skipped", None))
-# replies that no call can have, and some that one can
+
 
 def said_of(text: str, has_flags: bool = False) -> str:
     try:
@@ -155,8 +155,7 @@ def test_flags_of_the_kit(has_flags: bool, line: str, wanted: str) -> None:
 
 @pytest.mark.parametrize("source", CITED)
 def test_cited(source: str) -> None:
-    said = said_of(RIGHT.replace("profile", source))
-    assert said == ""
+    assert said_of(RIGHT.replace("profile", source)) == ""
 
 
 @pytest.mark.parametrize("source", LINUX_CITED + LINUX_UNCITED)
@@ -166,8 +165,7 @@ def test_cited_for_linux(source: Any) -> None:
 
 
 def write_cases(folder: str) -> tuple[list[str], list[str]]:
-    """A right case and others with each kind of result, with a program that gives one reply and a folder of
-    the peer's output."""
+    """Cases with each kind of result, a program that gives one reply, and a folder of the peer's output."""
     program = write_file(folder, "one_reply", f"#!/bin/sh\necho '{EVENT}'\n", 0o755)
     paths = [write_file(folder, "right.shm", RIGHT), write_file(folder, "bad.shm", HEAD + "1 exit\n"),
              write_file(folder, "other.shm", RIGHT.replace("= 0", "= 1").replace("A seg", "A # seg")),
@@ -247,8 +245,7 @@ def test_odd_text(folder: str, conform: Conform) -> None:
 
 
 def test_own_program(folder: str, monkeypatch: Any) -> None:
-    """The project's own program is started once before the first case, so that its build has no time limit;
-    another one is not."""
+    """Only the project's own program is started before the first case, so that its build has no limit."""
     log = os.path.join(folder, "log")
     own = write_file(folder, "shmsim", f"#!/bin/sh\necho \"$@\" >> {log}\nexit $(cat {folder}/status)\n",
                      0o755)
@@ -272,8 +269,7 @@ def test_own_program(folder: str, monkeypatch: Any) -> None:
 ])
 def test_word(agree: int, by_rule: dict[str, int], different: list[Any], wanted: str) -> None:
     """The word for a case: a difference is DIFFER, whatever else the rules of the profile explain."""
-    found = Result(agree=agree, by_rule=by_rule, different=different).word
-    assert found == wanted
+    assert Result(agree=agree, by_rule=by_rule, different=different).word == wanted
 
 
 # words of which one would be ignored, or that are wrong, with the only line that is printed
@@ -343,8 +339,7 @@ def no_tools(tmp_path_factory: Any) -> Any:
     *((text.split(), told) for text, told in REFUSED), *EMPTY
 ])
 def test_refused(no_tools: Any, words: Any, told: Any) -> None:
-    """A word that would be ignored, or is wrong, is refused before anything is built or run, and nothing else
-    is printed."""
+    """A word that would be ignored, or is wrong, is refused before anything is built, run or printed."""
     assert run([os.path.join(TOP, "conform"), *words], env=no_tools) == (2, "", f"conform: {told}\n")
     assert not os.path.exists(no_tools["LOG"])
 
@@ -413,8 +408,7 @@ def test_mappings(folder: str, conform: Conform, reply: str, wanted: int, line: 
 
 def over_library(folder: str, case: str, event: str, *options: str,
                  under_linux: str | None = None) -> tuple[int, str]:
-    """What ./conform prints for a case over a library whose program prints one line, and another one under
-    Linux's rules."""
+    """What ./conform prints for a case over a library that prints one line, and another by Linux's rules."""
     # the rule on huge pages is 1024
     text = ("#!/bin/sh\ncase $1:$2 in --rules:linux) rules=2047 ;; --rules:[0-9]*) rules=$2 ;; *) rules=0 ;; esac\n"
             f"if [ \"$rules\" -ge 1024 ]; then echo '{under_linux or event}'; else echo '{event}'; fi\n")
@@ -459,8 +453,7 @@ def test_rules(folder: str, conform: Conform) -> None:
 
 
 def test_flags_of_random_scripts() -> None:
-    """Only random scripts under Linux's rules have the kit's flags; exec never together with mprotect, and
-    hugetlb never with noreserve."""
+    """Only scripts by Linux's rules have the kit's flags: no exec with mprotect or hugetlb with noreserve."""
     seen = {name: 0 for name in ("exec", "hugetlb", "noreserve", "mprotect")}
     for number in range(100):
         text, plain = (make_script("flags", number, True, has_flags) for has_flags in (True, False))

@@ -1,5 +1,4 @@
-"""The kit's program over the C library: it prints what ./shmsim prints, byte for byte, and has the kit's own
-words."""
+"""The kit's program over the C library: it prints what ./shmsim prints, and has the kit's own words."""
 
 from __future__ import annotations
 

@@ -8,10 +8,11 @@ import shutil
 import signal
 import subprocess
 import tempfile
+from pathlib import Path
 
 import pytest
 
-from commands import Conform
+from commands import Conform, text_of
 from nogconform.places import CASES, KIT, PEER_SOURCE
 from nogconform.running import FLAGS, Peer
 from nogconform.script import is_expected, read_case
@@ -62,14 +63,12 @@ def segments_of(pid: int) -> set[str]:
 
 
 def children(pid: int) -> list[int]:
-    with open(f"/proc/{pid}/task/{pid}/children", encoding="ascii") as file:
-        return [int(word) for word in file.read().split()]
+    return [int(word) for word in text_of(f"/proc/{pid}/task/{pid}/children").split()]
 
 
 def start_peer(peer: str, options: list[str], text: str,
                lines: int) -> tuple[subprocess.Popen[bytes], list[str]]:
-    """A peer in the middle of a case: it has made this number of commands, and waits because its output pipe
-    is full."""
+    """A peer in the middle of a case: it made so many commands, and waits for room in its output pipe."""
     script = tempfile.TemporaryFile()
     script.write(text.encode())
     script.seek(0)
@@ -117,8 +116,7 @@ def test_killed(peer: str, who: str, number: signal.Signals, options: list[str])
 
 @has_segments
 def test_guardian_gone(peer: str) -> None:
-    """The guardian is killed while no worker is busy: the director removes the segments when the script is
-    done."""
+    """The guardian is killed while no worker is busy: the director then removes the segments."""
     process, _said = start_peer(peer, ["--shared"], IDLE, 2)
     worker = children(children(process.pid)[0])[0]
     made = segments_of(worker)
@@ -134,11 +132,9 @@ def test_guardian_gone(peer: str) -> None:
     1, 1, 2, 3
 ])
 def test_interrupted(folder: str, lines: int) -> None:
-    """An interrupt is not lost, whatever the guardian is doing: here it has made only its fork, or some more
-    of its calls."""
+    """An interrupt is not lost, whatever the guardian is doing: after its fork, or after more calls."""
     header, peer = os.path.join(folder, "slow.h"), os.path.join(folder, "slow_peer")
-    with open(header, "w", encoding="ascii") as file:
-        file.write(SLOW)
+    Path(header).write_text(SLOW, "ascii")
     words = ["cc", *FLAGS, "-Wno-unused-function", "-include", header, "-I", KIT, "-o", peer, PEER_SOURCE]
     done = subprocess.run(words, capture_output=True, check=False)
     if done.returncode:
@@ -183,8 +179,7 @@ def test_own_memory(peer: str) -> None:
 
 
 def test_own_ranges(peer: str) -> None:
-    """Nothing is unmapped or protected where the peer's own memory is, but a call that reaches nothing is
-    made."""
+    """Nothing changes where the peer's own memory is, but a call that reaches nothing is made."""
     skip, end = "skipped: the peer's own memory is there", 0x7ffffffff000
     all_of_it = end - 0x10000
     calls = ((f"munmap 0x10000 {all_of_it}", skip), (f"munmap 0x10000 {all_of_it + 1}", "EINVAL"),
@@ -205,12 +200,10 @@ def test_own_ranges(peer: str) -> None:
 
 
 def test_mappings(peer: str) -> None:
-    """The cases of munmap, mprotect and setuid: the replies are those of the cases, except by this
-    project's own rules."""
+    """The cases of munmap, mprotect and setuid: the replies are right, except by this project's own rules."""
     found = set()
     for name in sorted(filter(MAPPINGS.fullmatch, os.listdir(CASES))):
-        with open(os.path.join(CASES, name), encoding="ascii") as file:
-            case = read_case(name, file.read(), has_flags=True)
+        case = read_case(name, text_of(os.path.join(CASES, name)), has_flags=True)
         events = Peer([peer]).run(case.text, len(case.commands))
         for command, event in zip(case.commands, events):
             told = re.sub("time=[1-9][0-9]*", "time=set", command.expected or "")
@@ -218,8 +211,7 @@ def test_mappings(peer: str) -> None:
                 found.add((case.name, told, event.reply.split(" lpid=")[0]))
             is_made = not event.is_skipped or command.expected == "ESRCH" or os.geteuid() != 0
             assert is_made
-    others = {(name, told) for name, told, _reply in found}
-    assert others == BY_RULE
+    assert {(name, told) for name, told, _reply in found} == BY_RULE
 
 
 def test_bus_error(peer: str) -> None:
@@ -241,19 +233,15 @@ def test_bus_error(peer: str) -> None:
 
 
 def test_exec(peer: str, folder: str, conform: Conform) -> None:
-    """Under an emulator, exec runs the emulator again; here that is a script with its name, which notes what
-    it runs."""
+    """Under an emulator, exec runs the emulator again; here that is a script that notes what it runs."""
     emulator, log = os.path.join(folder, "qemu-none"), os.path.join(folder, "log")
     for path, text, mode in ((emulator, f'#!/bin/sh\necho "$@" >> {log}\nexec "$@"\n', 0o755),
                              (log, "", 0o666)):
-        with open(path, "w", encoding="ascii") as file:
-            file.write(text)
+        Path(path).write_text(text, "ascii")
         os.chmod(path, mode)
-    with open(os.path.join(CASES, "deferred_by_exec.shm"), encoding="ascii") as file:
-        execs = len(re.findall(r"^\d+ exec$", file.read(), re.M))
+    execs = len(re.findall(r"^\d+ exec$", text_of(os.path.join(CASES, "deferred_by_exec.shm")), re.M))
     status, said = conform("deferred_by_exec", "--peer", emulator, peer)
-    with open(log, encoding="ascii") as file:
-        ran = file.read().splitlines()
+    ran = text_of(log).splitlines()
     wanted = [f"{peer} --limit 10 --exec {emulator} {peer}"] + [peer] * execs
     assert status == 0
     assert execs > 0

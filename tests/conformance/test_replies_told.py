@@ -1,5 +1,4 @@
-"""The replies that the cases tell, for the profile and under Linux's rules: this system gives them, except
-for what the rules leave."""
+"""The replies that the cases tell are this system's, by the profile and under Linux's rules."""
 
 import os
 

@@ -365,8 +365,7 @@ def test_same_replies(peer: str, folder: str, conform: Conform, is_root: bool) -
     ("ordinary", 100, False), ("root", 0, True), ("other", 0, False)
 ])
 def test_forms(folder: str, name: str, uid: int, is_root: bool) -> None:
-    """Every form of an operand and a reply, compared with a hand-written list; and another user is not taken
-    for user 0."""
+    """Each form of an operand and a reply, by a list by hand; another user is not taken for user 0."""
     limits = [16777216, 16, 64, 0, 4]
     gid = uid and uid + 10
     path = write_file(folder, f"{name}.shm", FORMS.format(uid, gid))
@@ -394,15 +393,13 @@ def test_room(folder: str) -> None:
             ("no second pipe", no_pipe, 64, {"full": [few] * 5, "two": [few] * 2})):
         found, said = run_small(os.path.join(folder, name.replace(" ", "_")), [two, full], limits, False,
                                 given, files)
-        got = {name: [line.partition(" = ")[2] for line in lines] for name, lines in found.items()}
-        assert got == wanted
+        assert {name: [line.partition(" = ")[2] for line in lines] for name, lines in found.items()} == wanted
         assert not said
 
 
 @as_root
 def test_odd_system(folder: str) -> None:
-    """A pipe that gives few bytes at a time changes nothing; and the child of a refused fork is no
-    process."""
+    """A pipe that gives few bytes at a time changes nothing; the child of a refused fork is no process."""
     limits = [16777216, 16, 64, 0, 4]
     path = write_file(folder, "ordinary.shm", FORMS.format(100, 110))
     few = write_file(folder, "few_bytes.h", FEW_BYTES)
@@ -463,7 +460,6 @@ def test_linux_data(folder: str) -> None:
     for words, folders in (["data"], [CASES]), (["data", "--rules", "linux"],
                                                 [CASES, os.path.join(CASES, "rules")]):
         wanted = [os.path.basename(path)[:-4] for it in folders for path in names_in(it)]
-        found = re.findall(r'^    \{ "(\w+)", processes_', run_tool(*words).out, re.M)
-        assert found == wanted
+        assert re.findall(r'^    \{ "(\w+)", processes_', run_tool(*words).out, re.M) == wanted
     # a name is that of a case
     assert run_tool("data", "sizes") == run_tool("data", os.path.join(CASES, "sizes.shm"))

@@ -14,6 +14,7 @@ import shutil
 import sys
 import tempfile
 from collections.abc import Iterator, Sequence
+from pathlib import Path
 
 import pytest
 
@@ -181,8 +182,7 @@ def test_programs(prefix: Prefix, version: str) -> None:
     script, wanted = text_of(f"{TOP}/examples/page_seam.shm"), text_of(f"{TOP}/examples/page_seam.out")
     sim, view, checks = (f"{prefix.path}/bin/{name}" for name in PROGRAMS)
     for path in {"/usr/bin:/bin", os.path.dirname(sys.executable) + ":/usr/bin:/bin"}:
-        ran = run([sim, "serial", "ram:64"], script, "/", PATH=path)
-        assert ran == (0, wanted, "")
+        assert run([sim, "serial", "ram:64"], script, "/", PATH=path) == (0, wanted, "")
     status, printed, said = run([view, "--text", "ram:64"], script, "/",
                                 PATH=os.path.dirname(sys.executable) + ":/usr/bin:/bin")
     assert status == 0
@@ -232,8 +232,7 @@ def test_contents(prefix: Prefix, version: str) -> None:
     for path in tree(prefix.path):
         full = os.path.join(prefix.path, path)
         if os.path.isfile(full):
-            with open(full, "rb") as file:
-                named += [path] * (TOP.encode() in file.read() and "/bin/" not in path)
+            named += [path] * (TOP.encode() in Path(full).read_bytes() and "/bin/" not in path)
     assert not named
 
 
@@ -246,12 +245,10 @@ def test_man(prefix: Prefix) -> None:
 
 
 def test_upgrade(fresh: Prefix) -> None:
-    """What an earlier version had installed and this one has not is removed; what the user put there
-    stays."""
+    """What only an earlier version had installed is removed; what the user put there stays."""
     first = tree(fresh.path)
     for name in "lib/old.txt", "lib/own.txt":
-        with open(os.path.join(fresh.path, name), "w", encoding="ascii") as file:
-            file.write("a file\n")
+        Path(os.path.join(fresh.path, name)).write_text("a file\n", "ascii")
     manifest = f"{fresh.path}/share/nogcuvema/installed.txt"
     with open(manifest, "a", encoding="ascii") as file:
         file.write("f lib/old.txt\n")
@@ -265,15 +262,13 @@ def test_uninstall(fresh: Prefix) -> None:
     """Exactly the installed files are removed, and what Python made of them; a second installation over the
     first changes nothing."""
     first = tree(fresh.path)
-    status = fresh.install()[0]
-    assert status == 0
+    assert fresh.install()[0] == 0
     assert tree(fresh.path) == first
     [package] = glob.glob(f"{fresh.path}/lib/python3*/*-packages")
     run([sys.executable, "-c", PYTHON], folder="/", PYTHONPATH=package, PYTHONDONTWRITEBYTECODE="")
     assert any("__pycache__" in it for it in tree(fresh.path))
     own = os.path.join(fresh.path, "lib", "own.txt")
-    with open(own, "w", encoding="ascii") as file:
-        file.write("mine\n")
+    Path(own).write_text("mine\n", "ascii")
     status, _, said = fresh.uninstall()
     assert (status, tree(fresh.path)) == (0, ["lib", "lib/own.txt"])
     status, _, said = fresh.uninstall()
@@ -283,15 +278,13 @@ def test_uninstall(fresh: Prefix) -> None:
 
 
 def test_old_manifest(sources: Prefix, folder: str) -> None:
-    """What version 1.0.0 installed is removed too: its list named the prefix and the folders above it as `.`
-    and `..`."""
+    """What version 1.0.0 installed is removed too, whose list named prefix and parents as `.` and `..`."""
     to = f"{folder}/made/prefix"
     for name, text in (("lib/file", ""), ("share/nogcuvema/installed.txt",
                                           "d .\nd ..\nd lib\nd share\nd share/nogcuvema\nf lib/file\nf "
                                           "share/nogcuvema/installed.txt\n")):
         os.makedirs(os.path.dirname(f"{to}/{name}"), exist_ok=True)
-        with open(f"{to}/{name}", "w", encoding="ascii") as file:
-            file.write(text)
+        Path(f"{to}/{name}").write_text(text, "ascii")
     status, _, said = sources.uninstall("--prefix", to)
     assert status == 0
     assert tree(folder) == []
@@ -343,15 +336,13 @@ UNPROVED = b"nogcuvema: this program is not proved\n"
 
 
 def copy_programs(folder: str) -> None:
-    """Copies the programs into a folder, as they were built or as --unproved kept them, without the line that
-    says so."""
+    """Copies the programs into a folder, without the line that says that one is not proved."""
     for name in PROGRAMS:
         try:
             path = program_of(name, may_be_unproved=True)
         except NotBuilt as why:
             pytest.skip(str(why))
-        with open(path, "rb") as file:
-            content = file.read()
+        content = Path(path).read_bytes()
         with open(os.path.join(folder, name), "wb") as file:
             file.write(content[:-len(UNPROVED)] if content.endswith(UNPROVED) else content)
         os.chmod(os.path.join(folder, name), 0o755)
@@ -361,8 +352,7 @@ def library_in(folder: str, library: str) -> str:
     """A copy of the library in which the header does not say that it is not proved."""
     shutil.copytree(library, folder, symlinks=True)
     text = text_of(f"{folder}/nogcuvema.h").replace('-unproved"', '"')
-    with open(f"{folder}/nogcuvema.h", "w", encoding="ascii") as file:
-        file.write(text)
+    Path(f"{folder}/nogcuvema.h").write_text(text, "ascii")
     return folder
 
 
@@ -388,8 +378,7 @@ def test_unproved_program(sources: Prefix, folder: str, version: str, name: str)
     assert refused(sources, folder, [*sources.words[:2], "--programs", programs]) == told
     kept = f"{TOP}/build/unproved/{name}"
     if os.path.isfile(kept):
-        with open(kept, "rb") as file:
-            assert file.read().endswith(UNPROVED)
+        assert Path(kept).read_bytes().endswith(UNPROVED)
     if name != "shmrun":
         assert run([f"{TOP}/{name}", "--unproved", "--version"]) == (0, f"{name} {version}-unproved\n", "")
 
@@ -407,8 +396,7 @@ def has_symbols(path: str) -> bool:
 
 
 def test_stripped(prefix: Prefix, folder: str) -> None:
-    """Programs and the shared object have no symbols; if asked for, these are next to them, under the name
-    that a debugger looks for."""
+    """Programs and library have no symbols; if asked for, these are where a debugger looks for them."""
     if shutil.which("readelf") is None:
         pytest.skip("there is no readelf")
     [shared] = [it for it in glob.glob(f"{prefix.path}/lib/libnogcuvema.so.*.*") if not it.endswith(".debug")]
@@ -422,8 +410,7 @@ def test_stripped(prefix: Prefix, folder: str) -> None:
     status, _, said = prefix.install("--prefix", to, "--symbols")
     assert status == 0
     for path in [*(f"{to}/lib/nogcuvema/bin/{name}" for name in PROGRAMS), shared.replace(prefix.path, to)]:
-        with open(path, "rb") as file:
-            linked = f"{os.path.basename(path)}.debug\0".encode() in file.read()
+        linked = f"{os.path.basename(path)}.debug\0".encode() in Path(path).read_bytes()
         assert not has_symbols(path)
         assert has_symbols(f"{path}.debug")
         assert linked
@@ -446,8 +433,7 @@ def anchors(text: str) -> set[str]:
 
 
 def check_docs(root: str) -> None:
-    """The docs are in the tree of the repository, and no link of an installed page leads nowhere, or out of
-    the docs."""
+    """The docs keep the repository's tree; each link of an installed page leads to a page of the docs."""
     docs = f"{root}/share/doc/nogcuvema"
     pages = [it for it in tree(docs) if it.endswith((".md", ".html"))]
     wanted = {"README.md", "CHANGELOG.md", *(os.path.relpath(it, TOP) for it in glob.glob(f"{TOP}/docs/*.md")
@@ -478,8 +464,7 @@ TRACE = "1 shmget(IPC_PRIVATE, 4096, IPC_CREAT|0600) = 0\n"
 
 
 def test_kit(prefix: Prefix, folder: str, version: str) -> None:
-    """The kit, from_strace and small_peer run without the repository, over the installed programs and
-    library."""
+    """The kit, from_strace and small_peer run without the repository, over what is installed."""
     conform, strace, small = (f"{prefix.path}/bin/nogcuvema-{name}"
                               for name in ("conform", "from-strace", "small-peer"))
     assert run([conform, "--version"], "", "/", **WITH_PYTHON) == (0, f"conform {version}\n", "")
@@ -493,8 +478,7 @@ def test_kit(prefix: Prefix, folder: str, version: str) -> None:
         assert status == 0
         assert re.match(r"sizes: as expected .*\nkeys: as expected .*\ncases: as expected 2\n", printed)
         assert not said
-    with open(f"{folder}/trace", "w", encoding="ascii") as file:
-        file.write(TRACE)
+    Path(f"{folder}/trace").write_text(TRACE, "ascii")
     status, printed, said = run([strace, "trace", "--script", "script", "--log", "log"], "", folder,
                                 **WITH_PYTHON)
     told = ("next: shmcheck judge log --rules linux < script > log.verdict\n"
@@ -507,8 +491,7 @@ def test_kit(prefix: Prefix, folder: str, version: str) -> None:
     assert judged[0] == 0
     assert verdict.startswith("legal\n")
     status, printed, said = run([small, "data", "sizes"], "", "/", **WITH_PYTHON)
-    with open(f"{folder}/small_script.h", "w", encoding="ascii") as file:
-        file.write(printed)
+    Path(f"{folder}/small_script.h").write_text(printed, "ascii")
     kit = f"{prefix.path}/lib/nogcuvema/conformance"
     words = ["cc", "-std=c89", "-pedantic", "-I", f"{kit}/port_of_linux", "-I", folder, f"{kit}/small_peer.c",
              "-o", f"{folder}/small_peer"]
@@ -517,8 +500,7 @@ def test_kit(prefix: Prefix, folder: str, version: str) -> None:
 
 
 def test_libdir(sources: Prefix, folder: str) -> None:
-    """--libdir puts the library elsewhere below the prefix; pkg-config, the kit and the programs find it
-    there."""
+    """--libdir puts the library elsewhere below the prefix: pkg-config, the kit and programs find it."""
     other = Prefix(f"{folder}/prefix", *sources.words[1::2])
     for libdir in ("lib/x86_64-linux-gnu", f"{other.path}/lib/x86_64-linux-gnu"):
         assert other.install("--prefix", other.path, "--libdir", libdir).status == 0
@@ -542,8 +524,7 @@ def test_wrong_libdir(sources: Prefix, folder: str, libdir: str) -> None:
 @pytest.mark.parametrize("place, has_path",
                          [("/usr", False), ("/usr/local", False), ("/opt/nogcuvema", True)])
 def test_run_path(sources: Prefix, folder: str, place: str, has_path: bool) -> None:
-    """A program that is linked with a library in a standard prefix gets no run path; in another one it
-    does."""
+    """A program that is linked with the library gets a run path, but not in a standard prefix."""
     assert sources.install("--prefix", place, "--destdir", folder).status == 0
     text = text_of(f"{folder}{place}/lib/pkgconfig/nogcuvema.pc")
     assert ("rpath" in text) == has_path
@@ -571,8 +552,7 @@ CHANGES = ("nogcuvema ({version}-1) unstable; urgency=medium\n\n  * A package of
 
 def gzipped(path: str) -> None:
     """Compresses a file as a Debian package has it."""
-    with open(path, "rb") as file:
-        content = file.read()
+    content = Path(path).read_bytes()
     with gzip.GzipFile(f"{path}.gz", "wb", 9, mtime=0) as file:
         file.write(content)
     os.remove(path)

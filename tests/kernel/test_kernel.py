@@ -103,8 +103,7 @@ class Example:
 
     def make(self, *words: str, folder: str = "") -> None:
         """Makes these, without a complaint of make or of the compiler."""
-        done = run([*self.words, f"BUILD={folder or self.folder}", *words])
-        assert done == (0, "", "")
+        assert run([*self.words, f"BUILD={folder or self.folder}", *words]) == (0, "", "")
 
     def boot(self, words: str, programs: list[str]) -> tuple[list[str], int]:
         """The console's lines from the kernel's first on, and qemu's status. A program may be a path."""

@@ -49,8 +49,7 @@ def stored(name: str) -> Any:
 
 
 def outcomes_in(printed: str) -> tuple[list[tuple[list[str], list[str]]], str]:
-    """Returns the outcomes of an output: for each its lines and its schedule; and the count in the last
-    line."""
+    """The outcomes of an output: for each its lines and its schedule; and the count in the last line."""
     found: list[tuple[list[str], list[str]]] = []
     last = printed.splitlines()[-1]
     for line in printed.splitlines()[:-1]:
@@ -108,8 +107,7 @@ def test_outcomes(name: str, shmcheck: str, shmsim: str) -> None:
 
 @pytest.mark.parametrize("name", NAMES)
 def test_sample(name: str, shmcheck: str, shmsim: str) -> None:
-    """Sampled runs: each has an outcome of the list, and its event lines are those of a serial run in its
-    order."""
+    """Sampled runs: each has an outcome of the list, and the event lines of a serial run in its order."""
     script = stored(f"{name}.shm")
     known = [sorted(lines) for lines, _ in outcomes_in(ask(shmcheck, ["outcomes"], script).out)[0]]
     status, printed, said = ask(shmcheck, ["sample", "2026", "--runs", "40"], script)
@@ -123,8 +121,7 @@ def test_sample(name: str, shmcheck: str, shmsim: str) -> None:
 
 
 def test_seeds(shmcheck: str) -> None:
-    """One seed gives one list of runs, and another seed another one. Each process that can continue is
-    equally likely."""
+    """A seed gives the list of runs. Each process that can continue is equally likely."""
     heads = "limits 65536 16 64 4 1\n" + "".join(f"process {pid} 0 0\n" for pid in (1, 2, 3))
     script = heads + "1 stat 0\n2 stat 0\n3 stat 0\n"
     status, all_runs, _ = ask(shmcheck, ["sample", "7", "--runs", "6000"], script)
@@ -160,18 +157,15 @@ def test_sample_ends(shmcheck: str) -> None:
     for words, reply in rules:
         wanted = f"run 1\n1 1 shmget 0x00000007 4096 600,creat = 0\n2 1 rmid 0 = ok\n3 1 stat 0 = {reply}\n"
         for seed in "0", "18446744073709551615":
-            ended = ask(shmcheck, ["sample", seed, *words], script)
-            assert ended == (0, wanted, "")
-    ended = ask(shmcheck, ["sample", "1"], heads + "1 shmgt\n")
-    assert ended == (1, "", "shmcheck: line 3: bad line\n")
+            assert ask(shmcheck, ["sample", seed, *words], script) == (0, wanted, "")
+    assert ask(shmcheck, ["sample", "1"], heads + "1 shmgt\n") == (1, "", "shmcheck: line 3: bad line\n")
     wrong = (["sample"], ["sample", "x"], ["sample", "18446744073709551616"], ["sample", "--runs", "3"],
              ["sample", "1", "2"],
              ["sample", "1", "--runs"], ["sample", "1", "--runs", "x"], ["sample", "1", "--masked"],
              ["sample", "1", "--at-most", "5"],
              ["sample", "1", "--rules", "posix"], ["outcomes", "--runs", "3"], ["judge", "a", "--runs", "3"])
     for words in wrong:
-        ended = ask(shmcheck, words, script)
-        assert ended == (2, "", f"shmcheck: usage: {USAGE}\n")
+        assert ask(shmcheck, words, script) == (2, "", f"shmcheck: usage: {USAGE}\n")
 
 
 def test_lesson(shmcheck: str) -> None:
@@ -180,8 +174,7 @@ def test_lesson(shmcheck: str) -> None:
     shown = re.search(r"^\$ \./shmcheck outcomes < (\S+) \| grep -E '(.*)'\n(.*?)^```", page, re.M | re.S)
     assert shown is not None
     printed = ask(shmcheck, ["outcomes"], text_of(shown[1])).out
-    chosen = [line for line in printed.splitlines() if re.search(shown[2], line)]
-    assert chosen == shown[3].splitlines()
+    assert [line for line in printed.splitlines() if re.search(shown[2], line)] == shown[3].splitlines()
 
 
 @pytest.mark.parametrize("case", LOGS)
@@ -213,8 +206,7 @@ def test_judge_ends(shmcheck: str, text: str, said: str) -> None:
     assert ended[0] == 6
     ended = ask(shmcheck, ["judge", os.path.join(HERE, "logs", "absent")], script)
     assert ended == (3, "", "shmcheck: the log can't be read\n")
-    ended = judge(shmcheck, text, script)
-    assert ended == (1, "", f"shmcheck: {said}\n")
+    assert judge(shmcheck, text, script) == (1, "", f"shmcheck: {said}\n")
 
 
 def eight_processes(each: int, seed: int) -> tuple[str, list[tuple[int, str, int, int]]]:
@@ -266,8 +258,7 @@ def explains(heads: str, calls: list[tuple[int, str, int, int]], schedule: list[
 
 
 def test_near_orders(shmcheck: str) -> None:
-    """A log in nearly the right order is explained before the whole search begins, which may keep only one
-    beginning here."""
+    """A log in nearly the right order is explained before the whole search, which may keep one beginning."""
     for seed in range(6):
         heads, calls = eight_processes(40, seed)
         script = heads
@@ -328,8 +319,7 @@ def test_ends(shmcheck: str) -> None:
              ["judge", "a", "--masked"],
              ["outcomes", "--masked", "2"], ["samples", "1"])
     for words in wrong:
-        ended = ask(shmcheck, words, script)
-        assert ended == (2, "", f"shmcheck: usage: {USAGE}\n")
+        assert ask(shmcheck, words, script) == (2, "", f"shmcheck: usage: {USAGE}\n")
 
 
 @pytest.mark.parametrize("line, words, reply", [
@@ -347,8 +337,7 @@ def test_rules(shmcheck: str, line: str, words: list[str], reply: str) -> None:
     ended = ask(shmcheck, ["outcomes", *words], script)
     assert ended == (0, f"outcome 1\n{lines}{reply}\nschedule 1 1 1\noutcomes 1\n", "")
     for told in ("EIDRM", "EINVAL"):
-        status = judge(shmcheck, lines + told + "\n", script, *words)[0]
-        assert status == (0 if told == reply else 6)
+        assert judge(shmcheck, lines + told + "\n", script, *words)[0] == (0 if told == reply else 6)
 
 
 def test_merging(shmcheck: str) -> None:

@@ -55,8 +55,7 @@ def outcomes_of(shmcheck: Any, script: str) -> tuple[int, str, set[ByProcess]]:
 
 
 def events_of(shmsim: Any, script: str) -> tuple[int, str, list[str]]:
-    """The replies of a run with threads, in the order of its history, without places, and with masked
-    times."""
+    """The replies of a run with threads, in the order of its history, without places, times masked."""
     status, printed, said = run([shmsim, "threads", "ram:64"], script)
     lines = [masked(it.split(" ", 1)[1]) for it in printed.splitlines() if re.match(r"\d+ \d+ .* = ", it)]
     return status, said, lines
@@ -93,8 +92,7 @@ def verdict(shmcheck: str, lines: list[str], script: str) -> tuple[int, str]:
 
 
 def changed(draw: random.Random, lines: list[str], outcomes: set[ByProcess]) -> list[str]:
-    """The lines with one reply exchanged: for one that the line has in another outcome, if there is any, else
-    for a refusal."""
+    """The lines with one reply exchanged: for the line's reply in another outcome, or for a refusal."""
     own: dict[str, int] = {}
     places: list[tuple[str, int]] = []
     for line in lines:
@@ -113,8 +111,7 @@ def changed(draw: random.Random, lines: list[str], outcomes: set[ByProcess]) -> 
 
 
 def check_run(shmsim: str, shmcheck: str, draw: random.Random, script: str, outcomes: set[ByProcess]) -> None:
-    """A run has an outcome of the list and is legal, and with one other reply it is legal exactly if an
-    outcome has its replies."""
+    """A run is legal and has an outcome of the list; with another reply it is legal if an outcome has it."""
     status, said, lines = events_of(shmsim, script)
     assert status == 0, said
     assert by_process(lines) in outcomes

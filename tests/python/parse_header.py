@@ -9,6 +9,7 @@ from __future__ import annotations
 
 import re
 import sys
+from pathlib import Path
 from typing import Any
 
 NAMES = ("machine", "limits", "area", "failure", "process", "segment", "tally", "flushed", "usage", "piece",
@@ -18,8 +19,7 @@ TYPES = "typedef unsigned char uint8_t; typedef unsigned int uint32_t; typedef i
 
 
 def declarations(path: str) -> str:
-    with open(path, encoding="ascii") as file:
-        text = re.sub(r"/\*.*?\*/", "", file.read(), flags=re.S)
+    text = re.sub(r"/\*.*?\*/", "", Path(path).read_text("ascii"), flags=re.S)
     text = re.sub(r"#ifdef __cplusplus\n.*?#endif\n", "", text, flags=re.S)
     return "".join(line + "\n" for line in text.splitlines() if not line.startswith("#"))
 

@@ -40,8 +40,7 @@ def python(folder: str) -> str:
 
 
 def test_pip(python: str, folder: str, library: str) -> None:
-    """pip installs the package from a copy of its folder, without a network, and it works; then pip removes
-    it."""
+    """pip installs the package from a copy, without a network, and it works; then pip removes it."""
     source = shutil.copytree(PACKAGE, os.path.join(folder, "source"),
                              ignore=shutil.ignore_patterns("__pycache__"))
     words = [python, "-m", "pip", "install", "--quiet", "--disable-pip-version-check", source]
@@ -99,8 +98,7 @@ def test_missing(folder: str) -> None:
 
 
 def test_header(library: str) -> None:
-    """A parser of C in Python reads the header; it may be that of another Python than the one that runs
-    this."""
+    """A parser of C in Python reads the header; another Python than this one may have it."""
     parser = os.path.join(TOP, "tests", "python", "parse_header.py")
     for python in dict.fromkeys([sys.executable, "/usr/bin/python3"]):
         ended = run([python, "-B", parser, f"{TOP}/bindings/c/nogcuvema.h", f"{library}/libnogcuvema.so"])

@@ -18,6 +18,7 @@ import tempfile
 import termios
 import time
 from collections.abc import Callable, Iterator
+from pathlib import Path
 from typing import Any
 
 import pytest
@@ -39,8 +40,7 @@ SERVER = "/usr/lib/postgresql/*/bin"
 
 
 def run(words: list[str], given: str = "", **how: Any) -> Ended:
-    """The status, output and messages of a command; 124 if it did not end, and 127 if there is no such
-    command."""
+    """The status, output and messages of a command; 124 if it did not end, 127 if there is none."""
     try:
         process = subprocess.Popen(words, stdin=subprocess.PIPE, stdout=subprocess.PIPE,
                                    stderr=subprocess.PIPE, text=True, **how)
@@ -79,8 +79,7 @@ class Programs:
         self.sanitized = [f"{folder}/sanitized", "--limits", f"{1 << 40},4096,{1 << 16},2048"]
 
     def compile(self, compiler: str, words: list[str], name: str) -> None:
-        ended = run([compiler, *words, "-o", f"{self.folder}/{name}"])
-        assert ended == (0, "", ""), f"{name} by {compiler}"
+        assert run([compiler, *words, "-o", f"{self.folder}/{name}"]) == (0, "", ""), f"{name} by {compiler}"
 
     @staticmethod
     def judge() -> str | None:
@@ -109,8 +108,7 @@ def check_record(programs: Programs, name: str, is_whole: bool = True) -> None:
     if judge is None:
         return
     path = f"{programs.folder}/{name}"
-    with open(f"{path}.shm", encoding="ascii") as script:
-        text = script.read()
+    text = text_of(f"{path}.shm")
     status, out, said = run([judge, "judge", f"{path}.log"], text)
     assert status == 0
     assert out.startswith("legal\n")
@@ -188,7 +186,7 @@ LINES: tuple[tuple[list[str], int, str, str], ...] = (
     (["--limits=1,2x,3,4", "true"], 125, "",
      "shmrun: --limits: SHMMNI is 2x; it is a number from 1 to 32768"),
     (["--rules", "linus", "true"], 125, "", "shmrun: --rules: no such rule: linus; there are:"),
-    (["--seed", "x", "true"], 125, "", "shmrun: --seed: x is not a number"),
+    (["--seed", "x", "true"], 125, "", "shmrun: --seed is x; it is a number from 0 to 18446744073709551615"),
     (["--record", "/no/such", "true"], 125, "", "shmrun: --record: /no/such.shm: No such file or directory"),
     (["--fail", "shmat", "true"], 125, "",
      "shmrun: --fail: shmat: the form is CALL:N=ERRNO or CALL:P%=ERRNO"),
@@ -200,8 +198,8 @@ LINES: tuple[tuple[list[str], int, str, str], ...] = (
      "shmrun: --fail: shmat:101%=ENOMEM: P is a number from 0 to 100"),
     (["--fail", "shmat:1=ENONE", "true"], 125, "",
      "shmrun: --fail: shmat:1=ENONE: ERRNO is the name of an error, such as ENOMEM"),
-    (["--frames", "1", "true"], 125, "", "shmrun: --frames: 1 is not a number from 2 to 16777216"),
-    (["--frames=16x", "true"], 125, "", "shmrun: --frames: 16x is not a number from 2 to 16777216"),
+    (["--frames", "1", "true"], 125, "", "shmrun: --frames is 1; it is a number from 2 to 16777216"),
+    (["--frames=16x", "true"], 125, "", "shmrun: --frames is 16x; it is a number from 2 to 16777216"),
     (["--swap", "ram:0", "true"], 125, "",
      "shmrun: --swap: ram:0 is not ram:N, sparse:N, mirror:N, fuse:N:rK or fuse:N:wK"),
     (["--swap", "fuse:9", "true"], 125, "", "shmrun: --swap: fuse:9 is not ram:N, "),
@@ -269,8 +267,7 @@ def test_32_bits(programs: Programs) -> None:
     ran = run([programs.shmrun, f"{programs.folder}/small"])
     assert ran[0] == 126
     assert "is a 32-bit program: shmrun runs those of 64 bits" in ran[2]
-    ran = run([programs.shmrun, "sh", "-c", f"{programs.folder}/small; echo $?"])
-    assert ran == (0, "0\n", "")
+    assert run([programs.shmrun, "sh", "-c", f"{programs.folder}/small; echo $?"]) == (0, "0\n", "")
 
 
 def test_set_user_id(programs: Programs) -> None:
@@ -546,8 +543,7 @@ def test_swap_file(programs: Programs) -> None:
     path = f"{programs.folder}/swap"
     words = [programs.shmrun, "--frames", "16", "--swap", "ram:300", "--swap-file", path]
     script = f'"$0" counters 5000 && ls -l /proc/$PPID/fd | grep -c "{path} (deleted)"'
-    ran = run([*words, "sh", "-c", script, f"{programs.folder}/paged"])
-    assert ran == (0, "1\n", "")
+    assert run([*words, "sh", "-c", script, f"{programs.folder}/paged"]) == (0, "1\n", "")
     assert not os.path.exists(path)
     with open(path, "w", encoding="ascii"):
         ran = run([*words, "true"])
@@ -602,8 +598,7 @@ def test_descriptors(programs: Programs) -> None:
 
 
 def test_keeper(programs: Programs) -> None:
-    """A signal to all processes that are named shmrun does not reach the keeper: neither its name nor its
-    command line says so."""
+    """A signal to all processes named shmrun misses the keeper, by its name and by its command line."""
     needs_userfaultfd(programs)
     script = ("for it in $(cat /proc/$PPID/task/$PPID/children); do [ $it = $$ ] || cat /proc/$it/comm "
               "/proc/$it/cmdline | tr '\\0' ' '; done")
@@ -613,8 +608,7 @@ def test_keeper(programs: Programs) -> None:
 
 @pytest.mark.parametrize("number", range(KILLS))
 def test_death(programs: Programs, number: int) -> None:
-    """shmrun is killed while four processes wait for pages: no program continues with a zero that was not
-    there."""
+    """shmrun is killed while four processes wait for pages: none continues with a zero that was not there."""
     needs_userfaultfd(programs)
     zeros = f"{programs.folder}/zeros{number}"
     process = subprocess.Popen([programs.shmrun, "--frames", "16", f"{programs.folder}/paged", "zeros",
@@ -663,8 +657,7 @@ ipcs -m | grep -c ^0x || true
 
 @pytest.mark.parametrize("options", [[], ["--frames", "512"], ["--frames", "64"]], ids=" ".join)
 def test_server(programs: Programs, options: Any) -> None:
-    """PostgreSQL: sums are the same with whatever pages in memory: of 1 to 50000, of 128 bytes each, and of
-    all text."""
+    """PostgreSQL's sums are the same with few pages in memory: of numbers, of lengths, of all text."""
     servers = sorted(glob.glob(SERVER))
     if not servers:
         pytest.skip("PostgreSQL is not installed")
@@ -675,8 +668,7 @@ def test_server(programs: Programs, options: Any) -> None:
     server = servers[-1]
     place = f"{programs.folder}/postgres{options[1] if options else ''}"
     os.mkdir(place)
-    with open(f"{place}/script", "w", encoding="ascii") as file:
-        file.write(POSTGRES)
+    Path(f"{place}/script").write_text(POSTGRES, "ascii")
     user = ["env"]
     if os.geteuid() == 0:
         shutil.chown(place, "nobody")

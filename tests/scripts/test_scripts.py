@@ -11,10 +11,11 @@ from __future__ import annotations
 
 import glob
 import os
+from pathlib import Path
 
 import pytest
 
-from at_the_limits import NAMES as AT_THE_LIMITS, main as write_scripts_at_the_limits
+from at_the_limits import SCRIPTS as AT_THE_LIMITS, main as write_scripts_at_the_limits
 from commands import SECONDS, TOP, run, text_of
 
 HERE = os.path.dirname(os.path.realpath(__file__))
@@ -63,8 +64,7 @@ def test_what_is_compared(folder: str, ending: str, text: str, is_noticed: bool)
              "one.out": "answer\n",
              "one.err": "said\n", "one.status": "3", f"one.{ending}": text}
     for path, content in files.items():
-        with open(os.path.join(folder, path), "w", encoding="ascii") as file:
-            file.write(content)
+        Path(os.path.join(folder, path)).write_text(content, "ascii")
     os.chmod(program, 0o755)
     if is_noticed:
         with pytest.raises(AssertionError):

@@ -191,8 +191,7 @@ def test_no_file(folder: str) -> None:
 
 
 def test_next(folder: str) -> None:
-    """The commands to run next, from the top of the repository and below it, over standard input, and with
-    names to be quoted."""
+    """The commands to run next: from other folders, over standard input, and with names to be quoted."""
     script, log = os.path.join(folder, "a script"), os.path.join(folder, "log")
     rows: tuple[tuple[str, list[str], str], ...] = (
             (TOP, [os.path.join(HERE, "sizes.strace")],

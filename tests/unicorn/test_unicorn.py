@@ -10,6 +10,7 @@ import shutil
 import tempfile
 from collections.abc import Iterator
 from concurrent.futures import ThreadPoolExecutor
+from pathlib import Path
 
 import pytest
 
@@ -131,15 +132,13 @@ def run_group(example: Example, group: Group, paths: list[str], has_few_frames: 
     with tempfile.TemporaryDirectory(prefix="peer.", dir=example.folder) as room:
         data = run([f"{TOP}/tools/small_peer", "data", "--rules", "linux", *paths])
         assert data.status == 0, data.said
-        with open(f"{room}/small_script.h", "w", encoding="ascii") as file:
-            file.write(data.out)
+        Path(f"{room}/small_script.h").write_text(data.out, "ascii")
         made = f"{room}/peer"
         assert run(["cc", "-O1", "-static-pie", f"-I{TOP}/conformance/port_of_linux", f"-I{room}",
                     f"{TOP}/conformance/small_peer.c", "-o", made]) == (0, "", "")
         ended = example.run(*words_for(group, has_few_frames), made)
         assert (ended.status, ended.said) == (0, ""), group
-        with open(f"{room}/console", "w", encoding="ascii") as file:
-            file.write(ended.out)
+        Path(f"{room}/console").write_text(ended.out, "ascii")
         assert run([f"{TOP}/tools/small_peer", "replies", f"{room}/console", folder]).status == 0
 
 

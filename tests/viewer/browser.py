@@ -1,5 +1,4 @@
-"""A browser that draws a page without a window: Debian's chromium, or another program with one of its
-names."""
+"""A browser without a window: Debian's chromium, or another program with one of its names."""
 
 from __future__ import annotations
 
@@ -72,10 +71,14 @@ class Session:
                     raise OSError(f"the browser refused {method}: {answer['error']}")
                 return answer["result"]
 
-    def open(self, address: Any, wide: Any, high: Any) -> None:
-        """Opens a page at a size; a narrow one is a phone's."""
+    def resize(self, wide: int, high: int) -> None:
+        """A narrow page is a phone's."""
         self.ask("Emulation.setDeviceMetricsOverride", width=wide, height=high, deviceScaleFactor=1,
                  mobile=wide < 640)
+
+    def open(self, address: Any, wide: Any, high: Any) -> None:
+        """Opens a page at a size."""
+        self.resize(wide, high)
         for it in ("about:blank", address):
             self.ask("Page.navigate", url=it)
         while self.receive().get("method") != "Page.loadEventFired":

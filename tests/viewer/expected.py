@@ -22,8 +22,7 @@ CHARTS = ((("pages in frames", "frames"), ("dirty pages", "dirty"), ("slots in u
           (("pages read from swap", "in"), ("pages written to swap", "out"),
            ("failed reads and writes", "failures")))
 # what the axis of each chart counts
-UNITS = {"pages in frames": "pages, at each step",
-         "pages read from swap": "pages and failures, since step 0"}
+UNITS = {"pages in frames": "pages, at each step", "pages read from swap": "pages and failures, since step 0"}
 KEYS = ("ArrowLeft", "ArrowRight", "Home", "End")
 # if counts are equal, the lines of the chart are drawn next to each other: at most this far apart
 NUDGE = 5
@@ -82,8 +81,7 @@ def pieces_of(block: Block) -> Any:
 
 
 def boxes_of(pieces: Any) -> Any:
-    """Returns what a process has at each of its addresses: the page, the rights, and whether a piece begins
-    there."""
+    """What a process has at each of its addresses: the page, the rights, and whether a piece begins there."""
     found = {}
     for _, base, seg, first, count, rights in pieces:
         for at in range(int(count)):
@@ -99,8 +97,7 @@ def length_of(words: list[str]) -> int:
 
 
 def access_of(block: Block) -> Any:
-    """Returns the process of an access and the addresses of its pages; empty ones if the step is not an
-    access."""
+    """The process of an access and the addresses of its pages; empty ones if the step is not an access."""
     words = block[1]
     if words[0] != "call" or words[3] not in ("load", "store", "xadd", "swap", "cas"):
         return "", []
@@ -152,8 +149,7 @@ def reached_frames(block: Block) -> Any:
 
 
 def turn_in(sentence: Any) -> Any:
-    """Returns the frames that the hand passed by a sentence, in order, and the one where it stopped; none for
-    any other sentence."""
+    """The frames that the hand passed by a sentence, and the one where it stopped; None for others."""
     found = re.fullmatch(r"the hand (?:passed frames? (.+?)(?: in a whole round)? and )?stopped at frame "
                          r"(\d+)", sentence)
     if not found:
@@ -163,8 +159,7 @@ def turn_in(sentence: Any) -> Any:
 
 
 def pinned_by(block: Block, before: Block, at: Any) -> Any:
-    """Returns the frame that the hand may not take in a turn, by its place in the step: that of the first
-    page, as the second comes in."""
+    """The frame that the hand may not take in a turn: that of the first page, as the second comes in."""
     caller, named = access_of(block)
     has = {line[1]: boxes_of(pieces) for line, pieces in pieces_of(block)}.get(caller, {})
     first = has[named[0]][0]
@@ -252,8 +247,7 @@ def count_of(block: Block, word: str) -> Any:
 
 
 def segments(block: Block, before: Block, blocks: Any) -> Any:
-    """Returns a row for each index that a segment ever has: its words, which of them are filled, and whether
-    it is struck out."""
+    """A row for each index of a segment: its words, which are filled, and whether it is struck out."""
     rows = []
     for index in sorted({int(it[1]) % 32768 for each in blocks for it in segments_of(each)}):
         has, had = ([it for it in segments_of(each) if int(it[1]) % 32768 == index]
@@ -360,8 +354,7 @@ def corners(path: str) -> Any:
 
 
 def wrong_line(path: str, counts: Any, axis: Any, most: Any) -> Any:
-    """A line's heights are its counts, between the chart's two marks and all nudged alike; its steps lie
-    evenly."""
+    """A line's heights are its counts, between the chart's marks and nudged alike; its steps lie evenly."""
     (_, low, left, right), (_, high, _, _) = axis
     places, heights = corners(path)
     if len(heights) != len(counts):
@@ -465,8 +458,7 @@ def wrong_moves(moved: Any, steps: Any, blocks: Any, script: Any = ()) -> Any:
 
 
 def page_at(block: Block, page: Any) -> Any:
-    """Returns all that changes of a page: whether its segment is there, where it is, its slot, and its
-    bits."""
+    """All that changes of a page: whether its segment is there, where it is, its slot, and its bits."""
     seg, _ = page
     marks = [line[4] for line in lines_of(block, "frame") if line[2:4] == page]
     slots = [line[1:3] for line in lines_of(block, "slot") if line[3:5] == page]
@@ -474,8 +466,7 @@ def page_at(block: Block, page: Any) -> Any:
 
 
 def sought(what: Any, block: Any, before: Block) -> Any:
-    """Returns whether a step has what the reader looks for: a page that came in, a refusal, or a change of a
-    process or a page."""
+    """Whether a step has what is looked for: a page that came in, a refusal, a changed process or page."""
     kind, *name = what.split(" ")
     if kind == "fault":
         had, has = ({tuple(line[2:4]) for line in lines_of(it, "frame")} for it in (before, block))
@@ -491,15 +482,13 @@ def sought(what: Any, block: Any, before: Block) -> Any:
 
 
 def steps_sought(what: Any, blocks: Any, changed: Any) -> Any:
-    """Returns the numbers of the steps that have what the reader looks for; a page also changes if its bytes
-    do."""
+    """The numbers of the steps that have what the reader looks for; a page also changes if its bytes do."""
     return [number_of(block) for before, block, pages in zip(blocks, blocks[1:], changed[1:])
             if sought(what, block, before) or what in [f"page {page}" for page in pages]]
 
 
 def all_sought(blocks: Any) -> Any:
-    """Returns what the reader can look for in a run: two kinds, each process, and each page that a frame or a
-    slot ever has."""
+    """What the reader can look for in a run: two kinds, each process, and each page in a frame or slot."""
     pages = {(int(line[at]), int(line[at + 1])) for block in blocks for word,
              at in (("frame", 2), ("slot", 3)) for line in lines_of(block, word)}
     return ["fault", "refusal", *(f"process {line[1]}" for line, _ in pieces_of(blocks[0])),

@@ -1,5 +1,4 @@
-"""The way of the clock's hand in each step of all stored scripts, against the frames, bits and hand before
-and after the step."""
+"""The clock hand's way in each step of all stored scripts, against frames, bits and hand around it."""
 
 from __future__ import annotations
 

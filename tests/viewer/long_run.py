@@ -5,6 +5,7 @@ from __future__ import annotations
 
 import os
 import tempfile
+from pathlib import Path
 from typing import Any
 
 from viewer.browser import Session
@@ -22,8 +23,7 @@ COUNTING = """<head><script>(() => {
 
 
 def block(number: Any) -> Any:
-    """A step of a record, in the layout of docs/VIEWER.md: each store takes a frame, and is no longer
-    referenced a page later."""
+    """A step of a record, as docs/VIEWER.md has it: each store takes a frame, unreferenced a page later."""
     address = 0x40000000 + 4096 * (number - 1)
     call = f"call {number} 1 store 0x{address:08x} 01 = ok" if number else "start"
     lines = [f"step {number}", call,
@@ -42,7 +42,7 @@ def record() -> Any:
     return "".join(block(number) + "\n\n" for number in range(STEPS + 1))
 
 
-WHERE = "document.getElementById('where').textContent"
+WHERE = "byId('where').textContent"
 
 
 def check_long_run(session: Session, page_of: Any) -> None:
@@ -50,8 +50,7 @@ def check_long_run(session: Session, page_of: Any) -> None:
     assert len(page) < MOST_BYTES
     with tempfile.TemporaryDirectory(prefix="viewer.") as folder:
         path = os.path.join(folder, "long.html")
-        with open(path, "w", encoding="utf-8") as file:
-            file.write(page.replace("<head>", COUNTING, 1))
+        Path(path).write_text(page.replace("<head>", COUNTING, 1), "utf-8")
         session.open(f"file://{path}", 1280, 900)
         made, elements, read = session.value("[window.made, document.querySelectorAll('*').length, "
                                              "steps.filter((step) => step.read).length]")
@@ -62,11 +61,9 @@ def check_long_run(session: Session, page_of: Any) -> None:
 
 
 def check_steps(session: Session) -> None:
-    """The lines of some steps are those of the record; boxes are built where they are looked at, and lie
-    where they did."""
+    """Lines of some steps are the record's; boxes are built where they are looked at, and stay in place."""
     for number in (0, 1, 2, 777, STEPS):
-        seen = session.value(f"steps[{number}].lines.join('\\n')")
-        assert seen == block(number)
+        assert session.value(f"steps[{number}].lines.join('\\n')") == block(number)
     session.press("End")
     boxes = "document.querySelectorAll('#frames .cell')"
     built = session.value(f"new Promise((done) => setTimeout(() => done([...{boxes}].filter((it) => "
@@ -95,10 +92,10 @@ MANY_STEPS = "limits 65536 1 1 2 0\nprocess 1 1 1\n" + "1 stat 0\n" * 201
 def check_sheets(session: Session) -> None:
     """At most 200 steps are printed at once, and the last sheet says so if there are more."""
     for words, sheets in (("1-201", 200), ("1-200", 200), ("3", 1)):
-        session.value(f"document.getElementById('printed').value = '{words}'; 0")
+        session.value(f"byId('printed').value = '{words}'; 0")
         seen = session.value("(() => { makeSheets(); const it = byId('sheets'); return "
                              "[it.querySelectorAll('.sheet').length, "
                              "it.lastElementChild.className === '' && "
                              "it.lastElementChild.textContent.includes('choose them by --steps')]; })()")
         assert seen == [sheets, words == "1-201"]
-    session.value("byId('sheets').replaceChildren(); document.getElementById('printed').value = ''; 0")
+    session.value("byId('sheets').replaceChildren(); byId('printed').value = ''; 0")

@@ -11,6 +11,7 @@ from __future__ import annotations
 import glob
 import os
 import re
+from pathlib import Path
 from typing import Any, Tuple
 
 from commands import TOP, run, text_of
@@ -29,8 +30,7 @@ Record = Tuple[str, str]
 
 
 def read(name: str) -> Any:
-    with open(os.path.join(HERE, name), encoding="utf-8") as file:
-        return file.read()
+    return text_of(os.path.join(HERE, name))
 
 
 def places_of(block: Block) -> Any:
@@ -162,8 +162,7 @@ def parts_of(named: Any, page: Any) -> Any:
 
 
 def touched(memory: Any, at: Any, page: Any) -> Any:
-    """Returns what the viewer says about the bytes of a page that a step names: their old and new values, 16
-    of them at most."""
+    """What the viewer says about the bytes that a step names: old and new values, 16 at most."""
     zeros, said = bytes(PAGE), []
     _there, before, after, named = memory.steps[at]
     for part in parts_of(named, page):
@@ -212,7 +211,7 @@ def held(block: Block, before: Any, page: Any) -> Any:
 
 
 def opened(session: Session, page: Any) -> None:
-    session.value(f"(() => {{ const it = document.getElementById('opened'); it.focus(); it.value = '{page}'; "
+    session.value(f"(() => {{ const it = byId('opened'); it.focus(); it.value = '{page}'; "
                   f"it.dispatchEvent(new Event('change')); it.blur(); }})()")
 
 
@@ -227,8 +226,7 @@ def check_tables(session: Session, made: Page) -> None:
     """Each page that a run uses, at each step."""
     blocks, dump = made.all_blocks, read("dump.js")
     memory = Memory(blocks)
-    choices = session.value("document.getElementById('opened').focus(), "
-                            "[...document.getElementById('opened').options].map((it) => it.value)")
+    choices = session.value("byId('opened').focus(), [...byId('opened').options].map((it) => it.value)")
     want = ["", *pages_in(blocks, memory)]
     assert choices == want
     check_followed(session, made, memory)
@@ -258,29 +256,27 @@ def check_whole(session: Session, made: Page) -> None:
     """All rows of a page: 4096 bytes."""
     memory = Memory(made.all_blocks)
     opened(session, "0·1")
-    session.value("document.getElementById('whole').click()")
+    session.value("byId('whole').click()")
     seen = session.value(read("dump.js"))
     for at in (4, 10, 16):
         want = table_of(memory, at, "0·1", True)
         assert seen[at][1][0][1] == want
         assert len(want) == 256
-    session.value("document.getElementById('dump').scrollTop = 300")
+    session.value("byId('dump').scrollTop = 300")
     session.press("ArrowLeft")
-    seen = session.value("[document.getElementById('dump').scrollTop, "
-                         "document.getElementById('dump').clientHeight < 600]")
+    seen = session.value("[byId('dump').scrollTop, byId('dump').clientHeight < 600]")
     assert seen == [300, True]
-    session.value("document.getElementById('whole').click()")
+    session.value("byId('whole').click()")
     assert session.value(read("dump.js"))[10][1][0][1] == table_of(memory, 10, "0·1")
     opened(session, "")
 
 
 def at_step(session: Session, step: Any) -> None:
-    session.value(f"(() => {{ const it = document.getElementById('slider'); it.value = {step}; "
+    session.value(f"(() => {{ const it = byId('slider'); it.value = {step}; "
                   f"it.dispatchEvent(new Event('input')); }})()")
 
 
-BYTES_NOW = ("[document.getElementById('opened').value, "
-             "document.getElementById('named').textContent.replace('Bytes of ', '')]")
+BYTES_NOW = "[byId('opened').value, byId('named').textContent.replace('Bytes of ', '')]"
 
 
 def name_of(page: str) -> str:
@@ -288,33 +284,28 @@ def name_of(page: str) -> str:
 
 
 def check_opening(session: Session, made: Page) -> None:
-    """A click on a box keeps its page open; b keeps the page that the step names, or lets the bytes follow
-    the steps again."""
+    """A click on a box keeps its page open; b keeps the step's page, or lets the bytes follow the steps."""
     for selector, number, page in (("#frames .cell", 3, "1·1"), ("#frames .cell", 0, "1·6"),
                                    (".area .cell", 0, "1·0"), ("#processes .cell", 5, "1·4"),
                                    ("#processes .cell", 8, "1·7")):
         at_step(session, 20)
         session.value(f"document.querySelectorAll('{selector}')[{number}].click()")
-        seen = session.value(BYTES_NOW)
-        assert seen == [page, name_of(page)]
+        assert session.value(BYTES_NOW) == [page, name_of(page)]
     opened(session, "")
     for step, page, shown in ((12, "1·0", "1·0"), (13, "1·4", "1·4"), (13, "", "1·4"), (16, "", "1·2"),
                               (14, "1·2", "1·2")):
         at_step(session, step)
         session.press("b")
-        seen = session.value(BYTES_NOW)
-        assert seen == [page, name_of(shown)]
+        assert session.value(BYTES_NOW) == [page, name_of(shown)]
     opened(session, "")
 
 
 def check_sheets(session: Session, made: Page) -> None:
-    sheets = len(re.findall(rb"/Type /Page\b", session.paper()))
-    assert sheets == len(made.blocks)
+    assert len(re.findall(rb"/Type /Page\b", session.paper())) == len(made.blocks)
 
 
 def check_room(session: Session, made: Page, path: str) -> None:
-    """With a page open no box moves from step to step, and on paper each step has one sheet, with the
-    bytes."""
+    """With a page open no box moves from step to step; on paper each step has one sheet, with the bytes."""
     for wide, high in ((1280, 900), (390, 844)):
         session.open(f"file://{path}", wide, high)
         opened(session, "0·1")
@@ -328,7 +319,7 @@ def check_room(session: Session, made: Page, path: str) -> None:
             assert seen["wide"] <= wide
             session.press("ArrowRight")
     check_sheets(session, made)
-    session.value("document.getElementById('whole').click()")
+    session.value("byId('whole').click()")
     seen = session.value("dispatchEvent(new Event('beforeprint')), [...document.querySelectorAll('.sheet "
                          ".bytes')].map((it) => "
                          "[it.querySelector('h2').textContent, it.querySelectorAll('.dump tr').length])")
@@ -348,15 +339,13 @@ LATE_ROWS = ["01! " + " ".join(["??"] * 15), "01 ff! " + " ".join(["??"] * 14),
 
 def open_in(folder: str, session: Session, made: Page) -> Any:
     path = os.path.join(folder, made.name + ".html")
-    with open(path, "w", encoding="utf-8") as file:
-        file.write(made.html)
+    Path(path).write_text(made.html, "utf-8")
     session.open(f"file://{path}", 1280, 900)
     return path
 
 
 def check_late(session: Session, made: Page, late: Any, folder: str) -> None:
-    """Chosen steps have the bytes that earlier steps left; after more than 2,000 steps those that no step
-    named are unknown."""
+    """Chosen steps have the bytes of earlier steps; after 2,000 steps those that none named are unknown."""
     open_in(folder, session, made)
     check_tables(session, made)
     open_in(folder, session, late)
@@ -380,8 +369,7 @@ def records(program: str) -> list[Record]:
 
 
 def check_loads(made: list[Record]) -> None:
-    """In each record each load and xadd answers the bytes that are there by the stores and xadds before
-    it."""
+    """In each record each load and xadd returns the bytes of the stores and xadds before it."""
     answers = 0
     for name, record in made:
         memory = Memory(read_blocks(record))
@@ -392,8 +380,7 @@ def check_loads(made: list[Record]) -> None:
 
 
 def check_bytes(session: Session, made: Page, folder: str) -> None:
-    """The bytes of each page of a script. One script's are also opened by clicks, and another's whole and on
-    paper."""
+    """The bytes of each page of a script; of one script also by clicks, of another whole and on paper."""
     path = open_in(folder, session, made)
     check_tables(session, made)
     if made.name == "turns":
@@ -406,7 +393,7 @@ def check_bytes(session: Session, made: Page, folder: str) -> None:
 def check_many_rows(session: Session, made: Page, folder: str) -> None:
     open_in(folder, session, made)
     check_followed(session, made, Memory(made.all_blocks))
-    assert session.value("document.getElementById('dump').offsetHeight") <= 34 * 16
+    assert session.value("byId('dump').offsetHeight") <= 34 * 16
 
 
 def check_many_processes(session: Session, made: Page, folder: str) -> None:

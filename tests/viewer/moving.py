@@ -15,7 +15,7 @@ NAMES = [("button", "One step back"), ("button", "One step on"), ("slider", "Ste
          ("combobox", "What to look for"),
          ("button", "The step before that has it"), ("button", "The next step that has it"),
          ("combobox", "Page"), ("textbox", "Steps to print:"), ("button", "Print")]
-WHERE = "Number(/step (\\d+)/.exec(document.getElementById('where').textContent)[1])"
+WHERE = "Number(/step (\\d+)/.exec(byId('where').textContent)[1])"
 NOTICE = "document.querySelector('#changes .notice')?.textContent ?? ''"
 WORDS = {"fault": "a page comes into a frame", "refusal": "a call is refused"}
 # presses a key until it leads nowhere: the steps that are shown, and the message
@@ -39,11 +39,11 @@ def walk(session: Session, press: Any, last: Any) -> Any:
 def check_seeking(session: Session, made: Page) -> None:
     """The page finds everything that can be looked for, forwards and backwards."""
     last, changed = number_of(made.blocks[-1]), Memory(made.blocks).changed()
-    choices = session.value("[...document.getElementById('seek').options].map((it) => it.value)")
+    choices = session.value("[...byId('seek').options].map((it) => it.value)")
     assert choices == all_sought(made.blocks)
     for what in all_sought(made.blocks):
         want = steps_sought(what, made.blocks, changed)
-        session.value(f"document.getElementById('seek').value = '{what}'")
+        session.value(f"byId('seek').value = '{what}'")
         found = []
         for begin, key in (("Home", "n"), ("End", "p")):
             session.press(begin)
@@ -57,16 +57,16 @@ def check_seeking(session: Session, made: Page) -> None:
         assert seen == steps_sought(what, made.blocks, changed)
         assert said == f"no step after this one has it: {WORDS[what]}"
     session.press("Home")
-    session.value("document.getElementById('seek').value = 'fault'; document.getElementById('next').click()")
+    session.value("byId('seek').value = 'fault'; byId('next').click()")
     first = session.value(WHERE)
-    session.value("document.getElementById('next').click(); document.getElementById('before').click()")
+    session.value("byId('next').click(); byId('before').click()")
     want = steps_sought("fault", made.blocks, changed)[0]
     assert [first, session.value(WHERE)] == [want, want]
 
 
 def check_playing(session: Session, made: Page, wait_for: Any) -> None:
     """Play continues, by its key and its button, and ends at the last step and at any other move."""
-    text = "document.getElementById('play').textContent"
+    text = "byId('play').textContent"
     last = number_of(made.blocks[-1])
     session.press("Home")
     session.press(" ")
@@ -74,12 +74,12 @@ def check_playing(session: Session, made: Page, wait_for: Any) -> None:
     is_on = wait_for(session, f"{WHERE} === 2")
     session.press("ArrowLeft")
     stopped = session.value(f"[{WHERE}, {text}]")
-    session.value("document.getElementById('play').click(); 0")
+    session.value("byId('play').click(); 0")
     session.press(" ")
     paused = session.value(text)
     session.press("End")
     session.press("ArrowLeft")
-    session.value("document.getElementById('play').click(); 0")
+    session.value("byId('play').click(); 0")
     is_over = wait_for(session, f"{WHERE} === {last} && {text} === 'Play'")
     session.press(" ")
     again = session.value(f"[{WHERE}, {text}]")
@@ -97,11 +97,11 @@ def check_names(session: Session) -> None:
     missing = [it for it in NAMES if it not in seen]
     assert not missing
     assert all(name for _, name in seen)
-    told = session.value("document.getElementById('slider').getAttribute('aria-valuetext')")
-    assert told == session.value("document.getElementById('where').textContent")
+    told = session.value("byId('slider').getAttribute('aria-valuetext')")
+    assert told == session.value("byId('where').textContent")
     ids = "['back', 'on', 'slider', 'where', 'play', 'seek', 'before', 'next', 'opened', 'printed']"
     reached = session.value(f"{ids}.filter((id) => "
-                            f"{{ const it = document.getElementById(id); it.disabled = false; it.focus(); "
+                            f"{{ const it = byId(id); it.disabled = false; it.focus(); "
                             f"return document.activeElement !== it || it.tabIndex < 0; }})")
     assert reached == []
     session.value("document.activeElement.blur()")
@@ -162,16 +162,15 @@ def check_handout(session: Session, made: Page) -> None:
                                  ("x", [], f"no steps are named by x: the steps are 0 to {len(lines)}"),
                                  ("3 99", [3], f"no steps are named by 99: the steps are 0 to {len(lines)}"))
     for words, numbers, said in rows:
-        session.value(f"document.getElementById('printed').value = '{words}'; 0")
+        session.value(f"byId('printed').value = '{words}'; 0")
         sheets = len(re.findall(rb"/Type /Page\b", session.paper()))
         seen = session.value("dispatchEvent(new Event('beforeprint')), "
                              "[...document.querySelectorAll('.sheet')].map((it) => "
                              "['h1', '.where', '.lines-of'].map((part) => "
                              "it.querySelector(part)?.textContent ?? ''))")
-        told = session.value("dispatchEvent(new Event('afterprint')), "
-                             "document.getElementById('unprinted').textContent")
+        told = session.value("dispatchEvent(new Event('afterprint')), byId('unprinted').textContent")
         want = [[made.script[0].lstrip("# "), f"step {at} of {len(lines)}",
                  f"line {lines[at - 1] + 1}: {made.script[lines[at - 1]]}" if at else ""]
                 for at in numbers]
         assert (seen, told, sheets) == (want, said, max(1, len(numbers)))
-    session.value("document.getElementById('printed').value = ''; 0")
+    session.value("byId('printed').value = ''; 0")

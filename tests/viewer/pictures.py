@@ -6,8 +6,9 @@ import os
 import subprocess
 import sys
 import tempfile
+from pathlib import Path
 
-from commands import TOP
+from commands import TOP, text_of
 from viewer import browser
 
 # for each example the step that is shown
@@ -26,15 +27,13 @@ def main() -> int:
         for name, step in PICTURES.items():
             swap = "ram:64"
             if os.path.exists(f"{TOP}/examples/{name}.swap"):
-                with open(f"{TOP}/examples/{name}.swap", encoding="ascii") as file:
-                    swap = file.read()
+                swap = text_of(f"{TOP}/examples/{name}.swap")
             path = os.path.join(folder, name + ".html")
             with open(f"{TOP}/examples/{name}.shm", "rb") as script, open(path, "wb") as page:
                 subprocess.run([*VIEWER, *swap.split()], stdin=script, stdout=page, check=True)
             to = f"{TOP}/docs/pictures/{name}.png"
             session.open(f"file://{path}#step-{step}", 1280, 900)
-            with open(to, "wb") as picture:
-                picture.write(session.picture())
+            Path(to).write_bytes(session.picture())
             print(f"{to}: {os.path.getsize(to)} bytes")
     return 0
 

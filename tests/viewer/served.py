@@ -20,6 +20,7 @@ import tempfile
 import threading
 import time
 from collections.abc import Iterator
+from pathlib import Path
 from typing import Any
 
 import answer
@@ -82,21 +83,24 @@ def wait_for(session: Session, expression: Any, seconds: int = 120) -> Any:
     return False
 
 
-def edit(session: Session, old: Any, new: Any) -> Any:
-    """Types into the script, and waits for the run."""
-    text = session.value("byId('text').value")
+def run_by(session: Session, expression: str, also: str = "true") -> Any:
+    """Does something that runs the script, and waits for the run."""
     runs = session.value("document.body.dataset.runs")
-    session.value(f"byId('text').value = {json.dumps(text.replace(old, new))}; "
-                  f"byId('text').dispatchEvent(new Event('input'))")
-    return wait_for(session, f"document.body.dataset.runs !== {json.dumps(runs)}") and old in text
+    session.value(expression)
+    return wait_for(session, f"document.body.dataset.runs !== {json.dumps(runs)} && {also}")
+
+
+def edit(session: Session, old: Any, new: Any) -> Any:
+    """Types into the script."""
+    text = session.value("byId('text').value")
+    return run_by(session, f"byId('text').value = {json.dumps(text.replace(old, new))}; "
+                           "byId('text').dispatchEvent(new Event('input'))") and old in text
 
 
 def choose(session: Session, name: str, kind: str = "example") -> None:
-    """Chooses an example or a lesson, and waits for its run."""
-    runs = session.value("document.body.dataset.runs")
-    session.value(f"byId('choose').value = '{kind} {name}'; byId('choose').dispatchEvent(new "
-                  f"Event('change'))")
-    wait_for(session, f"document.body.dataset.runs !== {json.dumps(runs)}")
+    """Chooses an example or a lesson."""
+    run_by(session, f"byId('choose').value = '{kind} {name}'; "
+                    "byId('choose').dispatchEvent(new Event('change'))")
 
 
 TOPS = "['#script', '#lesson', '.spaces'].map((it) => document.querySelector(it).getBoundingClientRect().top)"
@@ -114,15 +118,13 @@ def check_order(session: Session) -> None:
     """The lesson comes before script and boxes, and on a phone between them."""
     script, lesson, spaces = session.value(TOPS)
     assert lesson < script == spaces
-    session.ask("Emulation.setDeviceMetricsOverride", width=390, height=844, deviceScaleFactor=1, mobile=True)
+    session.resize(390, 844)
     assert session.value(TOPS) == sorted(session.value(TOPS))
-    session.ask("Emulation.setDeviceMetricsOverride", width=1280, height=900, deviceScaleFactor=1,
-                mobile=False)
+    session.resize(1280, 900)
 
 
 def check_lesson(session: Session) -> None:
-    """A lesson has its script, its text, its question, and the answer folded; an example has none of
-    these."""
+    """A lesson has its script, text, question, and the answer folded; an example has none of these."""
     choose(session, LESSONS[7], "lesson")
     seen = session.value("[byId('lesson').hidden, byId('where').textContent, "
                          "byId('lesson').querySelector('h2').textContent, "
@@ -165,12 +167,11 @@ IN_SIGHT = ("byId('bar').getBoundingClientRect().bottom <= byId('orders').getBou
 
 def check_in_sight(session: Session) -> None:
     """On a phone the outcomes come below the lesson, and the page shows them at once."""
-    session.ask("Emulation.setDeviceMetricsOverride", width=390, height=844, deviceScaleFactor=1, mobile=True)
+    session.resize(390, 844)
     session.value("byId('orders').hidden = true; showOutcomes([]); scrollTo(0, 0); byId('every').click()")
     assert wait_for(session, "byId('outcomes').rows.length === 4")
     assert wait_for(session, IN_SIGHT)
-    session.ask("Emulation.setDeviceMetricsOverride", width=1280, height=900, deviceScaleFactor=1,
-                mobile=False)
+    session.resize(1280, 900)
 
 
 def check_orders(session: Session) -> None:
@@ -184,9 +185,7 @@ def check_orders(session: Session) -> None:
     assert (head, sorted(rows)) == (["process 1", "process 2"], LOST)
     assert session.value("byId('found').textContent").startswith("3 outcomes,")
     for at, row in [*enumerate(rows, 1), (1, rows[0])]:
-        runs = session.value("document.body.dataset.runs")
-        session.value(f"byId('outcomes').rows[{at}].querySelector('button').click()")
-        assert wait_for(session, f"document.body.dataset.runs !== {json.dumps(runs)}")
+        assert run_by(session, f"byId('outcomes').rows[{at}].querySelector('button').click()")
         assert (session.value(LOADED), session.value(CURRENT)) == (row, at)
         assert session.value(OWN) == lines
         assert session.value("[byId('where').textContent, byId('title').textContent.slice(0, 13)]") == [
@@ -200,9 +199,7 @@ def check_orders(session: Session) -> None:
     assert session.value("byId('orders').hidden")
     session.value("byId('every').click()")
     assert wait_for(session, "byId('outcomes').rows.length === 4")
-    runs = session.value("document.body.dataset.runs")
-    session.value("byId('outcomes').rows[1].querySelector('button').click()")
-    assert wait_for(session, f"document.body.dataset.runs !== {json.dumps(runs)}")
+    assert run_by(session, "byId('outcomes').rows[1].querySelector('button').click()")
     text = session.value("byId('text').value")
     assert "# both have it now" in text and "flush" not in text
     assert "# process 2 is born\n1 load a 1\n" in text
@@ -233,9 +230,7 @@ def check_condition(session: Session) -> None:
         assert session.value("byId('outcomes').rows.length") == 2 * len(found)
         for loads in found:
             assert session.value(SHOWN) == loads
-            runs = session.value("document.body.dataset.runs")
-            session.value("byId('outcomes').rows[1].querySelector('button').click()")
-            assert wait_for(session, f"document.body.dataset.runs !== {json.dumps(runs)}")
+            assert run_by(session, "byId('outcomes').rows[1].querySelector('button').click()")
             assert (session.value(LOADED), session.value(CURRENT)) == (loads, 1)
 
 
@@ -280,10 +275,8 @@ def check_threads(session: Session) -> None:
     lines = session.value(OWN)
     session.value(KEEP)
     for _ in range(3):
-        runs = session.value("document.body.dataset.runs")
-        session.value("window.threaded = null; byId('race').click()")
-        assert wait_for(session, f"document.body.dataset.runs !== {json.dumps(runs)} && "
-                                 "byId('words').textContent.startsWith('This is the order of a run')")
+        assert run_by(session, "window.threaded = null; byId('race').click()",
+                      "byId('words').textContent.startsWith('This is the order of a run')")
         told = session.value("threaded.lines")
         assert len(told) == 9
         assert session.value("steps.slice(1).map((it) => it.call.replace('call ', ''))") == told
@@ -423,8 +416,7 @@ LATE_ANSWER = """(async () => {
 def check_late(session: Session) -> None:
     """An answer that comes after the text was changed once more is not shown."""
     choose(session, "memory_short")
-    seen = session.value(LATE_ANSWER)
-    assert seen == [2, True, True, False]
+    assert session.value(LATE_ANSWER) == [2, True, True, False]
 
 
 def check_saving(session: Session) -> None:
@@ -437,8 +429,7 @@ def check_saving(session: Session) -> None:
     saved = session.value("window.saved") or ""
     with tempfile.TemporaryDirectory(prefix="viewer.") as folder:
         path = os.path.join(folder, "run.html")
-        with open(path, "w", encoding="utf-8") as file:
-            file.write(saved)
+        Path(path).write_text(saved, "utf-8")
         session.open(f"file://{path}", 1280, 900)
         seen = session.value(SEEN)
     want = ["step 6 of 7", "process 1: load 0x40000000 1 = SIGBUS call 6 of the history", 2]
@@ -502,15 +493,13 @@ def check_headers() -> None:
 
 
 def check_opened() -> None:
-    """A file that is opened: its text, with what could end the page's data, and its swap areas, also if its
-    folder's name has a dot."""
+    """A file that is opened: its text, which could end the page's data, and swap areas by a dotted path."""
     text = "# </script><!-- <i>&lt; \\u003c\nlimits 1 1 1 2 0\n"
     with tempfile.TemporaryDirectory(prefix="viewer.") as folder:
         below = os.path.join(folder, "of.this")
         os.mkdir(below)
         for name, given in (("one.shm", text), ("one.swap", "ram:3 sparse:9\n")):
-            with open(os.path.join(below, name), "w", encoding="ascii") as file:
-                file.write(given)
+            Path(os.path.join(below, name)).write_text(given, "ascii")
         for words in [os.path.join(below, "one.shm")], [os.path.relpath(os.path.join(below, "one.shm"))]:
             with served(*words) as (_address, port, token):
                 _, body = ask(port, "GET", f"/{token}/")
@@ -601,13 +590,11 @@ def check_limits() -> None:
         }
         runners = {}
         for name, text in programs.items():
-            with open(f"{folder}/{name}", "w", encoding="ascii") as file:
-                file.write(f"#!/bin/sh\n{text}\n")
+            Path(f"{folder}/{name}").write_text(f"#!/bin/sh\n{text}\n", "ascii")
             os.chmod(f"{folder}/{name}", 0o755)
             runners[name] = serve.Runner({"run": f"{folder}/{name}"}, f"{TOP}/bindings/python")
         given = ("run", SCRIPT["script"].encode(), ["ram:1"])
-        threads = [threading.Thread(target=runners["turns"].run, args=given)
-                   for _ in range(6)]
+        threads = [threading.Thread(target=runners["turns"].run, args=given) for _ in range(6)]
         for thread in threads:
             thread.start()
         for thread in threads:

@@ -8,6 +8,7 @@ import re
 import shlex
 import subprocess
 from collections.abc import Iterator
+from pathlib import Path
 from typing import Any
 
 import pytest
@@ -42,16 +43,14 @@ def session() -> Iterator[browser.Session]:
 
 def shown_by(page: Page, folder: str, session: browser.Session) -> Any:
     """What a browser shows of a page."""
-    with open(os.path.join(HERE, "collect.js"), encoding="utf-8") as file:
-        collect = file.read()
+    collect = text_of(os.path.join(HERE, "collect.js"))
     moves = json.dumps(moves_of(page.blocks, page.script))
     made = (f'<script type="text/plain" id="moves-to-make">{moves}</script>\n<script>\n{collect}</script>\n'
             f'</body>')
     path = os.path.join(folder, "page.html")
-    with open(path, "w", encoding="utf-8") as file:
-        file.write(page.html.replace("</body>", made))
+    Path(path).write_text(page.html.replace("</body>", made), "utf-8")
     session.open(f"file://{path}{page.address}", *SIZES[0])
-    return json.loads(session.value("document.getElementById('collected')?.textContent ?? 'null'"))
+    return json.loads(session.value("byId('collected')?.textContent ?? 'null'"))
 
 
 def check_page(page: Page, shown: Any) -> None:
@@ -122,7 +121,7 @@ def wrong_layout(seen: dict[str, Any], first: dict[str, Any], wide: int, high: i
     return wrong + [f"the legend is {seen['marks']}"] * (seen["marks"] != first["marks"])
 
 
-FOLD = "document.getElementById('fold').click(), document.querySelector('.key').innerText.trim()"
+FOLD = "byId('fold').click(), document.querySelector('.key').innerText.trim()"
 
 
 @pytest.mark.parametrize("name", LESSONS)
@@ -130,11 +129,9 @@ def test_first_screen(session: browser.Session, folder: str, name: str) -> None:
     """The segments' table is whole on the first screen, the frames are one row, and processes with few pages
     lie side by side, also on a projector, where boxes and text are larger. The legend is one line with the
     marks of the run, and a click hides it. On a phone the script comes first."""
-    with open(os.path.join(HERE, "measure.js"), encoding="utf-8") as file:
-        measure = file.read()
+    measure = text_of(os.path.join(HERE, "measure.js"))
     made, path = page_of_example(name), os.path.join(folder, "page.html")
-    with open(path, "w", encoding="utf-8") as file:
-        file.write(made.html)
+    Path(path).write_text(made.html, "utf-8")
     seen = []
     for wide, high in (SIZES[0], (1920, 1080)):
         session.open(f"file://{path}", wide, high)
@@ -161,17 +158,15 @@ def test_first_screen(session: browser.Session, folder: str, name: str) -> None:
 def test_layout(session: browser.Session, folder: str, name: str) -> None:
     """The boxes of the examples stay where they are, at each step and at two sizes; all sentences are shown
     on demand, over the picture; and on paper each step has a sheet."""
-    with open(os.path.join(HERE, "measure.js"), encoding="utf-8") as file:
-        measure = file.read()
+    measure = text_of(os.path.join(HERE, "measure.js"))
     made, path = page_of_example(name), os.path.join(folder, "page.html")
-    with open(path, "w", encoding="utf-8") as file:
-        file.write(made.html)
+    Path(path).write_text(made.html, "utf-8")
     for wide, high in SIZES:
         session.open(f"file://{path}", wide, high)
         first = session.value(measure)
         for block in made.blocks:
             wrong = wrong_layout(session.value(measure), first, wide, high)
-            session.value("document.getElementById('more').click()")
+            session.value("byId('more').click()")
             opened = session.value(measure)
             wrong += ["boxes moved as the sentences were opened"] * (opened["boxes"] != first["boxes"])
             session.press("ArrowRight")
@@ -187,8 +182,7 @@ SHEETS = ("dispatchEvent(new Event('beforeprint')), [...document.querySelectorAl
 
 
 def check_paper(session: browser.Session, made: Page) -> None:
-    """A sheet has the title, the number of the step, and its line. There are as many sheets as steps, and
-    none after they were printed."""
+    """A sheet has the title, the step's number and its line. Each step has one, until they were printed."""
     assert len(re.findall(rb"/Type /Page\b", session.paper())) == len(made.blocks)
     lines = [at for at, line in enumerate(made.script) if re.match("[0-9]", line)]
     of = ["", *(f"line {at + 1}: {made.script[at]}" for at in lines)]
@@ -206,11 +200,9 @@ LANES = ("[[...byId('laned').rows].map((row) => [...row.cells].map((it) => it.te
 
 @pytest.mark.parametrize("name", ["lost_update", "fork", "memory_short"])
 def test_lanes(session: browser.Session, folder: str, name: str) -> None:
-    """Each call is in the lane of its process, in its order; a click on one goes to its step. One process
-    needs no lanes."""
+    """Each call is in its process's lane, in order; a click goes to its step. One process needs no lanes."""
     made, path = page_of_example(name), os.path.join(folder, "page.html")
-    with open(path, "w", encoding="utf-8") as file:
-        file.write(made.html)
+    Path(path).write_text(made.html, "utf-8")
     session.open(f"file://{path}", *SIZES[0])
     calls = [block[1] for block in made.blocks]
     if name == "memory_short":
@@ -342,13 +334,11 @@ def test_stored_pages() -> None:
 
 @pytest.mark.parametrize("name", LESSONS)
 def test_solution(session: browser.Session, folder: str, name: str) -> None:
-    """The page of a lesson's solution shows that the task is solved, and that of the lesson shows the
-    task."""
+    """The page of a lesson's solution shows that the task is solved; that of the lesson shows the task."""
     said, path = [], os.path.join(folder, "page.html")
     for script in f"examples/{name}", f"examples/solutions/{name}":
         swap = text_of(f"{script}.swap", "ram:64").split()
-        with open(path, "w", encoding="utf-8") as file:
-            file.write(run([*VIEWER, *swap], text_of(f"{script}.shm")).out)
+        Path(path).write_text(run([*VIEWER, *swap], text_of(f"{script}.shm")).out, "utf-8")
         session.open(f"file://{path}", *SIZES[0])
         said.append(session.value("[byId('wanted').innerText, byId('verdict').innerText]"))
     [task] = re.findall("^# task: (.*)$", text_of(f"examples/{name}.shm"), re.M)
@@ -399,8 +389,7 @@ def test_editor_with_a_script(session: browser.Session) -> None:
 def test_moving(session: browser.Session, folder: str, name: str) -> None:
     """Search finds each step of a kind; play, the handout and swipes move as they should."""
     made, path = page_of_example(name), os.path.join(folder, "page.html")
-    with open(path, "w", encoding="utf-8") as file:
-        file.write(made.html)
+    Path(path).write_text(made.html, "utf-8")
     session.open(f"file://{path}", *SIZES[0])
     check_seeking(session, made)
     if name == "swap_taken_away":
@@ -417,8 +406,7 @@ def test_long_run(session: browser.Session) -> None:
 
 def test_many_sheets(session: browser.Session, folder: str) -> None:
     made, path = page_by(["ram:1"], MANY_STEPS, "sheets"), os.path.join(folder, "page.html")
-    with open(path, "w", encoding="utf-8") as file:
-        file.write(made.html)
+    Path(path).write_text(made.html, "utf-8")
     session.open(f"file://{path}", *SIZES[0])
     check_sheets(session)
 

@@ -112,8 +112,7 @@ def orders(checker: str, _swaps: list[str], text: str) -> Any:
 
 
 def exists(checker: str, condition: list[str], text: str) -> Any:
-    """An order whose replies meet a condition: its outcome; no outcome if every order was covered and none
-    does."""
+    """The outcome of an order whose replies meet a condition; none if no order of all does."""
     said = searched(checker, ["--exists", *condition], (0, NO_ORDER), text)
     if not isinstance(said, str):
         return said

@@ -9,6 +9,7 @@ from __future__ import annotations
 import os
 import subprocess
 import sys
+from pathlib import Path
 
 from nogcuvema._ending import run_command
 from serve import lessons_of, swaps_beside
@@ -43,8 +44,7 @@ def check() -> int:
     for path, page in pages.items():
         stored = b""
         if path in found:
-            with open(path, "rb") as file:
-                stored = file.read()
+            stored = Path(path).read_bytes()
         faults += [f"{path} is not what ./shmview makes: tools/pages makes it anew"] * (stored != page)
         faults += [f"{path} has {len(page)} bytes"] * (len(page) >= MOST_BYTES)
     print("".join(f"pages: {fault}\n" for fault in faults), end="")
@@ -59,8 +59,7 @@ def main(words: list[str]) -> int:
         return 2
     os.makedirs(FOLDER, exist_ok=True)
     for path, page in made_pages().items():
-        with open(path, "wb") as file:
-            file.write(page)
+        Path(path).write_bytes(page)
         print(f"{os.path.relpath(path, TOP)}: {len(page)} bytes")
     return 0
 

@@ -14,8 +14,7 @@ Page = Tuple[str, str]
 
 @dataclass
 class Step:
-    """The state of a machine after a step. Pages are pairs of a segment and a page number; all numbers are
-    texts."""
+    """The state of a machine after a step. A page is a segment and a page number; all numbers are texts."""
 
     number: int
     action: str = ""
@@ -41,8 +40,7 @@ class Step:
         return self.words[-1] if self.words[:1] == ["call"] else ""
 
     def page_at(self, pid: str, address: int) -> tuple[Any, ...]:
-        """Returns the page that a process has at an address, and its rights; None and no rights if it has
-        none."""
+        """The page that a process has at an address, and its rights; None and no rights if it has none."""
         for base, seg, first, pages, rights in self.processes.get(pid, ("", ()))[1]:
             if 0 <= address - int(base, 16) < 4096 * int(pages):
                 return (seg, str(int(first) + (address - int(base, 16)) // 4096)), rights
@@ -196,8 +194,7 @@ def came(page: tuple[str, str], frame: str, other: tuple[str, str] | None, befor
 
 
 def say_frames(before: Any, after: Any) -> Iterator[str]:
-    """Which pages left their frames and which came in; pages of a segment that was destroyed are not
-    mentioned."""
+    """Which pages left their frames and which came in, except pages of a destroyed segment."""
     for frame in sorted(before.frames.keys() | after.frames.keys(), key=int):
         old, new = (it.frames.get(frame, (None,))[0] for it in (before, after))
         if old == new:

@@ -24,6 +24,7 @@ import sys
 import threading
 import webbrowser
 from http.server import BaseHTTPRequestHandler, ThreadingHTTPServer
+from pathlib import Path
 from typing import Any
 
 from show import filled, task_of, told_of, without_task
@@ -53,8 +54,7 @@ HEADERS = {
 
 
 def read(path: str) -> Any:
-    with open(path, encoding="latin-1") as file:
-        return file.read()
+    return Path(path).read_text("latin-1")
 
 
 def swaps_beside(path: str) -> Any:
@@ -80,8 +80,7 @@ def lessons_of(tour: Any) -> Any:
     line."""
     if not os.path.isfile(tour):
         return []
-    with open(tour, encoding="utf-8") as file:
-        parts = re.split(r"^## ", file.read(), flags=re.M)[1:]
+    parts = re.split(r"^## ", Path(tour).read_text("utf-8"), flags=re.M)[1:]
     found = []
     for part in parts:
         title, _, body = part.partition("\n")
@@ -174,8 +173,7 @@ class Handler(BaseHTTPRequestHandler):
         self.wfile.write(body)
 
     def is_allowed(self, path: str) -> bool:
-        """A request for this path, from this page. A wrong token, another name of the host and another origin
-        are all refused."""
+        """A request for this path, from this page. A wrong token, host name or origin is refused."""
         host = f"127.0.0.1:{self.server.server_port}"
         wanted = f"/{self.server.token}{path}".encode()
         origin = self.headers.get("Origin", "http://" + host)
@@ -263,8 +261,7 @@ class Server(ThreadingHTTPServer):
 
 def served_page(begun: Any, choices: Any) -> Any:
     """The page with its editor, its examples and its lessons."""
-    with open(os.path.join(HERE, "editor.html"), encoding="utf-8") as file:
-        editor = file.read()
+    editor = Path(os.path.join(HERE, "editor.html")).read_text("utf-8")
     data = json.dumps({**choices, **begun}).replace("<", "\\u003c")
     return filled("", told_of("")).replace("</body>", editor.replace("@CHOICES@", data) + "</body>")
 

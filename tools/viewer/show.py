@@ -15,6 +15,7 @@ import json
 import os
 import re
 import sys
+from pathlib import Path
 from typing import Any, Optional, Tuple
 
 from record import all_sentences, reached, read_record, turns
@@ -40,8 +41,7 @@ def without_task(script: str) -> str:
 
 
 def lines_of(script: str) -> list[Line]:
-    """Returns the lines of a script without its task, each with the number of its step: commands and flush
-    lines begin with a number."""
+    """The lines of a script without its task, each with its step's number, if it begins with a number."""
     lines: list[Line] = []
     step = 0
     for line in without_task(script).rstrip("\n").split("\n"):
@@ -120,8 +120,7 @@ def shortened(text: str) -> str:
 def filled(text: str, told: dict[str, Any]) -> str:
     """The page of a shortened record. The record has no character that HTML reads as its own; all else is
     JSON, in which `<` is written as an escape."""
-    with open(os.path.join(HERE, "page.html"), encoding="utf-8") as file:
-        template = file.read()
+    template = Path(os.path.join(HERE, "page.html")).read_text("utf-8")
     head, rest = template.split("@RECORD@")
     middle, tail = rest.split("@TOLD@")
     return head + text + middle + json.dumps(told).replace("<", "\\u003c") + tail

@@ -48,8 +48,7 @@ WITHOUT = ("to see processes, frames and slots, build the program shmview in the
 def help_of(call: str) -> str:
     """The form, the rule and the errors of a call."""
     rule, errors = RULES[call]
-    told = [f"PID {'[v =] ' * (call in TAKEN)}{form_of(call)}",
-            *textwrap.wrap(rule, 100)]
+    told = [f"PID {'[v =] ' * (call in TAKEN)}{form_of(call)}", *textwrap.wrap(rule, 100)]
     told += [f"    {name.lower():<10} {kind.allowed}" for name, kind in CALLS[call]]
     told += [f"    {'ESRCH':<10} the process is not live"]
     return "\n".join(told + [f"    {name:<10} {when}" for name, when in errors])
@@ -138,8 +137,7 @@ class Prompt:
             return None
 
     def keep(self, before: Optional[Moment]) -> None:
-        """Keeps the last moments for `undo`. If the last line has none, no earlier line can be undone
-        either."""
+        """Keeps the last moments for `undo`. If the last line has none, no earlier line can be undone."""
         most = most_moments(self.script.limits, self.areas) if self.script.limits else MOST_MOMENTS
         self.undoable = (self.undoable + [before])[-most:] if before and most else []
 

@@ -37,8 +37,7 @@ def run_command(name: str, main: Callable[[], int]) -> int:
 
 
 def drop_output() -> None:
-    """Discards what is still in the buffer of standard output, so that the end of the program does not fail
-    once more."""
+    """Discards what standard output has buffered, so that the program's end does not fail once more."""
     with contextlib.suppress(OSError):
         nowhere = os.open(os.devnull, os.O_WRONLY)
         os.dup2(nowhere, 1)

@@ -1,5 +1,4 @@
-"""The shared object: where it is, its structs, and its functions as ctypes calls them. Not for users of the
-package."""
+"""The shared object, its structs, and its functions as ctypes calls them. Not for the package's users."""
 import ctypes
 import os
 import threading

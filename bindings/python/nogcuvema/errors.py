@@ -94,8 +94,7 @@ class BadOpening(MachineError, ValueError):
 
 
 class NotAdmitted(MachineError, ValueError):
-    """A process that can't be admitted: its pid is out of range or in use, or there are as many processes as
-    the limits allow."""
+    """A process that can't be admitted: its pid is out of range or in use, or there are too many."""
 
 
 class NotDismissed(MachineError, ValueError):

@@ -1,18 +1,18 @@
-"""A machine and its calls. docs/MACHINE.md lists the errors of each call; a method here names only what
-differs in Python."""
+"""A machine and its calls. docs/MACHINE.md lists their errors; a method names what differs in Python."""
 import enum
 import operator
 import sys
-from ctypes import byref, c_int32, c_uint8, c_uint32, c_uint64
+from ctypes import Structure, byref, c_int32, c_uint8, c_uint32, c_uint64
 from dataclasses import dataclass
 from types import TracebackType
-from typing import Any, Callable, Dict, Iterable, List, Optional, Sequence, Tuple, Type, Union
+from typing import Any, Callable, Dict, Iterable, List, Optional, Sequence, Tuple, Type, TypeVar, Union
 
 from . import _library as low
 from .errors import Incomplete, OUT_OF_RANGE, OutOfRange
 from .loans import PAGE_BYTES, Frame, Loan, ShownPage
 
 Buffer = Union[bytes, bytearray, memoryview]
+Out = TypeVar("Out")
 PRIVATE = 0
 MOST_BYTES = 64     # of a load, a store or an exchange
 U16, U32, U64, I32 = 2 ** 16 - 1, 2 ** 32 - 1, 2 ** 64 - 1, 2 ** 31 - 1
@@ -73,8 +73,7 @@ class Limits:
 
 @dataclass(frozen=True)
 class Failure:
-    """A read or write of an area that fails: the one numbered `call`, from 1. `side` 1 is a mirror's right
-    side."""
+    """An area's read or write that fails: the one numbered `call`, from 1. `side` 1 is a mirror's right."""
     call: int
     is_write: bool = False
     side: int = 0
@@ -106,8 +105,7 @@ class Area:
 
 @dataclass(frozen=True)
 class Process:
-    """A process that the machine may have. A child that is not born gets its user and group from the process
-    that forks it."""
+    """A process that the machine may have. An unborn child gets its user and group by the fork."""
     pid: int
     uid: int = 0
     gid: int = 0
@@ -185,8 +183,7 @@ class SegmentPages:
 
 @dataclass(frozen=True)
 class Piece:
-    """A range of addresses of a process with pages of a segment, as a line of /proc/PID/maps shows a
-    mapping."""
+    """A process's range of addresses with pages of a segment, as a line of /proc/PID/maps shows it."""
     base: int          # its address
     segment: int       # the identifier of its segment
     first_page: int    # the page of the segment that lies at the address
@@ -234,9 +231,12 @@ def _number(value: Any, most: int, what: str, least: int = 0, show: Callable[[in
 
 
 def _pid(value: Any, what: str = "pid") -> int:
-    """A pid as C has it. For one that no process can have the library returns a code, as ESRCH for
-    example."""
+    """A pid as C has it. For one that no process can have the library returns a code, such as ESRCH."""
     return _number(value, U32, what, told=(1, I32))
+
+
+def _addr(value: Any) -> int:
+    return _number(value, U64, "addr")
 
 
 def _mode(value: Any, most: int = 0o777) -> int:
@@ -244,8 +244,7 @@ def _mode(value: Any, most: int = 0o777) -> int:
 
 
 def _truth(value: Any, what: str) -> int:
-    """A truth value as C has it. Another type, such as a text, is a mistake, although Python would find it
-    true."""
+    """A truth value as C has it. Another type, such as a text, is a mistake, even if Python finds it true."""
     if not isinstance(value, (bool, int)):
         raise _wrong_type(what, "True or False", value)
     return int(bool(value))
@@ -279,9 +278,14 @@ def _items(values: Any, kind: type, what: str) -> List[Any]:
     return items
 
 
+def _fields(struct: Structure) -> Dict[str, Any]:
+    return {field[0]: getattr(struct, field[0]) for field in struct._fields_}
+
+
 def _segment(struct: low.SegmentStruct) -> Segment:
-    values = {name: getattr(struct, name) for name, _ in struct._fields_ if name != "status"}
-    return Segment(is_marked=bool(struct.status & DEST), is_locked=bool(struct.status & LOCKED), **values)
+    values = _fields(struct)
+    status = values.pop("status")
+    return Segment(is_marked=bool(status & DEST), is_locked=bool(status & LOCKED), **values)
 
 
 def _piece(struct: low.PieceStruct) -> Piece:
@@ -351,8 +355,7 @@ def why_not_opened(code: int, limits: Limits, areas: Sequence[Area], processes: 
 
 
 def _check_areas(areas: Sequence[Area]) -> None:
-    """Refuses a kind that does not exist, and a failure of a side that the area does not have, or of call
-    0."""
+    """Refuses a kind that does not exist, and a failure of call 0, or of a side that the area lacks."""
     for place, area in enumerate(areas):
         _number(area.kind, MIRROR, f"areas[{place}]: kind", 1)
         for number, it in enumerate(_items(area.failures, Failure, f"areas[{place}]: failures")):
@@ -422,6 +425,11 @@ class Machine:
         if code:
             raise self._library.error(code, name)  # type: ignore[misc]
 
+    def _ask(self, output: Out, name: str, *operands: Any) -> Out:
+        """A call whose last parameter is where its answer goes."""
+        self._call(name, *operands, byref(output))  # type: ignore[arg-type]
+        return output
+
     def __enter__(self) -> "Machine":
         return self
 
@@ -446,27 +454,21 @@ class Machine:
 
     def get(self, pid: int, key: int, size: int, mode: int = 0o600, flags: int = 0) -> int:
         """shmget: the identifier of the segment with this key, or of a new one."""
-        found = c_int32()
-        self._call("nog_get", _pid(pid), _number(key, U32, "key"), _number(size, U64, "size"),
-                   _mode(mode), _number(flags, U16, "flags"), byref(found))
-        return found.value
+        return self._ask(c_int32(), "nog_get", _pid(pid), _number(key, U32, "key"),
+                         _number(size, U64, "size"), _mode(mode), _number(flags, U16, "flags")).value
 
     def attach(self, pid: int, segment: int, addr: Optional[int] = None, flags: int = 0) -> int:
         """shmat: the address of the attachment; None lets the machine choose it."""
-        at = c_uint64()
-        self._call("nog_attach", _pid(pid), _identifier(segment),
-                   0 if addr is None else _number(addr, U64, "addr"), _number(flags, U16, "flags"), byref(at))
-        return at.value
+        return self._ask(c_uint64(), "nog_attach", _pid(pid), _identifier(segment),
+                         0 if addr is None else _addr(addr), _number(flags, U16, "flags")).value
 
     def detach(self, pid: int, addr: int) -> None:
         """shmdt: detaches the segment that was attached at the address."""
-        self._call("nog_detach", _pid(pid), _number(addr, U64, "addr"))
+        self._call("nog_detach", _pid(pid), _addr(addr))
 
     def stat(self, pid: int, segment: int) -> Segment:
         """shmctl, IPC_STAT: the segment, if the process may read it."""
-        struct = low.SegmentStruct()
-        self._call("nog_stat", _pid(pid), _identifier(segment), byref(struct))
-        return _segment(struct)
+        return _segment(self._ask(low.SegmentStruct(), "nog_stat", _pid(pid), _identifier(segment)))
 
     def set(self, pid: int, segment: int, uid: int, gid: int, mode: int) -> None:
         """shmctl, IPC_SET: sets the owner and the permission bits."""
@@ -488,28 +490,23 @@ class Machine:
     def load(self, pid: int, addr: int, length: int) -> bytes:
         """Reads 1 to 64 bytes in one step."""
         room = (c_uint8 * _number(length, MOST_BYTES, "length", 1))()
-        self._call("nog_load", _pid(pid), _number(addr, U64, "addr"), room, length)
+        self._call("nog_load", _pid(pid), _addr(addr), room, length)
         return bytes(room)
 
     def store(self, pid: int, addr: int, data: Buffer) -> None:
         """Writes 1 to 64 bytes in one step."""
         room, length = _room(data, most=MOST_BYTES)
-        self._call("nog_store", _pid(pid), _number(addr, U64, "addr"), room, length)
+        self._call("nog_store", _pid(pid), _addr(addr), room, length)
 
     def add(self, pid: int, addr: int, number: int) -> int:
-        """Adds to an eight-byte little-endian number, modulo 2^64, in one step. Returns the number before the
-        addition."""
-        before = c_uint64()
-        self._call("nog_add", _pid(pid), _number(addr, U64, "addr"), _number(number, U64, "number"),
-                   byref(before))
-        return before.value
+        """Adds to an eight-byte little-endian number, modulo 2^64, in one step. Returns the number before."""
+        return self._ask(c_uint64(), "nog_add", _pid(pid), _addr(addr), _number(number, U64, "number")).value
 
     def exchange(self, pid: int, addr: int, data: Buffer) -> bytes:
-        """Replaces 1 to 64 bytes in one step (a guest's locked exchange). Returns the bytes that were there
-        before."""
+        """Replaces 1 to 64 bytes in one step (a guest's locked exchange). Returns the bytes before."""
         room, length = _room(data, most=MOST_BYTES)
         before = (c_uint8 * length)()
-        self._call("nog_exchange", _pid(pid), _number(addr, U64, "addr"), room, length, before, length)
+        self._call("nog_exchange", _pid(pid), _addr(addr), room, length, before, length)
         return bytes(before)
 
     def compare_exchange(self, pid: int, addr: int, expected: Buffer, data: Buffer) -> bytes:
@@ -521,8 +518,7 @@ class Machine:
             raise OutOfRange(OUT_OF_RANGE, f"the length of expected {size} is not that of data, {length}",
                              "nogcuvema")
         before = (c_uint8 * length)()
-        self._call("nog_compare_exchange", _pid(pid), _number(addr, U64, "addr"), wanted, size, room, length,
-                   before, length)
+        self._call("nog_compare_exchange", _pid(pid), _addr(addr), wanted, size, room, length, before, length)
         return bytes(before)
 
     def fork(self, pid: int, new: int) -> None:
@@ -569,14 +565,13 @@ class Machine:
         self._call("nog_set_time", _number(time, U64, "time"))
 
     def unmap(self, pid: int, addr: int, length: int) -> None:
-        """munmap: detaches a range of a process, rounded up to whole pages. Attachments that extend beyond
-        it are cut."""
-        self._call("nog_unmap", _pid(pid), _number(addr, U64, "addr"), _number(length, U64, "length"))
+        """munmap: detaches a range, rounded up to whole pages. Attachments that extend beyond it are cut."""
+        self._call("nog_unmap", _pid(pid), _addr(addr), _number(length, U64, "length"))
 
     def protect(self, pid: int, addr: int, length: int, is_writable: bool) -> None:
         """mprotect: makes a range of a process, rounded up to whole pages, writable or read-only. If it
         fails with ENOMEM or EACCES, pages below the one where it failed may have changed, as on Linux."""
-        self._call("nog_protect", _pid(pid), _number(addr, U64, "addr"), _number(length, U64, "length"),
+        self._call("nog_protect", _pid(pid), _addr(addr), _number(length, U64, "length"),
                    _truth(is_writable, "is_writable"))
 
     def snapshot(self) -> "Machine":
@@ -614,8 +609,7 @@ class Machine:
         return self._access("nog_read", pid, addr, room, len(view))
 
     def write(self, pid: int, addr: int, data: Buffer) -> int:
-        """Writes bytes by one store for each page. Raises `Incomplete` if a store after the first fails;
-        earlier stores remain."""
+        """Writes bytes by one store a page. Raises `Incomplete` if a later one fails; earlier ones stay."""
         room, length = _room(data)
         return self._access("nog_write", pid, addr, room, length)
 
@@ -624,7 +618,7 @@ class Machine:
         number. Raises `Incomplete` if some bytes were copied before it failed."""
         done = c_uint64()
         try:
-            self._call("nog_copy", _pid(pid), _number(addr, U64, "addr"), _pid(to, "to"),
+            self._call("nog_copy", _pid(pid), _addr(addr), _pid(to, "to"),
                        _number(to_addr, U64, "to_addr"), _number(length, U64, "length"), byref(done))
         except Exception as error:
             if not done.value:
@@ -635,7 +629,7 @@ class Machine:
     def _access(self, name: str, pid: int, addr: int, room: Any, length: int) -> int:
         done = c_uint64()
         try:
-            self._call(name, _pid(pid), _number(addr, U64, "addr"), room, length, byref(done))
+            self._call(name, _pid(pid), _addr(addr), room, length, byref(done))
         except Exception as error:
             if not done.value:
                 raise
@@ -665,40 +659,30 @@ class Machine:
         return _frame(struct) if self._has("nog_frame_at", number, byref(struct)) else None
 
     def page_at(self, pid: int, addr: int) -> ShownPage:
-        """The page that an address of a process shows. Raises `SegmentationFault` if nothing is attached
-        there."""
+        """The page at an address of a process. Raises `SegmentationFault` if nothing is attached there."""
         segment, page, is_writable = c_int32(), c_uint32(), c_uint32()
-        self._call("nog_page_at", _pid(pid), _number(addr, U64, "addr"), byref(segment), byref(page),
-                   byref(is_writable))
+        self._call("nog_page_at", _pid(pid), _addr(addr), byref(segment), byref(page), byref(is_writable))
         return ShownPage(segment.value, page.value, bool(is_writable.value))
 
     def loans(self) -> int:
         """How many pages are on loan."""
-        count = c_uint64()
-        self._call("nog_loans", byref(count))
-        return count.value
+        return self._ask(c_uint64(), "nog_loans").value
 
     # ---- lookups of the host ----
 
     def piece_of(self, pid: int, addr: int) -> Piece:
         """The piece of a live process that an address is in. Raises `SegmentationFault` if nothing is attached
         there. Not counted as a call."""
-        struct = low.PieceStruct()
-        self._call("nog_piece_of", _pid(pid), _number(addr, U64, "addr"), byref(struct))
-        return _piece(struct)
+        return _piece(self._ask(low.PieceStruct(), "nog_piece_of", _pid(pid), _addr(addr)))
 
     def segment_of(self, segment: int) -> Segment:
         """The segment of an identifier, without a permission check. It fails with EIDRM if the segment was
         destroyed, under any rules, and with EINVAL if it never was. Not counted as a call."""
-        struct = low.SegmentStruct()
-        self._call("nog_segment_of", _identifier(segment), byref(struct))
-        return _segment(struct)
+        return _segment(self._ask(low.SegmentStruct(), "nog_segment_of", _identifier(segment)))
 
     def limits(self) -> Limits:
         """The limits that the machine has now."""
-        struct = low.LimitsStruct()
-        self._call("nog_limits_of", byref(struct))
-        return Limits(**{name: getattr(struct, name) for name, _ in struct._fields_})
+        return Limits(**_fields(self._ask(low.LimitsStruct(), "nog_limits_of")))
 
     def set_limits(self, shmmax: Optional[int] = None, shmmni: Optional[int] = None,
                    shmall: Optional[int] = None, memlock: Optional[int] = None) -> None:
@@ -719,9 +703,8 @@ class Machine:
     def gone(self) -> List[int]:
         """The identifiers of the segments that were destroyed since the last call of `gone`, each once. A
         snapshot remembers the same calls."""
-        indexes, segment, found = c_uint32(), c_int32(), []
-        self._call("nog_indexes", byref(indexes))
-        count = max(indexes.value, len(self._told))
+        segment, found = c_int32(), []
+        count = max(self._ask(c_uint32(), "nog_indexes").value, len(self._told))
         told = (c_uint32 * count)(*self._told)
         while self._has("nog_gone", told, count, byref(segment)):
             found.append(segment.value)
@@ -732,38 +715,26 @@ class Machine:
 
     def flush(self, pages: int) -> Flushed:
         """A flush round: writes at most this many dirty pages out to swap."""
-        struct = low.FlushedStruct()
-        self._call("nog_flush", _number(pages, U64, "pages"), byref(struct))
-        return Flushed(struct.written, struct.failed)
+        return Flushed(**_fields(self._ask(low.FlushedStruct(), "nog_flush", _number(pages, U64, "pages"))))
 
     def tally(self) -> Tally:
         """The current counts."""
-        struct = low.TallyStruct()
-        self._call("nog_tally_of", byref(struct))
-        return Tally(**{name: getattr(struct, name) for name, _ in struct._fields_})
+        return Tally(**_fields(self._ask(low.TallyStruct(), "nog_tally_of")))
 
     def segments(self) -> List[Segment]:
-        """All segments in the order of their indexes, including those marked for removal, without a
-        permission check."""
-        indexes, found = c_uint32(), []
-        self._call("nog_indexes", byref(indexes))
-        for index in range(indexes.value):
-            struct = low.SegmentStruct()
-            if self._has("nog_segment_at", index, byref(struct)):
-                found.append(_segment(struct))
-        return found
+        """All segments by rising index, also those marked for removal, without a permission check."""
+        struct, indexes = low.SegmentStruct(), self._ask(c_uint32(), "nog_indexes").value
+        return [_segment(struct) for index in range(indexes)
+                if self._has("nog_segment_at", index, byref(struct))]
 
     def stat_at(self, pid: int, index: int) -> Segment:
         """shmctl, SHM_STAT: the segment at an index of the table, if the process may read it."""
-        struct = low.SegmentStruct()
-        self._call("nog_stat_at", _pid(pid), _number(index, U32, "index"), byref(struct))
-        return _segment(struct)
+        return _segment(self._ask(low.SegmentStruct(), "nog_stat_at", _pid(pid),
+                                  _number(index, U32, "index")))
 
     def info(self) -> Usage:
         """shmctl, SHM_INFO: sums over all segments. It looks at each page that was touched."""
-        struct = low.UsageStruct()
-        self._call("nog_info", byref(struct))
-        return Usage(**{name: getattr(struct, name) for name, _ in struct._fields_})
+        return Usage(**_fields(self._ask(low.UsageStruct(), "nog_info")))
 
     def pieces(self, pid: int) -> List[Piece]:
         """The pieces of a live process, which are attachments or parts of them, in the order of their
@@ -786,15 +757,14 @@ class Machine:
         """The address of the first byte at which an access of these bytes would get SIGSEGV: it is not
         attached, or not for writing. None if each byte is attached as the access needs."""
         at = c_uint64()
-        operands = (_pid(pid), _number(addr, U64, "addr"), _number(length, U64, "length"),
-                    _truth(is_write, "is_write"))
+        operands = (_pid(pid), _addr(addr), _number(length, U64, "length"), _truth(is_write, "is_write"))
         return at.value if self._has("nog_failed_at", *operands, byref(at)) else None
 
     def absent_at(self, pid: int, addr: int, length: int) -> Optional[int]:
         """Call it right after a `BusError`: the address of the access's first byte whose page is in no frame,
         if each byte before it is attached. None if there is no such byte."""
         at = c_uint64()
-        operands = (_pid(pid), _number(addr, U64, "addr"), _number(length, U64, "length"))
+        operands = (_pid(pid), _addr(addr), _number(length, U64, "length"))
         return at.value if self._has("nog_absent_at", *operands, byref(at)) else None
 
     def _has(self, name: str, *operands: Any) -> bool:
@@ -807,9 +777,7 @@ class Machine:
 
     def calls(self) -> int:
         """How many calls of processes were counted."""
-        count = c_uint64()
-        self._call("nog_calls", byref(count))
-        return count.value
+        return self._ask(c_uint64(), "nog_calls").value
 
 
 def _identifier(value: Any) -> int:

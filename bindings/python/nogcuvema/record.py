@@ -72,8 +72,7 @@ def _add(step: Dict[str, Any], words: List[str], line: str) -> None:
 
 
 def steps(lines: Iterable[str]) -> Iterator[Dict[str, Any]]:
-    """The steps of a record, each as a dictionary. Raises `RecordFault` with the number of a line that is not
-    one of a record."""
+    """The steps of a record, each as a dictionary. Raises `RecordFault` with the number of a wrong line."""
     step: Dict[str, Any] = {}
     for number, line in enumerate(lines, 1):
         line = line.rstrip("\n")

@@ -5,7 +5,8 @@ A fault has the kind that the programs print. It also has the word, its column, 
 import collections.abc
 import re
 from dataclasses import dataclass, fields, replace
-from typing import Any, Callable, Dict, Iterator, List, NamedTuple, Optional, Sequence, Set, Tuple, Union
+from typing import (Any, Callable, Dict, Iterator, List, Mapping, NamedTuple, Optional, Sequence, Set, Tuple,
+                    Union)
 
 from .errors import Fault, Refused
 from .machine import (LARGER, MOST_PROCESSES, Area, Failure, Flag, Limits, Machine, Process, Rules, Segment,
@@ -57,9 +58,6 @@ class Variable(NamedTuple):
     """A variable of a process, and a number to add to it."""
     letter: str
     plus: int = 0
-
-
-Operand = Union[int, bytes, Variable]
 
 
 class OperandKind(NamedTuple):
@@ -124,12 +122,18 @@ def get_flags_of(text: str) -> Tuple[int, int]:
     return mode, int(behind[text[3:]])
 
 
-def attach_flags_of(text: str) -> int:
-    named = {"rnd": Flag.RND, "remap": Flag.REMAP, "rdonly": Flag.RDONLY}
-    names = [] if text == "-" else text.split(",")
+NAMED_FLAGS = {"rnd": Flag.RND, "remap": Flag.REMAP, "rdonly": Flag.RDONLY}
+
+
+def sum_of(names: List[str], named: Mapping[str, int]) -> int:
+    """The sum of the numbers that these names have, each name at most once."""
     if any(name not in named for name in names) or len(set(names)) != len(names):
         raise NoForm
     return int(sum(named[name] for name in names))
+
+
+def attach_flags_of(text: str) -> int:
+    return sum_of([] if text == "-" else text.split(","), NAMED_FLAGS)
 
 
 def bytes_of(text: str) -> bytes:
@@ -139,19 +143,13 @@ def bytes_of(text: str) -> bytes:
 
 
 def word_of(text: str) -> bytes:
-    found = bytes_of(text)
-    if len(found) > 16:
+    if len(text) > 32:
         raise NoForm
-    return found
+    return bytes_of(text)
 
 
 def rules_of(text: str) -> int:
-    if text == "linux":
-        return int(Rules.LINUX)
-    names = text.split(",")
-    if any(name not in RULES for name in names) or len(set(names)) != len(names):
-        raise NoForm
-    return int(sum(RULES[name] for name in names))
+    return int(Rules.LINUX) if text == "linux" else sum_of(text.split(","), RULES)
 
 
 def show_get_flags(value: Tuple[int, int]) -> str:
@@ -159,9 +157,7 @@ def show_get_flags(value: Tuple[int, int]) -> str:
 
 
 def show_attach_flags(value: int) -> str:
-    names = [name for name,
-             flag in (("rnd", Flag.RND), ("remap", Flag.REMAP), ("rdonly", Flag.RDONLY)) if value & flag]
-    return ",".join(names) or "-"
+    return ",".join(name for name, flag in NAMED_FLAGS.items() if value & flag) or "-"
 
 
 KEY = OperandKind("private, or a number up to 4294967295", key_of, 0, U32, "0x{:08x}".format)
@@ -275,9 +271,8 @@ class Script:
             self._declare(words)
             return None
         is_flush = words[0].text == "0"
-        line: Union[Command,
-                    FlushLine] = (self._read_flush(number, words) if is_flush
-                                  else self._read_command(number, words))
+        line: Union[Command, FlushLine]
+        line = self._read_flush(number, words) if is_flush else self._read_command(number, words)
         if len(self.lines) >= MOST_LINES:
             raise _Bad("too many lines", words[0], "100,000 commands and flush lines at most")
         self.lines.append(line)
@@ -456,16 +451,14 @@ def show_segment(it: Segment) -> str:
     """What a stat's event line says of a segment."""
     return (f"key=0x{it.key:08x} uid={it.uid} gid={it.gid} cuid={it.cuid} cgid={it.cgid} mode={it.mode:03o} "
             f"status={status_of(it)} size={it.size} cpid={it.cpid} lpid={it.lpid} nattch={it.nattch} "
-            f"atime={it.atime} "
-            f"dtime={it.dtime} ctime={it.ctime}")
+            f"atime={it.atime} dtime={it.dtime} ctime={it.ctime}")
 
 
 def listing(machine: Machine) -> str:
     """The lines of all segments, as the programs print them."""
     lines = [f"{'key':<10} {'shmid':<10} {'owner':<10} {'perms':<10} {'bytes':<10} {'nattch':<10} status"]
     lines += [f"0x{it.key:08x} {it.id:<10} {it.uid:<10} {it.mode:03o}        {it.size:<10} {it.nattch:<10} "
-              f"{status_of(it)}"
-              for it in machine.segments()]
+              f"{status_of(it)}" for it in machine.segments()]
     return "".join(line + "\n" for line in lines)
 
 
@@ -490,8 +483,7 @@ class Run:
         return cls(Machine(script.limits, areas, script.processes), script)
 
     def steps(self) -> Iterator[str]:
-        """Runs the script's lines in their order. Yields the event line of each call; a flush round has
-        none."""
+        """Runs the script's lines in order. Yields the event line of each call; a flush round has none."""
         for line in self.script.lines:
             event = self.step(line)
             if event:
@@ -502,9 +494,9 @@ class Run:
         if isinstance(line, FlushLine):
             self.machine.flush(line.pages)
             return ""
-        values = [self._value(line.pid, value, kind) for value,
-                  (_, kind) in zip(line.operands, CALLS[line.call])]
-        shown = [kind.show(value) for value, (_, kind) in zip(values, CALLS[line.call])]
+        kinds = [kind for _, kind in CALLS[line.call]]
+        values = [self._value(line.pid, value, kind) for value, kind in zip(line.operands, kinds)]
+        shown = [kind.show(value) for value, kind in zip(values, kinds)]
         place = self.machine.calls() + 1
         try:
             answer, reply = self._call(line, values)
@@ -522,32 +514,20 @@ class Run:
         return value
 
     def _call(self, line: Command, values: List[Any]) -> Tuple[int, str]:
-        machine, pid = self.machine, line.pid
-        if line.call == "shmget":
-            found = machine.get(pid, values[0], values[1], *values[2])
-            return found, str(found)
-        if line.call == "shmat":
-            found = machine.attach(pid, *values)
-            return found, f"{found:#x}"
-        if line.call == "xadd":
-            found = machine.add(pid, *values)
-            return found, str(found)
-        if line.call == "load":
-            return 0, machine.load(pid, *values).hex()
-        if line.call in ("swap", "cas"):
-            is_swap = line.call == "swap"
-            before = machine.exchange(pid, *values) if is_swap else machine.compare_exchange(pid, *values)
-            return int.from_bytes(before[:8], "little"), before.hex()
-        if line.call == "stat":
-            return 0, show_segment(machine.stat(pid, *values))
-        others: Dict[str, Callable[..., None]] = {
-            "shmdt": machine.detach, "store": machine.store, "set": machine.set, "rmid": machine.remove,
-            "lock": machine.lock,
-            "unlock": machine.unlock, "fork": machine.fork, "exec": machine.exec, "exit": machine.exit,
-            "swapoff": machine.swapoff, "munmap": machine.unmap, "mprotect": machine.protect,
-            "setuid": machine.set_user}
-        others[line.call](pid, *values)
-        return 0, "ok"
+        """The number that a variable takes, and the reply."""
+        it = self.machine
+        calls: Dict[str, Callable[..., Any]] = {
+            "shmget": lambda pid, key, size, flags: it.get(pid, key, size, *flags), "shmat": it.attach,
+            "shmdt": it.detach, "munmap": it.unmap, "mprotect": it.protect, "load": it.load, "store": it.store,
+            "xadd": it.add, "swap": it.exchange, "cas": it.compare_exchange, "stat": it.stat, "set": it.set,
+            "rmid": it.remove, "lock": it.lock, "unlock": it.unlock, "fork": it.fork, "exec": it.exec,
+            "exit": it.exit, "setuid": it.set_user, "swapoff": it.swapoff}
+        found = calls[line.call](line.pid, *values)
+        if isinstance(found, bytes):
+            return int.from_bytes(found[:8], "little"), found.hex()
+        if isinstance(found, int):
+            return found, f"{found:#x}" if line.call == "shmat" else str(found)
+        return 0, show_segment(found) if isinstance(found, Segment) else "ok"
 
 
 def transcript(text: str, swap: Union[str, Sequence[str]] = "ram:64") -> str:

@@ -6,7 +6,8 @@ import json
 import os
 import subprocess
 import sys
-import unittest
+
+import pytest
 
 import nogcuvema
 from nogcuvema.record import RecordFault, steps
@@ -46,50 +47,47 @@ flush 8 written 2 failed 1
 """
 
 
-class Records(unittest.TestCase):
-    def test_steps(self) -> None:
-        first, second, third = steps(RECORD.splitlines(True))
-        self.assertEqual((first["step"], first["did"], first["areas"]),
-                         (0, {"kind": "start"}, [{"area": 0, "slots": 64}]))
-        self.assertEqual(first["processes"],
-                         [{"pid": 1, "state": "live", "uid": 100, "gid": 200, "pieces": []},
-                                              {"pid": 2, "state": "unborn", "pieces": []}])
-        wanted = {
-            "step": 1, "changes": ["page 0 of segment 32768 has a frame"], "hand": 3,
-            "did": {"kind": "call", "place": 1, "pid": 1, "call": "store", "operands": ["0x40000000", "2a"],
-                    "reply": "ok"},
-            "segments": [{"key": 7, "id": 32768, "owner": 100, "mode": "640", "bytes": 8192, "nattch": 2,
-                          "marks": ["dest", "locked"]}],
-            "processes": [{"pid": 1, "state": "ended", "pieces": []},
-                          {"pid": 2, "state": "live", "uid": 0, "gid": 0, "pieces": [
-                {"base": 0x40000000, "segment": 32768, "first": 1, "pages": 2, "is_writable": True},
-                {"base": 0x50000000, "segment": 32768, "first": 0, "pages": 1, "is_writable": False}]}],
-            "frames": [{"frame": 1, "segment": 32768, "page": 0, "is_referenced": False, "is_dirty": True},
-                       {"frame": 2, "segment": 32768, "page": 1, "is_referenced": True, "is_dirty": False}],
-            "areas": [{"area": 0, "slots": None}, {"area": 1, "slots": 8}],
-            "slots": [{"area": 1, "slot": 5, "segment": 32768, "page": 1}],
-            "usage": {"events": 1, "segments": 1, "reserved": 2, "locked": 2, "resident": 2, "frames": 4,
-                      "dirty": 1, "used": 1,
-                      "slots": 8, "ins": 3, "outs": 4, "failures": 5}}
-        self.assertEqual(second, wanted)
-        self.assertEqual(third["did"], {"kind": "flush", "pages": 8, "written": 2, "failed": 1})
-
-    def test_lines_without_a_form(self) -> None:
-        for line in ("nothing", "frame 1", "process x live 0 0", "step x", "flush 8 wrote 1 failed 0",
-                     "piece 0x0 0 0 1 rw"):
-            with self.subTest(line), self.assertRaises(RecordFault) as caught:
-                list(steps(["step 0\n", line + "\n"]))
-            self.assertIn("line 2: ", str(caught.exception))
-        self.assertEqual(list(steps([])), [])
-
-    def test_as_a_program(self) -> None:
-        env = {"PYTHONPATH": os.path.dirname(os.path.dirname(nogcuvema.__file__))}
-        words = [sys.executable, "-B", "-m", "nogcuvema.record"]
-        for given, status, count in ((RECORD, 0, 3), (RECORD + "\nno form\n", 1, 3)):
-            done = subprocess.run(words, input=given, capture_output=True, text=True, check=False, env=env)
-            self.assertEqual((done.returncode, len(done.stdout.splitlines())), (status, count), done.stderr)
-            self.assertEqual([json.loads(line)["step"] for line in done.stdout.splitlines()], [0, 1, 2])
+def test_steps() -> None:
+    first, second, third = steps(RECORD.splitlines(True))
+    assert (first["step"], first["did"]) == (0, {"kind": "start"})
+    assert first["areas"] == [{"area": 0, "slots": 64}]
+    assert first["processes"] == [{"pid": 1, "state": "live", "uid": 100, "gid": 200, "pieces": []},
+                                  {"pid": 2, "state": "unborn", "pieces": []}]
+    wanted = {
+        "step": 1, "changes": ["page 0 of segment 32768 has a frame"], "hand": 3,
+        "did": {"kind": "call", "place": 1, "pid": 1, "call": "store", "operands": ["0x40000000", "2a"],
+                "reply": "ok"},
+        "segments": [{"key": 7, "id": 32768, "owner": 100, "mode": "640", "bytes": 8192, "nattch": 2,
+                      "marks": ["dest", "locked"]}],
+        "processes": [{"pid": 1, "state": "ended", "pieces": []},
+                      {"pid": 2, "state": "live", "uid": 0, "gid": 0, "pieces": [
+            {"base": 0x40000000, "segment": 32768, "first": 1, "pages": 2, "is_writable": True},
+            {"base": 0x50000000, "segment": 32768, "first": 0, "pages": 1, "is_writable": False}]}],
+        "frames": [{"frame": 1, "segment": 32768, "page": 0, "is_referenced": False, "is_dirty": True},
+                   {"frame": 2, "segment": 32768, "page": 1, "is_referenced": True, "is_dirty": False}],
+        "areas": [{"area": 0, "slots": None}, {"area": 1, "slots": 8}],
+        "slots": [{"area": 1, "slot": 5, "segment": 32768, "page": 1}],
+        "usage": {"events": 1, "segments": 1, "reserved": 2, "locked": 2, "resident": 2, "frames": 4,
+                  "dirty": 1, "used": 1, "slots": 8, "ins": 3, "outs": 4, "failures": 5}}
+    assert second == wanted
+    assert third["did"] == {"kind": "flush", "pages": 8, "written": 2, "failed": 1}
 
 
-if __name__ == "__main__":
-    unittest.main()
+@pytest.mark.parametrize("line", ["nothing", "frame 1", "process x live 0 0", "step x",
+                                  "flush 8 wrote 1 failed 0", "piece 0x0 0 0 1 rw"])
+def test_lines_without_a_form(line: str) -> None:
+    with pytest.raises(RecordFault, match="line 2: "):
+        list(steps(["step 0\n", line + "\n"]))
+
+
+def test_no_lines() -> None:
+    assert list(steps([])) == []
+
+
+def test_as_a_program() -> None:
+    env = {"PYTHONPATH": os.path.dirname(os.path.dirname(nogcuvema.__file__))}
+    words = [sys.executable, "-B", "-m", "nogcuvema.record"]
+    for given, status, count in ((RECORD, 0, 3), (RECORD + "\nno form\n", 1, 3)):
+        done = subprocess.run(words, input=given, capture_output=True, text=True, check=False, env=env)
+        assert (done.returncode, len(done.stdout.splitlines())) == (status, count), done.stderr
+        assert [json.loads(line)["step"] for line in done.stdout.splitlines()] == [0, 1, 2]

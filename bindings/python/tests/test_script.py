@@ -1,17 +1,18 @@
-"""Scripts: faults and transcripts are those that are stored for the program; a fault's word, column and what
-is allowed."""
+"""Scripts: faults and transcripts are the stored ones; a fault's word, column and what is allowed."""
 
 from __future__ import annotations
 
-import glob
-import os
-import unittest
-from collections.abc import Iterator
+from pathlib import Path
+
+import pytest
 
 from nogcuvema import Limits, Machine, ScriptFault, areas_of, read_script
 from nogcuvema.script import transcript
 
-TOP = os.path.dirname(os.path.dirname(os.path.dirname(os.path.dirname(os.path.abspath(__file__)))))
+TOP = Path(__file__).resolve().parents[3]
+# the stored scripts, and those of them whose run is serial and ends well
+STORED = sorted([*TOP.glob("tests/scripts/*/*.shm"), *TOP.glob("examples/*.shm")])
+SERIAL = [it for it in STORED if it.parent.name != "threads" and not it.with_suffix(".status").exists()]
 HEAD = "limits 65536 16 64 4 1\nprocess 1 100 100\n"
 # each row is a line that follows the two of HEAD, the kind of its fault, the faulty word, its column, and
 # what is allowed there
@@ -72,82 +73,60 @@ FAULTS_OF_SIZES = (
 )
 
 
-class Scripts(unittest.TestCase):
-    def stored(self) -> Iterator[tuple[str, bytes]]:
-        paths = sorted(glob.glob(os.path.join(TOP, "tests", "scripts", "*", "*.shm"))
-                       + glob.glob(os.path.join(TOP, "examples", "*.shm")))
-        if not paths:
-            self.skipTest("there are no stored scripts next to the package")
-        for path in paths:
-            with open(path, "rb") as file:
-                yield path[:-4], file.read()
-
-    def text_of(self, path: str, missing: str = "") -> str:
-        try:
-            with open(path, encoding="ascii") as file:
-                return file.read()
-        except FileNotFoundError:
-            return missing
-
-    def test_stored_faults(self) -> None:
-        for name, script in self.stored():
-            said = ""
-            try:
-                read_script(script)
-            except ScriptFault as fault:
-                said = f"shmsim: {fault}\n"
-            wanted = self.text_of(name + ".err")
-            with self.subTest(name):
-                self.assertEqual(said, wanted if wanted.startswith("shmsim: line ") else "")
-
-    def test_stored_transcripts(self) -> None:
-        seen = 0
-        for name, script in self.stored():
-            if os.path.exists(name + ".status") or "/threads/" in name:
-                continue
-            seen += 1
-            with self.subTest(name):
-                wanted = self.text_of(name + ".out")
-                self.assertEqual(transcript(script.decode(), self.text_of(name + ".swap", "ram:64")), wanted)
-        self.assertGreater(seen, 50)
-
-    def test_the_word_of_a_fault(self) -> None:
-        for line, kind, word, column, allowed in FAULTS:
-            with self.subTest(line), self.assertRaises(ScriptFault) as caught:
-                read_script(HEAD + line + "\n")
-            fault = caught.exception
-            self.assertEqual((fault.line, fault.kind, fault.word, fault.column), (3, kind, word, column))
-            self.assertIn(allowed, fault.allowed)
-
-    def test_sizes(self) -> None:
-        for script, line, kind, word, column, allowed in FAULTS_OF_SIZES:
-            with self.subTest(script[:60]), self.assertRaises(ScriptFault) as caught:
-                read_script(script)
-            fault = caught.exception
-            self.assertEqual((fault.line, fault.kind, fault.word, fault.column), (line, kind, word, column))
-            self.assertIn(allowed, fault.allowed)
-        larger = read_script("sizes 300 70 1000\nlimits 33554432 5000 8192 4 1\nrules fork_marks\n")
-        self.assertEqual(larger.limits, Limits(33554432, 5000, 8192, 4, 1, 300, 70, 1000, 4))
-        self.assertEqual(read_script("limits 65536 16 64 4 1\n").limits, Limits(65536, 16, 64, 4, 1))
-
-    def test_a_machine_from_a_script(self) -> None:
-        script = (HEAD + "1 s = shmget private 8192 600\n1 a = shmat s null -\n1 store a 2a\n0 flush 1\n"
-                  "1 load 0 1\n")
-        with Machine.from_script(script, ["sparse:8", "ram:1"]) as machine:
-            self.assertEqual(machine.load(1, 0x40000000, 1), b"\x2a")
-            self.assertEqual((machine.calls(), machine.tally().outs, machine.tally().slots), (5, 1, 9))
-        self.assertRaises(ScriptFault, Machine.from_script, "limits\n")
-        self.assertRaises(ValueError, Machine.from_script, HEAD, "ram:0")
-
-    def test_words_for_swap_areas(self) -> None:
-        [area] = areas_of("fuse:3:w7")
-        self.assertEqual((area.slots, [(it.call, it.is_write) for it in area.failures]), (3, [(7, True)]))
-        for words in ("", "ram", "ram:0", "ram:268435457", "ram:+1", "disk:1", "fuse:1", "fuse:1:r0",
-                      "fuse:1:x1", "mirror:1:r1",
-                      "fuse:1:w18446744073709551616", "ram:1 " * 9):
-            self.assertRaises(ValueError, areas_of, words)
-        self.assertEqual(len(areas_of("ram:1 " * 8)), 8)
+def text_of(path: Path, missing: str = "") -> str:
+    return path.read_text("ascii") if path.exists() else missing
 
 
-if __name__ == "__main__":
-    unittest.main()
+def test_scripts_are_stored() -> None:
+    assert len(SERIAL) > 50 and len(STORED) > len(SERIAL)
+
+
+@pytest.mark.parametrize("path", STORED, ids=[it.stem for it in STORED])
+def test_stored_faults(path: Path) -> None:
+    said = ""
+    try:
+        read_script(path.read_bytes())
+    except ScriptFault as fault:
+        said = f"shmsim: {fault}\n"
+    wanted = text_of(path.with_suffix(".err"))
+    assert said == (wanted if wanted.startswith("shmsim: line ") else "")
+
+
+@pytest.mark.parametrize("path", SERIAL, ids=[it.stem for it in SERIAL])
+def test_stored_transcripts(path: Path) -> None:
+    swap = text_of(path.with_suffix(".swap"), "ram:64")
+    assert transcript(path.read_bytes().decode(), swap) == text_of(path.with_suffix(".out"))
+
+
+# each line follows the two of HEAD
+@pytest.mark.parametrize("script, line, kind, word, column, allowed",
+                         [*FAULTS_OF_SIZES, *((f"{HEAD}{line}\n", 3, *rest) for line, *rest in FAULTS)])
+def test_faults(script: str, line: int, kind: str, word: str, column: int, allowed: str) -> None:
+    fault = pytest.raises(ScriptFault, read_script, script).value
+    assert (fault.line, fault.kind, fault.word, fault.column) == (line, kind, word, column)
+    assert allowed in fault.allowed
+
+
+def test_sizes() -> None:
+    larger = read_script("sizes 300 70 1000\nlimits 33554432 5000 8192 4 1\nrules fork_marks\n")
+    assert larger.limits == Limits(33554432, 5000, 8192, 4, 1, 300, 70, 1000, 4)
+    assert read_script("limits 65536 16 64 4 1\n").limits == Limits(65536, 16, 64, 4, 1)
+
+
+def test_a_machine_from_a_script() -> None:
+    script = (HEAD + "1 s = shmget private 8192 600\n1 a = shmat s null -\n1 store a 2a\n0 flush 1\n"
+              "1 load 0 1\n")
+    with Machine.from_script(script, ["sparse:8", "ram:1"]) as machine:
+        assert machine.load(1, 0x40000000, 1) == b"\x2a"
+        assert (machine.calls(), machine.tally().outs, machine.tally().slots) == (5, 1, 9)
+    pytest.raises(ScriptFault, Machine.from_script, "limits\n")
+    pytest.raises(ValueError, Machine.from_script, HEAD, "ram:0")
+
+
+def test_words_for_swap_areas() -> None:
+    [area] = areas_of("fuse:3:w7")
+    assert (area.slots, [(it.call, it.is_write) for it in area.failures]) == (3, [(7, True)])
+    for words in ("", "ram", "ram:0", "ram:268435457", "ram:+1", "disk:1", "fuse:1", "fuse:1:r0",
+                  "fuse:1:x1", "mirror:1:r1", "fuse:1:w18446744073709551616", "ram:1 " * 9):
+        pytest.raises(ValueError, areas_of, words)
+    assert len(areas_of("ram:1 " * 8)) == 8

@@ -2,17 +2,20 @@
 ghost use Rattle.std.specs.Prelude.{◌≡◌, ◌≢◌, ◌≤◌, length};
 ghost use Rattle.shm_base.specs.Bounds.{within};
 ghost use Rattle.shm_base.specs.declared.call.Reply.TheVariants as reply;
-ghost use Rattle.nogcuvema.specs.Answers.{AnswersBy, AnswersIn, AnswersInWhere, adds, loads, stores};
+ghost use Rattle.shm_fault.specs.Acting.{FitsRoom, size_of};
+ghost use Rattle.shm_life.specs.Accessing.{reply_of};
+ghost use Rattle.nogcuvema.specs.Answers.{AnswersBy, AnswersIn, AnswersInWhere, adds, does, loads, stores};
 
 use crate::code::{DONE, OUT_OF_RANGE, refusal_code};
 use crate::handle::{Handle, with_machine};
 use shm_base::LONGEST_ACCESS;
+use shm_fault::Act;
 use shm_machine::Machine;
 use std::alloc::Global;
 
 // Whether an access in one step may have this many bytes.
 #[inline(always)]
-pub(crate) fn is_size(len: usize) -> bool
+fn is_size(len: usize) -> bool
     ensures { result ≡ within 1 64 len }
 {
     len >= 1 && len <= LONGEST_ACCESS
@@ -20,16 +23,44 @@ pub(crate) fn is_size(len: usize) -> bool
 
 #[tactic(auto, using(crate::proofs::Answering::not_accessed))]
 #[inline(always)]
-fn load(machine: &mut Machine, pid: u32, addr: u64, bytes: &mut [u8]) -> u32
-    requires { (1 ≤ length bytes.old) × (length bytes.old ≤ 64) }
-    ensures answers { AnswersBy (loads pid addr (length bytes.old) machine.old)
-        (reply.Bytes bytes.new) result machine.new }
-    ensures bytes { result ≢ 0 → bytes.new ≡ bytes.old }
+fn answer(machine: &mut Machine, pid: u32, addr: u64, act: Act<'_>, there: &mut [u8]) -> u32
+    requires fits { FitsRoom act (length there.old) }
+    requires size { let size = size_of act (length there.old) in (1 ≤ size) × (size ≤ 64) }
+    ensures answers { let room = length there.old in
+        AnswersBy (does pid addr act.entry room machine.old) (reply_of act.entry room there.new) result machine.new }
+    ensures kept { result ≢ 0 → there.new ≡ there.old }
 {
-    match machine.load_into(pid, addr, bytes) {
+    match machine.access(pid, addr, act, there) {
         Ok(()) => DONE,
         Err(refusal) => refusal_code(refusal),
     }
+}
+
+// The access that does an act at 1 to 64 bytes, in one step.
+#[inline(always)]
+pub(crate) fn access(
+    alloc: Global,
+    handle: &mut Handle,
+    pid: u32,
+    addr: u64,
+    act: Act<'_>,
+    there: &mut [u8],
+) -> u32
+    requires fits { FitsRoom act (length there.old) }
+    ensures answers { let room = length there.old in
+        let fit = within 1 64 (size_of act.entry room) in
+        AnswersInWhere fit (does pid addr act.entry room) handle.old.kept.value
+        (reply_of act.entry room there.new) result handle.new.kept.value }
+    ensures kept { result ≢ 0 → there.new ≡ there.old }
+{
+    if !is_size(act.size(there.len())) {
+        return OUT_OF_RANGE;
+    }
+    with_machine!(
+        alloc,
+        handle,
+        |machine| answer(machine, pid, addr, act, there)
+    )
 }
 
 /// Reads 1 to 64 bytes of attached memory in one step.
@@ -46,22 +77,7 @@ pub extern "C" fn nog_load(
         (reply.Bytes bytes.new) result handle.new.kept.value }
     ensures bytes { result ≢ 0 → bytes.new ≡ bytes.old }
 {
-    if !is_size(bytes.len()) {
-        return OUT_OF_RANGE;
-    }
-    with_machine!(alloc, handle, |machine| load(machine, pid, addr, bytes))
-}
-
-#[tactic(auto, using(crate::proofs::Answering::not_accessed))]
-#[inline(always)]
-fn store(machine: &mut Machine, pid: u32, addr: u64, bytes: &[u8]) -> u32
-    requires { (1 ≤ length bytes.now) × (length bytes.now ≤ 64) }
-    ensures { AnswersBy (stores pid addr bytes.now machine.old) reply.Done result machine.new }
-{
-    match machine.store(pid, addr, bytes) {
-        Ok(()) => DONE,
-        Err(refusal) => refusal_code(refusal),
-    }
+    access(alloc, handle, pid, addr, Act::Nothing, bytes)
 }
 
 /// Replaces 1 to 64 bytes of attached memory in one step.
@@ -77,10 +93,7 @@ pub extern "C" fn nog_store(
         AnswersInWhere fit (stores pid addr bytes.now) handle.old.kept.value reply.Done result
         handle.new.kept.value }
 {
-    if !is_size(bytes.len()) {
-        return OUT_OF_RANGE;
-    }
-    with_machine!(alloc, handle, |machine| store(machine, pid, addr, bytes))
+    access(alloc, handle, pid, addr, Act::Put(bytes), &mut [])
 }
 
 #[tactic(auto, using(crate::proofs::Answering::not_accessed))]

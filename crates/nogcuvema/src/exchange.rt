@@ -1,49 +1,14 @@
 //! Exchanges, and compares with exchange.
-ghost use Rattle.std.specs.Prelude.{◌≡◌, ◌≢◌, ◌≤◌, ◌&&◌, ◌==◌, length};
+ghost use Rattle.std.specs.Prelude.{◌≡◌, ◌≢◌, ◌&&◌, ◌==◌, length};
 ghost use Rattle.shm_base.specs.Bounds.{within};
 ghost use Rattle.shm_base.specs.declared.call.Reply.TheVariants as reply;
-ghost use Rattle.nogcuvema.specs.Answers.{AnswersBy, AnswersInWhere, compares, exchanges};
+ghost use Rattle.nogcuvema.specs.Answers.{AnswersInWhere, compares, exchanges};
 
-use crate::access::is_size;
-use crate::code::{DONE, OUT_OF_RANGE, refusal_code};
-use crate::handle::{Handle, with_machine};
-use shm_machine::Machine;
+use crate::access::access;
+use crate::code::OUT_OF_RANGE;
+use crate::handle::Handle;
+use shm_fault::Act;
 use std::alloc::Global;
-
-#[tactic(auto, using(crate::proofs::Answering::not_accessed))]
-fn exchange(machine: &mut Machine, pid: u32, addr: u64, bytes: &[u8], before: &mut [u8]) -> u32
-    requires size { (1 ≤ length bytes.now) × (length bytes.now ≤ 64) }
-    requires before { length before.old ≡ length bytes.now }
-    ensures answers { AnswersBy (exchanges pid addr bytes.now machine.old)
-        (reply.Bytes before.new) result machine.new }
-    ensures before { result ≢ 0 → before.new ≡ before.old }
-{
-    match machine.exchange(pid, addr, bytes, before) {
-        Ok(()) => DONE,
-        Err(refusal) => refusal_code(refusal),
-    }
-}
-
-#[tactic(auto, using(crate::proofs::Answering::not_accessed))]
-fn compare(
-    machine: &mut Machine,
-    pid: u32,
-    addr: u64,
-    expected: &[u8],
-    bytes: &[u8],
-    before: &mut [u8],
-) -> u32
-    requires size { (1 ≤ length bytes.now) × (length bytes.now ≤ 64) }
-    requires before { length before.old ≡ length bytes.now }
-    ensures answers { AnswersBy (compares pid addr expected.now bytes.now machine.old)
-        (reply.Bytes before.new) result machine.new }
-    ensures before { result ≢ 0 → before.new ≡ before.old }
-{
-    match machine.compare_exchange(pid, addr, expected, bytes, before) {
-        Ok(()) => DONE,
-        Err(refusal) => refusal_code(refusal),
-    }
-}
 
 /// Replaces 1 to 64 bytes in one step; `before`, which has the same length, gets the old ones.
 #[unsafe(no_mangle)]
@@ -60,14 +25,10 @@ pub extern "C" fn nog_exchange(
         (reply.Bytes before.new) result handle.new.kept.value }
     ensures before { result ≢ 0 → before.new ≡ before.old }
 {
-    if !is_size(bytes.len()) || before.len() != bytes.len() {
+    if before.len() != bytes.len() {
         return OUT_OF_RANGE;
     }
-    with_machine!(
-        alloc,
-        handle,
-        |machine| exchange(machine, pid, addr, bytes, before)
-    )
+    access(alloc, handle, pid, addr, Act::Put(bytes), before)
 }
 
 /// As nog_exchange, but replaces the bytes only if they equal the expected ones. All three lengths are equal.
@@ -87,12 +48,9 @@ pub extern "C" fn nog_compare_exchange(
         (reply.Bytes before.new) result handle.new.kept.value }
     ensures before { result ≢ 0 → before.new ≡ before.old }
 {
-    if !is_size(bytes.len()) || before.len() != bytes.len() || expected.len() != bytes.len() {
+    if before.len() != bytes.len() || expected.len() != bytes.len() {
         return OUT_OF_RANGE;
     }
-    with_machine!(
-        alloc,
-        handle,
-        |machine| compare(machine, pid, addr, expected, bytes, before)
-    )
+    let act = Act::PutIfEqual { expected, bytes };
+    access(alloc, handle, pid, addr, act, before)
 }

@@ -42,7 +42,7 @@ impl Condition {
     pub fn holds(&self, alloc: Global, outcome: &Outcome) -> Result<bool, AllocError>
         ensures { IfOk result (λ r. r ≡ holds outcome.now self.now) }
     {
-        self.formula.holds(alloc, outcome.told())
+        self.formula.holds(alloc, outcome.replies())
     }
 }
 

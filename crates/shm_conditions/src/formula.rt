@@ -6,14 +6,19 @@ ghost use Rattle.shm_conditions.specs.Formulas.{bare};
 
 use crate::naming::ProcessLine;
 use crate::reply::fits;
-use shm_schedules::Told;
+use shm_schedules::Replies;
 use std::alloc::{AllocError, Global};
 
 // Whether the reply to a line has this word.
-fn says(alloc: Global, told: &[Told], line: &ProcessLine, word: &[u8]) -> Result<bool, AllocError>
-    ensures { IfOk result (λ r. r ≡ says told.now line.now word.now) }
+fn says(
+    alloc: Global,
+    lists: &[Replies],
+    line: &ProcessLine,
+    word: &[u8],
+) -> Result<bool, AllocError>
+    ensures { IfOk result (λ r. r ≡ says lists.now line.now word.now) }
 {
-    let replies = match told.get(line.process) {
+    let replies = match lists.get(line.process) {
         Some(one) => one.replies(),
         None => &[],
     };
@@ -33,26 +38,26 @@ pub(crate) enum Formula {
 
 impl Formula {
     // Whether it is true of these replies.
-    pub(crate) fn holds(&self, alloc: Global, told: &[Told]) -> Result<bool, AllocError>
-        ensures { IfOk result (λ r. r ≡ holds told.now (bare self.now)) }
+    pub(crate) fn holds(&self, alloc: Global, lists: &[Replies]) -> Result<bool, AllocError>
+        ensures { IfOk result (λ r. r ≡ holds lists.now (bare self.now)) }
     {
         match self {
-            Formula::Says(line, word) => says(alloc, told, line, word),
+            Formula::Says(line, word) => says(alloc, lists, line, word),
             Formula::Not(inner) => {
-                let holds = inner.holds(alloc, told)?;
+                let holds = inner.holds(alloc, lists)?;
                 Ok(!holds)
             }
             Formula::Both(one, other) => {
-                if !one.holds(alloc, told)? {
+                if !one.holds(alloc, lists)? {
                     return Ok(false);
                 }
-                other.holds(alloc, told)
+                other.holds(alloc, lists)
             }
             Formula::Either(one, other) => {
-                if one.holds(alloc, told)? {
+                if one.holds(alloc, lists)? {
                     return Ok(true);
                 }
-                other.holds(alloc, told)
+                other.holds(alloc, lists)
             }
         }
     }

@@ -1,5 +1,5 @@
 -- A page that leaves its frame and its slot for good.
-use Rattle.shm_fault.proofs.Names.{◌≡◌, ◌≢◌, ℕ, zero, suc, ◌<◌, ◌≤◌, ◌+◌, true, List, [], ◌∷◌, length, set, map, sum_by, Option, Some, None, refl, sym, ap, ◌∙◌, inl, inr, arith, get_or-set_same, not, eqb, cases_eq, cases_lt, eq-eqb, ne_eqb, length-replicate, set-get_or, PageRef, Slot, without, SwapView, owner_of, page_in, without_slot, IsSwap, IsSteady, Frame, frame_at, PageRec, SegRec, AreApart, but, no_page, find_seg, rec_by, count_by_id, HasPage, NowhereUpTo, with_rec, page_count, locked_pages, StoreView, held_by, disowned, IsTied, IsStoreSound, outline, outlines, emptied, Given, IsBlank, Dropped, StayNowhere, IsUncounted, sum_by-filter_both, nat_tests, common_steps}
+use Rattle.shm_fault.proofs.Names.{◌≡◌, ◌≢◌, ℕ, zero, suc, ◌<◌, ◌≤◌, ◌+◌, true, List, [], ◌∷◌, length, set, map, sum_by, Option, Some, None, refl, sym, ap, ◌∙◌, inl, inr, arith, get_or-set_same, not, eqb, cases_eq, cases_lt, eq-eqb, ne_eqb, length-replicate, set-get_or, PageRef, Slot, without, SwapView, owner_of, page_in, without_slot, IsSwap, IsSteady, Frame, frame_at, PageRec, SegRec, AreApart, but, no_page, find_seg, rec_by, count_by_id, HasPage, NowhereUpTo, with_rec, page_count, locked_pages, StoreView, held_by, disowned, IsTied, IsStoreSound, outline, outlines, emptied, Given, IsBlank, Dropped, IsUncounted, sum_by-filter_both, nat_tests, common_steps}
 use Rattle.shm_base.specs.Page.{zero_page}
 use Rattle.shm_fault.specs.Store.{held}
 use Rattle.shm_fault.proofs.Entries.{apart-filter, edit-none, find-but, find-out}
@@ -162,16 +162,6 @@ dropped-rest seg n (suc k) s t apart none few d =
     let rest : IsUncounted t t = record { ins = refl; outs = refl } in
     let e : n + suc k ≡ n + k + 1 = omega arith in
     rw e (dropped-more seg (n + k) s t t before (omega (arith, few)) (sym same) refl (λ f. refl) (λ j. refl) refl steady rest (λ none. refl) (forget-nowhere t r same at))
-
-pub nowhere-more : (seg n : ℕ) (s t u : StoreView) → StayNowhere seg s t → HasPage t.segs (record { seg = seg; page = n }) → u.segs ≡ with_rec t.segs (record { seg = seg; page = n }) no_page → StayNowhere seg s u
-nowhere-more seg n s t u stay has segs page none =
-    let r : PageRef = record { seg = seg; page = n } in
-    let q : PageRef = record { seg = seg; page = page } in
-    let at : rec_by u.segs q ≡ rec_by (with_rec t.segs r no_page) q = ap (λ (gs : List SegRec). rec_by gs q) segs in
-    elim (cases_eq page n) [
-      | inl e ↦ at ∙ rw e (rec-with t.segs r no_page has)
-      | inr ne ↦ at ∙ rec-with_other t.segs r q no_page (other-true r q (λ same. ne (ap (λ (x : PageRef). x.page) same))) ∙ stay page none
-    ]
 
 -- a segment all of whose pages are nowhere is taken out
 pub record IsDropped (seg : ℕ) (s t : StoreView) : Type 0 where

@@ -25,11 +25,11 @@ pub use Rattle.shm_slots.specs.View.{AreaView, HasSlot, IsArea, IsFirstFree, IsS
 pub use mir.Val.{bool_byte}
 pub use Rattle.shm_fault.specs.Access.{Accessed, AreIn, Brings, IsUntouched, Visited}
 pub use Rattle.shm_fault.specs.Counting.{IsUncounted, CountsOn, Transfers, counted, no_transfers, one_if, raised}
-pub use Rattle.shm_fault.specs.Dropping.{Dropped, Given, IsBlank, StayNowhere, emptied}
+pub use Rattle.shm_fault.specs.Dropping.{Dropped, Given, IsBlank, emptied}
 pub use Rattle.shm_fault.specs.Flushing.{IsFlushed, dirty_after, may_flush}
 pub use Rattle.shm_fault.specs.Goes.{Alike, CountsFailure, Goes, KeepsLocked, MovesOn, Outline, StaysAway, Visits, frame_by, outline, outlines, referenced_at, unlocked}
 pub use Rattle.shm_fault.specs.Moving.{IsCleared, IsRelocated, SameOwned}
-pub use Rattle.shm_fault.specs.Segs.{AreApart, HasPage, NowhereFrom, NowhereUpTo, SegRec, but, count_by_id, find_seg, locked_by, locked_pages, new_seg, no_page, page_count, rec_at, rec_by, seg_with, with_rec, with_seg, with_seg_lock}
+pub use Rattle.shm_fault.specs.Segs.{AreApart, HasPage, NowhereUpTo, SegRec, but, count_by_id, find_seg, locked_by, locked_pages, new_seg, no_page, page_count, rec_at, rec_by, seg_with, with_rec, with_seg, with_seg_lock}
 pub use Rattle.shm_fault.specs.Sound.{IsStoreSound, IsTied, Tied}
 pub use Rattle.shm_fault.specs.Steps.{LockedPagesStay, moved}
 pub use Rattle.shm_fault.specs.Store.{IsResident, Still, StoreView, bytes_by, dirty, dirty_in, disowned, fresh_store, has_frame, has_slot, held, held_by, is_dirty_page, is_page, is_swapped, page_bytes, page_of, ref_of, resident, slot_bytes, used}

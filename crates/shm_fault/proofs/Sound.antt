@@ -1,5 +1,5 @@
 -- What is true of every store, kept by a change that touches few pages.
-use Rattle.shm_fault.proofs.Names.{◌≡◌, ℕ, ◌<◌, ◌≤◌, ◌+◌, Bool, true, false, cond, length, sum_by, Some, is_some, refl, ap, ◌∙◌, arith, sum_by-le-sum_by, count_by-le-length, PageRef, Slot, SwapView, IsSwap, swap_slots, sizes, slots_in, owner_of, HasSlot, GoesOn, had_cause, frame_at, rec_by, HasPage, AreApart, page_count, locked_pages, StoreView, IsTied, Tied, IsStoreSound, outlines, Goes, KeepsLocked, nat_tests, common_steps}
+use Rattle.shm_fault.proofs.Names.{◌≡◌, ℕ, ◌<◌, ◌≤◌, ◌+◌, Bool, true, false, cond, length, sum_by, Some, is_some, ap, ◌∙◌, arith, sum_by-le-sum_by, count_by-le-length, PageRef, Slot, IsSwap, swap_slots, sizes, slots_in, owner_of, HasSlot, GoesOn, had_cause, frame_at, rec_by, HasPage, AreApart, page_count, locked_pages, StoreView, IsTied, Tied, IsStoreSound, outlines, Goes, KeepsLocked, nat_tests, common_steps}
 use Rattle.shm_base.specs.declared.bounds.TheConstants.{MOST_FRAMES}
 use Rattle.shm_fault.proofs.Pages.{has-frame, apart-same, sum_pages-same, sum_locked-same, locked-same, has-slot}
 use Rattle.shm_fault.proofs.Ties.{Touches, tied_touched, bytes_touched}

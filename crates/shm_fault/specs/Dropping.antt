@@ -64,16 +64,10 @@ pub record Dropped (seg n : ℕ) (s t : StoreView) : Type 0 where
   pub nothing : IsBlank seg s → t ≡ s
   pub placed : places t ≡ after_forgets seg n (places s)
 
--- pages of the segment that have neither frame nor slot get none
-abbrev pub StayNowhere : ℕ → StoreView → StoreView → Type 0
-StayNowhere seg s t =
-    (page : ℕ) → rec_by s.segs (record { seg = seg; page = page }) ≡ no_page
-    → rec_by t.segs (record { seg = seg; page = page }) ≡ no_page
-
 -- if the pages below `first` were dropped before, those below `last` are dropped after
 abbrev pub DropsOn : ℕ → ℕ → ℕ → StoreView → StoreView → Type 0
 DropsOn seg first last s t =
-    (b : StoreView) → Dropped seg first b s → StayNowhere seg b s → Dropped seg last b t × StayNowhere seg b t
+    (b : StoreView) → Dropped seg first b s → Dropped seg last b t
 
 -- one page has neither frame nor slot any more
 pub record Forgets (page : PageRef) (s t : StoreView) : Type 0 where

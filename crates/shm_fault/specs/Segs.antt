@@ -58,11 +58,7 @@ lock_in (Some g) = g.locked
 abbrev pub locked_by : List SegRec → ℕ → Bool
 locked_by gs id = lock_in (find_seg gs id)
 
--- the pages of a segment from `first` on have neither frame nor slot
-abbrev pub NowhereFrom : ℕ → ℕ → List SegRec → Type 0
-NowhereFrom first id gs = (page : ℕ) → first ≤ page → rec_by gs (record { seg = id; page = page }) ≡ no_page
-
--- so do the pages from `first` up to `last`
+-- the pages of a segment from `first` up to `last` have neither frame nor slot
 abbrev pub NowhereUpTo : ℕ → ℕ → ℕ → List SegRec → Type 0
 NowhereUpTo first last id gs = (page : ℕ) → first ≤ page → page < last → rec_by gs (record { seg = id; page = page }) ≡ no_page
 

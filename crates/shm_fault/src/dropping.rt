@@ -79,10 +79,10 @@ impl<P: Pager> PageStore<P> {
         requires there { is_held (held self.old) seg ≡ true }
         ensures { Drops seg self.old self.new }
     {
-        let touched = self.segs.touched(seg);
+        let count = self.segs.count(seg);
         let mut page = 0;
-        while page < touched {
-            page = self.forget_next(PageRef { seg, page }, touched);
+        while page < count {
+            page = self.forget_next(PageRef { seg, page }, count);
         }
         self.segs.remove(seg);
     }

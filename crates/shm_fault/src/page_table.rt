@@ -99,12 +99,11 @@ impl PageTable {
         self.locked = locked;
     }
 
-    /// How many of the first pages may be somewhere. All after them are nowhere.
-    pub(crate) fn touched(&self) -> u32
-        ensures few { result ≤ length self.now.pages }
-        ensures rest { (page : ℕ) → result ≤ page → rec_at self.now.pages page ≡ no_page }
+    /// The number of pages.
+    pub(crate) fn count(&self) -> u32
+        ensures { result ≡ length self.now.pages }
     {
-        self.pages.end()
+        self.pages.len()
     }
 
     /// The first page from `first` up to `last` that is somewhere; `last` if there is none.

@@ -5,7 +5,7 @@
 ghost use Rattle.std.specs.Prelude.{◌≡◌, ◌≢◌, ◌+◌, ◌<◌, ◌≤◌, ◌%◌, ◌^◌, [], length, sum_by, map, true, None, Some, IfSome, IfNone, IfOk, OnOk, OnErr};
 ghost use Rattle.shm_base.specs.Stored.{padded};
 ghost use Rattle.shm_base.specs.declared.bounds.TheConstants.{INDEXES};
-ghost use Rattle.shm_fault.specs.Segs.{find_seg, rec_by, count_by_id, locked_by, page_count, HasPage, is_placed, NowhereFrom, NowhereUpTo, with_rec, with_seg_lock, with_seg, but, IsIndexFree};
+ghost use Rattle.shm_fault.specs.Segs.{find_seg, rec_by, count_by_id, locked_by, page_count, HasPage, is_placed, NowhereUpTo, with_rec, with_seg_lock, with_seg, but, IsIndexFree};
 ghost use Rattle.shm_fault.specs.Entries.{present, AreIndexed};
 ghost use Rattle.shm_fault.specs.Store.{swapped_pages};
 
@@ -148,13 +148,12 @@ impl PageTables {
         }
     }
 
-    /// How many of the first pages of a segment may be somewhere. All after them are nowhere.
-    pub(crate) fn touched(&self, id: u32) -> u32
-        ensures few { result ≤ count_by_id self.now id }
-        ensures rest { NowhereFrom result id self.now }
+    /// The number of pages of a segment; 0 if there is no such segment.
+    pub(crate) fn count(&self, id: u32) -> u32
+        ensures { result ≡ count_by_id self.now id }
     {
         match found(&self.tables, id) {
-            Some(table) => table.touched(),
+            Some(table) => table.count(),
             None => 0,
         }
     }

@@ -4,7 +4,7 @@ ghost use Rattle.shm_fault.specs.Held.{is_held, pages_in_store, locked_pages_in_
 ghost use Rattle.shm_slots.specs.View.{swap_slots, owner_of, AreCountsOf};
 ghost use Rattle.shm_slots.specs.Cause.{total};
 ghost use Rattle.shm_frames.specs.Frame.{IsFrameBlank};
-ghost use Rattle.shm_fault.specs.Segs.{count_by_id, find_seg, is_placed, rec_by, NowhereFrom, NowhereUpTo, with_seg, with_seg_lock};
+ghost use Rattle.shm_fault.specs.Segs.{count_by_id, find_seg, is_placed, rec_by, NowhereUpTo, with_seg, with_seg_lock};
 ghost use Rattle.shm_fault.specs.Store.{fresh_store, held, frame_of, Still, resident, swapped, dirty, used};
 ghost use Rattle.shm_base.specs.declared.bounds.TheConstants.{MOST_FRAMES};
 ghost use Rattle.shm_fault.specs.Sound.{IsStoreSound};
@@ -112,15 +112,6 @@ impl<P: Pager> PageStore<P> {
         ensures { result ≡ frame_of self.now seg page }
     {
         self.segs.page(PageRef { seg, page }).frame
-    }
-
-    /// How many of the first pages of a segment may be in a frame or a slot. Later pages are in neither.
-    pub fn touched(&self, seg: u32) -> u32
-        ensures few { result ≤ count_by_id self.now.segs seg }
-        ensures rest { (page : ℕ) → result ≤ page → frame_of self.now seg page ≡ None }
-        ensures nowhere { NowhereFrom result seg self.now.segs }
-    {
-        self.segs.touched(seg)
     }
 
     /// The first page of a segment, from `first` up to `last`, that is in a frame or a slot; `last` if there is none.

@@ -18,21 +18,22 @@ use Rattle.shm_base.specs.declared.call.Event.{Event}
 use Rattle.shm_base.specs.declared.call.Process.{Process}
 use Rattle.shm_base.specs.declared.call.Reply.{Reply}
 use Rattle.shm_text.specs.Script.{ScriptView}
-use Rattle.shm_judge.specs.Judge.{IsBeginning, IsDoubt, IsExplained, IsKeyOfBeginning, IsStuck, IsUnexplained, stuck_at}
+use Rattle.shm_judge.specs.Judge.{AreMore, IsBeginning, IsDoubt, IsExplained, IsKeyOfBeginning, IsStuck, IsUnexplained, stuck_at}
 use Rattle.shm_judge.specs.Searching.{AreExplored, HasRun, IsAdmitted, IsExpanded, IsExplored, IsLonger, IsNew, IsNode, IsOpen, IsTooMany, one_successor, successors}
 use Rattle.shm_judge.specs.Stuck.{Stuck}
 use Rattle.shm_judge.specs.declared.verdict.Verdict.{Verdict}
 use Rattle.shm_judge.specs.Logs.{Answer, AllBegin, AllFill, Begins, Fits, FitsAs, is_any}
-use Rattle.shm_schedules.specs.Outcomes.{masked, masked_time, told}
+use Rattle.shm_schedules.specs.Outcomes.{masked, masked_time, masked_replies, outcome_of}
 use Rattle.shm_schedules.specs.Schedules.{Run, after, fresh, goes, is_live, next, replies_to, reply_of, Leads, IsOver, IsReached, followers}
 use Rattle.shm_schedules.specs.Text.{reply_words, time_text}
 use Rattle.shm_schedules.specs.declared.search_error.SearchError.{SearchError}
-use Rattle.shm_schedules.specs.declared.search_error.SearchError.TheVariants.{HostMemory, Bound}
+use Rattle.shm_schedules.specs.declared.search_error.SearchError.TheVariants.{HostMemory}
 use Rattle.shm_outcomes.specs.Keys.{AreOther, Key, key_of}
 use Rattle.shm_outcomes.specs.Nodes.{Node, key_at, root, successor}
-use Rattle.shm_outcomes.proofs.Carrying.{keys-alike, successor-key}
+use Rattle.shm_outcomes.proofs.Adding.{if-bound}
+use Rattle.shm_outcomes.proofs.Equivalence.{AreEquivalent, equivalent-goes, equivalent-over, successor-key}
 use Rattle.shm_outcomes.proofs.Same.{key_eq, same-key}
-use Rattle.shm_schedules.proofs.Going.{GoAlike, go-trans, goes-alike, leads-redone, over-alike, told-at}
+use Rattle.shm_schedules.proofs.Going.{leads-grow, replies-at}
 use Rattle.shm_schedules.proofs.Walking.{follower-reached, has-cases, made-by, none-over, over-none, test-first}
 
 -- WHAT BEGINS A LOG
@@ -86,13 +87,13 @@ begins-masked (x ∷ a) (r ∷ rs) (s ∷ ss) same h = (fits-masked x r s (first
     rest-same : (r s : Reply) (rs ss : List Reply) → masked r ∷ map masked rs ≡ masked s ∷ map masked ss → map masked rs ≡ map masked ss
     rest-same r s rs ss h = grind (arith, h)
 
-all-begin-alike : (script : ScriptView) (log : List (List Answer)) (a b : Run) → GoAlike script a b → AllBegin script log a.events → AllBegin script log b.events
-all-begin-alike script log a b alike h i p lt at =
-    begins-masked (slice_index_or log i []) (replies_to p.pid a.events) (replies_to p.pid b.events) (told-at (told a.events) (told b.events) script.processes alike.told i p lt at) (h i p lt at)
+all-begin-same : (script : ScriptView) (log : List (List Answer)) (a b : Run) → outcome_of script a.events ≡ outcome_of script b.events → AllBegin script log a.events → AllBegin script log b.events
+all-begin-same script log a b same h i p lt at =
+    begins-masked (slice_index_or log i []) (replies_to p.pid a.events) (replies_to p.pid b.events) (replies-at (masked_replies a.events) (masked_replies b.events) script.processes same i p lt at) (h i p lt at)
 
-all-fill-alike : (script : ScriptView) (log : List (List Answer)) (a b : Run) → GoAlike script a b → AllFill script log a.events → AllFill script log b.events
-all-fill-alike script log a b alike h i p lt at =
-    let same = told-at (told a.events) (told b.events) script.processes alike.told i p lt at in
+all-fill-same : (script : ScriptView) (log : List (List Answer)) (a b : Run) → outcome_of script a.events ≡ outcome_of script b.events → AllFill script log a.events → AllFill script log b.events
+all-fill-same script log a b outcomes h i p lt at =
+    let same = replies-at (masked_replies a.events) (masked_replies b.events) script.processes outcomes i p lt at in
     let count : length (replies_to p.pid a.events) ≡ length (replies_to p.pid b.events) =
     sym (length-map (replies_to p.pid a.events) masked) ∙ ap length same ∙ length-map (replies_to p.pid b.events) masked in
     (begins-masked (slice_index_or log i []) (replies_to p.pid a.events) (replies_to p.pid b.events) same (h i p lt at).0, sym count ∙ (h i p lt at).1)
@@ -292,13 +293,14 @@ module _ (script : ScriptView) (log : List (List Answer)) (machine : Machine) wh
 
   too-many : (explored : List Key) (b : Node) (most : ℕ) (error : SearchError)
       → All (IsKeyOfBeginning script log first) explored → AllPairs AreOther explored → IsNode script first b → IsTooMany script log b explored most error → IsDoubt script log first most error
-  too-many explored b most HostMemory keys apart node h = tt
-  too-many explored b most Bound keys apart node h = (
-    explored ++ key_at b ∷ [],
-    (let e = length-append explored (key_at b ∷ []) in omega (arith, e, h.1)),
-    All-push (IsKeyOfBeginning script log first) explored (key_at b) keys (b.run, (node.0, h.0.begins), node.1),
-    apart-more explored (key_at b) apart h.0.other,
-  )
+  too-many explored b most error keys apart node too =
+      if-bound (IsNew script log explored b × (most ≤ length explored)) (AreMore script log first most)
+      (λ h. (
+        explored ++ key_at b ∷ [],
+        (let e = length-append explored (key_at b ∷ []) in omega (arith, e, h.1)),
+        All-push (IsKeyOfBeginning script log first) explored (key_at b) keys (b.run, (node.0, h.0.begins), node.1),
+        apart-more explored (key_at b) apart h.0.other,
+      )) error too
 
   pub doubt : (explored : List Key) (frontier rest : List Node) (longest most : ℕ) (b : Node) (error : SearchError)
       → AreExplored script log first explored frontier (rest ++ b ∷ []) longest → IsTooMany script log b explored most error → IsDoubt script log first most error
@@ -416,43 +418,41 @@ module _ (script : ScriptView) (log : List (List Answer)) (machine : Machine) wh
         ]
 
     abbrev Equivalent : Run → Type 0
-    Equivalent end = (c : Run) × IsBeginning script log first c × IsExpanded script log first explored [] longest c × GoAlike script end c
+    Equivalent end = (c : Run) × IsBeginning script log first c × IsExpanded script log first explored [] longest c × AreEquivalent script machine end c
 
     -- a schedule whose replies begin the log leads to a run that is equivalent to one that was expanded
-    follow : (schedule : List ℕ) (a b end : Run) → Leads script schedule a end → AllBegin script log end.events → GoAlike script a b
+    follow : (schedule : List ℕ) (a b end : Run) → Leads script schedule a end → AllBegin script log end.events → AreEquivalent script machine a b
         → IsBeginning script log first b → IsExpanded script log first explored [] longest b → Equivalent end
-    follow [] a b end h begins alike is done = (b, is, done, subst (λ (r : Run). GoAlike script r b) h alike)
+    follow [] a b end h begins alike is done = (b, is, done, subst (λ (r : Run). AreEquivalent script machine r b) h alike)
     follow (pid ∷ schedule) a b end h begins alike is done =
         let m = h.0 in
-        let more = leads-redone script schedule m end h.2 in
+        let more = leads-grow script schedule m end h.2 in
         let m-begins = all-prefix script log m.events more.0 end.events more.1 begins in
-        let there = goes-alike script a b pid m alike h.1 in
+        let there = equivalent-goes script machine a b alike pid m h.1 in
         let n = there.0 in
-        let n-begins = all-begin-alike script log m n there.2 m-begins in
+        let n-begins = all-begin-same script log m n (ap (λ (k : Key). k.replies) there.2.key) m-begins in
         elim (done.onwards pid n there.1 n-begins) [
           | inl met ↦
               let x = has-expanded (key_of script first n) met in
-              let same = keys-alike script machine n x.0 (follower-reached script first b is.0 pid n there.1) x.1.0 x.2 in
-              follow schedule m x.0 end h.2 begins (go-trans script m n x.0 there.2 same) x.1 x.3
+              follow schedule m x.0 end h.2 begins (record { left = there.2.left; right = x.1.0; key = there.2.key ∙ x.2 }) x.1 x.3
           | inr none ↦ absurd (no-nodes none.0 none.1)
         ]
 
     from-first : (schedule : List ℕ) (end : Run) → Leads script schedule first end → AllBegin script log end.events → Equivalent end
     from-first schedule end leads begins =
         let x = has-expanded (key_of script first first) all.begun in
-        let same = keys-alike script machine first x.0 (first-begins script log machine).0 x.1.0 x.2 in
-        follow schedule first x.0 end leads begins same x.1 x.3
+        follow schedule first x.0 end leads begins (record { left = (first-begins script log machine).0; right = x.1.0; key = x.2 }) x.1 x.3
 
     pub unexplained : IsUnexplained script log first
     unexplained schedule end is fills =
         let c = from-first schedule end is.0 (fill-begins script log end.events fills) in
-        c.2.part (over-alike script end c.0 c.3 is.1) (all-fill-alike script log end c.0 c.3 fills)
+        c.2.part (equivalent-over script machine end c.0 c.3 is.1) (all-fill-same script log end c.0 (ap (λ (k : Key). k.replies) c.3.key) fills)
 
     pub longest-all : (schedule : List ℕ) (run : Run) → Leads script schedule first run → AllBegin script log run.events → length run.events ≤ longest
     longest-all schedule run leads begins =
         let c = from-first schedule run leads begins in
         let short = c.2.short in
-        let count = c.3.count in
+        let count = ap (λ (k : Key). k.count) c.3.key in
         omega (arith, short, count)
 
 -- AN EXPANSION AS THE CODE MAKES IT

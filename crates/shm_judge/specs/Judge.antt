@@ -4,13 +4,13 @@ use Rattle.std.specs.List.{AllPairs}
 use Rattle.shm_base.specs.declared.call.Event.{Event}
 use Rattle.shm_text.specs.Script.{ScriptView}
 use Rattle.shm_outcomes.specs.Keys.{AreOther, Key, key_of}
+use Rattle.shm_outcomes.specs.Search.{IfBound}
 use Rattle.shm_judge.specs.Logs.{Answer, AllBegin, AllFill}
 use Rattle.shm_schedules.specs.Schedules.{Run, Leads, IsSchedule, schedule_of, IsReached, followers}
 use Rattle.shm_judge.specs.Stuck.{Stuck}
 use Rattle.shm_judge.specs.declared.verdict.Verdict.{Verdict}
 use Rattle.shm_judge.specs.declared.verdict.Verdict.TheVariants.{Legal, Illegal}
 use Rattle.shm_schedules.specs.declared.search_error.SearchError.{SearchError}
-use Rattle.shm_schedules.specs.declared.search_error.SearchError.TheVariants.{HostMemory, Bound}
 
 -- these are the calls and replies of a schedule, and the replies are those of the log
 abbrev pub IsExplained : ScriptView → List (List Answer) → Run → List Event → Type 0
@@ -55,5 +55,4 @@ AreMore script log first most = (keys : List Key) × (most < length keys) × All
 
 -- why a judge has no verdict
 abbrev pub IsDoubt : ScriptView → List (List Answer) → Run → ℕ → SearchError → Type 0
-IsDoubt script log first most HostMemory = Unit {0}
-IsDoubt script log first most Bound = AreMore script log first most
+IsDoubt script log first most error = IfBound (AreMore script log first most) error

@@ -8,10 +8,10 @@ use Rattle.shm_text.specs.Script.{ScriptView}
 use Rattle.shm_judge.specs.Logs.{Answer, AllBegin, AllFill}
 use Rattle.shm_outcomes.specs.Keys.{AreOther, Key, key_of}
 use Rattle.shm_outcomes.specs.Nodes.{Node, key_at, successor}
+use Rattle.shm_outcomes.specs.Search.{IfBound}
 use Rattle.shm_schedules.specs.Schedules.{Run, goes, next, IsOver, IsReached}
 use Rattle.shm_judge.specs.Stuck.{Stuck}
 use Rattle.shm_schedules.specs.declared.search_error.SearchError.{SearchError}
-use Rattle.shm_schedules.specs.declared.search_error.SearchError.TheVariants.{HostMemory, Bound}
 use Rattle.shm_judge.specs.Judge.{IsBeginning, stuck_at}
 
 -- SUCCESSORS
@@ -60,8 +60,7 @@ IsAdmitted script log b olds news before later =
     IsLeft script log b olds news before later ⊎ (IsNew script log olds b × IsPut b olds news before later)
 
 abbrev pub IsTooMany : ScriptView → List (List Answer) → Node → List Key → ℕ → SearchError → Type 0
-IsTooMany script log b explored most HostMemory = Unit {0}
-IsTooMany script log b explored most Bound = IsNew script log explored b × (most ≤ length explored)
+IsTooMany script log b explored most error = IfBound (IsNew script log explored b × (most ≤ length explored)) error
 
 -- THE STATE
 

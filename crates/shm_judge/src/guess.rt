@@ -12,8 +12,8 @@ use shm_schedules::{Engine, Run, push_followers};
 use shm_text::Script;
 use std::alloc::{AllocError, Global};
 
-// How many runs are kept for going back.
-const KEPT: usize = 64;
+// The longest path, for going back.
+const LONGEST: usize = 64;
 
 // The most moves for each line.
 const MOVES: usize = 4;
@@ -55,8 +55,8 @@ pub(crate) fn is_whole<N: Drop>(
     if !offered.is_empty() {
         return Ok(false);
     }
-    let told = log.is_told(alloc, script, events)?;
-    Ok(told)
+    let filled = log.is_filled(alloc, script, events)?;
+    Ok(filled)
 }
 
 // The same, of a run whose followers are not at hand.
@@ -102,12 +102,12 @@ fn goes_as<M: Engine>(
     Ok(Some(next))
 }
 
-// Drops the first run, if the most runs are kept.
+// Drops the first run, if the path is as long as it may be.
 fn forget_first<M: Engine>(path: &mut Vec<Run<M>>)
     ensures reached { (script : ScriptView) (first : FlatRun) →
         All (IsReached script first) path.old.items → All (IsReached script first) path.new.items }
 {
-    if path.len() >= KEPT {
+    if path.len() >= LONGEST {
         path.remove(0);
     }
 }

@@ -64,7 +64,7 @@ pub fn judge_log<M: Engine>(
     searched(alloc, script, log, entries, machine, most)
 }
 
-// The same by the search alone. It visits the successor first whose last call comes first in the log.
+// The same by the search alone. It expands the successor first whose last call comes first in the log.
 fn searched<M: Engine>(
     alloc: Global,
     script: &Script,
@@ -86,7 +86,6 @@ fn searched<M: Engine>(
     if let Err(error) = admit(alloc, script, log, most, root, &mut frontier, &mut explored) {
         return Err(error);
     }
-    let mut visited = 0u64;
     'nodes: while let Some(node) = frontier.pop() {
         let mut offered = Vec::new(alloc);
         push_successors(alloc, script, &node, &mut lists, &mut offered)?;
@@ -106,7 +105,6 @@ fn searched<M: Engine>(
         ) {
             return Err(error);
         }
-        visited += 1;
     }
     Ok(Verdict::Illegal(stuck))
 }
@@ -187,7 +185,7 @@ fn put_nearest<M: Engine>(entries: &[Entry], offered: &mut Vec<Node<M>>, place: 
     }
 }
 
-// Sorts the nodes by the log lines of their last calls. The first one is admitted last and visited next.
+// Sorts the nodes by the log lines of their last calls. The first one is admitted last and expanded next.
 fn put_in_order<M: Engine>(entries: &[Entry], offered: &mut Vec<Node<M>>)
     ensures { IsPermutation offered.old.items offered.new.items }
 {

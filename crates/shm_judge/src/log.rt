@@ -151,7 +151,7 @@ impl Log {
     }
 
     // Whether the replies in these events are exactly those of the log.
-    pub(crate) fn is_told(
+    pub(crate) fn is_filled(
         &self,
         alloc: Global,
         script: &Script,

@@ -82,7 +82,7 @@ pub(crate) fn last_line(entries: &[Entry], events: &[Event]) -> usize {
 pub(crate) struct Plan {
     heads: Vec<Head>,
     // the lines that were placed, in order
-    taken: Vec<usize>,
+    placed: Vec<usize>,
     // lines before this one were tried
     from: usize,
 }
@@ -103,7 +103,7 @@ impl Plan {
         }
         Ok(Plan {
             heads,
-            taken: Vec::new(alloc),
+            placed: Vec::new(alloc),
             from: 0,
         })
     }
@@ -121,9 +121,9 @@ impl Plan {
         Move::Try(line)
     }
 
-    // Notes that the line was placed.
+    // The line was placed.
     pub(crate) fn took(&mut self, entries: &[Entry], line: usize) -> Result<(), AllocError> {
-        self.taken.push(line)?;
+        self.placed.push(line)?;
         self.from = 0;
         if line < entries.len() {
             let entry = &entries[line];
@@ -136,14 +136,14 @@ impl Plan {
         Ok(())
     }
 
-    // Notes that the line does not fit here.
+    // The line does not fit here.
     pub(crate) fn failed(&mut self, line: usize) {
         self.from = line.saturating_add(1);
     }
 
-    // Notes that the last line that was placed is open again, and that it was tried here.
+    // The last line that was placed is open again; it was tried here.
     pub(crate) fn back(&mut self, entries: &[Entry]) {
-        let Some(line) = self.taken.pop() else {
+        let Some(line) = self.placed.pop() else {
             return;
         };
         if line < entries.len() {

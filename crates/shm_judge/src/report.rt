@@ -44,8 +44,8 @@ fn put_answers(
         text.new.items ≡ text.old.items ++ answers_text log.now events.now 0 script.now.processes) }
 {
     for (place, process) in script.processes.iter().enumerate() {
-        let told = reply_count(events, process.pid);
-        put_first(text, answers_from(log.at(place), told))?;
+        let count = reply_count(events, process.pid);
+        put_first(text, answers_from(log.at(place), count))?;
     }
     Ok(())
 }

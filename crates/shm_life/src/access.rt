@@ -158,6 +158,7 @@ impl<P: Pager> Kernel<P> {
 
     /// Serves the access that does an act at the bytes from an address on, with room for this many old ones;
     /// refused as [`Kernel::access`] is.
+    #[inline(always)]
     pub(crate) fn serve_access(
         &mut self,
         caller: &Caller,

@@ -9,20 +9,18 @@ use Rattle.shm_base.specs.State.{Machine}
 use Rattle.shm_base.specs.declared.call.Event.{Event}
 use Rattle.shm_text.specs.Script.{ScriptView}
 use Rattle.shm_outcomes.specs.Nodes.{root}
-use Rattle.shm_outcomes.specs.Groups.{IsAt, Groups, mark_by, mark_of}
+use Rattle.shm_outcomes.specs.Groups.{IsAt, Groups, relevant_key, group_key_of}
 use Rattle.shm_outcomes.specs.Keys.{AreMoreKeys, AreOther, IsKeyOf, Key, key_of}
-use Rattle.shm_outcomes.specs.Levels.{IsFirstCause, IsLevelCause, IsLevelFull, IsNextLevel, Level, first_level}
-use Rattle.shm_outcomes.specs.Merging.{IsCause}
+use Rattle.shm_outcomes.specs.Levels.{IsLevelFull, IsNextLevel, Level, first_level}
 use Rattle.shm_schedules.specs.declared.search_error.SearchError.{SearchError}
-use Rattle.shm_schedules.specs.declared.search_error.SearchError.TheVariants.{Bound, HostMemory}
-use Rattle.shm_outcomes.specs.Members.{Member, Way, member, member_in, members_in, no_members, way}
+use Rattle.shm_outcomes.specs.Frontier.{State, Path, state, state_in, states_in, empty_frontier, path}
 use Rattle.shm_schedules.specs.Outcomes.{outcome_of}
 use Rattle.shm_schedules.specs.Schedules.{Run, fresh, goes, IsOver, Leads, schedule_of, IsReached}
-use Rattle.shm_outcomes.specs.Search.{AreMoreRuns, AreOutcomes, IsFinding, outcomes_in}
+use Rattle.shm_outcomes.specs.Search.{AreMoreRuns, AreOutcomes, IfBound, IsCause, IsFinding, outcomes_in}
 use Rattle.shm_schedules.specs.Finding.{Finding}
-use Rattle.shm_outcomes.proofs.Carrying.{AreCarried}
-use Rattle.shm_outcomes.proofs.Grouping.{AreGroups, IsGroup, IsOne, at-once, group-of, next-groups, one-long, own-mark}
-use Rattle.shm_outcomes.proofs.Searching.{AreKnown, AreMembers, HasOne, IsWay, Steps, adds-all, members-push, no-ways, step-all, ways-after}
+use Rattle.shm_outcomes.proofs.Adding.{if-bound}
+use Rattle.shm_outcomes.proofs.Grouping.{AreGroups, IsGroup, IsOne, at-once, group-of, next-groups, one-long}
+use Rattle.shm_outcomes.proofs.Searching.{AreKnown, AreStates, HasOne, IsPath, Steps, adds-all, states-push, no-paths, step-all, paths-reach}
 use Rattle.shm_schedules.proofs.Walking.{follower-reached, goes-length, goes-schedule}
 
 -- SCHEDULES
@@ -57,7 +55,7 @@ leads-schedule script (pid ∷ schedule) a c (mid, follows, rest) =
     ∙ ap (λ (l : List ℕ). l ++ schedule) (goes-schedule script pid a mid follows)
     ∙ append_assoc (schedule_of a.events) (pid ∷ []) schedule
 
-All-left : (P : Way → Type 0) (xs ys : List Way) → All P (xs ++ ys) → All P xs
+All-left : (P : Path → Type 0) (xs ys : List Path) → All P (xs ++ ys) → All P xs
 All-left P xs ys all k d lt =
     let long = length-append xs ys in
     subst P (get_or_append_left xs ys d k lt) (all k d (omega (arith, long, lt)))
@@ -87,63 +85,63 @@ module _ (script : ScriptView) (machine : Machine) (n : ℕ) (g : Groups) (all :
   abbrev first : Run
   first = fresh machine
 
-  -- the key of a member's runs
-  abbrev key_in : Way → Key
-  key_in w = record { count = n; told = w.member.told; effects = (slice_index_or g.all w.member.group (root script first)).effects }
+  -- the key of a state's runs
+  abbrev key_in : Path → Key
+  key_in w = record { count = n; replies = w.state.replies; effects = (slice_index_or g.all w.state.group (root script first)).effects }
 
-  key-is : (w : Way) (is : IsWay script machine g w) → key_in w ≡ key_of script first is.run
+  key-is : (w : Path) (is : IsPath script machine g w) → key_in w ≡ key_of script first is.run
   key-is w is =
-      let own = group-of script machine n g w.member is.run all is.one in
-      let effects = ap (λ b. b.effects) (get_or_default g.all w.member.group (root script first) own.b own.within ∙ own.at) ∙ own.is.carried.effects ∙ sym own.same.effects in
-      let count = sym (one-long script machine n g w.member is.run all is.one) in
-      λ j. record { count = count j; told = is.one.told j; effects = effects j }
+      let own = group-of script machine n g w.state is.run all is.one in
+      let effects = ap (λ b. b.effects) (get_or_default g.all w.state.group (root script first) own.b own.within ∙ own.at) ∙ ap (λ (k : Key). k.effects) own.is.key ∙ sym own.same.effects in
+      let count = sym (one-long script machine n g w.state is.run all is.one) in
+      λ j. record { count = count j; replies = is.one.replies j; effects = effects j }
 
-  -- members with one key are the same
-  key-once : (v w : Way) → IsWay script machine g v → IsWay script machine g w → key_in v ≡ key_in w → v.member ≡ w.member
+  -- states with one key are the same
+  key-once : (v w : Path) → IsPath script machine g v → IsPath script machine g w → key_in v ≡ key_in w → v.state ≡ w.state
   key-once v w left right same =
       let keys : key_of script first left.run ≡ key_of script first right.run = sym (key-is v left) ∙ same ∙ key-is w right in
-      let group : v.member.group ≡ w.member.group =
-      at-once g.marks all.apart v.member.group w.member.group (mark_of script first right.run)
-      (subst (IsAt g.marks v.member.group) (ap (mark_by script) keys) left.one.at) right.one.at in
-      let told = ap (λ (k : Key). k.told) same in
-      λ j. record { group = group j; told = told j }
+      let group : v.state.group ≡ w.state.group =
+      at-once g.keys all.apart v.state.group w.state.group (group_key_of script first right.run)
+      (subst (IsAt g.keys v.state.group) (ap (relevant_key script) keys) left.one.at) right.one.at in
+      let replies = ap (λ (k : Key). k.replies) same in
+      λ j. record { group = group j; replies = replies j }
 
-  keys-apart : (ways : List Way) → AreMembers script machine g ways → AllPairs AreOther (map key_in ways)
-  keys-apart ways members i j d ij within same =
-      let long : length (map key_in ways) ≡ length ways = length-map ways key_in in
-      let j-lt : j < length ways = omega (arith, within, long) in
-      let i-lt : i < length ways = omega (arith, ij, j-lt) in
-      let v = way-at ways i i-lt in
-      let w = way-at ways j j-lt in
-      let at-v : slice_index_or (map key_in ways) i d ≡ key_in v.0 = get_or-map key_in ways i v.0 d i-lt ∙ ap key_in v.1 in
-      let at-w : slice_index_or (map key_in ways) j d ≡ key_in w.0 = get_or-map key_in ways j w.0 d j-lt ∙ ap key_in w.1 in
-      let one = key-once v.0 w.0 (All-contains (IsWay script machine g) ways v.0 members.each (i, i-lt, v.1)) (All-contains (IsWay script machine g) ways w.0 members.each (j, j-lt, w.1)) (sym at-v ∙ same ∙ at-w) in
-      members.apart i j v.0.member ij (omega (arith, j-lt, length-map ways member_in))
-      (get_or-map member_in ways i v.0 v.0.member i-lt ∙ ap member_in v.1 ∙ one ∙ sym (get_or-map member_in ways j w.0 v.0.member j-lt ∙ ap member_in w.1))
+  keys-apart : (paths : List Path) → AreStates script machine g paths → AllPairs AreOther (map key_in paths)
+  keys-apart paths states i j d ij within same =
+      let long : length (map key_in paths) ≡ length paths = length-map paths key_in in
+      let j-lt : j < length paths = omega (arith, within, long) in
+      let i-lt : i < length paths = omega (arith, ij, j-lt) in
+      let v = path-at paths i i-lt in
+      let w = path-at paths j j-lt in
+      let at-v : slice_index_or (map key_in paths) i d ≡ key_in v.0 = get_or-map key_in paths i v.0 d i-lt ∙ ap key_in v.1 in
+      let at-w : slice_index_or (map key_in paths) j d ≡ key_in w.0 = get_or-map key_in paths j w.0 d j-lt ∙ ap key_in w.1 in
+      let one = key-once v.0 w.0 (All-contains (IsPath script machine g) paths v.0 states.each (i, i-lt, v.1)) (All-contains (IsPath script machine g) paths w.0 states.each (j, j-lt, w.1)) (sym at-v ∙ same ∙ at-w) in
+      states.apart i j v.0.state ij (omega (arith, j-lt, length-map paths state_in))
+      (get_or-map state_in paths i v.0 v.0.state i-lt ∙ ap state_in v.1 ∙ one ∙ sym (get_or-map state_in paths j w.0 v.0.state j-lt ∙ ap state_in w.1))
     where
-      way-at : (ways : List Way) (i : ℕ) → i < length ways → (w : Way) × (slice_index_or ways i w ≡ w)
-      way-at [] i lt = absurd (omega (arith, lt))
-      way-at (w ∷ ws) zero lt = (w, refl)
-      way-at (w ∷ ws) (suc i) lt = way-at ws i (omega (arith, lt))
+      path-at : (paths : List Path) (i : ℕ) → i < length paths → (w : Path) × (slice_index_or paths i w ≡ w)
+      path-at [] i lt = absurd (omega (arith, lt))
+      path-at (w ∷ ws) zero lt = (w, refl)
+      path-at (w ∷ ws) (suc i) lt = path-at ws i (omega (arith, lt))
 
-  keys-each : (ways : List Way) → All (IsWay script machine g) ways → All (IsKeyOf script first) (map key_in ways)
+  keys-each : (paths : List Path) → All (IsPath script machine g) paths → All (IsKeyOf script first) (map key_in paths)
   keys-each [] each = All-nil (IsKeyOf script first)
   keys-each (w ∷ ws) each =
-      let is = All-head (IsWay script machine g) w ws each in
-      All-cons (IsKeyOf script first) (key_in w) (map key_in ws) (is.run, is.one.reached, key-is w is) (keys-each ws (All-tail (IsWay script machine g) w ws each))
+      let is = All-head (IsPath script machine g) w ws each in
+      All-cons (IsKeyOf script first) (key_in w) (map key_in ws) (is.run, is.one.reached, key-is w is) (keys-each ws (All-tail (IsPath script machine g) w ws each))
 
-  keys-count : (ways : List Way) → All (λ (k : Key). k.count ≡ n) (map key_in ways)
+  keys-count : (paths : List Path) → All (λ (k : Key). k.count ≡ n) (map key_in paths)
   keys-count [] = All-nil (λ (k : Key). k.count ≡ n)
   keys-count (w ∷ ws) = All-cons (λ (k : Key). k.count ≡ n) (key_in w) (map key_in ws) refl (keys-count ws)
 
   -- the keys of a level are others than those of runs with fewer calls
-  pub more-keys : (keys : List Key) (ways : List Way) → AreKeys script machine n keys → AreMembers script machine g ways → AreKeys script machine (n + 1) (keys ++ map key_in ways)
-  more-keys keys ways before members =
-      let news = map key_in ways in
+  pub more-keys : (keys : List Key) (paths : List Path) → AreKeys script machine n keys → AreStates script machine g paths → AreKeys script machine (n + 1) (keys ++ map key_in paths)
+  more-keys keys paths before states =
+      let news = map key_in paths in
       record {
-        each = All-append (IsKeyOf script first) keys news before.each (keys-each ways members.each);
-        apart = pairs-append keys news before.apart (keys-apart ways members) before.below (keys-count ways);
-        below = All-append (λ (k : Key). k.count < n + 1) keys news (λ k d lt. (let b = before.below k d lt in omega (arith, b))) (λ k d lt. (let e = keys-count ways k d lt in omega (arith, e)));
+        each = All-append (IsKeyOf script first) keys news before.each (keys-each paths states.each);
+        apart = pairs-append keys news before.apart (keys-apart paths states) before.below (keys-count paths);
+        below = All-append (λ (k : Key). k.count < n + 1) keys news (λ k d lt. (let b = before.below k d lt in omega (arith, b))) (λ k d lt. (let e = keys-count paths k d lt in omega (arith, e)));
       }
     where
       pairs-append : (xs ys : List Key) → AllPairs AreOther xs → AllPairs AreOther ys → All (λ (k : Key). k.count < n) xs → All (λ (k : Key). k.count ≡ n) ys → AllPairs AreOther (xs ++ ys)
@@ -171,8 +169,8 @@ module _ (script : ScriptView) (machine : Machine) (n : ℕ) (g : Groups) (all :
 -- a level has all runs with n calls
 pub record AreLevel (script : ScriptView) (machine : Machine) (n : ℕ) (level : Level) : Type 0 where
   pub groups : AreGroups script machine n level.groups
-  pub members : AreMembers script machine level.groups level.members.ways
-  pub complete : (run : Run) → IsReached script (fresh machine) run → length run.events ≡ n → HasOne script machine level.groups level.members.ways run
+  pub states : AreStates script machine level.groups level.frontier.paths
+  pub complete : (run : Run) → IsReached script (fresh machine) run → length run.events ≡ n → HasOne script machine level.groups level.frontier.paths run
 
 -- the search so far: this is the level with n calls, and the outcomes of runs with fewer were found
 pub record AreSearched (script : ScriptView) (machine : Machine) (most : ℕ) (level : Level) (found : List Finding) : Type 0 where
@@ -182,31 +180,31 @@ pub record AreSearched (script : ScriptView) (machine : Machine) (most : ℕ) (l
   pub ended : (run : Run) → IsReached script (fresh machine) run → IsOver script run → length run.events < n → Contains (outcomes_in found) (outcome_of script run.events)
   pub keys : List Key
   pub are : AreKeys script machine n keys
-  pub counted : level.members.count ≡ length keys + length level.members.ways
-  pub few : level.members.count ≤ most
+  pub counted : level.frontier.count ≡ length keys + length level.frontier.paths
+  pub few : level.frontier.count ≤ most
 
 module _ (script : ScriptView) (machine : Machine) (most : ℕ) (level : Level) (before : List Finding) (all : AreSearched script machine most level before) where
-  abbrev ways : List Way
-  ways = level.members.ways
+  abbrev paths : List Path
+  paths = level.frontier.paths
 
-  taken-up : (next : Level) (found : List Finding) (h : IsNextLevel script (fresh machine) most level next before found) → Steps script machine all.n level.groups next.groups all.is.groups h.moves h.all most ways (no_members level.members.count) next.members before found
-  taken-up next found h = step-all script machine all.n level.groups next.groups all.is.groups h.moves h.all most ways (no_members level.members.count) next.members before found (no-ways script machine next.groups) all.known all.is.members.each h.taken
+  expansion : (next : Level) (found : List Finding) (h : IsNextLevel script (fresh machine) most level next before found) → Steps script machine all.n level.groups next.groups all.is.groups h.transitions h.all most paths (empty_frontier level.frontier.count) next.frontier before found
+  expansion next found h = step-all script machine all.n level.groups next.groups all.is.groups h.transitions h.all most paths (empty_frontier level.frontier.count) next.frontier before found (no-paths script machine next.groups) all.known all.is.states.each h.expanded
 
-  pub next-counted : (next : Level) (found : List Finding) → IsNextLevel script (fresh machine) most level next before found → next.members.count ≡ level.members.count + length next.members.ways
-  next-counted next found h = (let e = (taken-up next found h).counted in omega (arith, e))
+  pub next-counted : (next : Level) (found : List Finding) → IsNextLevel script (fresh machine) most level next before found → next.frontier.count ≡ level.frontier.count + length next.frontier.paths
+  next-counted next found h = (let e = (expansion next found h).counted in omega (arith, e))
 
-  -- the member of a run of this level
-  member-of : (run : Run) → IsReached script (fresh machine) run → length run.events ≡ all.n → (w : Way) × Contains ways w × IsOne script machine level.groups w.member run
-  member-of run reached long =
+  -- the state of a run of this level
+  state-of : (run : Run) → IsReached script (fresh machine) run → length run.events ≡ all.n → (w : Path) × Contains paths w × IsOne script machine level.groups w.state run
+  state-of run reached long =
       let h = all.is.complete run reached long in
-      let w = way-in ways h.x h.there in
-      (w.0, w.1, subst (λ (x : Member). IsOne script machine level.groups x run) (sym w.2) h.one)
+      let w = path-in paths h.x h.there in
+      (w.0, w.1, subst (λ (x : State). IsOne script machine level.groups x run) (sym w.2) h.one)
     where
-      way-in : (ways : List Way) (x : Member) → Contains (members_in ways) x → (w : Way) × Contains ways w × (w.member ≡ x)
-      way-in [] x (i, lt, at) = absurd (omega (arith, lt))
-      way-in (w ∷ ws) x (zero, lt, at) = (w, (0, omega arith, refl), at)
-      way-in (w ∷ ws) x (suc i, lt, at) =
-          let rest = way-in ws x (i, omega (arith, lt), at) in
+      path-in : (paths : List Path) (x : State) → Contains (states_in paths) x → (w : Path) × Contains paths w × (w.state ≡ x)
+      path-in [] x (i, lt, at) = absurd (omega (arith, lt))
+      path-in (w ∷ ws) x (zero, lt, at) = (w, (0, omega arith, refl), at)
+      path-in (w ∷ ws) x (suc i, lt, at) =
+          let rest = path-in ws x (i, omega (arith, lt), at) in
           let there = rest.1 in
           (rest.0, (suc there.0, (let l = there.1 in omega (arith, l)), there.2), rest.2)
 
@@ -214,72 +212,72 @@ module _ (script : ScriptView) (machine : Machine) (most : ℕ) (level : Level) 
   pub next-searched : (next : Level) (found : List Finding) → IsNextLevel script (fresh machine) most level next before found → AreSearched script machine most next found
   next-searched next found h =
       let groups = next-groups script machine all.n level.groups next.groups all.is.groups h.put in
-      let steps = taken-up next found h in
-      let keys = all.keys ++ map (key_in script machine all.n level.groups all.is.groups) ways in
+      let steps = expansion next found h in
+      let keys = all.keys ++ map (key_in script machine all.n level.groups all.is.groups) paths in
       record {
         n = all.n + 1;
         is = record {
           groups = groups;
-          members = steps.members;
+          states = steps.states;
           complete = λ run reached long.
               let last = last-call script (fresh machine) all.n (schedule_of run.events) (fresh machine) run reached refl (omega arith) long in
-              let m = member-of last.0 last.2 last.3 in
-              steps.takes.onwards m.0 m.1 last.0 m.2 last.1 run last.4;
+              let m = state-of last.0 last.2 last.3 in
+              steps.expands.onwards m.0 m.1 last.0 m.2 last.1 run last.4;
         };
-        known = record { sound = steps.takes.sound; distinct = steps.takes.distinct };
+        known = record { sound = steps.expands.sound; distinct = steps.expands.distinct };
         ended = λ run reached over less.
             elim (cases_lt (length run.events) all.n) [
-              | inl fewer ↦ steps.takes.earlier (outcome_of script run.events) (all.ended run reached over fewer)
+              | inl fewer ↦ steps.expands.earlier (outcome_of script run.events) (all.ended run reached over fewer)
               | inr more ↦
-                  let m = member-of run reached (omega (arith, less, more)) in
-                  steps.takes.over m.0 m.1 run m.2 over
+                  let m = state-of run reached (omega (arith, less, more)) in
+                  steps.expands.over m.0 m.1 run m.2 over
             ];
         keys = keys;
-        are = more-keys script machine all.n level.groups all.is.groups all.keys ways all.are all.is.members;
+        are = more-keys script machine all.n level.groups all.is.groups all.keys paths all.are all.is.states;
         counted = (
             let c = steps.counted in
             let b = all.counted in
-            let long = length-append all.keys (map (key_in script machine all.n level.groups all.is.groups) ways) in
-            let one = length-map ways (key_in script machine all.n level.groups all.is.groups) in
+            let long = length-append all.keys (map (key_in script machine all.n level.groups all.is.groups) paths) in
+            let one = length-map paths (key_in script machine all.n level.groups all.is.groups) in
             omega (arith, c, b, long, one)
             );
         few = steps.few all.few;
       }
 
-  -- each member is of a group
-  pub within-level : (w : Way) → Contains ways w → w.member.group < length level.groups.all
+  -- each state is of a group
+  pub within-level : (w : Path) → Contains paths w → w.state.group < length level.groups.all
   within-level w there =
-      let is = All-contains (IsWay script machine level.groups) ways w all.is.members.each there in
-      (group-of script machine all.n level.groups w.member is.run all.is.groups is.one).within
+      let is = All-contains (IsPath script machine level.groups) paths w all.is.states.each there in
+      (group-of script machine all.n level.groups w.state is.run all.is.groups is.one).within
 
   -- there are more runs than the bound
   pub full-level : IsLevelFull script (fresh machine) level before most → AreMoreKeys script (fresh machine) most
   full-level h =
       let s = h.stopped in
       let groups = next-groups script machine all.n level.groups h.groups all.is.groups h.put in
-      let each : All (IsWay script machine level.groups) (s.done ++ s.way ∷ s.rest) = subst (All (IsWay script machine level.groups)) s.all all.is.members.each in
-      let own : IsWay script machine level.groups s.way = All-contains (IsWay script machine level.groups) (s.done ++ s.way ∷ s.rest) s.way each (Contains-append_right s.done (s.way ∷ s.rest) s.way (0, omega arith, refl)) in
-      let steps = step-all script machine all.n level.groups h.groups all.is.groups h.moves h.all most s.done (no_members level.members.count) s.mid before s.noted (no-ways script machine h.groups) all.known (All-left (IsWay script machine level.groups) s.done (s.way ∷ s.rest) each) s.taken in
+      let each : All (IsPath script machine level.groups) (s.done ++ s.path ∷ s.rest) = subst (All (IsPath script machine level.groups)) s.all all.is.states.each in
+      let own : IsPath script machine level.groups s.path = All-contains (IsPath script machine level.groups) (s.done ++ s.path ∷ s.rest) s.path each (Contains-append_right s.done (s.path ∷ s.rest) s.path (0, omega arith, refl)) in
+      let steps = step-all script machine all.n level.groups h.groups all.is.groups h.transitions h.all most s.done (empty_frontier level.frontier.count) s.mid before s.between (no-paths script machine h.groups) all.known (All-left (IsPath script machine level.groups) s.done (s.path ∷ s.rest) each) s.expanded in
       let m = s.many in
-      let on : All (IsWay script machine h.groups) (m.before ++ m.way ∷ m.after) = subst (All (IsWay script machine h.groups)) m.all (ways-after script machine all.n level.groups h.groups all.is.groups h.moves h.all most s.way own) in
-      let adds = adds-all script machine most h.groups m.before s.mid m.mid steps.members (All-left (IsWay script machine h.groups) m.before (m.way ∷ m.after) on) m.added in
-      let last : IsWay script machine h.groups m.way = All-contains (IsWay script machine h.groups) (m.before ++ m.way ∷ m.after) m.way on (Contains-append_right m.before (m.way ∷ m.after) m.way (0, omega arith, refl)) in
-      let nexts = m.mid.ways ++ m.way ∷ [] in
-      let members = members-push script machine h.groups m.mid.ways m.way adds.members last m.many.0 in
-      let olds = all.keys ++ map (key_in script machine all.n level.groups all.is.groups) ways in
-      let here = more-keys script machine all.n level.groups all.is.groups all.keys ways all.are all.is.members in
-      let there = more-keys script machine (all.n + 1) h.groups groups olds nexts here members in (
+      let on : All (IsPath script machine h.groups) (m.before ++ m.path ∷ m.after) = subst (All (IsPath script machine h.groups)) m.all (paths-reach script machine all.n level.groups h.groups all.is.groups h.transitions h.all most s.path own) in
+      let adds = adds-all script machine most h.groups m.before s.mid m.mid steps.states (All-left (IsPath script machine h.groups) m.before (m.path ∷ m.after) on) m.added in
+      let last : IsPath script machine h.groups m.path = All-contains (IsPath script machine h.groups) (m.before ++ m.path ∷ m.after) m.path on (Contains-append_right m.before (m.path ∷ m.after) m.path (0, omega arith, refl)) in
+      let nexts = m.mid.paths ++ m.path ∷ [] in
+      let states = states-push script machine h.groups m.mid.paths m.path adds.states last m.many.0 in
+      let olds = all.keys ++ map (key_in script machine all.n level.groups all.is.groups) paths in
+      let here = more-keys script machine all.n level.groups all.is.groups all.keys paths all.are all.is.states in
+      let there = more-keys script machine (all.n + 1) h.groups groups olds nexts here states in (
         olds ++ map (key_in script machine (all.n + 1) h.groups groups) nexts,
         (
             let a = all.counted in
             let b = steps.counted in
             let c = adds.counted in
             let d = m.many.1 in
-            let e = length-append all.keys (map (key_in script machine all.n level.groups all.is.groups) ways) in
-            let f = length-map ways (key_in script machine all.n level.groups all.is.groups) in
+            let e = length-append all.keys (map (key_in script machine all.n level.groups all.is.groups) paths) in
+            let f = length-map paths (key_in script machine all.n level.groups all.is.groups) in
             let i = length-append olds (map (key_in script machine (all.n + 1) h.groups groups) nexts) in
             let j = length-map nexts (key_in script machine (all.n + 1) h.groups groups) in
-            let k = length-append m.mid.ways (m.way ∷ []) in
+            let k = length-append m.mid.paths (m.path ∷ []) in
             omega (arith, a, b, c, d, e, f, i, j, k)
             ),
         there.each,
@@ -287,7 +285,7 @@ module _ (script : ScriptView) (machine : Machine) (most : ℕ) (level : Level) 
       )
 
   -- when no run is left, each schedule's outcome was found
-  pub searched-all : ways ≡ [] → AreOutcomes script (fresh machine) before
+  pub searched-all : paths ≡ [] → AreOutcomes script (fresh machine) before
   searched-all none =
       record {
         sound = all.known.sound;
@@ -298,14 +296,14 @@ module _ (script : ScriptView) (machine : Machine) (most : ℕ) (level : Level) 
               | inl fewer ↦ all.ended end reached is.1 fewer
               | inr more ↦
                   let b = on-the-way script (fresh machine) all.n (schedule_of end.events) (fresh machine) end reached refl (omega arith) more in
-                  let m = member-of b.0 b.1 b.2 in
-                  absurd (no-way m.0 (subst (λ (l : List Way). Contains l m.0) none m.1))
+                  let m = state-of b.0 b.1 b.2 in
+                  absurd (no-path m.0 (subst (λ (l : List Path). Contains l m.0) none m.1))
             ];
         distinct = all.known.distinct;
       }
     where
-      no-way : (w : Way) → Contains ([]) w → ⊥
-      no-way w (i, lt, at) = omega (arith, lt)
+      no-path : (w : Path) → Contains ([]) w → ⊥
+      no-path w (i, lt, at) = omega (arith, lt)
 
 -- WHAT IS LEFT TO DO
 
@@ -313,14 +311,14 @@ abbrev at_most_one : ℕ → ℕ
 at_most_one zero = 0
 at_most_one (suc n) = 1
 
--- the members that there may still be, and the level if it has some
+-- the states that there may still be, and the level if it has some
 abbrev pub left_of : ℕ → Level → ℕ
-left_of most level = (most - level.members.count) + at_most_one (length level.members.ways)
+left_of most level = (most - level.frontier.count) + at_most_one (length level.frontier.paths)
 
-pub less-left : (most : ℕ) (level next : Level) → (level.members.ways ≡ [] → ⊥) → next.members.count ≡ level.members.count + length next.members.ways → next.members.count ≤ most → left_of most next < left_of most level
-less-left most level next some counted few = by level.members.ways refl (length next.members.ways) refl
+pub less-left : (most : ℕ) (level next : Level) → (level.frontier.paths ≡ [] → ⊥) → next.frontier.count ≡ level.frontier.count + length next.frontier.paths → next.frontier.count ≤ most → left_of most next < left_of most level
+less-left most level next some counted few = by level.frontier.paths refl (length next.frontier.paths) refl
   where
-    by : (ws : List Way) → level.members.ways ≡ ws → (n : ℕ) → length next.members.ways ≡ n → left_of most next < left_of most level
+    by : (ws : List Path) → level.frontier.paths ≡ ws → (n : ℕ) → length next.frontier.paths ≡ n → left_of most next < left_of most level
     by [] is n long = absurd (some is)
     by (w ∷ ws) is zero long = rw (is, long) (omega (arith, counted, few, long))
     by (w ∷ ws) is (suc n) long = rw (is, long) (omega (arith, counted, few, long))
@@ -332,23 +330,22 @@ first-searched script machine most some =
     let first = fresh machine in
     let b = root script first in
     let level = first_level script first in
-    let carried : AreCarried script machine b = record { told = refl; effects = refl } in
-    let is : IsGroup script machine 0 b = record { reached = refl; long = refl; carried = carried } in
-    let one : (run : Run) → IsReached script first run → length run.events ≡ 0 → HasOne script machine level.groups level.members.ways run =
+    let is : IsGroup script machine 0 b = record { reached = refl; long = refl; key = refl } in
+    let one : (run : Run) → IsReached script first run → length run.events ≡ 0 → HasOne script machine level.groups level.frontier.paths run =
     λ run reached long.
     let same : first ≡ run = none-more script (schedule_of run.events) first run reached long in
-    subst (HasOne script machine level.groups level.members.ways) same
-    (record { x = member 0 b.told; there = (0, omega arith, refl); one = start-one script machine }) in
+    subst (HasOne script machine level.groups level.frontier.paths) same
+    (record { x = state 0 b.replies; there = (0, omega arith, refl); one = start-one script machine }) in
     record {
       n = 0;
       is = record {
         groups = record {
           each = All-cons (IsGroup script machine 0) b [] is (All-nil (IsGroup script machine 0));
-          marked = refl;
+          keyed = refl;
           apart = λ i j d ij lt. absurd (omega (arith, ij, lt));
         };
-        members = record {
-          each = All-cons (IsWay script machine level.groups) (way (member 0 b.told) []) [] (record { run = first; one = start-one script machine; schedule = refl }) (All-nil (IsWay script machine level.groups));
+        states = record {
+          each = All-cons (IsPath script machine level.groups) (path (state 0 b.replies) []) [] (record { run = first; one = start-one script machine; schedule = refl }) (All-nil (IsPath script machine level.groups));
           apart = λ i j d ij lt. absurd (omega (arith, ij, lt));
         };
         complete = one;
@@ -361,12 +358,12 @@ first-searched script machine most some =
       few = omega (arith, some);
     }
   where
-    start-one : (script : ScriptView) (machine : Machine) → IsOne script machine (first_level script (fresh machine)).groups (member 0 (root script (fresh machine)).told) (fresh machine)
+    start-one : (script : ScriptView) (machine : Machine) → IsOne script machine (first_level script (fresh machine)).groups (state 0 (root script (fresh machine)).replies) (fresh machine)
     start-one script machine =
         record {
           reached = refl;
-          told = refl;
-          at = (omega arith, λ d. own-mark script machine (root script (fresh machine)) (record { told = refl; effects = refl }));
+          replies = refl;
+          at = (omega arith, λ d. refl);
         }
 
 -- at a bound of 0 the first run is one too many
@@ -408,10 +405,12 @@ more-runs script first most (keys, more, each, apart) =
           others i j (key d) ij within (get_or-map key runs i d (key d) (omega (arith, ij, lt)) ∙ same-key script first (slice_index_or runs i d) (slice_index_or runs j d) alike ∙ sym (get_or-map key runs j d (key d) lt)),
     )
 
-pub first-cause : (script : ScriptView) (machine : Machine) (most : ℕ) (error : SearchError) → IsFirstCause most error → IsCause script (fresh machine) most error
-first-cause script machine most HostMemory h = tt
-first-cause script machine most Bound h = more-runs script (fresh machine) most (first-full script machine most h)
+pub first-cause : (script : ScriptView) (machine : Machine) (most : ℕ) (error : SearchError) → IfBound (most ≡ 0) error → IsCause script (fresh machine) most error
+first-cause script machine most error h =
+    if-bound (most ≡ 0) (AreMoreRuns script (fresh machine) most) (λ none. more-runs script (fresh machine) most (first-full script machine most none)) error h
 
-pub next-cause : (script : ScriptView) (machine : Machine) (most : ℕ) (level : Level) (before : List Finding) (error : SearchError) → AreSearched script machine most level before → IsLevelCause script (fresh machine) level before most error → IsCause script (fresh machine) most error
-next-cause script machine most level before HostMemory all h = tt
-next-cause script machine most level before Bound all h = more-runs script (fresh machine) most (full-level script machine most level before all h)
+pub next-cause : (script : ScriptView) (machine : Machine) (most : ℕ) (level : Level) (before : List Finding) (error : SearchError)
+    → AreSearched script machine most level before → IfBound (IsLevelFull script (fresh machine) level before most) error → IsCause script (fresh machine) most error
+next-cause script machine most level before error all h =
+    if-bound (IsLevelFull script (fresh machine) level before most) (AreMoreRuns script (fresh machine) most)
+    (λ full. more-runs script (fresh machine) most (full-level script machine most level before all full)) error h

@@ -7,9 +7,9 @@ use Rattle.shm_text.specs.Script.{ScriptView}
 use Rattle.shm_outcomes.specs.Masking.{AreMaskedOutcomes, IsMaskedFinding, hidden_finding, hidden_outcome}
 use Rattle.shm_schedules.specs.Outcomes.{outcome_of}
 use Rattle.shm_schedules.specs.Schedules.{Run, IsSchedule}
-use Rattle.shm_outcomes.specs.Search.{AreDistinct, AreOutcomes, IsFinding, IsNoted, outcomes_in}
+use Rattle.shm_outcomes.specs.Search.{AreDistinct, AreOutcomes, IsFinding, IsInserted, outcomes_in}
 use Rattle.shm_schedules.specs.Finding.{Finding}
-use Rattle.shm_outcomes.proofs.Searching.{noted-distinct, noted-kept, noted-there}
+use Rattle.shm_outcomes.proofs.Searching.{inserted-distinct, inserted-keeps, inserted-there}
 
 abbrev IsHiddenOf : List Finding → Finding → Type 0
 IsHiddenOf found f = (g : Finding) × Contains found g × (f ≡ hidden_finding g)
@@ -23,29 +23,21 @@ pub record AreHidden (found : List Finding) (i : ℕ) (masked : List Finding) : 
   pub complete : All (IsThere masked) (take i found)
   pub distinct : AreDistinct (outcomes_in masked)
 
-pub none-hidden : (found : List Finding) → AreHidden found 0 []
-none-hidden found =
-    record {
-      sound = λ k d lt. absurd (omega (arith, lt));
-      complete = λ k d lt. absurd (omega (arith, lt));
-      distinct = λ i j o ij j-lt at-i at-j. omega (arith, j-lt);
-    }
-
-noted-hidden : (found olds news : List Finding) (g : Finding) → Contains found g → IsNoted olds (hidden_finding g) news → All (IsHiddenOf found) olds → All (IsHiddenOf found) news
-noted-hidden found olds news g here (inl old) all = rw old.1 all
-noted-hidden found olds news g here (inr new) all = rw new.1 (All-push (IsHiddenOf found) olds (hidden_finding g) all (g, here, refl))
+inserted-hidden : (found olds news : List Finding) (g : Finding) → Contains found g → IsInserted olds (hidden_finding g) news → All (IsHiddenOf found) olds → All (IsHiddenOf found) news
+inserted-hidden found olds news g here (inl old) all = rw old.1 all
+inserted-hidden found olds news g here (inr new) all = rw new.1 (All-push (IsHiddenOf found) olds (hidden_finding g) all (g, here, refl))
 
 pub more-hidden :
     (found olds news : List Finding) (i : ℕ) (g : Finding)
-    → i < length found → g ≡ slice_index_or found i g → AreHidden found i olds → IsNoted olds (hidden_finding g) news → AreHidden found (i + 1) news
-more-hidden found olds news i g lt at before noted =
+    → i < length found → g ≡ slice_index_or found i g → AreHidden found i olds → IsInserted olds (hidden_finding g) news → AreHidden found (i + 1) news
+more-hidden found olds news i g lt at before inserted =
     let here : Contains found g = subst (Contains found) (sym at) (Contains-get_or found i g lt) in
-    let kept : (x : Finding) → IsThere olds x → IsThere news x = λ x there. noted-kept olds news (hidden_finding g) noted (hidden_outcome x.outcome) there in
-    let own : IsThere news g = noted-there olds news (hidden_finding g) noted in
+    let kept : (x : Finding) → IsThere olds x → IsThere news x = λ x there. inserted-keeps olds news (hidden_finding g) inserted (hidden_outcome x.outcome) there in
+    let own : IsThere news g = inserted-there olds news (hidden_finding g) inserted in
     record {
-      sound = noted-hidden found olds news g here noted before.sound;
+      sound = inserted-hidden found olds news g here inserted before.sound;
       complete = All-more (IsThere news) found i g lt (All-weaker (IsThere olds) (IsThere news) kept (take i found) before.complete) (subst (IsThere news) at own);
-      distinct = noted-distinct olds news (hidden_finding g) noted before.distinct;
+      distinct = inserted-distinct olds news (hidden_finding g) inserted before.distinct;
     }
 
 -- an outcome that is there is that of a finding

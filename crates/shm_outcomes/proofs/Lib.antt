@@ -1,10 +1,10 @@
 pub mod Searching
 pub mod Bytes
 pub mod Replaying
-pub mod Carrying
+pub mod Equivalence
 pub mod Complete
 pub mod Hiding
-pub mod Keeping
+pub mod Relevance
 pub mod Grouping
 pub mod Adding
 pub mod Placing

@@ -1,4 +1,4 @@
--- What the search keeps of a run's changes leads to the run's machine.
+-- The effects of a run lead to the run's machine.
 use Rattle.std.specs.Prelude.{◌≡◌, ◌≢◌, ℕ, ◌+◌, ◌%◌, ◌^◌, ◌&&◌, Bool, true, false, not, nat_lt, cond, List, [], ◌∷◌, ◌++◌, map, length, Option, Some, None}
 use Rattle.std.proofs.Common.{refl, ap, sym, subst, ◌∙◌, arith, inl, inr, length-append}
 use Rattle.std.proofs.lemmas.Bool.{cases_Bool}
@@ -22,7 +22,7 @@ use Rattle.shm_base.specs.declared.errno.Errno.{Errno}
 use Rattle.shm_base.specs.declared.errno.Errno.TheVariants.{Esrch}
 use Rattle.shm_text.specs.Script.{ScriptView}
 use Rattle.shm_schedules.specs.Alike.{is_change, is_void, looks}
-use Rattle.shm_outcomes.specs.Changes.{Effects, all_changes, call_of, fits, is_fork, made, no_effects, noted, patch_by, put, put_at, puts, effects_after, effects_from, effects_of, write_at, wrote}
+use Rattle.shm_outcomes.specs.Changes.{Effects, all_changes, call_of, fits, is_fork, made, no_effects, effects_by, patch_by, put, put_at, puts, effects_after, effects_from, effects_of, write_at, wrote}
 use Rattle.shm_schedules.specs.Places.{place_by, place_of}
 use Rattle.shm_schedules.specs.Schedules.{Run, after, fresh, next, Leads, schedule_of, IsReached}
 use Rattle.shm_schedules.specs.Times.{timeless}
@@ -63,7 +63,7 @@ changed-all s t = changed-append s t.past (map wrote t.writes) ∙ changed-write
 abbrev with_stored : List Place → List ℕ → Machine → Machine
 with_stored ps bytes m = record m { table = stored m.table ps bytes }
 
--- the bytes that are kept of a store do what it does
+-- the bytes that a store wrote do what it does
 puts-stored :
     (s m : Machine) (pid : ℕ) (c : Caller) → caller_of s pid ≡ Some c
     → (bytes : List ℕ) (addr : ℕ) (ws : List Write) (ps : List Place) → places c.pieces addr (length bytes) ≡ Some ps
@@ -296,7 +296,7 @@ one-changed base s n pid call t not-zero at =
     ]
   where
     by : is_change (event_at s n pid call) ≡ true → (o : Option Patch) → patch_by call (step s n pid call).reply ≡ o
-        → changed base (all_changes (noted s (event_at s n pid call) o t)) ≡ timeless (step s n pid call).state
+        → changed base (all_changes (effects_by s (event_at s n pid call) o t)) ≡ timeless (step s n pid call).state
     by yes-changes (Some p) is =
         let w : Effects = record { past = t.past; writes = puts s pid p.addr p.bytes t.writes } in
         changed-all base w ∙ stored-after (changed base t.past) s n pid call p t.writes (sym (changed-all base t) ∙ at) is yes-changes
@@ -356,7 +356,7 @@ late-effects s n pid call t =
     ]
   where
     by : is_change (event_at s n pid call) ≡ true → (o : Option Patch) → patch_by call (step s n pid call).reply ≡ o
-        → noted (step s n pid call).state (event_at s n pid call) o t ≡ noted s (event_at s n pid call) o t
+        → effects_by (step s n pid call).state (event_at s n pid call) o t ≡ effects_by s (event_at s n pid call) o t
     by yes-changes (Some p) is =
         ap (λ (ws : List Write). record { past = t.past; writes = ws }) (puts-same (step s n pid call).state s pid (stored-caller s n pid call p is yes-changes) p.bytes p.addr t.writes)
     by yes-changes None is = refl

@@ -86,13 +86,13 @@ made c t =
     then record { past = t.past ++ Made c ∷ []; writes = t.writes }
     else record { past = all_changes t ++ Made c ∷ []; writes = [] }
 
-abbrev pub noted : Machine → Event → Option Patch → Effects → Effects
-noted s e (Some p) t = record { past = t.past; writes = puts s e.pid p.addr p.bytes t.writes }
-noted s e None t = made (call_of e) t
+abbrev pub effects_by : Machine → Event → Option Patch → Effects → Effects
+effects_by s e (Some p) t = record { past = t.past; writes = puts s e.pid p.addr p.bytes t.writes }
+effects_by s e None t = made (call_of e) t
 
 -- the effects after one more call, made of this machine
 abbrev pub effects_after : Machine → Event → Effects → Effects
-effects_after s e t = if is_change e then noted s e (patch_by e.call e.reply) t else t
+effects_after s e t = if is_change e then effects_by s e (patch_by e.call e.reply) t else t
 
 -- the effects after these calls, of which the first is made of this machine at this place of the history
 abbrev pub effects_from : Machine → ℕ → Effects → List Event → Effects

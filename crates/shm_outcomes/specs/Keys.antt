@@ -10,13 +10,13 @@ use Rattle.shm_schedules.specs.Schedules.{Run, IsReached}
 -- the number of calls, the replies to each process without times, and the changes of the machine
 pub record Key : Type 0 where
   pub count : ℕ
-  pub told : List (List Reply)
+  pub replies : List (List Reply)
   pub effects : Effects
 
 -- the key of a run that began as the first one
 abbrev pub key_of : ScriptView → Run → Run → Key
 key_of script first run =
-    record { count = length run.events; told = outcome_of script run.events; effects = effects_of first.machine run.events }
+    record { count = length run.events; replies = outcome_of script run.events; effects = effects_of first.machine run.events }
 
 -- a schedule leads to a run with this key
 abbrev pub IsKeyOf : ScriptView → Run → Key → Type 0

@@ -4,8 +4,7 @@ pub mod Text
 pub mod Changes
 pub mod Keys
 pub mod Same
-pub mod Merging
 pub mod Nodes
 pub mod Groups
 pub mod Levels
-pub mod Members
+pub mod Frontier

@@ -6,6 +6,8 @@ use Rattle.shm_text.specs.Script.{ScriptView}
 use Rattle.shm_schedules.specs.Finding.{Finding}
 use Rattle.shm_schedules.specs.Outcomes.{outcome_of}
 use Rattle.shm_schedules.specs.Schedules.{Run, IsReached, IsSchedule, schedule_of}
+use Rattle.shm_schedules.specs.declared.search_error.SearchError.{SearchError}
+use Rattle.shm_schedules.specs.declared.search_error.SearchError.TheVariants.{HostMemory, Bound}
 
 abbrev pub outcome_in : Finding → List (List Reply)
 outcome_in f = f.outcome
@@ -22,8 +24,8 @@ IsFinding script first f =
     × (f.outcome ≡ outcome_of script f.events)
 
 -- the finding is appended, unless its outcome is there
-abbrev pub IsNoted : List Finding → Finding → List Finding → Type 0
-IsNoted olds f news =
+abbrev pub IsInserted : List Finding → Finding → List Finding → Type 0
+IsInserted olds f news =
     (Contains (outcomes_in olds) f.outcome × (news ≡ olds)) ⊎ ((Contains (outcomes_in olds) f.outcome → ⊥) × (news ≡ olds ++ f ∷ []))
 
 -- no outcome is there twice
@@ -38,6 +40,14 @@ AreDifferent a b = a.events ≡ b.events → ⊥
 -- schedules of the script lead to more beginnings than the bound, no two of them the same
 abbrev pub AreMoreRuns : ScriptView → Run → ℕ → Type 0
 AreMoreRuns script first most = (runs : List Run) × (most < length runs) × All (IsReached script first) runs × AllPairs AreDifferent runs
+
+-- a search has no answer: the host refused memory, or this holds, which is about its bound
+abbrev pub IfBound : Type 0 → SearchError → Type 0
+IfBound P HostMemory = Unit {0}
+IfBound P Bound = P
+
+abbrev pub IsCause : ScriptView → Run → ℕ → SearchError → Type 0
+IsCause script first most error = IfBound (AreMoreRuns script first most) error
 
 -- Every outcome, once: each finding has a schedule, and each schedule's outcome is among them
 pub record AreOutcomes (script : ScriptView) (first : Run) (found : List Finding) : Type 0 where

@@ -3,7 +3,7 @@
 ghost use Rattle.std.specs.Prelude.{◌≡◌, ◌+◌, ◌%◌, ◌^◌, ◌<◌, ◌++◌, ◌∷◌, [], IfOk, IfSome, OnOk, Some, filter, length, map};
 ghost use Rattle.std.specs.Int.{to_le_bytes, w64};
 ghost use Rattle.shm_outcomes.specs.declared.effects.Change.TheVariants.{Made};
-ghost use Rattle.shm_outcomes.specs.Changes.{call_of, fits, is_above, is_below, is_fork, made, no_effects, noted, patch_by, put, put_at, puts, effects_after, write_at, wrote};
+ghost use Rattle.shm_outcomes.specs.Changes.{call_of, fits, is_above, is_below, is_fork, made, no_effects, effects_by, patch_by, put, put_at, puts, effects_after, write_at, wrote};
 
 use shm_areas::Place;
 use shm_base::{Call, Chunk, Event, INDEXES, Reply, Word};
@@ -288,7 +288,7 @@ impl Effects {
         patch: &Patch,
     ) -> Result<Effects, AllocError>
         requires within { patch.now.addr + length patch.now.bytes < 2 ^ 64 }
-        ensures { IfOk result (λ t. t ≡ noted (M.flat machine.now) event.now (Some patch.now) self.now) }
+        ensures { IfOk result (λ t. t ≡ effects_by (M.flat machine.now) event.now (Some patch.now) self.now) }
     {
         let past = self.past.clone()?;
         let writes = puts(alloc, machine, event.pid, patch, &self.writes)?;

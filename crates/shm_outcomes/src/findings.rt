@@ -1,6 +1,6 @@
 //! The outcomes that a search found, each once, with a run that has it.
 ghost use Rattle.std.specs.Prelude.{◌≡◌, ◌↔◌, [], Contains, IfOk, IsTrue, OnOk};
-ghost use Rattle.shm_outcomes.specs.Search.{IsNoted, outcomes_in};
+ghost use Rattle.shm_outcomes.specs.Search.{IsInserted, outcomes_in};
 
 use indexmap::IndexMap;
 use shm_base::Event;
@@ -48,15 +48,15 @@ impl Findings {
         self.all.contains_key(outcome)
     }
 
-    // Notes an outcome with a run that has it, unless it is there.
-    pub(crate) fn note(
+    // Inserts an outcome with a run that has it, unless it is there.
+    pub(crate) fn insert(
         &mut self,
         alloc: Global,
         events: &[Event],
         outcome: Outcome,
     ) -> Result<(), AllocError>
         ensures { OnOk result (
-            IsNoted self.old (record { events = events.now; outcome = outcome }) self.new) }
+            IsInserted self.old (record { events = events.now; outcome = outcome }) self.new) }
     {
         if self.has(&outcome) {
             return Ok(());

@@ -26,7 +26,7 @@ impl<M: Engine> Model for Groups<M> {
 
     ghost Value = { Groups };
 
-    ghost view = { λ g. record { marks = keys g.all; all = values g.all } };
+    ghost view = { λ g. record { keys = keys g.all; all = values g.all } };
 }
 
 impl<M: Engine> Groups<M> {
@@ -54,12 +54,12 @@ impl<M: Engine> Groups<M> {
     ) -> Result<usize, AllocError>
         ensures { IfOk result (λ place. IsPut script.now self.old node place self.new) }
     {
-        let mark = Key::of_group(alloc, script, &node)?;
-        if let Some(place) = self.all.get_index_of(&mark) {
+        let group_key = Key::of_group(alloc, script, &node)?;
+        if let Some(place) = self.all.get_index_of(&group_key) {
             return Ok(place);
         }
         let place = self.all.len();
-        self.all.insert(mark, node)?;
+        self.all.insert(group_key, node)?;
         Ok(place)
     }
 }

@@ -1,14 +1,15 @@
-//! All runs of a script with the same number of calls, as members of groups.
+//! The levels of a breadth-first search: all runs of a script with the same number of calls, as states of groups.
 ghost use Rattle.std.specs.Prelude.{◌≡◌, ◌<◌, ◌↔◌, [], Contains, IfErr, IfOk, IsTrue, OnOk, length};
-ghost use Rattle.shm_outcomes.specs.Levels.{AreWithin, IsFirstCause, IsLevelCause, IsNextLevel, first_level};
-ghost use Rattle.shm_outcomes.specs.Members.{Way, AreAdded, AreFull, AreTakenUp, IsEndNoted, IsStoppedBy, IsTakenUp, no_members, one_way, way, ways_on};
+ghost use Rattle.shm_outcomes.specs.Levels.{AreWithin, IsLevelFull, IsNextLevel, first_level};
+ghost use Rattle.shm_outcomes.specs.Frontier.{AreAdded, AreExpanded, AreTooMany, IsAdded, IsEndInserted, IsExpanded, IsOneTooMany, IsStopped, Path, empty_frontier, path, path_after, paths_after};
+ghost use Rattle.shm_outcomes.specs.Search.{IfBound};
 ghost use Rattle.shm_schedules.specs.Schedules.{walked};
 
 use crate::findings::Findings;
+use crate::frontier::{Frontier, Schedule, State};
 use crate::groups::Groups;
-use crate::members::{Member, Members, Schedule};
-use crate::moves::{Move, Moves, all_moves};
 use crate::nodes::Node;
+use crate::transitions::{Transition, Transitions, all_transitions};
 use shm_base::HostMemory;
 use shm_schedules::{Engine, Lists, Outcome, Run, SearchError};
 use shm_text::Script;
@@ -17,14 +18,14 @@ use std::marker::Model;
 
 pub(crate) struct Level<M: Engine> {
     groups: Groups<M>,
-    members: Members,
+    frontier: Frontier,
 }
 
 impl<M: Engine> Drop for Level<M> {
     fn drop(self) {
         let Level {
             groups: _,
-            members: _,
+            frontier: _,
         } = self;
     }
 }
@@ -34,7 +35,7 @@ impl<M: Engine> Model for Level<M> {
 
     ghost Value = { Level };
 
-    ghost view = { λ l. record { groups = l.groups; members = l.members } };
+    ghost view = { λ l. record { groups = l.groups; frontier = l.frontier } };
 }
 
 impl<M: Engine> Level<M> {
@@ -47,25 +48,25 @@ impl<M: Engine> Level<M> {
     ) -> Result<Level<M>, SearchError>
         ensures ok { IfOk result (λ level. level ≡ first_level script.now start.now) }
         ensures few { OnOk result (0 < most) }
-        ensures err { IfErr result (IsFirstCause most) }
+        ensures err { IfErr result (IfBound (most ≡ 0)) }
     {
         let mut groups = Groups::new(alloc, 1)?;
         let node = Node::first(alloc, script, start)?;
-        let told = node.told().copied(alloc)?;
+        let replies = node.replies().copied(alloc)?;
         let group = groups.put(alloc, script, node)?;
-        let mut members = Members::new(alloc, 1, 0)?;
-        members.add(most, Member::new(group, told), Schedule::new(alloc))?;
-        Ok(Level { groups, members })
+        let mut frontier = Frontier::new(alloc, 1, 0)?;
+        frontier.add(most, State::new(group, replies), Schedule::new(alloc))?;
+        Ok(Level { groups, frontier })
     }
 
     // Whether the level has no runs.
     pub(crate) fn is_empty(&self) -> bool
-        ensures { IsTrue result ↔ self.now.members.ways ≡ [] }
+        ensures { IsTrue result ↔ self.now.frontier.paths ≡ [] }
     {
-        self.members.len() == 0
+        self.frontier.len() == 0
     }
 
-    // The runs with one call more. The outcomes of those that have none are noted.
+    // The runs with one call more. The outcomes of those that are over are inserted.
     pub(crate) fn next(
         &self,
         alloc: Global,
@@ -78,142 +79,152 @@ impl<M: Engine> Level<M> {
         requires within { AreWithin self.now }
         ensures ok { IfOk result (λ next.
             IsNextLevel script.now start.now most self.now next found.old found.new) }
-        ensures err { IfErr result (
-            IsLevelCause script.now start.now self.now found.old most) }
+        ensures err { IfErr result (IfBound (
+            IsLevelFull script.now start.now self.now found.old most)) }
     {
         let mut groups = Groups::new(alloc, self.groups.all().len())?;
-        let moves = all_moves(alloc, script, self.groups.all(), lists, &mut groups)?;
-        let members = self.go_on(alloc, script, start, most, &moves, lists, found)?;
-        Ok(Level { groups, members })
+        let transitions = all_transitions(alloc, script, self.groups.all(), lists, &mut groups)?;
+        let frontier = self.expand_all(alloc, script, start, most, &transitions, lists, found)?;
+        Ok(Level { groups, frontier })
     }
 
-    // The members that extend those of this level by one call.
-    fn go_on(
+    // The successors of this level's states.
+    fn expand_all(
         &self,
         alloc: Global,
         script: &Script,
         start: &Run<M>,
         most: u64,
-        moves: &[Moves],
+        transitions: &[Transitions],
         lists: &mut Lists,
         found: &mut Findings,
-    ) -> Result<Members, SearchError>
-        requires within { (w : Way) → Contains self.now.members.ways w → w.member.group < length moves.now }
-        ensures ok { IfOk result (λ next. AreTakenUp script.now start.now most moves.now
-            self.now.members.ways (no_members self.now.members.count) next found.old found.new) }
-        ensures err { IfErr result (IsStoppedBy script.now start.now moves.now
-            self.now.members.ways (no_members self.now.members.count) found.old most) }
+    ) -> Result<Frontier, SearchError>
+        requires within { (w : Path) → Contains self.now.frontier.paths w → w.state.group < length transitions.now }
+        ensures ok { IfOk result (λ next. AreExpanded script.now start.now most transitions.now
+            self.now.frontier.paths (empty_frontier self.now.frontier.count) next found.old found.new) }
+        ensures err { IfErr result (IfBound (IsStopped script.now start.now transitions.now
+            self.now.frontier.paths (empty_frontier self.now.frontier.count) found.old most)) }
     {
-        let members = &self.members;
-        let mut next = Members::new(alloc, members.len(), members.count())?;
-        for index in 0..members.len() {
-            let member = members.member(index);
-            let schedule = members.schedule(index);
-            let own = &moves[member.group()];
-            take_up(
-                alloc, script, start, most, own, member, schedule, lists, &mut next, found,
+        let frontier = &self.frontier;
+        let mut next = Frontier::new(alloc, frontier.len(), frontier.count())?;
+        for index in 0..frontier.len() {
+            let state = frontier.state(index);
+            let schedule = frontier.schedule(index);
+            let own = &transitions[state.group()];
+            expand(
+                alloc, script, start, most, own, state, schedule, lists, &mut next, found,
             )?;
         }
         Ok(next)
     }
 }
 
-// Adds the members that extend one by a call; if there are none, notes its outcome.
-fn take_up<M: Engine>(
+// Adds the successors of a state; if it has none, inserts its outcome.
+fn expand<M: Engine>(
     alloc: Global,
     script: &Script,
     start: &Run<M>,
     most: u64,
-    moves: &Moves,
-    member: &Member,
+    transitions: &Transitions,
+    state: &State,
     schedule: &Schedule,
     lists: &mut Lists,
-    next: &mut Members,
+    next: &mut Frontier,
     found: &mut Findings,
 ) -> Result<(), SearchError>
-    ensures ok { OnOk result (IsTakenUp script.now start.now most moves.now
-        (way member.now schedule.now) next.old next.new found.old found.new) }
-    ensures err { IfErr result (
-        AreFull (ways_on script.now.processes (way member.now schedule.now) moves.now) next.old most) }
+    ensures ok { OnOk result (IsExpanded script.now start.now most transitions.now
+        (path state.now schedule.now) next.old next.new found.old found.new) }
+    ensures err { IfErr result (IfBound (AreTooMany
+        (paths_after script.now.processes (path state.now schedule.now) transitions.now) next.old most)) }
 {
-    if moves.are_over() {
-        note_end(alloc, script, start, member.told(), schedule, found)?;
+    if transitions.all().is_empty() {
+        insert_end(alloc, script, start, state.replies(), schedule, found)?;
         return Ok(());
     }
-    add_ways(alloc, script, most, moves, member, schedule, lists, next)?;
+    add_paths(
+        alloc,
+        script,
+        most,
+        transitions.all(),
+        state,
+        schedule,
+        lists,
+        next,
+    )?;
     Ok(())
 }
 
-// Adds the members that extend one by a call.
-fn add_ways(
+// Adds the successors of a state.
+fn add_paths(
     alloc: Global,
     script: &Script,
     most: u64,
-    moves: &Moves,
-    member: &Member,
+    transitions: &[Transition],
+    state: &State,
     schedule: &Schedule,
     lists: &mut Lists,
-    next: &mut Members,
+    next: &mut Frontier,
 ) -> Result<(), SearchError>
     ensures ok { OnOk result (AreAdded most
-        (ways_on script.now.processes (way member.now schedule.now) moves.now) next.old next.new) }
-    ensures err { IfErr result (
-        AreFull (ways_on script.now.processes (way member.now schedule.now) moves.now) next.old most) }
+        (paths_after script.now.processes (path state.now schedule.now) transitions.now) next.old next.new) }
+    ensures err { IfErr result (IfBound (AreTooMany
+        (paths_after script.now.processes (path state.now schedule.now) transitions.now) next.old most)) }
 {
-    for step in moves.all() {
-        add_way(alloc, script, most, step, member, schedule, lists, next)?;
+    for transition in transitions {
+        add_path(
+            alloc, script, most, transition, state, schedule, lists, next,
+        )?;
     }
     Ok(())
 }
 
-// Adds the member that extends one by the next call of a process, if it has one.
-fn add_way(
+// Adds the state after a transition.
+fn add_path(
     alloc: Global,
     script: &Script,
     most: u64,
-    step: &Option<Move>,
-    member: &Member,
+    transition: &Transition,
+    state: &State,
     schedule: &Schedule,
     lists: &mut Lists,
-    next: &mut Members,
+    next: &mut Frontier,
 ) -> Result<(), SearchError>
-    ensures ok { OnOk result (AreAdded most
-        (one_way script.now.processes (way member.now schedule.now) step.now) next.old next.new) }
-    ensures err { IfErr result (
-        AreFull (one_way script.now.processes (way member.now schedule.now) step.now) next.old most) }
+    ensures ok { OnOk result (IsAdded most
+        (path_after script.now.processes (path state.now schedule.now) transition.now) next.old next.new) }
+    ensures err { IfErr result (IfBound (IsOneTooMany
+        (path_after script.now.processes (path state.now schedule.now) transition.now) next.old most)) }
 {
-    let Some(step) = step else {
-        return Ok(());
-    };
-    let told = member.told().after(alloc, script, &step.event, lists)?;
-    let member = Member::new(step.group, told);
-    if next.has(&member) {
+    let replies = state
+        .replies()
+        .after(alloc, script, &transition.event, lists)?;
+    let state = State::new(transition.group, replies);
+    if next.has(&state) {
         return Ok(());
     }
-    let schedule = schedule.with(alloc, step.event.pid)?;
-    next.add(most, member, schedule)?;
+    let schedule = schedule.with(alloc, transition.event.pid)?;
+    next.add(most, state, schedule)?;
     Ok(())
 }
 
-// Notes the outcome of a run that is over, with the run to which the schedule leads.
-fn note_end<M: Engine>(
+// Inserts the outcome of a run that is over, with the run to which the schedule leads.
+fn insert_end<M: Engine>(
     alloc: Global,
     script: &Script,
     start: &Run<M>,
-    told: &Outcome,
+    replies: &Outcome,
     schedule: &Schedule,
     found: &mut Findings,
 ) -> Result<(), HostMemory>
-    ensures { OnOk result (IsEndNoted
-        (walked script.now schedule.now start.now) told.now found.old found.new) }
+    ensures { OnOk result (IsEndInserted
+        (walked script.now schedule.now start.now) replies.now found.old found.new) }
 {
-    if found.has(told) {
+    if found.has(replies) {
         return Ok(());
     }
     let Some(end) = start.walk(alloc, script, schedule.pids())? else {
         return Ok(());
     };
-    let outcome = told.copied(alloc)?;
-    found.note(alloc, end.events(), outcome)?;
+    let outcome = replies.copied(alloc)?;
+    found.insert(alloc, end.events(), outcome)?;
     Ok(())
 }

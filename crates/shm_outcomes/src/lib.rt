@@ -3,16 +3,16 @@
 
 mod effects;
 mod findings;
+mod frontier;
 mod groups;
-mod kept;
 mod keys;
 mod levels;
 mod masking;
-mod members;
-mod moves;
 mod nodes;
+mod relevant;
 mod search;
 mod text;
+mod transitions;
 
 pub use keys::Key;
 pub use masking::masked_outcomes;

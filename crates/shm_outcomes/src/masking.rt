@@ -7,7 +7,7 @@ ghost use Rattle.shm_outcomes.specs.Search.{AreOutcomes};
 
 use crate::findings::Findings;
 use shm_base::Reply;
-use shm_schedules::{Finding, Outcome, Told};
+use shm_schedules::{Finding, Outcome, Replies};
 use std::alloc::{AllocError, Global};
 
 /// These outcomes without identifiers and addresses, each once.
@@ -18,7 +18,7 @@ pub fn masked_outcomes(alloc: Global, found: &[Finding]) -> Result<Vec<Finding>,
     let mut masked = Findings::new(alloc);
     for finding in found {
         let outcome = hidden_outcome(alloc, &finding.outcome)?;
-        masked.note(alloc, &finding.events, outcome)?;
+        masked.insert(alloc, &finding.events, outcome)?;
     }
     let all = masked.into_all(alloc)?;
     Ok(all)
@@ -45,18 +45,18 @@ fn hidden_replies(alloc: Global, replies: &[Reply]) -> Result<Vec<Reply>, AllocE
 }
 
 // The same list without identifiers and addresses.
-fn hidden_list(alloc: Global, told: &Told) -> Result<Told, AllocError>
-    ensures { IfOk result (λ t. t ≡ map hidden told.now) }
+fn hidden_list(alloc: Global, list: &Replies) -> Result<Replies, AllocError>
+    ensures { IfOk result (λ t. t ≡ map hidden list.now) }
 {
-    let replies = hidden_replies(alloc, told.replies())?;
-    Told::new(alloc, replies)
+    let replies = hidden_replies(alloc, list.replies())?;
+    Replies::new(alloc, replies)
 }
 
-fn hidden_told(alloc: Global, told: &[Told]) -> Result<Vec<Told>, AllocError>
-    ensures { IfOk result (λ v. v.items ≡ hidden_outcome told.now) }
+fn hidden_lists(alloc: Global, lists: &[Replies]) -> Result<Vec<Replies>, AllocError>
+    ensures { IfOk result (λ v. v.items ≡ hidden_outcome lists.now) }
 {
     let mut all = Vec::new(alloc);
-    for one in told {
+    for one in lists {
         let one = hidden_list(alloc, one)?;
         all.push(one)?;
     }
@@ -67,6 +67,6 @@ fn hidden_told(alloc: Global, told: &[Told]) -> Result<Vec<Told>, AllocError>
 fn hidden_outcome(alloc: Global, outcome: &Outcome) -> Result<Outcome, AllocError>
     ensures { IfOk result (λ o. o ≡ hidden_outcome outcome.now) }
 {
-    let told = hidden_told(alloc, outcome.told())?;
-    Ok(Outcome::new(told))
+    let lists = hidden_lists(alloc, outcome.replies())?;
+    Ok(Outcome::new(lists))
 }

@@ -12,7 +12,7 @@ use std::marker::Model;
 /// A run, with the replies to each process and the effects of its calls.
 pub struct Node<M: Engine> {
     run: Run<M>,
-    told: Outcome,
+    replies: Outcome,
     effects: Effects,
 }
 
@@ -20,7 +20,7 @@ impl<M: Engine> Drop for Node<M> {
     fn drop(self) {
         let Node {
             run: _,
-            told: _,
+            replies: _,
             effects: _,
         } = self;
     }
@@ -31,7 +31,7 @@ impl<M: Engine> Model for Node<M> {
 
     ghost Value = { Node };
 
-    ghost view = { λ b. record { run = b.run; told = b.told; effects = b.effects } };
+    ghost view = { λ b. record { run = b.run; replies = b.replies; effects = b.effects } };
 }
 
 impl<M: Engine> Node<M> {
@@ -39,10 +39,14 @@ impl<M: Engine> Node<M> {
     pub fn first(alloc: Global, script: &Script, start: &Run<M>) -> Result<Node<M>, HostMemory>
         ensures { IfOk result (λ b. b ≡ root script.now start.now) }
     {
-        let told = Outcome::of(alloc, script, start.events())?;
+        let replies = Outcome::of(alloc, script, start.events())?;
         let effects = Effects::new(alloc)?;
         let run = start.copied(alloc)?;
-        Ok(Node { run, told, effects })
+        Ok(Node {
+            run,
+            replies,
+            effects,
+        })
     }
 
     /// The run.
@@ -52,10 +56,10 @@ impl<M: Engine> Node<M> {
         &self.run
     }
 
-    pub(crate) fn told(&self) -> &Outcome
-        ensures { result.now ≡ self.now.told }
+    pub(crate) fn replies(&self) -> &Outcome
+        ensures { result.now ≡ self.now.replies }
     {
-        &self.told
+        &self.replies
     }
 
     pub(crate) fn effects(&self) -> &Effects
@@ -70,13 +74,13 @@ impl<M: Engine> Node<M> {
     {
         let Node {
             run,
-            told: _,
+            replies: _,
             effects: _,
         } = self;
         run
     }
 
-    /// The node after one more call of a process. `lists` keeps each list of replies once. HostMemory: the host
+    /// The node after one more call of a process. `lists` stores each list of replies once. HostMemory: the host
     /// refused memory; `lists` may have a new list then.
     pub fn after(
         &self,
@@ -91,8 +95,12 @@ impl<M: Engine> Node<M> {
         let count = self.run.events().len();
         let run = self.run.after(alloc, pid, call)?;
         let event = &run.events()[count];
-        let told = self.told.after(alloc, script, event, lists)?;
+        let replies = self.replies.after(alloc, script, event, lists)?;
         let effects = self.effects.after(alloc, run.machine(), event)?;
-        Ok(Node { run, told, effects })
+        Ok(Node {
+            run,
+            replies,
+            effects,
+        })
     }
 }

@@ -1,7 +1,6 @@
 //! The search is breadth-first: it extends the runs with 0, 1, 2 and more calls, in groups that make each call once.
 ghost use Rattle.std.specs.Prelude.{◌≡◌, IfErr, IfOk};
-ghost use Rattle.shm_outcomes.specs.Merging.{IsCause};
-ghost use Rattle.shm_outcomes.specs.Search.{AreOutcomes};
+ghost use Rattle.shm_outcomes.specs.Search.{AreOutcomes, IsCause};
 ghost use Rattle.shm_schedules.specs.Schedules.{fresh};
 
 use crate::findings::Findings;

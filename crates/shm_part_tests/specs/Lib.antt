@@ -1,2 +1,1 @@
 pub mod Unlocked
-pub mod Trial

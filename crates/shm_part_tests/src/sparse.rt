@@ -11,8 +11,6 @@ enum Act {
     Get(u32, u32),
     /// The first index in a stored run, from an index on; all that the list has if there is none.
     Next(u32, u32),
-    /// The index from which on nothing was set.
-    End(u32),
     /// The list gets at least this many items, and has this many then.
     Extend(u32, u32),
 }
@@ -38,7 +36,6 @@ fn answers(list: &mut SparseVec<u32>, act: Act) -> bool {
         Act::Set(index, item) => sets(list, index, item),
         Act::Get(index, item) => list.get(index as usize) == item,
         Act::Next(first, index) => next(list, first) == index,
-        Act::End(end) => list.end() == end,
         Act::Extend(count, len) => list.extend(count).is_ok() && list.len() == len,
     }
 }
@@ -46,14 +43,12 @@ fn answers(list: &mut SparseVec<u32>, act: Act) -> bool {
 const ACTS: &[Act] = &[
     Act::Get(0, 7),
     Act::Next(0, 1000),
-    Act::End(0),
     Act::Set(999, 1),
     Act::Get(999, 1),
     Act::Get(998, 7),
     Act::Get(1000, 7),
     Act::Next(0, 768),
     Act::Next(800, 800),
-    Act::End(1000),
     Act::Set(255, 2),
     Act::Set(256, 3),
     Act::Get(255, 2),
@@ -66,12 +61,10 @@ const ACTS: &[Act] = &[
     Act::Get(999, 1),
     Act::Get(1000, 7),
     Act::Next(1024, 100_000_000),
-    Act::End(1024),
     Act::Set(99_999_999, 4),
     Act::Get(99_999_999, 4),
     Act::Next(1024, 99_999_744),
     Act::Next(99_999_999, 99_999_999),
-    Act::End(100_000_000),
     Act::Set(255, 7),
     Act::Get(255, 7),
     Act::Next(0, 0),

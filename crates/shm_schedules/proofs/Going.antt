@@ -1,13 +1,11 @@
--- Equivalent runs have equivalent continuations.
-use Rattle.std.specs.Prelude.{◌≡◌, ◌≢◌, ◌<◌, ℕ, suc, zero, ◌+◌, ◌==◌, nat_lt, if◌then◌else◌, ◌&&◌, ◌⊎◌, Bool, true, false, not, List, [], ◌∷◌, ◌++◌, Option, Some, None, cond, map, length, option_map, slice_index_or, Result, Ok, Err}
-use Rattle.std.proofs.Common.{ap, refl, sym, subst, ◌∙◌, arith, inl, inr, length-append}
-use Rattle.std.proofs.lemmas.Bool.{cases_Bool, cases_eq}
+-- Which calls change a machine, and the replies after one more call.
+use Rattle.std.specs.Prelude.{◌≡◌, ◌≢◌, ◌<◌, ℕ, suc, zero, ◌+◌, ◌==◌, nat_lt, if◌then◌else◌, ◌&&◌, ◌⊎◌, Bool, true, false, not, List, [], ◌∷◌, ◌++◌, Option, Some, None, cond, map, length, slice_index_or, Result, Ok, Err}
+use Rattle.std.proofs.Common.{ap, refl, sym, ◌∙◌, arith, inl, inr, take}
+use Rattle.std.proofs.lemmas.Bool.{cases_Bool}
 use Rattle.std.proofs.lemmas.Grind.{common_steps}
 use Rattle.std.proofs.lemmas.List.{append-nil, map-append}
 use Rattle.std.proofs.lemmas.List.Elements.{filter-append}
-use Rattle.std.proofs.lemmas.Option.{none-some}
 use Rattle.shm_base.specs.History.{is_refusal, own_part}
-use Rattle.shm_base.specs.Processes.{has_pid}
 use Rattle.shm_base.specs.Access.{Place, writable_places}
 use Rattle.shm_base.specs.Bounds.{within}
 use Rattle.shm_base.specs.Identifier.{Look, Found, Removed, Invalid, find_key, look}
@@ -29,13 +27,12 @@ use Rattle.shm_base.specs.declared.call.Placed.{Placed}
 use Rattle.shm_base.specs.declared.call.Process.{Process}
 use Rattle.shm_base.specs.declared.call.Reply.{Reply}
 use Rattle.shm_text.specs.Script.{ScriptView}
-use Rattle.shm_text.specs.Variables.{no_values, values_after}
+use Rattle.shm_text.specs.Variables.{values_after}
 use Rattle.shm_text.specs.declared.script.Line.{Line}
 use Rattle.shm_text.specs.declared.script.Line.TheVariants.{Command, Flush}
-use Rattle.shm_schedules.specs.Alike.{AreAlike, changes, is_change, is_void, looks}
-use Rattle.shm_schedules.specs.Outcomes.{masked, outcome_of, told}
-use Rattle.shm_schedules.specs.Schedules.{Run, after, goes, is_live, next, next_call, replies_to, reply_of, Leads, IsOver, schedule_of, IsReached}
-use Rattle.shm_schedules.specs.Finding.{finding_of}
+use Rattle.shm_schedules.specs.Alike.{is_change, is_void, looks}
+use Rattle.shm_schedules.specs.Outcomes.{masked, masked_replies, replies_after}
+use Rattle.shm_schedules.specs.Schedules.{Run, next, next_call, replies_to, reply_of, Leads}
 use Rattle.shm_schedules.specs.Times.{timeless, timeless_outcome}
 use Rattle.shm_schedules.proofs.Timeless.{times_reach_times}
 use Rattle.shm_schedules.proofs.Walking.{made-by}
@@ -136,22 +133,6 @@ still s n pid call h =
       | inr looked ↦ looked-by s n call (caller_of s pid) looked
     ]
 
--- the machine without times that calls lead to, one after another
-abbrev redone : Machine → List Event → Machine
-redone s [] = s
-redone s (e ∷ es) = redone (step s 1 e.pid e.call).state es
-
--- a machine without times is that which the changes lead to
-one-redone : (s : Machine) (n pid : ℕ) (call : ProcessCall) (rest : List Event) → n ≢ 0
-    → redone (timeless s) (changes (event_at s n pid call ∷ rest)) ≡ redone (timeless (step s n pid call).state) (changes rest)
-one-redone s n pid call rest not-first =
-    elim (cases_Bool (is_change (event_at s n pid call))) [
-      | inl yes-changes ↦
-          rw yes-changes (ap (λ (o : Outcome). redone o.state (changes rest)) (times_reach_times s n pid call not-first))
-      | inr no-changes ↦
-          rw no-changes (ap (λ (m : Machine). redone (timeless m) (changes rest)) (sym (still s n pid call no-changes)))
-    ]
-
 pub not-first : (n : ℕ) → n + 1 ≢ 0
 not-first n = λ h. omega (arith, h)
 
@@ -159,49 +140,15 @@ pub one-more : (xs : List Event) (e : Event) (ys : List Event) → (xs ++ e ∷ 
 one-more [] e ys = refl
 one-more (x ∷ xs) e ys = ap (λ (l : List Event). x ∷ l) (one-more xs e ys)
 
-pub leads-redone : (script : ScriptView) (schedule : List ℕ) (old new : Run) → Leads script schedule old new
-    → (more : List Event) × (new.events ≡ old.events ++ more) × (redone (timeless old.machine) (changes more) ≡ timeless new.machine)
-leads-redone script [] old new h = ([], ap (λ (r : Run). r.events) (sym h) ∙ sym (append-nil old.events), ap (λ (r : Run). timeless r.machine) h)
-leads-redone script (pid ∷ schedule) old new h =
+-- a schedule appends events
+pub leads-grow : (script : ScriptView) (schedule : List ℕ) (old new : Run) → Leads script schedule old new → (more : List Event) × (new.events ≡ old.events ++ more)
+leads-grow script [] old new h = ([], ap (λ (r : Run). r.events) (sym h) ∙ sym (append-nil old.events))
+leads-grow script (pid ∷ schedule) old new h =
     let made = made-by (next script old pid) old pid h.0 h.1 in
-    let rest = leads-redone script schedule h.0 new h.2 in
-    let n : ℕ = length old.events + 1 in
-    let e : Event = event_at old.machine n pid made.0 in
+    let rest = leads-grow script schedule h.0 new h.2 in
+    let e : Event = event_at old.machine (length old.events + 1) pid made.0 in
     let events : h.0.events ≡ old.events ++ e ∷ [] = ap (λ (r : Run). r.events) (sym made.2) in
-    let machine : (step old.machine n pid made.0).state ≡ h.0.machine = ap (λ (r : Run). r.machine) made.2 in (
-      e ∷ rest.0,
-      rest.1 ∙ ap (λ (es : List Event). es ++ rest.0) events ∙ one-more old.events e rest.0,
-      one-redone old.machine n pid made.0 rest.0 (not-first (length old.events)) ∙ ap (λ (m : Machine). redone (timeless m) (changes rest.0)) machine ∙ rest.2,
-    )
-
--- two runs of a script that are alike except for times
-pub record GoAlike (script : ScriptView) (a b : Run) : Type 0 where
-  pub machine : timeless a.machine ≡ timeless b.machine
-  pub count : length a.events ≡ length b.events
-  pub told : outcome_of script a.events ≡ outcome_of script b.events
-
-pub alike-go : (script : ScriptView) (a b : Run) (first : Run) → first.events ≡ [] → IsReached script first a → IsReached script first b
-    → AreAlike (finding_of script a.events) (finding_of script b.events) → GoAlike script a b
-alike-go script a b first none left right alike =
-    let l = leads-redone script (schedule_of a.events) first a left in
-    let r = leads-redone script (schedule_of b.events) first b right in
-    let l-more : a.events ≡ l.0 = l.1 ∙ ap (λ (es : List Event). es ++ l.0) none in
-    let r-more : b.events ≡ r.0 = r.1 ∙ ap (λ (es : List Event). es ++ r.0) none in
-    let same : changes l.0 ≡ changes r.0 = ap changes (sym l-more) ∙ alike.changes ∙ ap changes r-more in
-    record {
-      machine = sym l.2 ∙ ap (redone (timeless first.machine)) same ∙ r.2;
-      count = alike.count;
-      told = alike.told;
-    }
-
-pub go-refl : (script : ScriptView) (a b : Run) → a ≡ b → GoAlike script a b
-go-refl script a b same = record { machine = ap (λ (r : Run). timeless r.machine) same; count = ap (λ (r : Run). length r.events) same; told = ap (λ (r : Run). outcome_of script r.events) same }
-
-pub go-sym : (script : ScriptView) (a b : Run) → GoAlike script a b → GoAlike script b a
-go-sym script a b h = record { machine = sym h.machine; count = sym h.count; told = sym h.told }
-
-pub go-trans : (script : ScriptView) (a b c : Run) → GoAlike script a b → GoAlike script b c → GoAlike script a c
-go-trans script a b c h k = record { machine = h.machine ∙ k.machine; count = h.count ∙ k.count; told = h.told ∙ k.told }
+    (e ∷ rest.0, rest.1 ∙ ap (λ (es : List Event). es ++ rest.0) events ∙ one-more old.events e rest.0)
 
 -- WHAT A PROCESS DOES NEXT
 
@@ -229,18 +176,10 @@ pub map-tail : (f g : Process → List Reply) (p : Process) (ps : List Process) 
 map-tail f g p ps h = grind (arith, h)
 
 -- all processes got the same replies, so each did
-pub told-at : (f g : Process → List Reply) (ps : List Process) → map f ps ≡ map g ps → (i : ℕ) (p : Process) → i < length ps → p ≡ slice_index_or ps i p → f p ≡ g p
-told-at f g [] same i p lt is = absurd (omega (arith, lt))
-told-at f g (q ∷ ps) same zero p lt is = rw is (map-head f g q ps same)
-told-at f g (q ∷ ps) same (suc i) p lt is = told-at f g ps (map-tail f g q ps same) i p (omega (arith, lt)) is
-
-told-pid : (es fs : List Event) (pid : ℕ) (ps : List Process) → map (told es) ps ≡ map (told fs) ps → has_pid pid ps ≡ true → map masked (replies_to pid es) ≡ map masked (replies_to pid fs)
-told-pid es fs pid [] same has = absurd (cc)
-told-pid es fs pid (p ∷ ps) same has =
-    elim (cases_eq p.pid pid) [
-      | inl own ↦ subst (λ (q : ℕ). map masked (replies_to q es) ≡ map masked (replies_to q fs)) own (map-head (told es) (told fs) p ps same)
-      | inr other ↦ told-pid es fs pid ps (map-tail (told es) (told fs) p ps same) (grind (arith, has, other))
-    ]
+pub replies-at : (f g : Process → List Reply) (ps : List Process) → map f ps ≡ map g ps → (i : ℕ) (p : Process) → i < length ps → p ≡ slice_index_or ps i p → f p ≡ g p
+replies-at f g [] same i p lt is = absurd (omega (arith, lt))
+replies-at f g (q ∷ ps) same zero p lt is = rw is (map-head f g q ps same)
+replies-at f g (q ∷ ps) same (suc i) p lt is = replies-at f g ps (map-tail f g q ps same) i p (omega (arith, lt)) is
 
 pub same-if : (b : Bool) (x y : Option ProcessCall) → (b ≡ true → x ≡ y) → cond b x None ≡ cond b y None
 same-if true x y h = h refl
@@ -250,44 +189,26 @@ pub first-true : (a b : Bool) → a && b ≡ true → a ≡ true
 first-true true b h = refl
 first-true false b h = absurd (cc)
 
-live-timeless : (m : Machine) (pid : ℕ) → is_live (timeless m) pid ≡ is_live m pid
-live-timeless m pid = refl
-
-same-next : (script : ScriptView) (a b : Run) (pid : ℕ) → GoAlike script a b → next script a pid ≡ next script b pid
-same-next script a b pid alike =
-    let live : is_live a.machine pid ≡ is_live b.machine pid = ap (λ (m : Machine). is_live m pid) alike.machine in
-    let lines = script.lines in
-    ap (λ (l : Bool). cond (has_pid pid script.processes && l) (next_call pid no_values lines (replies_to pid a.events)) None) live
-    ∙ same-if (has_pid pid script.processes && is_live b.machine pid) _ _
-    (λ h.
-    sym (masked-next pid no_values lines (replies_to pid a.events))
-    ∙ ap (next_call pid no_values lines) (told-pid a.events b.events pid script.processes alike.told (first-true (has_pid pid script.processes) (is_live b.machine pid) h))
-    ∙ masked-next pid no_values lines (replies_to pid b.events))
-
 -- one more event, of one process, whose replies differ only in times
-pub told-more : (es : List Event) (e : Event) (p : Process) → told (es ++ e ∷ []) p ≡ told es p ++ told (e ∷ []) p
-told-more es e p =
+pub replies-more : (es : List Event) (e : Event) (p : Process) → masked_replies (es ++ e ∷ []) p ≡ masked_replies es p ++ masked_replies (e ∷ []) p
+replies-more es e p =
     ap (λ (l : List Event). map masked (map reply_of l)) (filter-append (λ (x : Event). x.pid == p.pid) es (e ∷ []))
     ∙ ap (map masked) (map-append reply_of (own_part p.pid es) (own_part p.pid (e ∷ [])))
     ∙ map-append masked (replies_to p.pid es) (replies_to p.pid (e ∷ []))
 
-pub told-one : (e f : Event) (p : Process) → e.pid ≡ f.pid → masked e.reply ≡ masked f.reply → told (e ∷ []) p ≡ told (f ∷ []) p
-told-one e f p pid same =
+pub replies-one : (e f : Event) (p : Process) → e.pid ≡ f.pid → masked e.reply ≡ masked f.reply → masked_replies (e ∷ []) p ≡ masked_replies (f ∷ []) p
+replies-one e f p pid same =
     elim (cases_Bool (e.pid == p.pid)) [
       | inl own ↦ (let other : f.pid == p.pid ≡ true = ap (λ (q : ℕ). q == p.pid) (sym pid) ∙ own in rw (own, other) (ap (λ (r : Reply). r ∷ []) same))
       | inr own ↦ (let other : f.pid == p.pid ≡ false = ap (λ (q : ℕ). q == p.pid) (sym pid) ∙ own in rw (own, other) refl)
     ]
 
-all-told-more : (es fs : List Event) (e f : Event) → e.pid ≡ f.pid → masked e.reply ≡ masked f.reply
-    → (ps : List Process) → map (told es) ps ≡ map (told fs) ps → map (told (es ++ e ∷ [])) ps ≡ map (told (fs ++ f ∷ [])) ps
-all-told-more es fs e f pid same [] h = refl
-all-told-more es fs e f pid same (p ∷ ps) h =
-    let here : told (es ++ e ∷ []) p ≡ told (fs ++ f ∷ []) p =
-    told-more es e p ∙ ap (λ (l : List Reply). l ++ told (e ∷ []) p) (map-head (told es) (told fs) p ps h) ∙ ap (λ (l : List Reply). told fs p ++ l) (told-one e f p pid same) ∙ sym (told-more fs f p) in
-    let rest = all-told-more es fs e f pid same ps (map-tail (told es) (told fs) p ps h) in
-    λ j. here j ∷ rest j
+pub replies-same : (ps : List Process) (e f : Event) → e.pid ≡ f.pid → masked e.reply ≡ masked f.reply → (all : List (List Reply)) → replies_after ps e all ≡ replies_after ps f all
+replies-same [] e f pid same all = refl
+replies-same (p ∷ ps) e f pid same [] = (let one = replies-one e f p pid same in let rest = replies-same ps e f pid same [] in λ j. one j ∷ rest j)
+replies-same (p ∷ ps) e f pid same (o ∷ all) = (let one = replies-one e f p pid same in let rest = replies-same ps e f pid same all in λ j. (o ++ one j) ∷ rest j)
 
--- the outcomes of one call of two runs that are alike
+-- the outcomes of one call on machines that differ only in times
 pub same-step : (a b : Run) (pid : ℕ) (call : ProcessCall) → timeless a.machine ≡ timeless b.machine
     → timeless_outcome (step a.machine (length a.events + 1) pid call) ≡ timeless_outcome (step b.machine (length b.events + 1) pid call)
 same-step a b pid call same =
@@ -295,29 +216,29 @@ same-step a b pid call same =
     ∙ ap (λ (m : Machine). step m 1 pid call) same
     ∙ times_reach_times b.machine (length b.events + 1) pid call (not-first (length b.events))
 
-after-alike : (script : ScriptView) (a b : Run) (pid : ℕ) (call : ProcessCall) → GoAlike script a b → GoAlike script (after a pid call) (after b pid call)
-after-alike script a b pid call alike =
-    let outcome = same-step a b pid call alike.machine in
-    record {
-      machine = ap (λ (o : Outcome). o.state) outcome;
-      count = length-append a.events _ ∙ ap (λ (n : ℕ). n + 1) alike.count ∙ sym (length-append b.events _);
-      told = all-told-more a.events b.events _ _ refl (ap (λ (o : Outcome). o.reply) outcome) script.processes alike.told;
-    }
+-- THE REPLIES AFTER ONE MORE CALL
 
--- if one can continue, the other can
-pub goes-alike : (script : ScriptView) (a b : Run) (pid : ℕ) (m : Run) → GoAlike script a b → goes script pid a ≡ Some m → (n : Run) × (goes script pid b ≡ Some n) × GoAlike script m n
-goes-alike script a b pid m alike h =
-    let made = made-by (next script a pid) a pid m h in
-    let call = made.0 in
-    let there : next script b pid ≡ Some call = sym (same-next script a b pid alike) ∙ made.1 in
-    (after b pid call, ap (option_map (after b pid)) there, subst (λ (r : Run). GoAlike script r (after b pid call)) made.2 (after-alike script a b pid call alike))
+replies-next :
+    (ps : List Process) (e : Event) (all : List (List Reply)) (i : ℕ) (d : Process) → i < length ps
+    → replies_after (take (suc i) ps) e all ≡ replies_after (take i ps) e all ++ (slice_index_or all i [] ++ masked_replies (e ∷ []) (slice_index_or ps i d)) ∷ []
+replies-next [] e all i d lt = absurd (omega (arith, lt))
+replies-next (p ∷ ps) e [] zero d lt = refl
+replies-next (p ∷ ps) e (one ∷ all) zero d lt = refl
+replies-next (p ∷ ps) e [] (suc i) d lt = ap (λ (l : List (List Reply)). masked_replies (e ∷ []) p ∷ l) (replies-next ps e [] i d (omega (arith, lt)))
+replies-next (p ∷ ps) e (one ∷ all) (suc i) d lt = ap (λ (l : List (List Reply)). (one ++ masked_replies (e ∷ []) p) ∷ l) (replies-next ps e all i d (omega (arith, lt)))
 
--- and both are over, or neither
-pub over-alike : (script : ScriptView) (a b : Run) → GoAlike script a b → IsOver script a → IsOver script b
-over-alike script a b alike over pid = by (next script b pid) refl
-  where
-    by : (o : Option ProcessCall) → next script b pid ≡ o → option_map (after b pid) o ≡ None
-    by None is = refl
-    by (Some call) is =
-        let there : next script a pid ≡ Some call = same-next script a b pid alike ∙ is in
-        absurd (none-some (after a pid call) (sym (over pid) ∙ ap (option_map (after a pid)) there))
+-- one more process
+pub replies-after-next :
+    (ps : List Process) (e : Event) (all : List (List Reply)) (i : ℕ) (d : Process) → i < length ps
+    → replies_after (take (i + 1) ps) e all ≡ replies_after (take i ps) e all ++ (slice_index_or all i [] ++ masked_replies (e ∷ []) (slice_index_or ps i d)) ∷ []
+replies-after-next ps e all i d lt =
+    let next : i + 1 ≡ suc i = omega arith in
+    ap (λ (n : ℕ). replies_after (take n ps) e all) next ∙ replies-next ps e all i d lt
+
+-- these are the replies in the events with one more
+pub replies-after : (ps : List Process) (es : List Event) (e : Event) → replies_after ps e (map (masked_replies es) ps) ≡ map (masked_replies (es ++ e ∷ [])) ps
+replies-after [] es e = refl
+replies-after (p ∷ ps) es e =
+    let here : masked_replies es p ++ masked_replies (e ∷ []) p ≡ masked_replies (es ++ e ∷ []) p = sym (replies-more es e p) in
+    let rest = replies-after ps es e in
+    λ j. here j ∷ rest j

@@ -3,5 +3,4 @@ pub mod Walking
 pub mod Timing
 pub mod Timeless
 pub mod Going
-pub mod Telling
 pub mod Failing

@@ -11,11 +11,6 @@ use Rattle.shm_text.specs.declared.script.Line.{Line}
 use Rattle.shm_text.specs.declared.script.Line.TheVariants.{Command}
 use Rattle.shm_schedules.specs.Schedules.{next_call, replies_to, reply_of}
 
-pub own-skip :
-    (pid : ℕ) (events : List Event) (i : ℕ) (e : Event)
-    → i < length events → e ≡ slice_index_or events i e → (e.pid ≡ pid → ⊥) → own_part pid (drop (i + 1) events) ≡ own_part pid (drop i events)
-own-skip pid events i e lt is other = grind (arith, drop-cons events i e)
-
 pub own-take :
     (pid : ℕ) (events : List Event) (i : ℕ) (e : Event)
     → i < length events → e ≡ slice_index_or events i e → e.pid ≡ pid → own_part pid (drop i events) ≡ e ∷ own_part pid (drop (i + 1) events)

@@ -1,14 +1,12 @@
 -- The runs that follow a run, and schedules.
-use Rattle.std.specs.Prelude.{◌≡◌, ℕ, ◌+◌, ◌&&◌, ◌⊎◌, Bool, true, false, List, [], ◌∷◌, ◌++◌, Option, Some, None, cond, All, Contains, length, option_map}
-use Rattle.std.proofs.Common.{ap, refl, sym, subst, arith, inl, inr, length-append}
+use Rattle.std.specs.Prelude.{◌≡◌, ℕ, ◌+◌, ◌&&◌, ◌⊎◌, Bool, true, false, List, [], ◌∷◌, ◌++◌, Option, Some, None, cond, Contains, length, option_map}
+use Rattle.std.proofs.Common.{refl, sym, subst, arith, inl, inr, length-append}
 use Rattle.std.proofs.lemmas.Bool.{cases_eq}
-use Rattle.std.proofs.lemmas.List.{get_or_append_left, map-append}
-use Rattle.std.proofs.lemmas.List.Elements.{All-append, All-contains, Contains-append_left, Contains-append_right, Contains-push}
+use Rattle.std.proofs.lemmas.List.{map-append}
+use Rattle.std.proofs.lemmas.List.Elements.{Contains-append_left, Contains-append_right}
 use Rattle.std.proofs.lemmas.Option.{none-some, same_Some}
-use Rattle.shm_base.specs.Step.{step}
 use Rattle.shm_base.specs.Processes.{has_pid}
 use Rattle.shm_base.specs.Calls.{ProcessCall}
-use Rattle.shm_base.specs.declared.call.Event.{Event}
 use Rattle.shm_base.specs.declared.call.Process.{Process}
 use Rattle.shm_text.specs.Script.{ScriptView}
 use Rattle.shm_schedules.specs.Schedules.{Run, after, goes, is_live, next, Leads, IsOver, pid_of, schedule_of, IsReached, followers, one_run}
@@ -23,13 +21,6 @@ pub goes-length : (script : ScriptView) (pid : ℕ) (run m : Run) → goes scrip
 goes-length script pid run m h =
     let made = made-by (next script run pid) run pid m h in
     subst (λ (x : Run). length x.events ≡ length run.events + 1) made.2 (length-append run.events _)
-
-pub goes-grows : (script : ScriptView) (pid : ℕ) (run m : Run) → goes script pid run ≡ Some m → (more : List Event) × (m.events ≡ run.events ++ more)
-goes-grows script pid run m h =
-    let made = made-by (next script run pid) run pid m h in (
-      record { pid = pid; call = made.0; reply = (step run.machine (length run.events + 1) pid made.0).reply } ∷ [],
-      ap (λ (r : Run). r.events) (sym made.2),
-    )
 
 pub goes-schedule : (script : ScriptView) (pid : ℕ) (run m : Run) → goes script pid run ≡ Some m → schedule_of m.events ≡ schedule_of run.events ++ pid ∷ []
 goes-schedule script pid run m h =
@@ -48,26 +39,6 @@ pub follower-reached :
     → (pid : ℕ) (m : Run) → goes script pid run ≡ Some m → IsReached script first m
 follower-reached script first run reached pid m goes =
     subst (λ (s : List ℕ). Leads script s first m) (sym (goes-schedule script pid run m goes)) (leads-more script (schedule_of run.events) pid first run m reached goes)
-
-pub last-of : (P : Run → Type 0) (rest : List Run) (run : Run) → All P (rest ++ run ∷ []) → P run
-last-of P rest run all = All-contains P (rest ++ run ∷ []) run all (Contains-push rest run)
-
-pub rest-of : (P : Run → Type 0) (rest : List Run) (run : Run) → All P (rest ++ run ∷ []) → All P rest
-rest-of P rest run all k d lt =
-    let long : length (rest ++ run ∷ []) ≡ length rest + 1 = length-append rest (run ∷ []) in
-    subst P (get_or_append_left rest (run ∷ []) d k lt) (all k d (omega (arith, long, lt)))
-
-one-all : (P : Run → Type 0) (o : Option Run) → ((m : Run) → o ≡ Some m → P m) → All P (one_run o)
-one-all P None each = λ k d lt. absurd (omega (arith, lt))
-one-all P (Some m) each = λ k d lt. (let e : k ≡ 0 = omega (arith, lt) in rw e (each m refl))
-
--- what holds for each run that follows by some process holds for all followers
-pub followers-all :
-    (script : ScriptView) (P : Run → Type 0) (run : Run) → ((pid : ℕ) (m : Run) → goes script pid run ≡ Some m → P m)
-    → (ps : List Process) → All P (followers script ps run)
-followers-all script P run each [] = λ k d lt. absurd (omega (arith, lt))
-followers-all script P run each (p ∷ ps) =
-    All-append P (one_run (goes script p.pid run)) (followers script ps run) (one-all P (goes script p.pid run) (each p.pid)) (followers-all script P run each ps)
 
 one-contains : (o : Option Run) (m : Run) → o ≡ Some m → Contains (one_run o) m
 one-contains o m h = rw h (0, omega arith, refl)

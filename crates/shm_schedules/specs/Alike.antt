@@ -1,5 +1,5 @@
--- Runs that no later call can tell apart.
-use Rattle.std.specs.Prelude.{◌≡◌, ◌&&◌, Bool, true, false, not, List, filter, length}
+-- Which calls change a machine.
+use Rattle.std.specs.Prelude.{◌&&◌, Bool, true, false, not}
 use Rattle.shm_base.specs.Access.{same_bytes}
 use Rattle.shm_base.specs.History.{is_refusal}
 use Rattle.shm_base.specs.Calls.{ProcessCall}
@@ -7,7 +7,6 @@ use Rattle.shm_base.specs.declared.call.Call.TheVariants.{CompareExchange, Load,
 use Rattle.shm_base.specs.declared.call.Event.{Event}
 use Rattle.shm_base.specs.declared.call.Reply.{Reply}
 use Rattle.shm_base.specs.declared.call.Reply.TheVariants.{Bytes}
-use Rattle.shm_schedules.specs.Finding.{Finding}
 
 -- replies which say that their call changed nothing: refusals, except those of mprotect, which has changed the pages below the one
 -- at which it was refused
@@ -25,13 +24,3 @@ looks call reply = false
 -- a call that may have changed the machine
 abbrev pub is_change : Event → Bool
 is_change e = not (is_void e.call e.reply) && not (looks e.call e.reply)
-
-abbrev pub changes : List Event → List Event
-changes events = filter is_change events
-
--- the runs have as many calls; the same calls changed the machine, in the same order; and each process got the same replies
--- except for times
-pub record AreAlike (f g : Finding) : Type 0 where
-  pub count : length f.events ≡ length g.events
-  pub told : f.outcome ≡ g.outcome
-  pub changes : changes f.events ≡ changes g.events

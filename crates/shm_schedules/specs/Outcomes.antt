@@ -21,15 +21,15 @@ masked (Stat ds) = Stat (masked_ds ds)
 masked reply = reply
 
 -- the replies to one process
-abbrev pub told : List Event → Process → List Reply
-told events process = map masked (replies_to process.pid events)
+abbrev pub masked_replies : List Event → Process → List Reply
+masked_replies events process = map masked (replies_to process.pid events)
 
 -- the replies to each declared process, in the script's order of processes
 abbrev pub outcome_of : ScriptView → List Event → List (List Reply)
-outcome_of script events = map (told events) script.processes
+outcome_of script events = map (masked_replies events) script.processes
 
 -- the replies to each process after one more call
-abbrev pub told_after : List Process → Event → List (List Reply) → List (List Reply)
-told_after [] e all = []
-told_after (p ∷ processes) e [] = told (e ∷ []) p ∷ told_after processes e []
-told_after (p ∷ processes) e (one ∷ all) = (one ++ told (e ∷ []) p) ∷ told_after processes e all
+abbrev pub replies_after : List Process → Event → List (List Reply) → List (List Reply)
+replies_after [] e all = []
+replies_after (p ∷ processes) e [] = masked_replies (e ∷ []) p ∷ replies_after processes e []
+replies_after (p ∷ processes) e (one ∷ all) = (one ++ masked_replies (e ∷ []) p) ∷ replies_after processes e all

@@ -20,7 +20,7 @@ pub use finding::Finding;
 pub use followers::push_followers;
 pub use laws::times_reach_times;
 pub use lines::reply_count;
-pub use outcome::{Lists, Outcome, Told};
+pub use outcome::{Lists, Outcome, Replies};
 pub use runs::Run;
 pub use search_error::SearchError;
 pub use simulated::Simulated;

@@ -1,6 +1,6 @@
 //! The replies that each process gets in a run, with the times of `stat` masked.
 ghost use Rattle.std.specs.Prelude.{◌≡◌, ◌++◌, ◌∷◌, [], IfOk, slice_index_or};
-ghost use Rattle.shm_schedules.specs.Outcomes.{masked, masked_ds, masked_time, told, told_after, outcome_of};
+ghost use Rattle.shm_schedules.specs.Outcomes.{masked, masked_ds, masked_time, masked_replies, replies_after, outcome_of};
 
 use crate::digests::with_replies;
 use crate::lines::reply_count;
@@ -46,12 +46,12 @@ fn masked(reply: &Reply) -> Reply
 
 /// The replies to one process, in order. A time is 0, or 1 if it is set.
 #[derive(Drop)]
-pub struct Told {
+pub struct Replies {
     replies: Rc<Vec<Reply>>,
     digest: u64,
 }
 
-impl Model for Told {
+impl Model for Replies {
     ghost use Rattle.std.specs.Prelude.{◌≡◌, List};
     ghost use Rattle.shm_base.specs.declared.call.Reply.{Reply};
     ghost use Rattle.shm_schedules.specs.Digests.{list_digest};
@@ -63,7 +63,7 @@ impl Model for Told {
     ghost invariant = { λ t. t.digest ≡ list_digest t.replies.value.items };
 }
 
-impl Told {
+impl Replies {
     /// The replies.
     pub fn replies(&self) -> &[Reply]
         ensures { result.now ≡ self.now }
@@ -72,20 +72,20 @@ impl Told {
     }
 
     /// These replies, whose times are masked. AllocError: the host refused memory.
-    pub fn new(alloc: Global, replies: Vec<Reply>) -> Result<Told, AllocError>
+    pub fn new(alloc: Global, replies: Vec<Reply>) -> Result<Replies, AllocError>
         ensures { IfOk result (λ t. t ≡ replies.items) }
     {
         let digest = with_replies(1, &replies);
         let replies = Rc::new(alloc, replies)?;
-        Ok(Told { replies, digest })
+        Ok(Replies { replies, digest })
     }
 
     // The same once more.
-    fn copied(&self) -> Result<Told, AllocError>
+    fn copied(&self) -> Result<Replies, AllocError>
         ensures { IfOk result (λ t. t ≡ self.now) }
     {
         let replies = self.replies.clone()?;
-        Ok(Told {
+        Ok(Replies {
             replies,
             digest: self.digest,
         })
@@ -98,19 +98,19 @@ impl Told {
         process: &Process,
         event: &Event,
         lists: &mut Lists,
-    ) -> Result<Told, AllocError>
-        ensures { IfOk result (λ t. t ≡ self.now ++ told (event.now ∷ []) process.now) }
+    ) -> Result<Replies, AllocError>
+        ensures { IfOk result (λ t. t ≡ self.now ++ masked_replies (event.now ∷ []) process.now) }
     {
         if event.pid != process.pid {
             return self.copied();
         }
-        let replies = with_one_more(alloc, self.replies(), masked(&event.reply))?;
-        let told = Told::new(alloc, replies)?;
-        shared(lists, told)
+        let longer = with_one_more(alloc, self.replies(), masked(&event.reply))?;
+        let replies = Replies::new(alloc, longer)?;
+        shared(lists, replies)
     }
 }
 
-impl PartialEq for Told {
+impl PartialEq for Replies {
     ghost use Rattle.std.specs.Cmp.{decided, partial_equiv_from_equiv};
     ghost use Rattle.shm_schedules.specs.Same.{replies_eq, same-replies};
 
@@ -118,19 +118,19 @@ impl PartialEq for Told {
 
     ghost laws = { partial_equiv_from_equiv (decided replies_eq same-replies) };
 
-    fn eq(&self, other: &Told) -> bool {
+    fn eq(&self, other: &Replies) -> bool {
         self.replies() == other.replies()
     }
 }
 
-impl Eq for Told {
+impl Eq for Replies {
     ghost use Rattle.std.specs.Cmp.{decided};
     ghost use Rattle.shm_schedules.specs.Same.{replies_eq, same-replies};
 
     ghost laws = { decided replies_eq same-replies };
 }
 
-impl Hash for Told {
+impl Hash for Replies {
     ghost use Rattle.std.specs.Hash.{same_Alike};
     ghost use Rattle.shm_schedules.specs.Digests.{list_hash};
     ghost use Rattle.shm_schedules.specs.Same.{same-replies};
@@ -145,17 +145,17 @@ impl Hash for Told {
 }
 
 /// Lists of replies that runs share.
-pub type Lists = IndexSet<Told>;
+pub type Lists = IndexSet<Replies>;
 
-// The list that is known already, if there is one, so that the same replies are kept once.
-fn shared(lists: &mut Lists, told: Told) -> Result<Told, AllocError>
-    ensures { IfOk result (λ t. t ≡ told) }
+// The list that is known already, if there is one, so that the same replies are stored once.
+fn shared(lists: &mut Lists, list: Replies) -> Result<Replies, AllocError>
+    ensures { IfOk result (λ t. t ≡ list) }
 {
-    if let Some(known) = lists.get(&told) {
+    if let Some(known) = lists.get(&list) {
         return known.copied();
     }
-    let copy = told.copied()?;
-    lists.insert(told)?;
+    let copy = list.copied()?;
+    lists.insert(list)?;
     Ok(copy)
 }
 
@@ -169,8 +169,8 @@ fn with_one_more(alloc: Global, replies: &[Reply], reply: Reply) -> Result<Vec<R
 }
 
 // The replies to one process in these events.
-fn told_in(alloc: Global, events: &[Event], process: &Process) -> Result<Told, AllocError>
-    ensures { IfOk result (λ t. t ≡ told events.now process.now) }
+fn masked_replies(alloc: Global, events: &[Event], process: &Process) -> Result<Replies, AllocError>
+    ensures { IfOk result (λ t. t ≡ masked_replies events.now process.now) }
 {
     let mut replies = Vec::with_capacity(alloc, reply_count(events, process.pid))?;
     for event in events {
@@ -178,13 +178,13 @@ fn told_in(alloc: Global, events: &[Event], process: &Process) -> Result<Told, A
             replies.push(masked(&event.reply))?;
         }
     }
-    Told::new(alloc, replies)
+    Replies::new(alloc, replies)
 }
 
 /// The replies to each declared process, in the script's order of processes.
 #[derive(Drop)]
 pub struct Outcome {
-    told: Vec<Told>,
+    replies: Vec<Replies>,
 }
 
 impl Model for Outcome {
@@ -193,7 +193,7 @@ impl Model for Outcome {
 
     ghost Value = { List (List Reply) };
 
-    ghost view = { λ o. o.told.items };
+    ghost view = { λ o. o.replies.items };
 }
 
 impl PartialEq for Outcome {
@@ -205,7 +205,7 @@ impl PartialEq for Outcome {
     ghost laws = { partial_equiv_from_equiv (decided outcome_eq same-outcomes) };
 
     fn eq(&self, other: &Outcome) -> bool {
-        self.told == other.told
+        self.replies == other.replies
     }
 }
 
@@ -226,33 +226,33 @@ impl Hash for Outcome {
     ghost respects_eq = { (same_Alike outcome_hash same-outcomes).fed };
 
     fn hash<H: Hasher>(&self, state: &mut H) {
-        self.told.hash(state);
+        self.replies.hash(state);
     }
 }
 
-fn copied_told(alloc: Global, told: &[Told]) -> Result<Vec<Told>, AllocError>
-    ensures { IfOk result (λ v. v.items ≡ told.now) }
+fn copied_lists(alloc: Global, lists: &[Replies]) -> Result<Vec<Replies>, AllocError>
+    ensures { IfOk result (λ v. v.items ≡ lists.now) }
 {
-    let mut all = Vec::with_capacity(alloc, told.len())?;
-    for one in told {
+    let mut all = Vec::with_capacity(alloc, lists.len())?;
+    for one in lists {
         let copy = one.copied()?;
         all.push(copy)?;
     }
     Ok(all)
 }
 
-fn told_after(
+fn replies_after(
     alloc: Global,
     processes: &[Process],
     event: &Event,
-    told: &[Told],
+    replies: &[Replies],
     lists: &mut Lists,
-) -> Result<Vec<Told>, AllocError>
-    ensures { IfOk result (λ v. v.items ≡ told_after processes.now event.now told.now) }
+) -> Result<Vec<Replies>, AllocError>
+    ensures { IfOk result (λ v. v.items ≡ replies_after processes.now event.now replies.now) }
 {
     let mut all = Vec::with_capacity(alloc, processes.len())?;
     for (index, process) in processes.iter().enumerate() {
-        let one = one_after(alloc, told, index, process, event, lists)?;
+        let one = one_after(alloc, replies, index, process, event, lists)?;
         all.push(one)?;
     }
     Ok(all)
@@ -261,33 +261,33 @@ fn told_after(
 // The replies to the process at this place after one more call.
 fn one_after(
     alloc: Global,
-    all: &[Told],
+    all: &[Replies],
     index: usize,
     process: &Process,
     event: &Event,
     lists: &mut Lists,
-) -> Result<Told, AllocError>
-    ensures { IfOk result (λ t. t ≡ slice_index_or all.now index [] ++ told (event.now ∷ []) process.now) }
+) -> Result<Replies, AllocError>
+    ensures { IfOk result (λ t. t ≡ slice_index_or all.now index [] ++ masked_replies (event.now ∷ []) process.now) }
 {
     match all.get(index) {
         Some(one) => one.after(alloc, process, event, lists),
-        None => told_in(alloc, &[*event], process),
+        None => masked_replies(alloc, &[*event], process),
     }
 }
 
 impl Outcome {
     /// The replies to each process.
-    pub fn told(&self) -> &[Told]
+    pub fn replies(&self) -> &[Replies]
         ensures { result.now ≡ self.now }
     {
-        self.told.as_slice()
+        self.replies.as_slice()
     }
 
     /// An outcome of these replies, a list for each process.
-    pub fn new(told: Vec<Told>) -> Outcome
-        ensures { result ≡ told.items }
+    pub fn new(replies: Vec<Replies>) -> Outcome
+        ensures { result ≡ replies.items }
     {
-        Outcome { told }
+        Outcome { replies }
     }
 
     /// The outcome of these events. AllocError: the host refused memory.
@@ -296,21 +296,21 @@ impl Outcome {
     {
         let mut all = Vec::with_capacity(alloc, script.processes.len())?;
         for process in &script.processes {
-            let one = told_in(alloc, events, process)?;
+            let one = masked_replies(alloc, events, process)?;
             all.push(one)?;
         }
-        Ok(Outcome { told: all })
+        Ok(Outcome { replies: all })
     }
 
     /// The same once more. Both share their lists. AllocError: the host refused memory.
     pub fn copied(&self, alloc: Global) -> Result<Outcome, AllocError>
         ensures { IfOk result (λ o. o ≡ self.now) }
     {
-        let told = copied_told(alloc, &self.told)?;
-        Ok(Outcome { told })
+        let replies = copied_lists(alloc, &self.replies)?;
+        Ok(Outcome { replies })
     }
 
-    /// The replies after one more call. Those to other processes are shared, and `lists` keeps each new list once.
+    /// The replies after one more call. Those to other processes are shared, and `lists` stores each new list once.
     /// AllocError: the host refused memory; `lists` may have the new list then.
     pub fn after(
         &self,
@@ -319,9 +319,9 @@ impl Outcome {
         event: &Event,
         lists: &mut Lists,
     ) -> Result<Outcome, AllocError>
-        ensures { IfOk result (λ o. o ≡ told_after script.now.processes event.now self.now) }
+        ensures { IfOk result (λ o. o ≡ replies_after script.now.processes event.now self.now) }
     {
-        let told = told_after(alloc, &script.processes, event, &self.told, lists)?;
-        Ok(Outcome { told })
+        let replies = replies_after(alloc, &script.processes, event, &self.replies, lists)?;
+        Ok(Outcome { replies })
     }
 }

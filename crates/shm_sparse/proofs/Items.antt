@@ -1,5 +1,5 @@
 -- Items by their index.
-use Rattle.std.proofs.Common.{◌≡◌, ◌≢◌, ℕ, zero, suc, ◌+◌, ◌-◌, ◌*◌, ◌/◌, ◌%◌, ◌<◌, ◌≤◌, min, List, [], ◌∷◌, ◌++◌, length, get_or, set, replicate, refl, sym, ap, ◌∙◌, arith, inl, inr, ◌⊎◌, append-nil, length-append}
+use Rattle.std.proofs.Common.{◌≡◌, ◌≢◌, ℕ, zero, suc, ◌+◌, ◌-◌, ◌*◌, ◌/◌, ◌%◌, ◌<◌, ◌≤◌, List, [], ◌∷◌, ◌++◌, length, get_or, set, replicate, refl, sym, ap, ◌∙◌, arith, inl, inr, ◌⊎◌, append-nil, length-append}
 use Rattle.std.proofs.lemmas.Bool.{cases_eq, cases_lt}
 use Rattle.std.proofs.lemmas.List.{get_or-set_same, get_or-set_other, get_or_past, length-replicate}
 use Rattle.shm_sparse.specs.Sparse.{AreRuns, IsShort, extended, item_at, items_from, items_of, no_place, place_at}
@@ -113,14 +113,6 @@ module _ {X : Type 0} (other : X) (runs : List ℕ) (stored : List X) (count : �
   unplaced index none =
       let most = few-stored runs (length stored) k in
       sym (read-item other runs stored count index short) ∙ item-other other runs stored index (omega (arith, most, few)) none
-
-  -- what is read after the last stored run, or the last item
-  pub past-end : (index : ℕ) → min (length runs * 256) count ≤ index → get_or (items_of other runs stored count) index other ≡ other
-  past-end index past = by (cases_lt index count)
-    where
-      by : (index < count) ⊎ (count ≤ index) → get_or (items_of other runs stored count) index other ≡ other
-      by (inl there) = unplaced index (get_or_past runs (index / 256) no_place (omega (arith, past, there)))
-      by (inr out) = sym (read-item other runs stored count index short) ∙ short index out
 
 -- runs that are not stored are appended
 pub same-padded : {X : Type 0} (other : X) (runs : List ℕ) (stored : List X) (n index : ℕ) → item_at other (runs ++ replicate n no_place) stored index ≡ item_at other runs stored index

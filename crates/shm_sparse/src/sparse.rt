@@ -89,14 +89,6 @@ fn copy_with_room<T: Copy>(items: &Vec<T>, room: usize) -> Result<Vec<T>, AllocE
     Ok(copy)
 }
 
-// The place of a run; `NO_PLACE` if it is not stored.
-#[inline(always)]
-fn place_of(runs: &[u32], run: usize) -> u32
-    ensures { result ≡ place_at runs.now run }
-{
-    runs.get(run).copied().unwrap_or(NO_PLACE)
-}
-
 // The first stored run from `from` on.
 fn next_run(runs: &[u32], from: usize) -> Option<usize>
     ensures some { IfSome result (λ next. (run : ℕ) → from ≤ run → run < next
@@ -202,11 +194,13 @@ impl<T: Copy> SparseVec<T> {
     pub fn get(&self, index: usize) -> T
         ensures { result ≡ get_or self.now.items index self.now.other }
     {
-        let place = place_of(&self.runs, index / RUN) as usize;
-        self.stored
-            .get(place * RUN + index % RUN)
-            .copied()
-            .unwrap_or(self.other)
+        let Some(place) = self.runs.get(index / RUN) else {
+            return self.other;
+        };
+        match self.stored.get(*place as usize * RUN + index % RUN) {
+            Some(item) => *item,
+            None => self.other,
+        }
     }
 
     /// Sets the item at an index.
@@ -235,14 +229,5 @@ impl<T: Copy> SparseVec<T> {
             Some(run) => (run * RUN).max(first as usize).min(last as usize) as u32,
             None => last,
         }
-    }
-
-    /// An index from which on all items are `other`: the end of the last run that was stored, or of the list.
-    pub fn end(&self) -> u32
-        ensures within { result ≤ length self.now.items }
-        ensures rest { (index : ℕ) → result ≤ index
-            → get_or self.now.items index self.now.other ≡ self.now.other }
-    {
-        (self.runs.len() * RUN).min(self.count as usize) as u32
     }
 }

@@ -5,7 +5,7 @@ use Rattle.shm_text.specs.Script.{ScriptView}
 use Rattle.shm_schedules.specs.Schedules.{fresh, start}
 use Rattle.shm_schedules.specs.declared.search_error.SearchError.{SearchError}
 use Rattle.shm_schedules.specs.declared.search_error.SearchError.TheVariants as searches
-use Rattle.shm_outcomes.specs.Merging.{IsCause as IsSearchCause}
+use Rattle.shm_outcomes.specs.Search.{IsCause as IsSearchCause}
 use Rattle.shm_judge.specs.Judge.{IsDoubt}
 use Rattle.shm_judge.specs.Logs.{Answer, Entry}
 use Rattle.shm_judge.specs.Reading.{entries_of, log_of}

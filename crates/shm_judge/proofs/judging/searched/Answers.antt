@@ -5,7 +5,7 @@ use Rattle.shm_judge.specs.Searching.{IsAdmitted, IsLonger, IsTooMany, successor
 use Rattle.shm_judge.specs.Logs.{AllFill}
 use Rattle.shm_outcomes.specs.Nodes.{Node, root}
 use Rattle.shm_schedules.specs.Schedules.{fresh}
-use Rattle.shm_judge.proofs.Verdicts.{admitted-count, first-begins, first-doubt, first-explored, goes-on, illegal, legal, permuted, refused, stuck-on}
+use Rattle.shm_judge.proofs.Verdicts.{first-begins, first-doubt, first-explored, goes-on, illegal, legal, permuted, refused, stuck-on}
 use Rattle.shm_judge.proofs.judging.searched.Goals as goal
 
 pub returns-in-Err-clause-err : goal.returns-in-Err-clause-err
@@ -18,10 +18,8 @@ pub nodes-init : goal.nodes-init
 nodes-init g c =
     let machine : Machine = g.M.Engine.flat c.args.machine in
     let is : IsAdmitted c.args.script.now c.args.log.now (root c.args.script.now (fresh machine)) [] c.admit.new.explored.keys [] c.admit.new.frontier.items = search rules in
-    let more = admitted-count c.args.script.now c.args.log.now [] c.admit.new.explored.keys [] c.admit.new.frontier.items (root c.args.script.now (fresh machine)) is in
     record {
       few = c.in_default.ensures.few;
-      counted = omega (arith, more);
       explored = first-explored c.args.script.now c.args.log.now machine c.admit.new.explored.keys c.admit.new.frontier.items _ is;
       stuck = (fresh machine, first-begins c.args.script.now c.args.log.now machine, search rules);
     }
@@ -74,16 +72,19 @@ nodes-preserved g c =
     λ h. (let t = c.in_ok-is_whole.ensures.1 (c.deref.ensures.value ∙ offered ∙ h.0, search (rules, h.1)) in absurd (cc)) in
     let longer : IsLonger c.args.script.now c.in-Some.node.run c.nodes.stuck c.keep_longest.new.stuck = search rules in
     let on = goes-on c.args.script.now c.args.log.now machine c.nodes.explored.keys c.nodes.frontier.items c.pop.new.self.items c.in-Some.node c.nodes.stuck c.keep_longest.new.stuck c.nodes.invariant.explored was part longer in
-    let long = ap (λ (bs : List Node). length bs) was ∙ length-append c.pop.new.self.items (c.in-Some.node ∷ []) in
-    let more = c.in_default-admit_all.ensures.count in
     record {
       few = c.in_default-admit_all.ensures.few;
-      counted = omega (arith, c.nodes.invariant.counted, long, more);
       explored =
           c.in_default-admit_all.ensures.kept machine (length c.keep_longest.new.stuck.events)
           (permuted c.args.script.now c.args.log.now machine c.nodes.explored.keys c.pop.new.self.items c.push_successors.new.offered.items c.put_in_order.new.offered.items (length c.keep_longest.new.stuck.events) c.put_in_order.ensures (rw offered on));
       stuck = stuck-on c.args.script.now c.args.log.now (fresh machine) c.pop.new.self.items c.nodes.frontier.items c.in-Some.node c.nodes.stuck c.keep_longest.new.stuck c.nodes.invariant.explored.unexpanded was longer c.nodes.invariant.stuck;
     }
+
+pub nodes-smaller : goal.nodes-smaller
+nodes-smaller g c =
+    let was : c.nodes.frontier.items ≡ c.pop.new.self.items ++ c.in-Some.node ∷ [] = c.in-Some.ensures.items in
+    let long = ap (λ (bs : List Node). length bs) was ∙ length-append c.pop.new.self.items (c.in-Some.node ∷ []) in
+    omega (arith, c.nodes.invariant.few, c.in_default-admit_all.ensures.few, c.in_default-admit_all.ensures.count, long)
 
 pub returns-clause-ok : goal.returns-clause-ok
 returns-clause-ok g c =

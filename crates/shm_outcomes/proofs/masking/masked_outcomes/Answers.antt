@@ -2,15 +2,15 @@ use Rattle.std.proofs.Common.{rules, ◌≡◌, arith, length, subst, sym, List}
 use Rattle.shm_text.specs.Script.{ScriptView}
 use Rattle.shm_outcomes.specs.Masking.{AreMaskedOutcomes, hidden_finding}
 use Rattle.shm_schedules.specs.Schedules.{Run}
-use Rattle.shm_outcomes.specs.Search.{AreOutcomes, IsNoted}
+use Rattle.shm_outcomes.specs.Search.{AreOutcomes, IsInserted}
 use Rattle.shm_schedules.specs.Finding.{Finding}
 use Rattle.shm_outcomes.proofs.Hiding.{AreHidden, all-hidden, more-hidden}
 use Rattle.shm_outcomes.proofs.masking.masked_outcomes.Goals as goal
 
 pub loop-finding-preserved : goal.loop-finding-preserved
 loop-finding-preserved c =
-    let noted : IsNoted c.loop-finding.masked (hidden_finding c.finding-item.result) c.note.new.self = search rules in
-    more-hidden c.args.found.now c.loop-finding.masked c.note.new.self c.loop-finding.finding-index c.finding-item.result c.loop-finding-test.true c.finding-item.is c.loop-finding.invariant noted
+    let inserted : IsInserted c.loop-finding.masked (hidden_finding c.finding-item.result) c.insert.new.self = search rules in
+    more-hidden c.args.found.now c.loop-finding.masked c.insert.new.self c.loop-finding.finding-index c.finding-item.result c.loop-finding-test.true c.finding-item.is c.loop-finding.invariant inserted
 
 pub returns : goal.returns
 returns c =

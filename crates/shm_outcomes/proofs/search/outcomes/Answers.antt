@@ -1,8 +1,8 @@
 use Rattle.std.proofs.Common.{rules, ◌≡◌, ◌∙◌, [], ap, subst, sym}
 use Rattle.shm_base.specs.State.{Machine}
-use Rattle.shm_outcomes.specs.Levels.{IsLevelCause, IsNextLevel, Level, first_level}
+use Rattle.shm_outcomes.specs.Levels.{IsLevelFull, IsNextLevel, Level, first_level}
 use Rattle.shm_schedules.specs.Schedules.{Run, fresh}
-use Rattle.shm_outcomes.specs.Search.{AreOutcomes}
+use Rattle.shm_outcomes.specs.Search.{AreOutcomes, IfBound}
 use Rattle.shm_outcomes.proofs.Complete.{AreSearched, first-cause, first-searched, less-left, next-cause, next-counted, next-searched, searched-all, within-level}
 use Rattle.shm_outcomes.proofs.search.outcomes.Goals as goal
 
@@ -27,7 +27,7 @@ pub returns-in_err-level-2-clause-err : goal.returns-in_err-level-2-clause-err
 returns-in_err-level-2-clause-err g c =
     let machine : Machine = g.M.Engine.flat c.args.machine in
     let start : c.in_ok-start.start ≡ fresh machine = search rules in
-    let by = subst (λ (r : Run). IsLevelCause c.args.script.now r c.levels.level c.levels.found c.args.most c.in_err-level-2.field-0.0) start c.in_err-level-2.ensures.err in
+    let by = subst (λ (r : Run). IfBound (IsLevelFull c.args.script.now r c.levels.level c.levels.found c.args.most) c.in_err-level-2.field-0.0) start c.in_err-level-2.ensures.err in
     let cause = next-cause c.args.script.now machine c.args.most c.levels.level c.levels.found c.in_err-level-2.field-0.0 c.levels.invariant by in
     search rules
 
@@ -36,7 +36,7 @@ levels-smaller g c =
     let machine : Machine = g.M.Engine.flat c.args.machine in
     let start : c.in_ok-start.start ≡ fresh machine = search rules in
     let next = subst (λ (r : Run). IsNextLevel c.args.script.now r c.args.most c.levels.level c.in_ok-level-2.level c.levels.found c.next.new.found) start c.in_ok-level-2.ensures.ok in
-    let some : c.levels.level.members.ways ≡ [] → ⊥ = search rules in
+    let some : c.levels.level.frontier.paths ≡ [] → ⊥ = search rules in
     let all = next-searched c.args.script.now machine c.args.most c.levels.level c.levels.found c.levels.invariant c.in_ok-level-2.level c.next.new.found next in
     less-left c.args.most c.levels.level c.in_ok-level-2.level some
     (next-counted c.args.script.now machine c.args.most c.levels.level c.levels.found c.levels.invariant c.in_ok-level-2.level c.next.new.found next) all.few
@@ -51,6 +51,6 @@ levels-preserved g c =
 pub returns-clause-ok : goal.returns-clause-ok
 returns-clause-ok g c =
     let machine : Machine = g.M.Engine.flat c.args.machine in
-    let none : c.levels.level.members.ways ≡ [] = search rules in
+    let none : c.levels.level.frontier.paths ≡ [] = search rules in
     let all : c.in_ok-all.all.items ≡ c.levels.found = search rules in
     subst (AreOutcomes c.args.script.now (fresh machine)) (sym all) (searched-all c.args.script.now machine c.args.most c.levels.level c.levels.found c.levels.invariant none)

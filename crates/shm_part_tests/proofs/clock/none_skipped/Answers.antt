@@ -1,6 +1,6 @@
-use Rattle.shm_part_tests.proofs.Names.{arith, is_unlocked}
-use Rattle.std.proofs.Common.{◌+◌, ◌/◌}
+use Rattle.std.proofs.Common.{arith, ◌+◌, ◌/◌}
 use Rattle.shm_clock.proofs.Skipping.{skipped-none}
+use Rattle.shm_part_tests.specs.Unlocked.{is_unlocked}
 use Rattle.shm_part_tests.proofs.clock.none_skipped.Goals as goal
 
 pub returns : goal.returns

@@ -1,4 +1,6 @@
-use Rattle.shm_part_tests.proofs.Names.{arith, sym, ◌∙◌, is_unlocked, some_eligible}
+use Rattle.std.proofs.Common.{arith, sym, ◌∙◌}
+use Rattle.shm_clock.proofs.Eligible.{some_eligible}
+use Rattle.shm_part_tests.specs.Unlocked.{is_unlocked}
 use Rattle.shm_part_tests.proofs.clock.some_unlocked.Goals as goal
 
 pub returns-then-may_go : goal.returns-then-may_go

@@ -1,30 +1,21 @@
-use Rattle.shm_fault.proofs.Names.{◌≡◌, ◌≢◌, ◌≤◌, ◌+◌, ◌-◌, ℕ, ap, arith, PageRec, PageRef, StoreView, count_by_id, rec_by, NowhereFrom, StayNowhere, Dropped, IsStoreSound, but}
+use Rattle.shm_fault.proofs.Names.{◌≡◌, ◌≢◌, ℕ, ap, arith, PageRec, PageRef, StoreView, count_by_id, rec_by, Dropped, IsStoreSound, but}
 use Rattle.shm_fault.specs.Store.{frame_of}
 use Rattle.shm_fault.proofs.Seen.{seen}
 use Rattle.shm_fault.proofs.Skipped.{skipped-but}
 use Rattle.shm_fault.proofs.Pages.{count-same, found-still}
 use Rattle.shm_fault.proofs.Whole.{held-there}
-use Rattle.shm_fault.proofs.Drops.{dropped-none, dropped-rest, IsDropped, drops}
+use Rattle.shm_fault.proofs.Drops.{dropped-none, IsDropped, drops}
 use Rattle.shm_fault.proofs.Forgets.{segment-gone}
 use Rattle.shm_fault.proofs.store.PageStore.drop_segment.Given as given
 use Rattle.shm_fault.proofs.store.PageStore.drop_segment.Goals as goal
 use Rattle.shm_fault.proofs.store.PageStore.drop_segment.Goals.{After-remove}
 
--- all pages are nowhere: those that may have been somewhere, and the others as before
+-- all pages are nowhere
 whole : (g : given.Over) (c : After-remove g) → Dropped c.args.seg (count_by_id c.args.self.now.segs c.args.seg) c.args.self.now (seen c.self-2.inside)
 whole g c =
-    let s = c.args.self.now in
-    let t = seen c.self-2.inside in
-    let n = c.loop-page.page in
-    let count = count_by_id s.segs c.args.seg in
-    let d : Dropped c.args.seg n s t = rw (← c.self-2.view_is) at c.loop-page.invariant.0 in
-    let stay : StayNowhere c.args.seg s t = rw (← c.self-2.view_is) at c.loop-page.invariant.1 in
-    let few : c.touched-touched.result ≤ count = rw (← c.self.view_is) c.touched-touched.ensures.few in
-    let rest : NowhereFrom c.touched-touched.result c.args.seg s.segs = rw (← c.self.view_is) c.touched-touched.ensures.rest in
-    let last : n ≡ c.touched-touched.result = omega (arith, c.loop-page-test.false, c.loop-page.invariant.2) in
-    let same = count-same s.segs t.segs c.args.seg d.shape in
-    let sum : n + (count - n) ≡ count = omega (arith, few, last) in
-    rw sum at (dropped-rest c.args.seg n (count - n) s t c.self-2.invariant.0.apart (λ page le lt. stay page (rest page (omega (arith, le, last)))) (omega (arith, few, last, same)) d)
+    let last : c.loop-page.page ≡ c.count-count.result = omega (arith, c.loop-page-test.false, c.loop-page.invariant.1) in
+    let is : c.count-count.result ≡ count_by_id c.args.self.now.segs c.args.seg = rw (← c.self.view_is) c.count-count.ensures in
+    rw (← c.self-2.view_is, last, is) at c.loop-page.invariant.0
 
 done : (g : given.Over) (c : After-remove g) → IsDropped c.args.seg c.args.self.now (record (seen c.self-2.inside) { segs = c.remove.new.self })
 done g c =
@@ -41,15 +32,14 @@ remove-requires g c =
 pub forget_next-page-requires-clause-there : goal.forget_next-page-requires-clause-there
 forget_next-page-requires-clause-there g c =
     let s = c.args.self.now in
-    let few : c.touched-touched.result ≤ count_by_id s.segs c.args.seg = rw (← c.self.view_is) c.touched-touched.ensures.few in
+    let is : c.count-count.result ≡ count_by_id s.segs c.args.seg = rw (← c.self.view_is) c.count-count.ensures in
     let same = count-same s.segs c.loop-page.self.segs c.args.seg c.loop-page.invariant.0.shape in
-    omega (arith, few, same)
+    omega (arith, is, same)
 
 pub loop-page-preserved : goal.loop-page-preserved
 loop-page-preserved g c =
     let e = c.forget_next-page.ensures in
-    let after = e.drops c.args.self.now c.loop-page.invariant.0 c.loop-page.invariant.1 in
-    (after.0, after.1, e.within)
+    (e.drops c.args.self.now c.loop-page.invariant.0, e.within)
 
 pub invariant_of-self : goal.invariant_of-self
 invariant_of-self g c =
@@ -58,7 +48,7 @@ invariant_of-self g c =
     ((done g c).sound, rw c.remove.ensures (skipped-but t c.args.seg c.self-2.inside.skips sound c.self-2.invariant.1))
 
 pub loop-page-init : goal.loop-page-init
-loop-page-init g c = rw (← c.self.view_is) (dropped-none c.args.seg (seen c.self.inside), (λ page none. none), omega arith)
+loop-page-init g c = rw (← c.self.view_is) (dropped-none c.args.seg (seen c.self.inside), omega arith)
 
 still : (seg : ℕ) (s t : StoreView) → ((q : PageRef) → q.seg ≢ seg → rec_by t.segs q ≡ rec_by s.segs q) → (other page : ℕ) → other ≢ seg → frame_of t other page ≡ frame_of s other page
 unfolding frame_of

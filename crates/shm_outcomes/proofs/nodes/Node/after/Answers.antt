@@ -4,7 +4,7 @@ use Rattle.shm_base.specs.State.{Machine}
 use Rattle.shm_base.specs.declared.call.Event.{Event}
 use Rattle.shm_outcomes.specs.Nodes.{Node, event_after}
 use Rattle.shm_outcomes.specs.Changes.{effects_after}
-use Rattle.shm_schedules.specs.Outcomes.{told_after}
+use Rattle.shm_schedules.specs.Outcomes.{replies_after}
 use Rattle.shm_schedules.specs.Schedules.{Run, after}
 use Rattle.shm_outcomes.proofs.Replaying.{late-effects}
 use Rattle.shm_outcomes.proofs.nodes.Node.after.Goals as goal
@@ -22,7 +22,7 @@ returns g c =
     ∙ ap (λ (l : List Event). get_or l (length c.events-count.result.now) c.index-events-count.result) events
     ∙ ap (λ (n : ℕ). get_or (old.events ++ last ∷ []) n c.index-events-count.result) count
     ∙ get_or-append_seam old.events last [] c.index-events-count.result in
-    let told : c.in_ok-told.told ≡ told_after c.args.script.now.processes last c.args.self.now.told = search rules in
+    let replies : c.in_ok-replies.replies ≡ replies_after c.args.script.now.processes last c.args.self.now.replies = search rules in
     let machine : g.M.Engine.flat c.machine.result.now ≡ new.machine = search rules in
     let effects =
     c.in_ok-effects.ensures
@@ -30,4 +30,4 @@ returns g c =
     ∙ ap (λ (m : Machine). effects_after m c.index-events-count.result c.args.self.now.effects) machine
     ∙ ap (λ (e : Event). effects_after new.machine e c.args.self.now.effects) event
     ∙ late-effects old.machine _ c.args.pid c.args.call.now c.args.self.now.effects in
-    λ j. record { run = run j; told = told j; effects = effects j }
+    λ j. record { run = run j; replies = replies j; effects = effects j }

@@ -1,9 +1,0 @@
-use Rattle.std.proofs.Common.{take}
-use Rattle.shm_outcomes.specs.Groups.{AreAllMoves, ArePut}
-use Rattle.shm_outcomes.proofs.moves.all_moves.Given as goal
-
-abbrev pub invariant-loop-group : goal.invariant-loop-group
-invariant-loop-group g l = record {
-  moves : AreAllMoves l.script l.next (take l.group-index l.groups) l.all.items;
-  put : ArePut l.script l.groups l.initial.next l.next;
-}

@@ -1,0 +1,6 @@
+use Rattle.std.proofs.Common.{◌≡◌, take}
+use Rattle.shm_outcomes.specs.Groups.{relevant_all}
+use Rattle.shm_outcomes.proofs.relevant.relevant_all.Given as goal
+
+abbrev pub invariant-loop-index : goal.invariant-loop-index
+invariant-loop-index l = l.all.items ≡ relevant_all l.lines (take l.index l.processes) l.lists

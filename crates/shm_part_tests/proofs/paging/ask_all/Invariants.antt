@@ -1,5 +1,0 @@
-use Rattle.shm_part_tests.proofs.Names.{HasThree}
-use Rattle.shm_part_tests.proofs.paging.ask_all.Given as goal
-
-abbrev pub invariant-loop-number : goal.invariant-loop-number
-invariant-loop-number g l = HasThree l.store
