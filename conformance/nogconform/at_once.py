@@ -394,20 +394,20 @@ def explanation_of(text: str, log: Log, tries: int, is_legal: Callable[[str, Log
 
 def judge_log(judge: Judge, text: str, log: Log) -> tuple[str, str, str]:
     """The verdict on a log, its explanation, and the judge's output. It first tries orders that the times
-    allow, because an order is judged at once, while a search of all orders takes seconds."""
+    allow, because an order is judged at once. Only a log that the search of all orders does not find legal is
+    explained."""
     said = judge.find_order(text, log)
-    if said:
-        return "legal", "", said
-    name = explanation_of(text, log, TRIES, judge.find_order)
-    if name:
-        return "explained", name, ""
-    word, said = judge.verdict(text, log.lines)
-    if word != "legal":
-        name = explanation_of(text, log, SEARCHES, lambda text,
-                              other: judge.verdict(text, other.lines)[0] == "legal")
-    if word != "legal" and not name:
+    word, said = ("legal", said) if said else judge.verdict(text, log.lines)
+    if word == "legal":
+        return word, "", said
+
+    def is_legal(text: str, other: Log) -> bool:
+        return judge.verdict(text, other.lines)[0] == "legal"
+
+    name = explanation_of(text, log, TRIES, judge.find_order) or explanation_of(text, log, SEARCHES, is_legal)
+    if not name:
         mixed = itertools.islice(mixed_logs(log), MIXED)
-        name = next((names for other, names in mixed if judge.verdict(text, other.lines)[0] == "legal"), "")
+        name = next((names for other, names in mixed if is_legal(text, other)), "")
     return "explained" if name else word.replace("illegal", "ILLEGAL"), name, said
 
 

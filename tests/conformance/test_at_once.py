@@ -107,6 +107,13 @@ class Knows(Judge):
         return ("legal", "legal\n") if log_of(lines).by_process in self.legal else ("illegal", "illegal\n")
 
 
+class FindsOthers(Knows):
+    """A judge whose short search finds an order of each log but the legal ones."""
+
+    def find_order(self, _text: str, log: Log) -> str:
+        return "" if log.by_process in self.legal else "legal\n"
+
+
 def log_of(lines: Sequence[str]) -> Log:
     return Log(list(lines), [(0, 1)] * len(lines))
 
@@ -152,6 +159,12 @@ def test_explanations(lines: list[str], legal: list[str], wanted: str) -> None:
     _word, found, _said = judge_log(Knows([*given, *legal]), "", log_of([*given, *lines]))
     found = found or NOBODY
     assert found == wanted
+
+
+def test_a_legal_log_is_not_explained() -> None:
+    """The short search finds no order of this log, and finds one of what an explanation makes of it."""
+    lines = [GIVEN, STAT.format("-", 1), ATTACH]
+    assert judge_log(FindsOthers(lines), "", log_of(lines)) == ("legal", "", "legal\n")
 
 
 def test_changed_logs() -> None:
