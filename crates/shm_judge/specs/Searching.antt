@@ -3,16 +3,17 @@
 use Rattle.std.specs.Prelude.{◌≡◌, ◌⊎◌, ◌<◌, ◌≤◌, ℕ, List, [], ◌∷◌, ◌++◌, All, Contains, flat_map, length, Option, Some, None}
 use Rattle.std.specs.List.{AllPairs}
 use Rattle.shm_base.specs.Calls.{ProcessCall}
+use Rattle.shm_base.specs.State.{Machine}
 use Rattle.shm_base.specs.declared.call.Process.{Process}
 use Rattle.shm_text.specs.Script.{ScriptView}
 use Rattle.shm_judge.specs.Logs.{Answer, AllBegin, AllFill}
 use Rattle.shm_outcomes.specs.Keys.{AreOther, Key, key_of}
 use Rattle.shm_outcomes.specs.Nodes.{Node, key_at, successor}
 use Rattle.shm_outcomes.specs.Search.{IfBound}
-use Rattle.shm_schedules.specs.Schedules.{Run, goes, next, IsOver, IsReached}
+use Rattle.shm_schedules.specs.Schedules.{Run, fresh, goes, next, IsOver, IsReached}
 use Rattle.shm_judge.specs.Stuck.{Stuck}
 use Rattle.shm_schedules.specs.declared.search_error.SearchError.{SearchError}
-use Rattle.shm_judge.specs.Judge.{IsBeginning, stuck_at}
+use Rattle.shm_judge.specs.Judge.{IsBeginning, IsDoubt, stuck_at}
 
 -- SUCCESSORS
 
@@ -84,6 +85,27 @@ pub record AreExplored (script : ScriptView) (log : List (List Answer)) (first :
   pub apart : AllPairs AreOther explored
   pub unexpanded : All (IsOpen script log first) frontier
   pub nodes : All (IsNode script first) offered
+
+-- a state of the search, whatever machine it began with
+pub record SearchState : Type 0 where
+  pub explored : List Key
+  pub frontier : List Node
+  pub offered : List Node
+
+abbrev pub state : List Key → List Node → List Node → SearchState
+state explored frontier offered = record { explored = explored; frontier = frontier; offered = offered }
+
+-- it is one of a search of the log from this machine
+abbrev pub IsState : ScriptView → List (List Answer) → Machine → ℕ → SearchState → Type 0
+IsState script log machine longest s = AreExplored script log (fresh machine) s.explored s.frontier s.offered longest
+
+-- the search goes on from a state to another
+abbrev pub GoesOnTo : ScriptView → List (List Answer) → SearchState → SearchState → Type 0
+GoesOnTo script log s t = (machine : Machine) (longest : ℕ) → IsState script log machine longest s → IsState script log machine longest t
+
+-- the search ends at a state in doubt, for this reason
+abbrev pub EndsInDoubt : ScriptView → List (List Answer) → ℕ → SearchState → SearchError → Type 0
+EndsInDoubt script log most s error = (machine : Machine) (longest : ℕ) → IsState script log machine longest s → IsDoubt script log (fresh machine) most error
 
 -- the longer of two beginnings
 abbrev pub IsLonger : ScriptView → Run → Stuck → Stuck → Type 0

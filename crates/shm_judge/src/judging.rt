@@ -1,10 +1,9 @@
 //! The judge: searches a schedule that has the replies of a log. It is a depth-first search that admits a node only if
 //! its replies begin the log, and if no equivalent node was admitted before.
-ghost use Rattle.std.specs.Prelude.{◌≡◌, ◌↔◌, ◌∷◌, [], ◌+◌, ◌++◌, ◌<◌, ◌≤◌, ℕ, Contains, IfErr, IfOk, IsPermutation, IsTrue, OnOk, length};
+ghost use Rattle.std.specs.Prelude.{◌≡◌, ◌↔◌, ◌∷◌, [], ◌+◌, ◌++◌, ◌<◌, ◌≤◌, Contains, IfErr, IfOk, IsPermutation, IsTrue, OnOk, length};
 ghost use Rattle.shm_judge.specs.Judge.{IsDoubt, IsRight, newest, stuck_at};
-ghost use Rattle.shm_judge.specs.Searching.{AreExplored, IsAdmitted, IsLonger, IsTooMany, one_successor, successors};
+ghost use Rattle.shm_judge.specs.Searching.{EndsInDoubt, GoesOnTo, IsAdmitted, IsLonger, IsTooMany, one_successor, state, successors};
 ghost use Rattle.shm_schedules.specs.Schedules.{fresh, next};
-ghost use Rattle.shm_base.specs.State.{Machine};
 
 use crate::guess::{explained, is_whole};
 use crate::log::{Entry, Log};
@@ -205,18 +204,14 @@ fn admit_all<M: Engine>(
     explored: &mut IndexSet<Key>,
 ) -> Result<(), SearchError>
     requires few { length explored.old.keys ≤ most }
-    ensures kept { OnOk result ((machine : Machine) (longest : ℕ) →
-        AreExplored script.now log.now (fresh machine)
-        explored.old.keys frontier.old.items offered.old.items longest →
-        AreExplored script.now log.now (fresh machine)
-        explored.new.keys frontier.new.items [] longest) }
+    ensures kept { OnOk result (GoesOnTo script.now log.now
+        (state explored.old.keys frontier.old.items offered.old.items)
+        (state explored.new.keys frontier.new.items [])) }
     ensures count { OnOk result (length frontier.new.items + length explored.old.keys
         ≡ length frontier.old.items + length explored.new.keys) }
     ensures few { OnOk result (length explored.new.keys ≤ most) }
-    ensures err { IfErr result (λ e. (machine : Machine) (longest : ℕ) →
-        AreExplored script.now log.now (fresh machine)
-        explored.old.keys frontier.old.items offered.old.items longest →
-        IsDoubt script.now log.now (fresh machine) most e) }
+    ensures err { IfErr result (EndsInDoubt script.now log.now most
+        (state explored.old.keys frontier.old.items offered.old.items)) }
 {
     while let Some(node) = offered.pop() {
         if let Err(error) = admit(alloc, script, log, most, node, frontier, explored) {
