@@ -427,6 +427,32 @@ uint32_t nog_set_time(nog_machine *machine, uint64_t time);
    NOG_BAD_MEMLOCK: the locked segments have more pages than `memlock`, without NOG_LOCKS_BY_USER. */
 uint32_t nog_set_limits(nog_machine *machine, uint64_t shmmax, uint64_t shmmni, uint64_t shmall, uint64_t memlock);
 
+/* Adds a swap area of zeros, as swapon(8) does. It gets the next number, counted from 0 over all areas that the machine
+   ever had. Each of `failures` is a call of the new area that fails, and its field `area` is 0. No byte changes, and the
+   slots of the area count for segments that are made from now on.
+   NOG_OUT_OF_RANGE: a kind that does not exist, or a failure of another area, of a side that the area does not have, or
+   of call 0. Then:
+   NOG_BAD_AREAS: the machine had 8 areas already, those that were removed included.
+   NOG_BAD_AREA_SIZE: the area has no slot, or more than the limits allow.
+   NOG_NO_MEMORY: the heap gave no memory. It replaces only 0. */
+uint32_t nog_swapon(nog_machine *machine, const nog_area *area, const nog_failure *failures, size_t failure_count);
+
+/* Makes a read or a write of a swap area fail while the machine runs: the one numbered `call`, counted from now on, so
+   1 is the next. If `is_lasting` is not 0, every later one fails too. Those that were to fail before still do. Nothing else
+   changes: no byte, no page's place, and no count.
+   NOG_OUT_OF_RANGE: the area does not exist, or no longer, or does not have the side, or the call is 0.
+   NOG_NO_MEMORY: the heap gave no memory. */
+uint32_t nog_fail(nog_machine *machine, const nog_failure *failure, uint32_t is_lasting);
+
+/* Makes each read of a slot fail, as a bad sector does: of the slot that the page has now. A page in a frame may have
+   one too. A write into the slot ends that, and so does the end of the slot's use: its segment is destroyed, or the page
+   moves to another area. In a mirror both sides fail. Nothing else changes.
+   NOG_EINVAL: no segment has the identifier.
+   NOG_OUT_OF_RANGE: the segment has no such page.
+   NOG_ENOENT: the page is in no slot.
+   NOG_NO_MEMORY: the heap gave no memory. */
+uint32_t nog_fail_page(nog_machine *machine, int32_t id, uint32_t page);
+
 /* Puts a snapshot into `copy`: a machine with the same state and memory, whose swap areas have the same pages and will
    fail at the same reads and writes. The two are independent from then on. A machine that was in `copy` is closed.
    `copy` may be the handle `machine` itself, which does not change then.
@@ -533,6 +559,13 @@ uint32_t nog_pages_of(nog_machine *machine, int32_t id, uint64_t *resident, uint
    NOG_TOO_FEW_COUNTS: there are fewer counts than indexes. Nothing was reported, and no count changed.
    NOG_OUT_OF_RANGE: each destroyed segment has been reported. */
 uint32_t nog_gone(nog_machine *machine, uint32_t *told, size_t told_count, int32_t *id);
+
+/* A count of changes of a process's pieces, so that a program that keeps them, as in page tables, knows when to read them
+   again. Each nog_attach, nog_detach, nog_unmap, nog_protect, nog_exec and nog_exit of the process raises it, and each
+   nog_fork of it as the child, even if the call fails. As long as the count is the same, so are the pieces. Processes
+   whose pids have the same remainder modulo 64 share a count, so it may also rise without a change. It does not matter
+   whether a live process has the pid. */
+uint32_t nog_changes(nog_machine *machine, uint32_t pid, uint64_t *count);
 
 /* ---- the machine's memory, and its state ---- */
 

@@ -168,6 +168,39 @@ static void pages_of(int32_t id, uint64_t resident, uint64_t swapped) {
     TEST(found[0] == resident && found[1] == swapped);
 }
 
+/* a machine with one area of 64 slots gets others, whose slots count at once */
+static void test_swapon(void) {
+    const nog_area four = {NOG_RAM, 4}, mirror = {NOG_MIRROR, 4}, empty = {NOG_RAM, 0}, wrong = {4, 4}, most = {NOG_RAM, 65537};
+    const nog_failure failures[] = {{.call = 1}, {.side = 1, .call = 1}, {.area = 1, .call = 1}, {.call = 0}};
+    uint8_t byte = 0;
+    uint64_t slots;
+    open_two();
+    slots = tally().slots;
+    ANSWER(nog_swapon(&closed, &four, NULL, 0), NOG_CLOSED);
+    ANSWER(nog_swapon(&m, &wrong, NULL, 0), NOG_OUT_OF_RANGE);
+    for (uint32_t i = 1; i < 4; i++) ANSWER(nog_swapon(&m, &four, failures + i, 1), NOG_OUT_OF_RANGE);
+    ANSWER(nog_swapon(&m, &empty, NULL, 0), NOG_BAD_AREA_SIZE);
+    ANSWER(nog_swapon(&m, &most, NULL, 0), NOG_BAD_AREA_SIZE);
+    TEST(tally().slots == slots);
+    /* the bytes stay, also once the first area is gone */
+    for (uint32_t page = 0; page < 6; page++) ANSWER(nog_store(&m, USER, LOWEST + page * PAGE, &(uint8_t){(uint8_t)(page + 1)}, 1), NOG_DONE);
+    ANSWER(nog_swapoff(&m, ROOT, 0), NOG_ENOMEM);
+    ANSWER(nog_swapon(&m, &mirror, failures + 1, 1), NOG_DONE);
+    ANSWER(nog_swapon(&m, &four, NULL, 0), NOG_DONE);
+    TEST(tally().slots == slots + 8);
+    ANSWER(nog_swapoff(&m, ROOT, 0), NOG_DONE);
+    TEST(tally().slots == 8);
+    for (uint32_t page = 0; page < 6; page++) {
+        ANSWER(nog_load(&m, USER, LOWEST + page * PAGE, &byte, 1), NOG_DONE);
+        TEST(byte == page + 1);
+    }
+    /* the first read of the new area fails */
+    ANSWER(nog_swapon(&m, &four, failures, 1), NOG_DONE);
+    for (uint32_t i = 0; i < 4; i++) ANSWER(nog_swapon(&m, &four, NULL, 0), NOG_DONE);
+    ANSWER(nog_swapon(&m, &four, NULL, 0), NOG_BAD_AREAS);
+    TEST(tally().slots == 28);
+}
+
 static void test_pages_of(void) {
     uint64_t found[2] = {UNTOUCHED, UNTOUCHED};
     uint8_t byte = 1;
@@ -254,6 +287,66 @@ static void test_gone(void) {
     told[1] = 65536;
     ANSWER(nog_gone(&m, told, 3, &id), NOG_OUT_OF_RANGE);
     TEST(told[0] == UINT32_MAX && told[1] == 65536);
+}
+
+static uint64_t changes(uint32_t pid) {
+    uint64_t found = UNTOUCHED;
+    ANSWER(nog_changes(&m, pid, &found), NOG_DONE);
+    return found;
+}
+
+/* the call raises the counts of these processes by these numbers */
+#define RAISES(call, code, root, user, child) do { \
+    uint64_t of_root = changes(ROOT), of_user = changes(USER), of_child = changes(CHILD); \
+    ANSWER((call), (code)); \
+    TEST(changes(ROOT) == of_root + (root) && changes(USER) == of_user + (user) && changes(CHILD) == of_child + (child)); \
+} while (0)
+
+static void test_changes(void) {
+    nog_machine saved = NOG_MACHINE_INITIALIZER;
+    nog_process process = {CHILD, 1, 0, 0};
+    nog_flushed flushed;
+    uint64_t count = UNTOUCHED, at, number;
+    uint8_t bytes[2] = {1, 2}, before[2], page[PAGE];
+    int32_t id;
+    open_two();
+    ANSWER(nog_changes(&closed, USER, &count), NOG_CLOSED);
+    TEST(count == UNTOUCHED && changes(USER) == 1 && changes(ROOT) == 0 && changes(UNDECLARED) == 0);
+    /* calls that may change the pieces of one process, and others that fail */
+    RAISES(nog_attach(&m, USER, kept, 0, 0, &at), NOG_DONE, 0, 1, 0);
+    RAISES(nog_attach(&m, USER, gone, 0, 0, &at), NOG_EIDRM, 0, 1, 0);
+    RAISES(nog_detach(&m, USER, at), NOG_DONE, 0, 1, 0);
+    RAISES(nog_detach(&m, USER, at), NOG_EINVAL, 0, 1, 0);
+    RAISES(nog_protect(&m, USER, LOWEST, PAGE, 0), NOG_DONE, 0, 1, 0);
+    RAISES(nog_protect(&m, USER, LOWEST + 5 * PAGE, 2 * PAGE, 0), NOG_ENOMEM, 0, 1, 0);
+    RAISES(nog_unmap(&m, USER, LOWEST, PAGE), NOG_DONE, 0, 1, 0);
+    RAISES(nog_fork(&m, ROOT, CHILD), NOG_DONE, 0, 0, 1);
+    RAISES(nog_exec(&m, ROOT), NOG_DONE, 1, 0, 0);
+    RAISES(nog_exit(&m, CHILD), NOG_DONE, 0, 0, 1);
+    RAISES(nog_exec(&m, CHILD), NOG_ESRCH, 0, 0, 1);
+    /* the others */
+    RAISES(nog_get(&m, USER, NOG_PRIVATE, 1, 0600, 0, &id), NOG_DONE, 0, 0, 0);
+    RAISES(nog_remove(&m, USER, id), NOG_DONE, 0, 0, 0);
+    RAISES(nog_lock(&m, USER, gone), NOG_EIDRM, 0, 0, 0);
+    RAISES(nog_store(&m, USER, LOWEST + PAGE, bytes, 2), NOG_DONE, 0, 0, 0);
+    RAISES(nog_load(&m, USER, LOWEST, bytes, 2), NOG_SIGSEGV, 0, 0, 0);
+    RAISES(nog_add(&m, USER, LOWEST + PAGE, 1, &number), NOG_DONE, 0, 0, 0);
+    RAISES(nog_exchange(&m, USER, LOWEST + PAGE, bytes, 2, before, 2), NOG_DONE, 0, 0, 0);
+    RAISES(nog_compare_exchange(&m, USER, LOWEST + PAGE, bytes, 2, bytes, 2, before, 2), NOG_DONE, 0, 0, 0);
+    RAISES(nog_read(&m, USER, LOWEST + PAGE, page, PAGE, &number), NOG_DONE, 0, 0, 0);
+    RAISES(nog_set_user(&m, USER, 300, 301), NOG_DONE, 0, 0, 0);
+    RAISES(nog_flush(&m, 9, &flushed), NOG_DONE, 0, 0, 0);
+    RAISES(nog_set_time(&m, 77), NOG_DONE, 0, 0, 0);
+    /* pid by pid: a process that leaves and joins again continues its count */
+    RAISES(nog_dismiss(&m, CHILD), NOG_DONE, 0, 0, 0);
+    RAISES(nog_admit(&m, &process), NOG_DONE, 0, 0, 0);
+    /* pids with one remainder share a count; a snapshot has the same ones */
+    TEST(changes(USER + 64) == changes(USER) && changes(USER + 1) != changes(USER));
+    ANSWER(nog_snapshot(&m, &saved), NOG_DONE);
+    RAISES(nog_exec(&m, USER), NOG_DONE, 0, 1, 0);
+    ANSWER(nog_changes(&saved, USER, &count), NOG_DONE);
+    TEST(count + 1 == changes(USER));
+    ANSWER(nog_close(&saved), NOG_DONE);
 }
 
 /* ---- random calls ---- */
@@ -347,10 +440,12 @@ int main(void) {
     test_segment_of_by_rules();
     test_limits_of();
     test_set_limits();
+    test_swapon();
     test_pages_of();
     test_loans();
     test_is_attached();
     test_gone();
+    test_changes();
     test_random();
     ANSWER(nog_close(&m), NOG_DONE);
     return finish("lookups");

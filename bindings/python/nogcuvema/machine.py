@@ -694,6 +694,35 @@ class Machine:
         self._call("nog_set_limits", *(_number(getattr(now, name) if value is None else value, U64, name)
                                        for name, value in new.items()))
 
+    def swapon(self, area: Area) -> None:
+        """Adds a swap area of zeros with the next number to the running machine. Not counted as a call. Raises
+        `BadOpening` if the machine had eight areas already, those that were removed included, or for a number
+        of slots that the limits do not allow."""
+        if not isinstance(area, Area):
+            raise _wrong_type("area", "an Area", area)
+        _check_areas([area])
+        its_failures = (low.FailureStruct * len(area.failures))(
+            *(low.FailureStruct(0, it.side, int(it.is_write), 0, it.call) for it in area.failures))
+        struct = low.AreaStruct(area.kind, _number(area.slots, U32, "slots"))
+        self._call("nog_swapon", byref(struct), its_failures, len(area.failures))
+
+    def fail(self, area: int, failure: Failure, is_lasting: bool = False) -> None:
+        """Makes a read or a write of a swap area fail while the machine runs: the one numbered `failure.call`
+        from now on, so 1 is the next; if `is_lasting`, every later one too. No byte changes. Not counted as a
+        call. Raises `OutOfRange` if the area does not exist, or no longer, or does not have the side."""
+        if not isinstance(failure, Failure):
+            raise _wrong_type("failure", "a Failure", failure)
+        struct = low.FailureStruct(_number(area, U32, "area"), _number(failure.side, 1, "failure: side"),
+                                   _truth(failure.is_write, "failure: is_write"), 0,
+                                   _number(failure.call, U64, "failure: call", 1))
+        self._call("nog_fail", byref(struct), _truth(is_lasting, "is_lasting"))
+
+    def fail_page(self, segment: int, page: int) -> None:
+        """Makes each read of the slot that the page has now fail, until the slot is written or no longer used;
+        of a mirror on both sides. No byte changes. Not counted as a call. Raises `Refused` with ENOENT if the
+        page is in no slot."""
+        self._call("nog_fail_page", _identifier(segment), _number(page, U32, "page"))
+
     def pages_of(self, segment: int) -> SegmentPages:
         """Where the pages of a segment are. It looks at each page that was touched, and at each slot."""
         resident, swapped = c_uint64(), c_uint64()
@@ -710,6 +739,14 @@ class Machine:
             found.append(segment.value)
         self._told = list(told)
         return found
+
+    def changes(self, pid: int) -> int:
+        """A count that each attach, detach, unmap, protect, exec and exit of the process raises, and each fork
+        of it, even if the call fails. As long as it is the same, so are the pieces of the process. Processes
+        whose pids have the same remainder modulo 64 share a count."""
+        count = c_uint64()
+        self._call("nog_changes", _pid(pid), byref(count))
+        return count.value
 
     # ---- the machine's memory, and its state ----
 

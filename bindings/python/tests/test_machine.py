@@ -627,6 +627,37 @@ class TestQuestions:
         pytest.raises(OutOfRange, machine.set_limits, shmmax=-1)
         assert machine.limits().shmall == 5
 
+    def test_a_swap_area_is_added(self, machine: Machine) -> None:
+        slots = machine.tally().slots
+        machine.swapon(Area.ram(7, [Failure(1)]))
+        assert machine.tally().slots == slots + 7
+        with pytest.raises(BadOpening):
+            machine.swapon(Area.ram(0))
+
+    def test_a_running_area_fails(self, machine: Machine) -> None:
+        for page in range(3):
+            machine.store(1, self.at + page * PAGE, bytes([page + 1]))
+        machine.flush(16)
+        machine.fail(0, Failure(1))
+        with pytest.raises(BusError):
+            for page in range(3):
+                machine.load(1, self.at + page * PAGE, 1)
+        assert [machine.load(1, self.at + page * PAGE, 1)[0] for page in range(3)] == [1, 2, 3]
+        for area, failure in (1, Failure(1)), (0, Failure(1, side=1)), (0, Failure(0)):
+            pytest.raises(OutOfRange, machine.fail, area, failure)
+        pytest.raises(OutOfRange, machine.fail_page, self.segment, 1 << 20)
+        machine.fail(0, Failure(1), is_lasting=True)
+        failures = machine.tally().failures
+        with pytest.raises(BusError):
+            for page in range(3):
+                machine.load(1, self.at + page * PAGE, 1)
+        assert machine.tally().failures == failures + 1
+
+    def test_a_page_without_a_slot_can_not_fail(self, machine: Machine) -> None:
+        with pytest.raises(Refused) as refusal:
+            machine.fail_page(self.segment, 0)
+        assert refusal.value.name == "ENOENT"
+
     def test_pages_of_a_segment(self, machine: Machine) -> None:
         for page in range(3):
             machine.store(1, self.at + page * PAGE, b"x")
@@ -649,6 +680,14 @@ class TestQuestions:
         machine.detach(1, self.at)
         assert (machine.gone(), machine.gone(), copy.gone()) == ([self.segment], [], [])
         copy.close()
+
+    def test_changes_of_pieces_are_counted(self, machine: Machine) -> None:
+        count, other = machine.changes(1), machine.changes(2)
+        machine.store(1, self.at, b"x")
+        assert machine.changes(1) == count
+        machine.protect(1, self.at, PAGE, False)
+        machine.detach(1, self.at)
+        assert (machine.changes(1), machine.changes(2)) == (count + 2, other)
 
 
 class TestOpening:

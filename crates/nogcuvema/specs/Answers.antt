@@ -4,15 +4,12 @@ use Rattle.shm_base.specs.Codes.{code_of}
 use Rattle.shm_base.specs.Calls.{ProcessCall}
 use Rattle.shm_base.specs.declared.call.Call.TheVariants.{Load, Store, Xadd, Exchange, CompareExchange}
 use Rattle.shm_base.specs.declared.call.Reply.{Reply}
-use Rattle.shm_fault.specs.Acting.{size_of, writes}
-use Rattle.shm_fault.specs.declared.act.Act.{Act}
-use Rattle.shm_life.specs.Accessing.{call_of}
 use Rattle.shm_life.specs.Lending.{pages_asked}
 use Rattle.shm_machine.specs.declared.machine.Machine.{Machine}
 use Rattle.shm_machine.specs.declared.refusal.Refusal.{Refusal}
 use Rattle.shm_machine.specs.declared.refusal.Refusal.TheVariants.{Refused, HostMemory, Spent, Lent}
 use Rattle.shm_machine.specs.Answered.{Answered}
-use Rattle.shm_machine.specs.Ready.{AccessedBy}
+use Rattle.shm_machine.specs.Ready.{AccessedBy, Deed, Does}
 
 abbrev pub no_memory : ℕ
 no_memory = 2001
@@ -86,10 +83,9 @@ abbrev pub accesses : Asked → ProcessCall → Machine → Result Reply Refusal
 accesses a call before result after =
     AccessedBy (pages_asked before.system.machine a.pid a.addr a.len a.puts) before.system a.pid call result after.system
 
--- the access that does an act, with room for this many old bytes
-abbrev pub does : ℕ → ℕ → Act → ℕ → Machine → Result Reply Refusal → Machine → Type 0
-does pid addr act room =
-    accesses (record { pid = pid; addr = addr; len = size_of act room; puts = writes act }) (call_of act addr room)
+-- what a process does at some bytes
+abbrev pub does : Deed → Machine → Result Reply Refusal → Machine → Type 0
+does d before result after = Does d before.system result after.system
 
 abbrev pub loads : ℕ → ℕ → ℕ → Machine → Result Reply Refusal → Machine → Type 0
 loads pid addr len = accesses (record { pid = pid; addr = addr; len = len; puts = false }) (Load addr len)

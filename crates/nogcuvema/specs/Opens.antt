@@ -12,7 +12,8 @@ use Rattle.shm_pager.specs.declared.area.AreaKind.TheVariants.{Ram, Sparse, Mirr
 use Rattle.shm_machine.specs.declared.machine.Machine.{Machine}
 use Rattle.shm_machine.specs.declared.opening.AreaConfig.{AreaConfig}
 use Rattle.shm_machine.specs.declared.opening.Failure.{Failure}
-use Rattle.shm_machine.specs.declared.opening.Side.TheVariants.{Left, Right}
+use Rattle.shm_pager.specs.declared.failing.Side.{Side}
+use Rattle.shm_pager.specs.declared.failing.Side.TheVariants.{Left, Right}
 use Rattle.shm_machine.specs.Opened.{IsOpened, sizes_of}
 use Rattle.nogcuvema.specs.declared.structs.NogLimits.{NogLimits}
 use Rattle.nogcuvema.specs.declared.structs.NogArea.{NogArea}
@@ -26,8 +27,11 @@ kind_of kind = if kind == 1 then Ram else if kind == 2 then Sparse else Mirror
 abbrev pub area_of : NogArea → AreaConfig
 area_of a = record { kind = kind_of a.kind; slots = a.slots }
 
+abbrev pub side_of : ℕ → Side
+side_of side = if side == 0 then Left else Right
+
 abbrev pub failure_of : NogFailure → Failure
-failure_of f = record { area = f.area; side = if f.side == 0 then Left else Right; is_write = not (f.is_write == 0); call = f.call }
+failure_of f = record { area = f.area; side = side_of f.side; is_write = not (f.is_write == 0); call = f.call }
 
 abbrev pub process_of : NogProcess → Process
 process_of p = record { pid = p.pid; born = if p.is_born == 0 then None else Some (record { uid = p.uid; gid = p.gid }) }

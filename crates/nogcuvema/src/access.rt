@@ -3,7 +3,7 @@ ghost use Rattle.std.specs.Prelude.{◌≡◌, ◌≢◌, ◌≤◌, length};
 ghost use Rattle.shm_base.specs.Bounds.{within};
 ghost use Rattle.shm_base.specs.declared.call.Reply.TheVariants as reply;
 ghost use Rattle.shm_fault.specs.Acting.{FitsRoom, size_of};
-ghost use Rattle.shm_life.specs.Accessing.{reply_of};
+ghost use Rattle.shm_machine.specs.Ready.{Deed, reply_at, size_at};
 ghost use Rattle.nogcuvema.specs.Answers.{AnswersBy, AnswersIn, AnswersInWhere, adds, does, loads, stores};
 
 use crate::code::{DONE, OUT_OF_RANGE, refusal_code};
@@ -26,8 +26,8 @@ fn is_size(len: usize) -> bool
 fn answer(machine: &mut Machine, pid: u32, addr: u64, act: Act<'_>, there: &mut [u8]) -> u32
     requires fits { FitsRoom act (length there.old) }
     requires size { let size = size_of act (length there.old) in (1 ≤ size) × (size ≤ 64) }
-    ensures answers { let room = length there.old in
-        AnswersBy (does pid addr act.entry room machine.old) (reply_of act.entry room there.new) result machine.new }
+    ensures answers { let deed : Deed = record { pid = pid; addr = addr; act = act.entry; room = length there.old } in
+        AnswersBy (does deed machine.old) (reply_at deed there.new) result machine.new }
     ensures kept { result ≢ 0 → there.new ≡ there.old }
 {
     match machine.access(pid, addr, act, there) {
@@ -47,10 +47,9 @@ pub(crate) fn access(
     there: &mut [u8],
 ) -> u32
     requires fits { FitsRoom act (length there.old) }
-    ensures answers { let room = length there.old in
-        let fit = within 1 64 (size_of act.entry room) in
-        AnswersInWhere fit (does pid addr act.entry room) handle.old.kept.value
-        (reply_of act.entry room there.new) result handle.new.kept.value }
+    ensures answers { let deed : Deed = record { pid = pid; addr = addr; act = act.entry; room = length there.old } in
+        AnswersInWhere (within 1 64 (size_at deed)) (does deed) handle.old.kept.value
+        (reply_at deed there.new) result handle.new.kept.value }
     ensures kept { result ≢ 0 → there.new ≡ there.old }
 {
     if !is_size(act.size(there.len())) {

@@ -1,15 +1,18 @@
-//! Changes that the host of a guest makes: processes join and leave, and the time is set.
+//! Changes that the host of a guest makes: processes join and leave, the time and limits are set, and swap areas are
+//! added.
 ghost use Rattle.std.specs.Prelude.{◌≡◌};
-ghost use Rattle.nogcuvema.specs.Hosting.{admit_code, dismiss_code, HostedThrough, AdmitsBy, DismissesBy, LimitsBy, TellsTime};
+ghost use Rattle.nogcuvema.specs.Hosting.{admit_code, dismiss_code, fits_area, HostedThrough, AdmitsBy, DismissesBy, EnlargesBy, LimitsBy, TellsTime};
 ghost use Rattle.nogcuvema.specs.Opens.{process_of};
 
-use crate::code::{DONE, NO_MEMORY};
+use crate::code::{DONE, NO_MEMORY, OUT_OF_RANGE};
 use crate::handle::{Handle, with_machine};
-use crate::open::{BAD_LIMITS, process_of};
-use crate::structs::NogProcess;
+use crate::open::{
+    BAD_LIMITS, START_REFUSED, are_kinds, are_there, failures_of, kind_of, process_of,
+};
+use crate::structs::{NogArea, NogFailure, NogProcess};
 use shm_base::{AdmitRefusal, DismissRefusal, Process};
-use shm_life::NewLimits;
-use shm_machine::Machine;
+use shm_life::{NewLimits, StartError};
+use shm_machine::{AreaConfig, Machine};
 use std::alloc::Global;
 
 fn admit_code(refusal: AdmitRefusal) -> u32
@@ -56,6 +59,37 @@ fn limited(machine: &mut Machine, limits: &NewLimits) -> u32
     match machine.system.set_limits(limits) {
         Ok(()) => DONE,
         Err(bad) => BAD_LIMITS + u32::from(bad.0),
+    }
+}
+
+// Whether the area is of a kind, and each failure is one of its calls.
+fn fits_area(area: &NogArea, failures: &[NogFailure]) -> bool
+    ensures { result ≡ fits_area area.now failures.now }
+{
+    let alone = [*area];
+    are_kinds(&alone) && are_there(&alone, failures)
+}
+
+fn enlarged(alloc: Global, machine: &mut Machine, area: &NogArea, failures: &[NogFailure]) -> u32
+    ensures { EnlargesBy area.now failures.now machine.old result machine.new }
+{
+    if !fits_area(area, failures) {
+        return OUT_OF_RANGE;
+    }
+    if let Some(refusal) = machine.system.area_refusal(area.slots) {
+        return START_REFUSED + u32::from(refusal.number());
+    }
+    let Ok(failures) = failures_of(alloc, failures) else {
+        return NO_MEMORY;
+    };
+    let config = AreaConfig {
+        kind: kind_of(area.kind),
+        slots: area.slots,
+    };
+    match machine.add_area(alloc, &config, &failures) {
+        Ok(()) => DONE,
+        Err(StartError::HostMemory) => NO_MEMORY,
+        Err(refusal) => START_REFUSED + u32::from(refusal.number()),
     }
 }
 
@@ -115,4 +149,22 @@ pub extern "C" fn nog_set_limits(
         memlock,
     };
     with_machine!(alloc, handle, |machine| limited(machine, &limits))
+}
+
+/// Adds a swap area with the next number. No byte changes, and no page moves. Not counted as a call.
+#[unsafe(no_mangle)]
+pub extern "C" fn nog_swapon(
+    alloc: Global,
+    handle: &mut Handle,
+    area: &NogArea,
+    failures: &[NogFailure],
+) -> u32
+    ensures { HostedThrough (EnlargesBy area.now failures.now)
+        handle.old.kept.value result handle.new.kept.value }
+{
+    with_machine!(
+        alloc,
+        handle,
+        |machine| enlarged(alloc, machine, area, failures)
+    )
 }

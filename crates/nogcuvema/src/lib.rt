@@ -6,6 +6,7 @@ mod about;
 mod access;
 mod code;
 mod exchange;
+mod failing;
 mod handle;
 mod hosting;
 mod inspect;
@@ -25,15 +26,16 @@ mod structs;
 pub use about::{nog_layout, nog_text, nog_version};
 pub use access::{nog_add, nog_load, nog_store};
 pub use exchange::{nog_compare_exchange, nog_exchange};
+pub use failing::{nog_fail, nog_fail_page};
 pub use handle::Handle;
-pub use hosting::{nog_admit, nog_dismiss, nog_set_limits, nog_set_time};
+pub use hosting::{nog_admit, nog_dismiss, nog_set_limits, nog_set_time, nog_swapon};
 pub use inspect::{nog_calls, nog_flush, nog_indexes, nog_segment_at, nog_tally_of};
 pub use listing::{
     nog_absent_at, nog_failed_at, nog_info, nog_piece_at, nog_process_at, nog_stat_at,
 };
 pub use loans::{nog_frame_at, nog_give_back, nog_leaver, nog_lend, nog_page_at};
 pub use lookups::{nog_limits_of, nog_loans, nog_pages_of, nog_piece_of, nog_segment_of};
-pub use notices::nog_gone;
+pub use notices::{nog_changes, nog_gone};
 pub use open::{nog_close, nog_open};
 pub use owned::Kept;
 pub use perform::{

@@ -17,7 +17,7 @@ use shm_machine::Machine;
 use std::alloc::Global;
 
 // The page of a segment, if the identifier is not negative.
-fn page_of(id: i32, page: u32) -> Option<PageRef>
+pub(crate) fn page_of(id: i32, page: u32) -> Option<PageRef>
     ensures { result ≡ page_by id page }
 {
     let Ok(seg) = u32::try_from(id) else {

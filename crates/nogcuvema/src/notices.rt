@@ -1,7 +1,9 @@
-//! Notices of destroyed segments.
+//! Notices of destroyed segments, and counts of changes of pieces.
 ghost use Rattle.std.specs.Prelude.{◌≡◌, ◌≢◌};
+ghost use Rattle.shm_life.specs.Changing.{changes_of};
 ghost use Rattle.nogcuvema.specs.Lookups.{Asks};
 ghost use Rattle.nogcuvema.specs.Noticed.{NamesGone};
+ghost use Rattle.nogcuvema.specs.Reads.{Reads};
 
 use crate::code::{DONE, OUT_OF_RANGE, TOO_FEW_COUNTS};
 use crate::handle::{Handle, with_machine};
@@ -38,4 +40,18 @@ pub extern "C" fn nog_gone(
     ensures told { result ≢ 0 → told.new ≡ told.old }
 {
     with_machine!(alloc, handle, |machine| gone(machine, told, id))
+}
+
+/// A number that rises with each call that may change the pieces of this process. As long as it is the same,
+/// so are the pieces. Processes whose pids have the same remainder modulo 64 share a number.
+#[unsafe(no_mangle)]
+pub extern "C" fn nog_changes(alloc: Global, handle: &mut Handle, pid: u32, count: &mut u64) -> u32
+    ensures machine { Reads handle.old.kept.value (λ m. count.new ≡ changes_of pid m.system.changes)
+        result handle.new.kept.value }
+    ensures count { result ≢ 0 → count.new ≡ count.old }
+{
+    with_machine!(alloc, handle, |machine| {
+        *count = machine.system.changes(pid);
+        DONE
+    })
 }

@@ -3,7 +3,7 @@ ghost use Rattle.std.specs.Prelude.{◌≡◌, ◌≢◌, [], map, IfOk, IfErr, 
 ghost use Rattle.shm_life.specs.Start.{start_error};
 ghost use Rattle.shm_machine.specs.Opened.{sizes_of};
 ghost use Rattle.nogcuvema.specs.Answers.{closed};
-ghost use Rattle.nogcuvema.specs.Opens.{kind_of, area_of, failure_of, limits_by, process_of, rules_of, are_kinds, is_there, are_there, Opens, OpenedTo, IsRefusedBy};
+ghost use Rattle.nogcuvema.specs.Opens.{kind_of, area_of, failure_of, side_of, limits_by, process_of, rules_of, are_kinds, is_there, are_there, Opens, OpenedTo, IsRefusedBy};
 
 use crate::code::{CLOSED, DONE, NO_MEMORY, OUT_OF_RANGE};
 use crate::handle::Handle;
@@ -16,9 +16,9 @@ use std::alloc::{AllocError, Global};
 
 pub(crate) const BAD_LIMITS: u32 = 2010;
 
-const START_REFUSED: u32 = 2020;
+pub(crate) const START_REFUSED: u32 = 2020;
 
-fn kind_of(kind: u32) -> AreaKind
+pub(crate) fn kind_of(kind: u32) -> AreaKind
     ensures { result ≡ kind_of kind }
 {
     if kind == 1 {
@@ -28,6 +28,12 @@ fn kind_of(kind: u32) -> AreaKind
     } else {
         AreaKind::Mirror
     }
+}
+
+pub(crate) fn side_of(side: u32) -> Side
+    ensures { result ≡ side_of side }
+{
+    if side == 0 { Side::Left } else { Side::Right }
 }
 
 fn areas_of(alloc: Global, areas: &[NogArea]) -> Result<Vec<AreaConfig>, AllocError>
@@ -43,18 +49,17 @@ fn areas_of(alloc: Global, areas: &[NogArea]) -> Result<Vec<AreaConfig>, AllocEr
     Ok(all)
 }
 
-fn failures_of(alloc: Global, failures: &[NogFailure]) -> Result<Vec<Failure>, AllocError>
+pub(crate) fn failures_of(
+    alloc: Global,
+    failures: &[NogFailure],
+) -> Result<Vec<Failure>, AllocError>
     ensures { IfOk result (λ v. v.items ≡ map failure_of failures.now) }
 {
     let mut all = Vec::new(alloc);
     for failure in failures {
         all.push(Failure {
             area: failure.area,
-            side: if failure.side == 0 {
-                Side::Left
-            } else {
-                Side::Right
-            },
+            side: side_of(failure.side),
             is_write: failure.is_write != 0,
             call: failure.call,
         })?;
@@ -89,7 +94,7 @@ fn processes_of(alloc: Global, processes: &[NogProcess]) -> Result<Vec<Process>,
     Ok(all)
 }
 
-fn are_kinds(areas: &[NogArea]) -> bool
+pub(crate) fn are_kinds(areas: &[NogArea]) -> bool
     ensures { result ≡ are_kinds areas.now }
 {
     areas.iter().all(|area| area.kind >= 1 && area.kind <= 3)
@@ -105,7 +110,7 @@ fn is_there(areas: &[NogArea], failure: &NogFailure) -> bool
     failure.side < sides && failure.call >= 1
 }
 
-fn are_there(areas: &[NogArea], failures: &[NogFailure]) -> bool
+pub(crate) fn are_there(areas: &[NogArea], failures: &[NogFailure]) -> bool
     ensures { result ≡ are_there areas.now failures.now }
 {
     for failure in failures {

@@ -120,7 +120,11 @@ impl Table {
     pub(crate) fn frame(&self, page: usize) -> Option<FrameNo>
         ensures { result ≡ frame_in (Some self.now) page }
     {
-        self.frames.get(page)
+        // The constant in place of the list's own `other` keeps the compiler from choosing between two places.
+        match self.frames.stored(page) {
+            Some(frame) => *frame,
+            None => None,
+        }
     }
 
     /// Notes the frame of a page of the segment.

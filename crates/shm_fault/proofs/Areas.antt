@@ -1,5 +1,5 @@
 -- Pages that leave a swap area, and the area that is turned off.
-use Rattle.shm_fault.proofs.Names.{with_owner, total, ◌≡◌, ◌≢◌, ℕ, zero, suc, ◌<◌, ◌≤◌, ◌+◌, true, cond, List, [], ◌∷◌, length, get_or, set, sum_by, Option, Some, None, is_some, refl, sym, ap, ◌∙◌, inl, inr, arith, length-set, get_or-set_same, get_or-set_other, cases_eq, get_or_past, length-map, sum_by-set, sum_by-cons, PageRef, Slot, pages_in_store, used_count, SwapView, no_area, area_at, with_area, off, HasSlot, IsArea, IsSwap, IsFirstFree, OneArea, AfterWriteFault, owner_of, page_in, size_of, sizes, swap_slots, slots_in, used_in, used_slots, with_slot_owner, with_slot_page, without_slot, GoesOn, IsSteady, had_cause, Frame, no_frame, frame_at, PageRec, rec_by, HasPage, with_rec, StoreView, held, IsTied, Tied, IsStoreSound, Goes, Still, IsUncounted, SameOwned, IsRelocated, IsCleared, common_steps, nat_tests}
+use Rattle.shm_fault.proofs.Names.{with_owner, total, ◌≡◌, ◌≢◌, ℕ, zero, suc, ◌<◌, ◌≤◌, ◌+◌, true, cond, List, [], ◌∷◌, length, get_or, set, sum_by, Option, Some, None, is_some, refl, sym, ap, ◌∙◌, inl, inr, arith, length-set, get_or-set_same, get_or-set_other, cases_eq, get_or_past, SameSlots, SideCalls, with_calls_at, some_spent, length-map, sum_by-set, sum_by-cons, PageRef, Slot, pages_in_store, used_count, SwapView, no_area, area_at, with_area, off, HasSlot, IsArea, IsSwap, IsFirstFree, OneArea, AfterWriteFault, owner_of, page_in, size_of, sizes, swap_slots, slots_in, used_in, used_slots, with_slot_owner, with_slot_page, without_slot, GoesOn, IsSteady, had_cause, Frame, no_frame, frame_at, PageRec, rec_by, HasPage, with_rec, StoreView, held, IsTied, Tied, IsStoreSound, Goes, Still, IsUncounted, SameOwned, IsRelocated, IsCleared, common_steps, nat_tests}
 use Rattle.shm_fault.proofs.Pages.{rec-with, other, other_ne, has-frame, has-slot}
 use Rattle.shm_fault.proofs.Slots.{OnlySlot, OnlySlot-trans, OnlySlot-owner, OnlySlot-page, OnlySlot-given, page-written, owner-written, owner-set, owner-given, cases_slot, set-cases}
 use Rattle.shm_fault.proofs.Ties.{SlotsApart, Touches, IsOwn-some, segs-same, segs-with, frames-same, frames-set, tied_touched, bytes_touched}
@@ -7,7 +7,14 @@ use Rattle.shm_fault.proofs.Bytes.{bytes_at, held-same}
 use Rattle.shm_fault.proofs.Tally.{used-slots}
 use Rattle.shm_fault.proofs.Whole.{pages_in_store-is}
 use Rattle.shm_fault.proofs.Failures.{size-at, pages-same, spent-cause, cause-before, cause-more}
-use Rattle.shm_fault.proofs.Sound.{IsSound-from, Goes-trans, GoesOn-refl}
+use Rattle.shm_fault.proofs.Sound.{IsSound-from, Goes-trans, GoesOn-refl, GoesOn-trans}
+use Rattle.shm_fault.proofs.Placed.{owners-kept}
+use Rattle.shm_fault.specs.Moving.{Relocates}
+use Rattle.shm_fault.specs.Placing.{slot_owners}
+use Rattle.shm_pager.specs.declared.pager.PagerFault.{PagerFault}
+use Rattle.std.specs.Prelude.{Result}
+use Rattle.std.proofs.lemmas.Result.{IfErr-weaker, IfOk-weaker}
+use Rattle.shm_fault.proofs.Failures.{total-read, spent-read}
 use Rattle.shm_fault.proofs.Counting.{uncounted-trans}
 use Rattle.shm_fault.proofs.Changes.{Keeps, every, keeps-every, keeps-one}
 use Rattle.shm_fault.proofs.Drops.{GivenSlots, given-slots}
@@ -29,14 +36,14 @@ pub has-room : (s : StoreView) → IsStoreSound s → (k : Slot) (r : PageRef) �
 has-room s sound k r own room = grind (arith, nat_tests, common_steps, pages_in_store-is, sound.few_used, used-slots, sound.apart, sound.tied, count-one, s.swap, k.area, k.slot)
 
 -- a page was written to another slot, and its old one given back
-pub relocated : (page : PageRef) (from to : Slot) (s : SwapView) (bytes last : List ℕ) → IsSwap s → IsSwap (with_slot_page (with_slot_owner s to (Some page)) to bytes) → HasSlot s from.area from.slot → IsFirstFree s (Some from.area) to
-    → page_in s from.area from.slot ≡ bytes → IsRelocated page from to s (without_slot (with_slot_page (with_slot_owner s to (Some page)) to bytes) from last)
-relocated page from to s bytes last swap sound has first is =
+pub relocated : (page : PageRef) (from to : Slot) (s : SwapView) (bytes last : List ℕ) (calls : List SideCalls) → IsSwap s → IsSwap (with_slot_page (with_slot_owner s to (Some page)) to bytes calls) → HasSlot s from.area from.slot → IsFirstFree s (Some from.area) to
+    → page_in s from.area from.slot ≡ bytes → IsRelocated page from to s (without_slot (with_slot_page (with_slot_owner s to (Some page)) to bytes calls) from last)
+relocated page from to s bytes last calls swap sound has first is =
     let t : SwapView = with_slot_owner s to (Some page) in
-    let u : SwapView = with_slot_page t to bytes in
+    let u : SwapView = with_slot_page t to bytes calls in
     let v : SwapView = without_slot u from last in
     let taken : OnlySlot to s t = OnlySlot-owner to s (Some page) in
-    let written : OnlySlot to t u = OnlySlot-page to t bytes in
+    let written : OnlySlot to t u = OnlySlot-page to t bytes calls in
     let given : OnlySlot from u v = OnlySlot-given from u last in
     let both : OnlySlot to s u = OnlySlot-trans to s t u taken written in
     let there : HasSlot t to.area to.slot = taken.has to first.there in
@@ -45,8 +52,8 @@ relocated page from to s bytes last swap sound has first is =
     record {
       first = first;
       has = λ k h. given.has k (both.has k h);
-      owner = given.owners to ne ∙ owner-written to t bytes there ∙ owner-set to s (Some page) first.there.0 (omega (arith, first.there.1, (swap.each to.area).owned));
-      bytes = given.pages to ne ∙ page-written to t bytes there ∙ sym is;
+      owner = given.owners to ne ∙ owner-written to t bytes calls there ∙ owner-set to s (Some page) first.there.0 (omega (arith, first.there.1, (swap.each to.area).owned));
+      bytes = given.pages to ne ∙ page-written to t bytes calls there ∙ sym is;
       gone = owner-given from u last at.0 (omega (arith, at.1, (sound.each from.area).owned));
       owners = λ k f n. given.owners k f ∙ both.owners k n;
       pages = λ k f n. given.pages k f ∙ both.pages k n;
@@ -248,3 +255,66 @@ module _ (area n : ℕ) (s t : StoreView) (d : IsCleaned area n s t) (here : (ar
     cleaned-off u gone is sized room =
         let sized₁ : sizes (with_area t.swap area (off (area_at t.swap area))) ≡ set (sizes t.swap) area None = rw gone at sized in
         rw gone (sound-off t d.sound area cleaned-here.0 cleaned-free (rw gone at is) sized₁ (cleaned-room room), held-off t d.sound area cleaned-here.0 cleaned-free ∙ d.goes.bytes)
+
+-- what is so after a read of a slot was so before it
+module _ (s u : SwapView) (kept : SameSlots s u) where
+  owner-same : (area slot : ℕ) → owner_of u area slot ≡ owner_of s area slot
+  owner-same area slot = ap (λ (owners : List (Option PageRef)). get_or owners slot None) (kept.owners area)
+
+  page-same : (area slot : ℕ) → page_in u area slot ≡ page_in s area slot
+  page-same area slot = ap (λ (pages : List (List ℕ)). get_or pages slot []) (kept.pages area)
+
+  pub has-same : (k : Slot) → HasSlot s k.area k.slot → HasSlot u k.area k.slot
+  has-same k has = rw (kept.areas, kept.pages k.area) has
+
+  first-same : (left_out : Option ℕ) (k : Slot) → IsFirstFree u left_out k → IsFirstFree s left_out k
+  first-same left_out k first = record {
+    there = rw (← kept.areas, ← kept.pages k.area) first.there;
+    outside = first.outside;
+    free = sym (owner-same k.area k.slot) ∙ first.free;
+    lowest = λ area lt n slot there. rw (← owner-same area slot) (first.lowest area lt n slot (rw (kept.owners area) there));
+    least = λ slot lt. rw (← owner-same k.area slot) (first.least slot lt);
+  }
+
+  pub relocated-same : (page : PageRef) (from to : Slot) (t : SwapView) → IsRelocated page from to u t → IsRelocated page from to s t
+  relocated-same page from to t is = record {
+    first = first-same (Some from.area) to is.first;
+    has = λ k has. is.has k (has-same k has);
+    owner = is.owner;
+    bytes = is.bytes ∙ page-same from.area from.slot;
+    gone = is.gone;
+    owners = λ k f n. is.owners k f n ∙ owner-same k.area k.slot;
+    pages = λ k f n. is.pages k f n ∙ page-same k.area k.slot;
+  }
+
+  pub owned-same : (t : SwapView) → SameOwned u t → SameOwned s t
+  owned-same t is = record {
+    has = λ k has. is.has k (has-same k has);
+    owners = λ k. is.owners k ∙ owner-same k.area k.slot;
+    pages = λ k q own. is.pages k q (owner-same k.area k.slot ∙ own) ∙ page-same k.area k.slot;
+  }
+
+-- the slots that are owned, after a call that changed nothing but the calls
+pub used-read : (s : SwapView) (area : ℕ) (calls : List SideCalls) → area < length s.areas → used_slots (with_calls_at s area calls) ≡ used_slots s
+used-read s area calls lt = grind (arith, nat_tests, common_steps, sum_by-set, s.areas, area)
+
+-- a page that was read, and then moved
+pub relocates-read : (page : PageRef) (from : Slot) (s u t : SwapView) (calls : List SideCalls) (r : Result Slot PagerFault)
+    → from.area < length s.areas → u ≡ with_calls_at s from.area calls → SameSlots s u → GoesOn s u → sizes u ≡ sizes s → Relocates page from u t r → Relocates page from s t r
+relocates-read page from s u t calls r lt is kept goes same moved =
+    let owners : slot_owners u ≡ slot_owners s = owners-kept s u kept in
+    let count : total u ≡ total s = rw is (total-read s from.area calls lt) in
+    let spent : some_spent u ≡ some_spent s = rw is (spent-read s from.area calls) in
+    record {
+      ok = IfOk-weaker r _ _ (λ to o. relocated-same s u kept page from to t o) moved.ok;
+      found = rw (← owners) moved.found;
+      owners = rw (← owners) moved.owners;
+      err = IfErr-weaker r _ _ (λ _ o. owned-same s u kept t o) moved.err;
+      same = rw (← owners) moved.same;
+      cause = rw (← count, ← spent) moved.cause;
+      none = rw (← count) moved.none;
+      failed = rw (← count) moved.failed;
+      goes_on = GoesOn-trans s u t goes moved.goes_on;
+      same_sizes = moved.same_sizes ∙ same;
+      sound = moved.sound;
+    }

@@ -1,7 +1,8 @@
 -- Failures that are counted, and the areas that count them.
-use Rattle.shm_fault.proofs.Names.{Bool, sym, ap, ◌∙◌, set-get_or, StoreView, CountsFailure, ◌≡◌, ◌⊎◌, ℕ, suc, [], ◌∷◌, None, Result, Ok, Err, OnOk, OnErr, ◌<◌, ◌≤◌, ◌+◌, true, false, List, length, get_or, sum_by, inl, inr, arith, list_any, false≢true, nat_tests, sum_by-set, sum_by-cons, Slot, last_count, AreaView, SwapView, no_area, area_at, rise, is_spent_here, size_of, sizes, with_slot_page, HasSlot, OneArea, AfterReadFault, AfterWriteFault, IsSwap, had_cause, GoesOn, rises-le, total-le, common_steps}
+use Rattle.shm_fault.proofs.Names.{Bool, zero, refl, set, sym, ap, ◌∙◌, set-get_or, StoreView, CountsFailure, ◌≡◌, ◌⊎◌, ℕ, suc, [], ◌∷◌, Option, Some, None, Result, Ok, Err, OnOk, OnErr, ◌<◌, ◌≤◌, ◌+◌, true, false, List, length, get_or, sum_by, inl, inr, arith, list_any, false≢true, nat_tests, sum_by-set, sum_by-cons, Slot, last_count, AreaView, SwapView, no_area, area_at, rise, is_spent_here, size_of, sizes, SideCalls, with_calls, with_calls_at, with_slot_page, HasSlot, OneArea, AfterReadFault, AfterWriteFault, IsSwap, had_cause, GoesOn, rises-le, total-le, common_steps}
 use Rattle.std.proofs.Math.ListN.{get_or-map}
-use Rattle.std.specs.Prelude.{IfErr}
+use Rattle.std.specs.Prelude.{IfErr, MatchOption, ◌||◌}
+use Rattle.shm_fault.specs.Paging.{IsRead}
 use Rattle.shm_slots.specs.Cause.{total, some_spent}
 
 -- sizes and what follows from them
@@ -11,19 +12,37 @@ size-at s area = get_or-map size_of s.areas area no_area
 pub pages-same : (s t : SwapView) (area : ℕ) → sizes t ≡ sizes s → (area_at s area).here ≡ true → ((area_at t area).here ≡ true) × (length (area_at t area).pages ≡ length (area_at s area).pages)
 pages-same s t area same here = grind (arith, nat_tests, size-at s area, size-at t area, same, here)
 
-pub total-written : (s : SwapView) (k : Slot) (page : List ℕ) → k.area < length s.areas → total (with_slot_page s k page) ≡ total s
+pub total-written : (s : SwapView) (k : Slot) (page : List ℕ) (calls : List SideCalls) → k.area < length s.areas → total (with_slot_page s k page calls) ≡ total s
 unfolding total
-total-written s k page lt = grind (arith, nat_tests, common_steps, sum_by-set, s.areas, k.area, k.slot)
+total-written s k page calls lt = grind (arith, nat_tests, common_steps, sum_by-set, s.areas, k.area, k.slot)
 
 pub total-fault : (s t : SwapView) (k : Slot) → IsSwap s → HasSlot s k.area k.slot → OneArea k.area s t → AfterWriteFault k.slot (area_at s k.area) (area_at t k.area) → some_spent t ≡ false → total t ≡ total s + 1
 unfolding total some_spent
 total-fault s t k swap there one fault unspent = grind (arith, common_steps)
 
+-- a call that changed nothing but the calls
+pub total-read : (s : SwapView) (area : ℕ) (calls : List SideCalls) → area < length s.areas → total (with_calls_at s area calls) ≡ total s
+unfolding total
+total-read s area calls lt = grind (arith, nat_tests, common_steps, sum_by-set, s.areas, area)
+
+spent-at : (xs : List AreaView) (i : ℕ) (calls : List SideCalls) → list_any is_spent_here (set xs i (with_calls (get_or xs i no_area) calls)) ≡ list_any is_spent_here xs
+spent-at [] i calls = refl
+spent-at (x ∷ xs) zero calls = refl
+spent-at (x ∷ xs) (suc i) calls = ap (λ b. is_spent_here x || b) (spent-at xs i calls)
+
+pub spent-read : (s : SwapView) (area : ℕ) (calls : List SideCalls) → some_spent (with_calls_at s area calls) ≡ some_spent s
+unfolding some_spent
+spent-read s area calls = spent-at s.areas area calls
+
+pub total-filled : (from : Option Slot) (s t : SwapView) → MatchOption from (Unit {0}) (λ k. HasSlot s k.area k.slot) → IsRead from s t → total t ≡ total s
+total-filled None s t has read = ap total read
+total-filled (Some k) s t has read = ap total read ∙ total-read s k.area (area_at t k.area).calls has.0
+
 -- a read that failed is counted as a write that failed
 read-fault : (slot : ℕ) (a b : AreaView) → AfterReadFault a b → AfterWriteFault slot a b
 read-fault slot a b fault =
     let pages : b.pages ≡ a.pages = ap (λ (x : AreaView). x.pages) fault.0 in (
-      fault.0 ∙ ap (λ (ps : List (List ℕ)). record a { pages = ps; failed = b.failed; most = b.most }) (sym pages),
+      fault.0 ∙ ap (λ (ps : List (List ℕ)). record a { pages = ps; failed = b.failed; most = b.most; calls = b.calls }) (sym pages),
       rw pages (sym (set-get_or a.pages slot [])),
       fault.1,
     )

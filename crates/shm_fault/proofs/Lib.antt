@@ -38,3 +38,5 @@ mod Untouched
 pub mod Skipped
 mod Leaving
 pub mod Lending
+mod More
+mod Later

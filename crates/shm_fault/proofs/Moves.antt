@@ -1,5 +1,5 @@
 -- What a flush and the loss of an area make of the places.
-use Rattle.shm_fault.proofs.Names.{◌≡◌, ℕ, suc, ◌<◌, ◌+◌, Bool, true, not, List, [], ◌∷◌, ◌++◌, set, get_or, length, Option, Some, None, refl, ap, ◌∙◌, arith, set-set, set-get_or, get_or-set_same, All, All-head, All-tail, PageRef, Slot, SwapView, OneArea, AfterWriteFault, IsFirstFree, IsArea, area_at, with_slot_owner, with_slot_page, without_slot, owner_of, off, with_area, frame_at, rec_by, with_rec, StoreView}
+use Rattle.shm_fault.proofs.Names.{◌≡◌, ℕ, suc, ◌<◌, ◌+◌, Bool, true, not, List, [], ◌∷◌, ◌++◌, set, get_or, length, Option, Some, None, refl, ap, ◌∙◌, arith, set-set, set-get_or, get_or-set_same, All, All-head, All-tail, PageRef, Slot, SideCalls, SwapView, OneArea, AfterWriteFault, IsFirstFree, IsArea, area_at, with_slot_owner, with_slot_page, without_slot, owner_of, off, with_area, frame_at, rec_by, with_rec, StoreView}
 use Rattle.std.proofs.lemmas.List.{map-set}
 use Rattle.shm_fault.specs.Placing.{Places, area_owners, slot_owners, places, free_slot, own_slot, owner_in, after_page_out, after_flush, moves_page, after_move, after_moves, without_area, StopsAtMove, StopsMoving}
 use Rattle.shm_fault.proofs.Placed.{bare-at, bare-set, owners-at, owners-set, owners-page, owners-without, owners-fault, length-owners}
@@ -28,12 +28,12 @@ own-back rows k x area slot free =
     let two : set (set row k.slot x) k.slot None ≡ row = set-set row k.slot x None ∙ rw (← free) (set-get_or row k.slot None) in
     rw (one, two) (set-set rows k.area (set row k.slot x) row ∙ set-get_or rows k.area [])
 
-pub owners-moved : (s : SwapView) (page : PageRef) (from to : Slot) (bytes last : List ℕ)
-    → slot_owners (without_slot (with_slot_page (with_slot_owner s to (Some page)) to bytes) from last) ≡ own_slot (own_slot (slot_owners s) to (Some page)) from None
-owners-moved s page from to bytes last =
+pub owners-moved : (s : SwapView) (page : PageRef) (from to : Slot) (bytes last : List ℕ) (calls : List SideCalls)
+    → slot_owners (without_slot (with_slot_page (with_slot_owner s to (Some page)) to bytes calls) from last) ≡ own_slot (own_slot (slot_owners s) to (Some page)) from None
+owners-moved s page from to bytes last calls =
     let t = with_slot_owner s to (Some page) in
-    let same : slot_owners (with_slot_page t to bytes) ≡ own_slot (slot_owners s) to (Some page) = owners-page t to bytes ∙ owners-set s to (Some page) in
-    owners-without (with_slot_page t to bytes) from last ∙ ap (λ rows. own_slot rows from None) same
+    let same : slot_owners (with_slot_page t to bytes calls) ≡ own_slot (slot_owners s) to (Some page) = owners-page t to bytes calls ∙ owners-set s to (Some page) in
+    owners-without (with_slot_page t to bytes calls) from last ∙ ap (λ rows. own_slot rows from None) same
 
 pub owners-back : (s u : SwapView) (page : PageRef) (left_out : Option ℕ) (to : Slot) (last : List ℕ) → ((area : ℕ) → IsArea (area_at s area)) → IsFirstFree s left_out to
     → OneArea to.area (with_slot_owner s to (Some page)) u → AfterWriteFault to.slot (area_at (with_slot_owner s to (Some page)) to.area) (area_at u to.area) → slot_owners (without_slot u to last) ≡ slot_owners s

@@ -21,7 +21,8 @@ pub use Rattle.shm_fault.specs.Held.{FitsPage, Held, bytes_of, find_held, is_hel
 pub use Rattle.shm_slots.proofs.Causes.{rises-le, total-le}
 pub use Rattle.shm_slots.specs.Cause.{GoesOn, IsSteady, had_cause, some_spent, total}
 pub use Rattle.shm_slots.specs.Owners.{used_count}
-pub use Rattle.shm_slots.specs.View.{AreaView, HasSlot, IsArea, IsFirstFree, IsSwap, OneArea, SameSlots, SwapView, AfterReadFault, AfterWriteFault, area_at, is_spent_here, no_area, off, owner_of, page_in, rise, size_of, sizes, swap_slots, slots_in, used_in, used_slots, with_area, with_owner, with_page, with_slot_owner, with_slot_page, without_slot}
+pub use Rattle.shm_slots.specs.View.{AreaView, HasSlot, IsArea, IsFirstFree, IsSwap, OneArea, SameSlots, SwapView, AfterReadFault, AfterWriteFault, area_at, is_spent_here, no_area, off, owner_of, page_in, rise, size_of, sizes, swap_slots, slots_in, used_in, used_slots, with_area, with_calls, with_calls_at, with_owner, with_page, with_slot_owner, with_slot_page, without_slot}
+pub use Rattle.shm_pager.specs.Pages.{SideCalls}
 pub use mir.Val.{bool_byte}
 pub use Rattle.shm_fault.specs.Access.{Accessed, AreIn, Brings, IsUntouched, Visited}
 pub use Rattle.shm_fault.specs.Counting.{IsUncounted, CountsOn, Transfers, counted, no_transfers, one_if, raised}

@@ -1,5 +1,5 @@
 -- The places of a store, through each change of its frames, its pages and its slots.
-use Rattle.shm_fault.proofs.Names.{◌≡◌, ◌≢◌, ℕ, zero, suc, ◌<◌, ◌+◌, Bool, true, false, not, ◌&&◌, cond, List, [], ◌∷◌, map, set, get_or, length, Option, Some, None, is_none, is_some, refl, sym, ap, ◌∙◌, inl, inr, arith, cases_Bool, eq-eqb, ne_eqb, false≢true, PageRef, Slot, AreaView, SwapView, SameSlots, OneArea, AfterWriteFault, area_at, no_area, with_slot_owner, with_slot_page, without_slot, IsFirstFree, IsArea, Frame, no_frame, frame_at, may_go, owner_passes, is_pinned, StoreView}
+use Rattle.shm_fault.proofs.Names.{◌≡◌, ◌≢◌, ℕ, zero, suc, ◌<◌, ◌+◌, Bool, true, false, not, ◌&&◌, cond, List, [], ◌∷◌, map, set, get_or, length, Option, Some, None, is_none, is_some, refl, sym, ap, ◌∙◌, inl, inr, arith, cases_Bool, eq-eqb, ne_eqb, false≢true, PageRef, Slot, AreaView, SideCalls, SwapView, SameSlots, OneArea, AfterWriteFault, area_at, no_area, with_slot_owner, with_slot_page, without_slot, IsFirstFree, IsArea, Frame, no_frame, frame_at, may_go, owner_passes, is_pinned, StoreView}
 use Rattle.std.proofs.Math.Path.{fun_ext}
 use Rattle.std.proofs.Math.ListN.{get_or-map as at-map}
 use Rattle.std.proofs.Math.Seq.{map-set_same}
@@ -71,9 +71,9 @@ owners-set swap k owner =
     let a : AreaView = record (area_at swap k.area) { owners = set (area_at swap k.area).owners k.slot owner } in
     rw (owners-at swap k.area) (map-set area_owners swap.areas k.area a)
 
-pub owners-page : (swap : SwapView) (k : Slot) (page : List ℕ) → slot_owners (with_slot_page swap k page) ≡ slot_owners swap
+pub owners-page : (swap : SwapView) (k : Slot) (page : List ℕ) (calls : List SideCalls) → slot_owners (with_slot_page swap k page calls) ≡ slot_owners swap
 unfolding slot_owners
-owners-page swap k page = map-set_same area_owners swap.areas k.area _ no_area refl
+owners-page swap k page calls = map-set_same area_owners swap.areas k.area _ no_area refl
 
 pub owners-without : (swap : SwapView) (k : Slot) (page : List ℕ) → slot_owners (without_slot swap k page) ≡ own_slot (slot_owners swap) k None
 unfolding slot_owners

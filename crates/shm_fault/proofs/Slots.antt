@@ -1,5 +1,5 @@
 -- What calls of the swap leave of its slots.
-use Rattle.shm_fault.proofs.Names.{◌≡◌, ◌≢◌, ◌⊎◌, ℕ, ◌<◌, Bool, List, [], length, get_or, set, Option, None, refl, ap, ◌∙◌, inl, inr, length-set, get_or-set_same, get_or-set_other, zero, suc, ◌∷◌, arith, PageRef, Slot, AreaView, SwapView, area_at, with_page, with_owner, HasSlot, owner_of, page_in, with_slot_page, with_slot_owner, without_slot, OneArea, AfterWriteFault, common_steps, nat_tests}
+use Rattle.shm_fault.proofs.Names.{◌≡◌, ◌≢◌, ◌⊎◌, ℕ, ◌<◌, Bool, List, [], length, get_or, set, Option, None, refl, ap, ◌∙◌, inl, inr, length-set, get_or-set_same, get_or-set_other, zero, suc, ◌∷◌, arith, PageRef, Slot, AreaView, SwapView, area_at, SideCalls, with_calls, with_page, with_owner, HasSlot, owner_of, page_in, with_slot_page, with_slot_owner, without_slot, OneArea, AfterWriteFault, common_steps, nat_tests, Some, SameSlots, slot_bytes}
 
 -- an element of a list of which one was set: that one, or as it was
 pub set-cases : {A : Type 0} (xs : List A) (i : ℕ) (x d : A) (j : ℕ) → ((j ≡ i) × (get_or (set xs i x) j d ≡ x)) ⊎ (get_or (set xs i x) j d ≡ get_or xs j d)
@@ -30,8 +30,8 @@ area_only : (k : Slot) (s : SwapView) (a : AreaView) (flag : Bool) → length a.
 area_only k s a flag len pages owners = grind (arith, nat_tests, common_steps, s.areas, k.area, set-cases, k.slot)
 
 -- a slot written
-pub OnlySlot-page : (k : Slot) (s : SwapView) (page : List ℕ) → OnlySlot k s (with_slot_page s k page)
-OnlySlot-page k s page = area_only k s (with_page (area_at s k.area) k.slot page) s.never_spent (length-set (area_at s k.area).pages k.slot page) (λ i n. get_or-set_other (area_at s k.area).pages k.slot i page [] n) (λ i n. refl)
+pub OnlySlot-page : (k : Slot) (s : SwapView) (page : List ℕ) (calls : List SideCalls) → OnlySlot k s (with_slot_page s k page calls)
+OnlySlot-page k s page calls = area_only k s (with_calls (with_page (area_at s k.area) k.slot page) calls) s.never_spent (length-set (area_at s k.area).pages k.slot page) (λ i n. get_or-set_other (area_at s k.area).pages k.slot i page [] n) (λ i n. refl)
 
 -- a slot's owner set
 pub OnlySlot-owner : (k : Slot) (s : SwapView) (owner : Option PageRef) → OnlySlot k s (with_slot_owner s k owner)
@@ -46,11 +46,11 @@ pub OnlySlot-fault : (k : Slot) (s t : SwapView) → OneArea k.area s t → Afte
 OnlySlot-fault k s t one fault = grind (arith, nat_tests, common_steps, k.area, k.slot, fault.1, fault.0, area_only, get_or-set_other)
 
 -- what the slot itself then is
-pub page-written : (k : Slot) (s : SwapView) (page : List ℕ) → HasSlot s k.area k.slot → page_in (with_slot_page s k page) k.area k.slot ≡ page
-page-written k s page h = grind (arith, nat_tests, common_steps, get_or-set_same, s.areas, k.area, k.slot, h.0, h.1)
+pub page-written : (k : Slot) (s : SwapView) (page : List ℕ) (calls : List SideCalls) → HasSlot s k.area k.slot → page_in (with_slot_page s k page calls) k.area k.slot ≡ page
+page-written k s page calls h = grind (arith, nat_tests, common_steps, get_or-set_same, s.areas, k.area, k.slot, h.0, h.1)
 
-pub owner-written : (k : Slot) (s : SwapView) (page : List ℕ) → HasSlot s k.area k.slot → owner_of (with_slot_page s k page) k.area k.slot ≡ owner_of s k.area k.slot
-owner-written k s page h = grind (arith, nat_tests, common_steps, get_or-set_same, s.areas, k.area, k.slot, h.0)
+pub owner-written : (k : Slot) (s : SwapView) (page : List ℕ) (calls : List SideCalls) → HasSlot s k.area k.slot → owner_of (with_slot_page s k page calls) k.area k.slot ≡ owner_of s k.area k.slot
+owner-written k s page calls h = grind (arith, nat_tests, common_steps, get_or-set_same, s.areas, k.area, k.slot, h.0)
 
 pub owner-fault : (k : Slot) (s t : SwapView) → OneArea k.area s t → AfterWriteFault k.slot (area_at s k.area) (area_at t k.area) → owner_of t k.area k.slot ≡ owner_of s k.area k.slot
 owner-fault k s t one fault = ap (λ (b : AreaView). get_or b.owners k.slot None) fault.0
@@ -63,3 +63,8 @@ owner-given k s page area slot = grind (arith, nat_tests, common_steps, get_or-s
 
 pub cases_slot : (j k : Slot) → (j ≡ k) ⊎ (j ≢ k)
 cases_slot j k = grind (arith, nat_tests, common_steps, j.area, k.area, j.slot, k.slot)
+
+-- slots that are the same hold the same bytes
+pub bytes-kept : (s t : SwapView) → SameSlots s t → (from : Option Slot) → slot_bytes t from ≡ slot_bytes s from
+bytes-kept s t kept None = refl
+bytes-kept s t kept (Some k) = ap (λ (pages : List (List ℕ)). get_or pages k.slot []) (kept.pages k.area)

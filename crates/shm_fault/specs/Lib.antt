@@ -17,3 +17,4 @@ pub mod Moving
 pub mod Paging
 pub mod Acting
 pub mod Loans
+pub mod Failing

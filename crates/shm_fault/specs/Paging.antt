@@ -2,7 +2,7 @@
 use Rattle.std.specs.Prelude.{ℕ, ◌≡◌, ◌<◌, ◌≤◌, ◌+◌, List, set, ◌&&◌, Bool, true, false, not, Option, Some, None, Result, MatchResult, IfOk, OnOk, OnErr, is_ok, is_some, length}
 use Rattle.shm_base.specs.declared.paging.PageRef.{PageRef}
 use Rattle.shm_base.specs.declared.paging.Slot.{Slot}
-use Rattle.shm_slots.specs.View.{SwapView, SameSlots, IsFirstFree, IsSwap, sizes}
+use Rattle.shm_slots.specs.View.{SwapView, SameSlots, IsFirstFree, IsSwap, area_at, sizes, with_calls_at}
 use Rattle.shm_slots.specs.Cause.{had_cause, GoesOn, some_spent, total}
 use Rattle.shm_clock.specs.Clock.{may_go}
 use Rattle.shm_frames.specs.Frame.{Frame, frame_at, no_frame}
@@ -15,13 +15,18 @@ use Rattle.shm_fault.specs.Goes.{Goes, Alike, unlocked, StaysAway, Visits, Moves
 use Rattle.shm_fault.specs.Counting.{counted, raised, one_if, CountsOn}
 use Rattle.shm_fault.specs.Placing.{places, after_page_out, after_clean, after_turn, after_eviction, after_room, frame_for, room_counted, settled, slotted, vacated, victim_in, with_bit, StopsAtWrite}
 
+-- a page was read from its slot: at most the calls of the slot's area are others
+abbrev pub IsRead : Option Slot → SwapView → SwapView → Type 0
+IsRead None before after = after ≡ before
+IsRead (Some k) before after = after ≡ with_calls_at before k.area (area_at after k.area).calls
+
 -- A frame got the bytes of a slot, or zeros. If a pager failed its bytes are unknown.
 pub record FillsFrom
     {A E : Type 0} (frame : ℕ) (from : Option Slot) (before after : List Frame) (old new : SwapView)
     (result : Result A E) : Type 0 where
   pub frames : after ≡ set before frame (record (frame_at before frame) { bytes = (frame_at after frame).bytes })
   pub bytes : OnOk result ((frame_at after frame).bytes ≡ slot_bytes old from)
-  pub swap : OnOk result (new ≡ old)
+  pub swap : OnOk result (IsRead from old new)
   pub kept : SameSlots old new
   pub slot : OnErr result (is_some from ≡ true)
   pub cause : OnErr result (had_cause old new ≡ true)
@@ -56,7 +61,8 @@ pub record Leaves (frame : ℕ) (s t : StoreView) (it : PageRef) : Type 0 where
 pub record Loads
     {A E : Type 0} (frame : ℕ) (from : Option Slot) (s t : StoreView) (result : Result A E) : Type 0 where
   pub bytes : OnOk result ((frame_at t.frames frame).bytes ≡ slot_bytes s.swap from)
-  pub swap : OnOk result (t.swap ≡ s.swap)
+  pub swap : OnOk result (IsRead from s.swap t.swap)
+  pub kept : SameSlots s.swap t.swap
   pub rest : t ≡ record s { frames = t.frames; swap = t.swap; ins = t.ins }
   pub ins : t.ins ≡ raised s.ins (one_if (is_ok result && is_some from))
   pub free : (frame_at t.frames frame).owner ≡ None

@@ -7,8 +7,10 @@
 
 mod access;
 mod act;
+mod adding;
 mod copying;
 mod dropping;
+mod failing;
 mod flushing;
 mod loans;
 mod moving;

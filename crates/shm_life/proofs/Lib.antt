@@ -26,3 +26,5 @@ mod Indexed
 pub mod Noticing
 pub mod Residing
 mod Paged
+pub mod Counted
+mod Enlarged

@@ -1,5 +1,5 @@
 -- Where no start error holds, swap areas and processes are as their crates ask.
-use Rattle.shm_life.proofs.Names.{◌≡◌, ◌≢◌, ℕ, zero, suc, ◌≤◌, ◌&&◌, Bool, true, false, not, if◌then◌else◌, List, [], ◌∷◌, length, get_or, replicate, Some, None, refl, sym, ap, arith, common_steps, All-nil, All-map, length-replicate, get_or-replicate, get_or_past, AllPairs-cons, All, AllPairs, Bounds, within, Runner, runner_at_start, PieceFits, IsTableSound, Process, PageRef, pager_seen, IsAreaSize, owner_of, sizes, new_swap, fresh, are_sizes, has_pid, are_pids, start_error, nat_tests, lockable}
+use Rattle.shm_life.proofs.Names.{◌≡◌, ◌≢◌, ℕ, zero, suc, ◌≤◌, ◌&&◌, Bool, true, false, not, if◌then◌else◌, List, [], ◌∷◌, length, get_or, replicate, Some, None, refl, sym, ap, arith, common_steps, All-nil, All-map, length-replicate, get_or-replicate, get_or_past, AllPairs-cons, All, AllPairs, Bounds, within, Runner, runner_at_start, PieceFits, IsTableSound, Process, PageRef, SideCalls, pager_seen, IsAreaSize, owner_of, sizes, new_swap, fresh, are_sizes, has_pid, are_pids, start_error, nat_tests, lockable}
 use Rattle.std.proofs.Common.{map, Option, true≢false}
 use Rattle.shm_base.specs.Bounds.{Bounds}
 use Rattle.shm_base.specs.declared.bounds.TheConstants.{MOST_FRAMES, MOST_PROCESSES, MOST_SHMALL, MOST_SLOTS}
@@ -45,10 +45,10 @@ pub is_open : {X : Type 0} (limits : Bounds) (size : X → ℕ) (pagers : List X
 is_open limits size pagers ps processes slots is = grind (arith, common_steps, pids-apart, all-sizes)
 
 -- the areas, when they are passed in, have the pagers' sizes
-pub sizes-new : {X : Type 0} (content : X → List (List ℕ)) (failed most : X → ℕ) (pagers : List X)
-    → sizes (new_swap (map (λ p. fresh (pager_seen content failed most p)) pagers)) ≡ map (λ n. Some n) (map (λ p. length (content p)) pagers)
-sizes-new content failed most [] = refl
-sizes-new content failed most (p ∷ ps) = ap (λ (l : List (Option ℕ)). Some (length (content p)) ∷ l) (sizes-new content failed most ps)
+pub sizes-new : {X : Type 0} (content : X → List (List ℕ)) (failed most : X → ℕ) (calls : X → List SideCalls) (pagers : List X)
+    → sizes (new_swap (map (λ p. fresh (pager_seen content failed most calls p)) pagers)) ≡ map (λ n. Some n) (map (λ p. length (content p)) pagers)
+sizes-new content failed most calls [] = refl
+sizes-new content failed most calls (p ∷ ps) = ap (λ (l : List (Option ℕ)). Some (length (content p)) ∷ l) (sizes-new content failed most calls ps)
 
 -- none of their slots is owned
 abbrev nobody : Option PageRef
@@ -57,11 +57,11 @@ nobody = None
 none-owned : (n slot : ℕ) → get_or (replicate n nobody) slot nobody ≡ nobody
 none-owned n slot = grind (arith, get_or-replicate n slot nobody nobody, get_or_past (replicate n nobody) slot nobody, length-replicate n nobody)
 
-pub owners-new : {X : Type 0} (content : X → List (List ℕ)) (failed most : X → ℕ) (pagers : List X) (area slot : ℕ)
-    → owner_of (new_swap (map (λ p. fresh (pager_seen content failed most p)) pagers)) area slot ≡ None
-owners-new content failed most [] area slot = refl
-owners-new content failed most (p ∷ ps) zero slot = none-owned (length (content p)) slot
-owners-new content failed most (p ∷ ps) (suc area) slot = owners-new content failed most ps area slot
+pub owners-new : {X : Type 0} (content : X → List (List ℕ)) (failed most : X → ℕ) (calls : X → List SideCalls) (pagers : List X) (area slot : ℕ)
+    → owner_of (new_swap (map (λ p. fresh (pager_seen content failed most calls p)) pagers)) area slot ≡ None
+owners-new content failed most calls [] area slot = refl
+owners-new content failed most calls (p ∷ ps) zero slot = none-owned (length (content p)) slot
+owners-new content failed most calls (p ∷ ps) (suc area) slot = owners-new content failed most calls ps area slot
 
 -- without segments and pieces nothing is owed
 pub fresh-kept : (limits : Bounds) (ps : List Process) → limits.shmall ≤ MOST_SHMALL → lockable limits ≤ MOST_FRAMES → length ps ≤ limits.most_processes → AllPairs (λ (p q : Process). p.pid ≢ q.pid) ps → IsTableSound limits [] (map runner_at_start ps)

@@ -24,6 +24,9 @@ use Rattle.shm_attach.specs.declared.process.Caller.{Caller}
 use Rattle.shm_life.specs.MachineView.{AnsweredBy, Served}
 use Rattle.shm_life.specs.SystemState.{SystemState, Replied, most_calls, seen, time_of}
 use Rattle.shm_base.specs.History.{IsMove, is_failure}
+use Rattle.shm_life.specs.Changing.{changed_by, changes_of, counted_after}
+use Rattle.shm_life.proofs.Counted.{told}
+use Rattle.std.specs.Prelude.{◌≢◌, IfSome}
 use Rattle.std.proofs.Common.{inl, inr}
 
 pub keeps_refl : (m : StoreView) → KeepsOn m m
@@ -134,14 +137,17 @@ pub called : (s : MachineView) (n pid : ℕ) (caller : Caller) (call : ProcessCa
 called s n pid caller call reply t same is served = rw (← same, is) served
 
 -- an answer that is counted is a reply of the system
-pub replied_as : (s t : SystemState) (pid : ℕ) (call : ProcessCall) (reply : Reply) → s.calls < most_calls → AnsweredBy (seen s) (time_of s) pid call reply (seen t) → t ≡ record s { calls = s.calls + 1; machine = t.machine; memory = t.memory } → Replied s pid call reply t
-replied_as s t pid call reply room a rest = record {
+pub replied_as : (s t : SystemState) (pid : ℕ) (call : ProcessCall) (reply : Reply) → s.calls < most_calls → AnsweredBy (seen s) (time_of s) pid call reply (seen t) → t ≡ record s { calls = s.calls + 1; changes = t.changes; machine = t.machine; memory = t.memory }
+    → t.changes ≡ counted_after pid call s.changes → IfSome (changed_by pid call) (λ q. changes_of q t.changes ≢ changes_of q s.changes) → Replied s pid call reply t
+replied_as s t pid call reply room a rest counts rises = record {
   room = room;
   move = by (is_failure call reply) refl;
   cause = λ f. (a.failed f).cause;
   counted = ap (λ (x : SystemState). x.calls) rest;
   opening = ap (λ (x : SystemState). x.opening) rest;
   clock = ap (λ (x : SystemState). x.clock) rest;
+  changes = counts;
+  told = told s.machine t.machine (time_of s) pid call reply s.changes t.changes (by (is_failure call reply) refl) rises;
   keeps = a.keeps;
   locked = a.locked;
   still = a.still;

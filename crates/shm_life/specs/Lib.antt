@@ -16,3 +16,6 @@ pub mod Lending
 pub mod Notices
 pub mod Limiting
 pub mod Residency
+pub mod Changing
+pub mod Enlarging
+pub mod Failing

@@ -42,6 +42,7 @@ impl<P: ClonePager> System<P> {
             opening: self.opening.try_clone()?,
             calls: self.calls,
             clock: self.clock,
+            changes: self.changes,
             kernel: self.kernel.try_clone()?,
         })
     }

@@ -2,8 +2,11 @@
 #![tactic(auto)]
 
 mod access;
+mod changing;
 mod copying;
+mod enlarging;
 mod exec_exit;
+mod failing;
 mod fixed;
 mod fork;
 mod guest;
@@ -26,6 +29,8 @@ mod sweep;
 mod system;
 mod typed;
 
+pub use changing::COUNTS;
+pub use failing::PageNotFailed;
 pub use limiting::NewLimits;
 pub use listing::ShmInfo;
 pub use loans::{LendRefusal, NotReady, ReturnRefusal};

@@ -1,7 +1,8 @@
 //! What a system starts with, and why a start is refused.
-ghost use Rattle.std.specs.Prelude.{◌≡◌, ℕ, [], length, map, IfOk};
+ghost use Rattle.std.specs.Prelude.{◌≡◌, ℕ, true, [], length, map, IfOk};
 ghost use Rattle.std.specs.Fn.{FnReturnsAt};
 ghost use Rattle.shm_base.specs.Bounds.{within};
+ghost use Rattle.shm_slots.specs.View.{IsAreaSize};
 ghost use Rattle.shm_life.specs.Start.{start_error, are_pids, error_number};
 
 use shm_base::{LAST_PID, Limits, MOST_AREAS, PROFILE_PROCESSES, Process, has_pid};
@@ -47,8 +48,9 @@ impl StartError {
 }
 
 // Whether an area may have this many slots.
-fn is_area_size(limits: &Limits, slots: u32) -> bool
-    ensures { result ≡ within 1 limits.now.most_slots slots }
+pub(crate) fn is_area_size(limits: &Limits, slots: u32) -> bool
+    ensures value { result ≡ within 1 limits.now.most_slots slots }
+    ensures size { result ≡ true → IsAreaSize slots }
 {
     slots >= 1 && slots <= limits.most_slots()
 }

@@ -9,6 +9,7 @@ ghost use Rattle.shm_life.specs.SystemState.{IsStarted, IsOutOfMemory, Replied, 
 ghost use Rattle.shm_life.specs.Counts.{Counts};
 ghost use Rattle.shm_life.specs.Listed.{segment_at};
 
+use crate::changing::{COUNTS, count_call};
 use crate::kernel::Kernel;
 use crate::start::{StartError, first_error};
 use shm_attach::Spaces;
@@ -44,13 +45,15 @@ impl Model for Opening {
     ghost view = { λ o. record { limits = o.limits; areas = o.areas.items; processes = o.processes.items } };
 }
 
-/// A machine over swap areas. Contracts see its opening, its count of calls, the time that the host gave, and
-/// the flat machine.
+/// A machine over swap areas. Contracts see its opening, its count of calls, its counts of changes of pieces,
+/// the time that the host gave, and the flat machine.
 pub struct System<P: Pager> {
     pub(crate) opening: Opening,
     pub(crate) calls: u64,
     // The time that calls note, if the host gave one.
     pub(crate) clock: Option<u64>,
+    // How often the pieces of processes may have changed; see `changing`.
+    pub(crate) changes: [u64; COUNTS],
     pub(crate) kernel: Kernel<P>,
 }
 
@@ -60,6 +63,7 @@ impl<P: Pager> Drop for System<P> {
             opening: _,
             calls: _,
             clock: _,
+            changes: _,
             kernel: _,
         } = self;
     }
@@ -74,6 +78,7 @@ impl<P: Pager> Model for System<P> {
       opening = s.opening;
       calls = s.calls;
       clock = s.clock;
+      changes = s.changes;
       machine = s.kernel.flat;
       memory = s.kernel.memory;
     } };
@@ -101,7 +106,7 @@ impl<P: Pager> System<P> {
         processes: &[Process],
     ) -> Result<System<P>, StartError>
         ensures started { let sizes = map (λ p. length (P.content p)) pagers.items in
-            let areas = map (λ p. fresh (pager_seen P.content P.failed P.most p)) pagers.items in
+            let areas = map (λ p. fresh (pager_seen P.content P.failed P.most P.calls p)) pagers.items in
             IfOk result (λ s. IsStarted limits sizes areas processes.now s) }
         ensures ok { let sizes = map (λ p. length (P.content p)) pagers.items in
             OnOk result (start_error limits sizes processes.now ≡ None) }
@@ -127,7 +132,7 @@ impl<P: Pager> System<P> {
         requires none { let sizes = map (λ p. length (P.content p)) pagers.items in
             start_error limits sizes processes.now ≡ None }
         ensures { let sizes = map (λ p. length (P.content p)) pagers.items in
-            let areas = map (λ p. fresh (pager_seen P.content P.failed P.most p)) pagers.items in
+            let areas = map (λ p. fresh (pager_seen P.content P.failed P.most P.calls p)) pagers.items in
             IfOk result (λ s. IsStarted limits sizes areas processes.now s) }
     {
         // Reading the limits tells the proof their ranges.
@@ -147,6 +152,7 @@ impl<P: Pager> System<P> {
             opening,
             calls: 0,
             clock: None,
+            changes: [0; COUNTS],
             kernel,
         })
     }
@@ -210,6 +216,7 @@ impl<P: Pager> System<P> {
         let time = self.time();
         self.kernel.call(time, pid, call, reply)?;
         self.calls += 1;
+        count_call(&mut self.changes, pid, call);
         Ok(())
     }
 

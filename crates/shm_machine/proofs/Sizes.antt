@@ -14,8 +14,8 @@ use Rattle.shm_life.specs.declared.start.StartError.TheVariants.{HostMemory}
 use Rattle.shm_pager.specs.declared.area.AreaPager.{AreaPager}
 use Rattle.shm_machine.specs.declared.opening.AreaConfig.{AreaConfig}
 use Rattle.shm_machine.specs.declared.opening.Failure.{Failure}
-use Rattle.shm_machine.specs.declared.opening.Side.TheVariants.{Left, Right}
-use Rattle.shm_pager.specs.Areas.{area_pages, failed_in, most_in}
+use Rattle.shm_pager.specs.declared.failing.Side.TheVariants.{Left, Right}
+use Rattle.shm_pager.specs.Areas.{area_pages, failed_in, most_in, calls_in}
 use Rattle.shm_pager.proofs.Made.{made-seen}
 use Rattle.shm_machine.specs.Opened.{sizes_of, failing_at, IsMade, AreMade, pagers_made}
 
@@ -41,7 +41,7 @@ made-next failures areas i ps d p within made one =
     subst (λ xs. AreMade failures 0 xs (ps ++ p ∷ [])) front (made-more failures 0 (take i areas) ps (get_or areas i d) p made (subst (λ n. IsMade failures n (get_or areas i d) p) place one))
 
 -- what is seen of the pagers
-pub pagers-seen : (failures : List Failure) (index : ℕ) (areas : List AreaConfig) (ps : List AreaPager) → AreMade failures index areas ps → map (pager_seen area_pages failed_in most_in) ps ≡ pagers_made failures index areas
+pub pagers-seen : (failures : List Failure) (index : ℕ) (areas : List AreaConfig) (ps : List AreaPager) → AreMade failures index areas ps → map (pager_seen area_pages failed_in most_in calls_in) ps ≡ pagers_made failures index areas
 pagers-seen failures index [] [] made = refl
 pagers-seen failures index [] (p ∷ ps) made = absurd made
 pagers-seen failures index (a ∷ areas) [] made = absurd made
@@ -56,13 +56,13 @@ made-sizes failures index (a ∷ areas) = grind (arith, common_steps, (made-size
 
 pub pager-sizes : (failures : List Failure) (ps : List AreaPager) (areas : List AreaConfig) → AreMade failures 0 areas ps → map (λ (p : AreaPager). length (area_pages p)) ps ≡ sizes_of areas
 pager-sizes failures ps areas made =
-    map-after (λ (v : PagerView). length v.pages) (pager_seen area_pages failed_in most_in) ps
+    map-after (λ (v : PagerView). length v.pages) (pager_seen area_pages failed_in most_in calls_in) ps
     ∙ (ap (λ vs. map (λ (v : PagerView). length v.pages) vs) (pagers-seen failures 0 areas ps made) ∙ made-sizes failures 0 areas)
 
 pub pager-areas : (failures : List Failure) (ps : List AreaPager) (areas : List AreaConfig) → AreMade failures 0 areas ps
-    → map (λ (p : AreaPager). fresh (pager_seen area_pages failed_in most_in p)) ps ≡ map fresh (pagers_made failures 0 areas)
+    → map (λ (p : AreaPager). fresh (pager_seen area_pages failed_in most_in calls_in p)) ps ≡ map fresh (pagers_made failures 0 areas)
 pager-areas failures ps areas made =
-    map-after fresh (pager_seen area_pages failed_in most_in) ps ∙ ap (λ vs. map fresh vs) (pagers-seen failures 0 areas ps made)
+    map-after fresh (pager_seen area_pages failed_in most_in calls_in) ps ∙ ap (λ vs. map fresh vs) (pagers-seen failures 0 areas ps made)
 
 pub first-error : (limits : Bounds) (e : StartError) (sizes known : List ℕ) (processes : List Process) → sizes ≡ known → IsFirstError e (start_error limits sizes processes) → (e ≡ HostMemory) ⊎ (start_error limits known processes ≡ Some e)
 first-error limits e sizes known processes same (inl is) = inr (ap (λ ns. start_error limits ns processes) (sym same) ∙ is)

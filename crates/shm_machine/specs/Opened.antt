@@ -2,14 +2,14 @@
 use Rattle.std.specs.Prelude.{ℕ, ◌+◌, ◌==◌, ◌&&◌, Bool, true, false, not, List, [], ◌∷◌, map, filter}
 use Rattle.shm_base.specs.Bounds.{Bounds}
 use Rattle.shm_base.specs.declared.call.Process.{Process}
-use Rattle.shm_slots.specs.View.{fresh}
+use Rattle.shm_slots.specs.View.{AreaView, fresh}
 use Rattle.shm_life.specs.SystemState.{SystemState, IsStarted}
 use Rattle.shm_machine.specs.declared.opening.AreaConfig.{AreaConfig}
 use Rattle.shm_machine.specs.declared.opening.Failure.{Failure}
-use Rattle.shm_machine.specs.declared.opening.Side.{Side}
-use Rattle.shm_machine.specs.declared.opening.Side.TheVariants.{Left, Right}
+use Rattle.shm_pager.specs.declared.failing.Side.{Side}
+use Rattle.shm_pager.specs.declared.failing.Side.TheVariants.{Left, Right}
 use Rattle.shm_pager.specs.Pages.{PagerView, blank}
-use Rattle.shm_pager.specs.Areas.{FailingCalls, IsOfKind, most_of_kind}
+use Rattle.shm_pager.specs.Areas.{FailingCalls, IsOfKind, calls_of_kind, most_of_kind}
 use Rattle.shm_pager.specs.declared.area.AreaPager.{AreaPager}
 
 abbrev pub same_side : Side → Side → Bool
@@ -46,12 +46,20 @@ AreMade failures index [] [] = Unit {0}
 AreMade failures index (a ∷ more) (p ∷ ps) = IsMade failures index a p × AreMade failures (index + 1) more ps
 AreMade failures index _ _ = ⊥
 
--- what is seen of them: zeros in each slot, no failure counted, and the most that each may count
+-- what is seen of one: zeros in each slot, no failure counted, the most that it may count, and the calls of its sides that will fail
+abbrev pub pager_made : List Failure → ℕ → AreaConfig → PagerView
+pager_made failures index a =
+    let left = failing_at failures index Left in
+    blank a.slots (most_of_kind a.kind left) (calls_of_kind a.kind left (failing_at failures index Right))
+
+-- the area of it: no slot is owned
+abbrev pub area_made : List Failure → ℕ → AreaConfig → AreaView
+area_made failures index a = fresh (pager_made failures index a)
+
 abbrev pub pagers_made : List Failure → ℕ → List AreaConfig → List PagerView
 pagers_made failures index [] = []
-pagers_made failures index (a ∷ more) =
-    blank a.slots (most_of_kind a.kind (failing_at failures index Left)) ∷ pagers_made failures (index + 1) more
+pagers_made failures index (a ∷ more) = pager_made failures index a ∷ pagers_made failures (index + 1) more
 
--- the machine at its start: areas of zeros, with no failure counted, and the most failures that each may count
+-- the machine at its start: areas of zeros, with no failure counted, the most failures that each may count, and which calls will fail
 abbrev pub IsOpened : Bounds → List AreaConfig → List Failure → List Process → SystemState → Type 0
 IsOpened limits areas failures processes s = IsStarted limits (sizes_of areas) (map fresh (pagers_made failures 0 areas)) processes s

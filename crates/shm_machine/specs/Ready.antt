@@ -6,12 +6,16 @@ use Rattle.shm_base.specs.declared.call.Reply.TheVariants as replies
 use Rattle.shm_base.specs.declared.errno.Errno.TheVariants.{Sigbus}
 use Rattle.shm_base.specs.declared.paging.PageRef.{PageRef}
 use Rattle.shm_frames.specs.Frame.{lent_of}
+use Rattle.shm_fault.specs.Acting.{size_of, writes}
 use Rattle.shm_fault.specs.Loans.{LoansStay}
 use Rattle.shm_fault.specs.Placing.{places}
-use Rattle.shm_life.specs.Lending.{MakesReady}
+use Rattle.shm_fault.specs.declared.act.Act.{Act}
+use Rattle.shm_life.specs.Accessing.{call_of, reply_of}
+use Rattle.shm_life.specs.Lending.{MakesReady, pages_asked}
 use Rattle.shm_life.specs.SystemState.{SystemState, most_calls, seen, Replied}
 use Rattle.shm_life.specs.declared.loans.NotReady.{NotReady}
 use Rattle.shm_life.specs.declared.loans.NotReady.TheVariants as ready
+use Rattle.shm_machine.specs.Answered.{as_reply}
 use Rattle.shm_machine.specs.declared.refusal.Refusal.{Refusal}
 use Rattle.shm_machine.specs.declared.refusal.Refusal.TheVariants.{Refused, HostMemory, Spent, Lent}
 
@@ -54,3 +58,28 @@ AccessedBy rs before pid call (Err (Refused e)) after =
 AccessedBy rs before pid call (Err HostMemory) after = ⊥
 AccessedBy rs before pid call (Err Spent) after = NotMade rs Spent before after
 AccessedBy rs before pid call (Err Lent) after = NotMade rs Lent before after
+
+-- what a process does at the bytes from an address on, and how many of the old bytes it has room for
+pub record Deed : Type 0 where
+  pub pid : ℕ
+  pub addr : ℕ
+  pub act : Act
+  pub room : ℕ
+
+abbrev pub size_at : Deed → ℕ
+size_at d = size_of d.act d.room
+
+abbrev pub pages_at : SystemState → Deed → List PageRef
+pages_at before d = pages_asked before.machine d.pid d.addr (size_at d) (writes d.act)
+
+-- the reply, if these are the old bytes
+abbrev pub reply_at : Deed → List ℕ → Reply
+reply_at d old = reply_of d.act d.room old
+
+-- the result of the access that a deed is, and the machine afterwards
+abbrev pub Does : Deed → SystemState → Result Reply Refusal → SystemState → Type 0
+Does d before result after = AccessedBy (pages_at before d) before d.pid (call_of d.act d.addr d.room) result after
+
+-- it was done, and then these are the old bytes; or it was refused
+abbrev pub Did : {A : Type 0} → Deed → SystemState → Result A Refusal → List ℕ → SystemState → Type 0
+Did d before result old after = Does d before (as_reply (λ _. reply_at d old) result) after

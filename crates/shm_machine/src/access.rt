@@ -5,12 +5,11 @@ ghost use Rattle.std.specs.Prelude.{◌≡◌, ◌<◌, ◌≤◌, true, false, 
 ghost use Rattle.shm_base.specs.declared.call.Call.TheVariants as call;
 ghost use Rattle.shm_base.specs.declared.call.Reply.TheVariants as reply;
 ghost use Rattle.shm_base.specs.declared.paging.TheConstants.{PAGE_SIZE};
-ghost use Rattle.shm_fault.specs.Acting.{FitsRoom, size_of, writes};
-ghost use Rattle.shm_life.specs.Accessing.{call_of, reply_of};
+ghost use Rattle.shm_fault.specs.Acting.{FitsRoom, size_of};
 ghost use Rattle.shm_life.specs.Lending.{pages_asked};
 ghost use Rattle.shm_life.specs.SystemState.{most_calls};
 ghost use Rattle.shm_machine.specs.Answered.{as_reply, done};
-ghost use Rattle.shm_machine.specs.Ready.{AccessedBy, IsReady, NotMade, refusal_of};
+ghost use Rattle.shm_machine.specs.Ready.{AccessedBy, Deed, Did, IsReady, NotMade, refusal_of};
 
 use crate::machine::Machine;
 use crate::refusal::Refusal;
@@ -60,10 +59,8 @@ impl Machine {
     ) -> Result<(), Refusal>
         requires fits { FitsRoom act (length there.old) }
         requires size { let size = size_of act (length there.old) in (1 ≤ size) × (size ≤ PAGE_SIZE) }
-        ensures answered { let room = length there.old in
-            let pages = pages_asked self.old.system.machine pid addr (size_of act.entry room) (writes act.entry) in
-            let answer = as_reply (λ _. reply_of act.entry room there.new) result in
-            AccessedBy pages self.old.system pid (call_of act.entry addr room) answer self.new.system }
+        ensures did { let deed : Deed = record { pid = pid; addr = addr; act = act.entry; room = length there.old } in
+            Did deed self.old.system result there.new self.new.system }
         ensures kept { OnErr result (there.new ≡ there.old) }
     {
         let len = act.size(there.len()) as u64;

@@ -11,7 +11,7 @@ mod refusal;
 mod stretch;
 
 pub use machine::Machine;
-pub use opening::{AreaConfig, Failure, Side};
+pub use opening::{AreaConfig, Failure};
 pub use refusal::Refusal;
-pub use shm_pager::AreaKind;
+pub use shm_pager::{AreaKind, Side};
 pub use stretch::Progress;

@@ -2,12 +2,13 @@
 ghost use Rattle.std.specs.Prelude.{◌≡◌, ◌⊎◌, true, IfOk, OnOk, IfErr, None, Some, false, MatchOption};
 ghost use Rattle.shm_life.specs.Start.{start_error};
 ghost use Rattle.shm_life.specs.declared.start.StartError.TheVariants as start;
-ghost use Rattle.shm_machine.specs.Opened.{IsOpened, sizes_of};
+ghost use Rattle.shm_life.specs.Enlarging.{IsEnlarged};
+ghost use Rattle.shm_machine.specs.Opened.{IsOpened, area_made, sizes_of};
 ghost use Rattle.shm_base.specs.declared.call.Reply.TheVariants as replies;
 ghost use Rattle.shm_base.specs.History.{is_refusal};
 ghost use Rattle.shm_machine.specs.Answered.{Answered, as_reply, done, fits};
 
-use crate::opening::{AreaConfig, Failure, pagers_for};
+use crate::opening::{AreaConfig, Failure, pager_for, pagers_for};
 use crate::refusal::Refusal;
 use shm_base::{Call, Errno, HostMemory, Limits, Process, Reply};
 use shm_life::{StartError, System, first_area_error};
@@ -62,6 +63,28 @@ impl Machine {
             Ok(system) => Ok(Machine { system }),
             Err(error) => Err(error),
         }
+    }
+
+    /// Adds a swap area of zeros with the next number, as swapon(8) does; no process calls this. Each failure is
+    /// one of its calls, and its `area` is 0. A failure of another area, or of a side that the area does not
+    /// have, has no effect. Refused as [`System::area_refusal`] says, or with `HostMemory`; then nothing
+    /// changed.
+    pub fn add_area(
+        &mut self,
+        alloc: Global,
+        area: &AreaConfig,
+        failures: &[Failure],
+    ) -> Result<(), StartError>
+        ensures { IsEnlarged area.now.slots (area_made failures.now 0 area.now) self.old.system result
+            self.new.system }
+    {
+        if let Some(refusal) = self.system.area_refusal(area.slots) {
+            return Err(refusal);
+        }
+        let Ok(pager) = pager_for(alloc, 0, area, failures) else {
+            return Err(StartError::HostMemory);
+        };
+        self.system.add_area(alloc, pager)
     }
 
     /// A snapshot: another machine with the same state and memory, whose areas fail at the same calls.

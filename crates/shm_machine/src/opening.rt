@@ -3,7 +3,7 @@ ghost use Rattle.std.specs.Prelude.{◌≡◌, ◌==◌, ◌≤◌, IfOk, length
 ghost use Rattle.shm_machine.specs.Opened.{is_at, calls_at, IsMade, AreMade};
 
 use shm_base::HostMemory;
-use shm_pager::{AreaKind, AreaPager, Failing};
+use shm_pager::{AreaKind, AreaPager, Failing, Side};
 use std::alloc::Global;
 
 /// A swap area: its kind and its number of slots. Each side of a mirror has as many.
@@ -11,13 +11,6 @@ use std::alloc::Global;
 pub struct AreaConfig {
     pub kind: AreaKind,
     pub slots: u32,
-}
-
-/// A side of an area. Only a mirror has a right side.
-#[derive(Clone, Copy, Debug, PartialEq, Eq)]
-pub enum Side {
-    Left,
-    Right,
 }
 
 /// A call of a side of an area that fails: its `call`-th write, or its `call`-th read, counted from 1. Areas
@@ -75,7 +68,7 @@ fn failing(
 
 // An area of zeros. Exactly the listed calls fail, and in a sparse area also writes for which the host
 // refuses memory.
-fn pager_for(
+pub(crate) fn pager_for(
     alloc: Global,
     index: u32,
     area: &AreaConfig,

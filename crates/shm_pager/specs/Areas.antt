@@ -1,8 +1,8 @@
 -- The pages and failures of an area of each kind.
-use Rattle.std.specs.Prelude.{ℕ, ◌≡◌, List, Result, replicate}
-use Rattle.shm_pager.specs.Pages.{blank, last_count, next_count}
-use Rattle.shm_pager.specs.Fuse.{FuseView, new_fuse, fuse_most}
-use Rattle.shm_pager.specs.Mirror.{MirrorView, MirrorSeen, ReadsMirror, WritesMirror, mirror_of, mirror_seen, pages_shown, left_alone}
+use Rattle.std.specs.Prelude.{ℕ, ◌≡◌, List, [], ◌∷◌, Result, replicate}
+use Rattle.shm_pager.specs.Pages.{PagerView, SideCalls, blank, last_count, new_side, pager_seen}
+use Rattle.shm_pager.specs.Fuse.{FuseView, after_read, after_write, new_fuse, fuse_most, fuse_calls}
+use Rattle.shm_pager.specs.Mirror.{MirrorView, MirrorSeen, ReadsMirror, WritesMirror, mirror_of, mirror_seen, mirror_calls, pages_shown, left_alone}
 use Rattle.shm_pager.specs.declared.area.AreaPager.{AreaPager}
 use Rattle.shm_pager.specs.declared.area.AreaPager.TheVariants.{Ram, Sparse, Mirror}
 use Rattle.shm_pager.specs.declared.area.Failing.{Failing}
@@ -16,9 +16,20 @@ fuse_pages f = f.inner.pages
 abbrev pub fuse_failed : FuseView → ℕ
 fuse_failed f = f.failed
 
+abbrev pub fuse_seen : FuseView → PagerView
+fuse_seen = pager_seen fuse_pages fuse_failed fuse_most fuse_calls
+
 -- a mirror of two fuses, by their pages and counts
 abbrev pub fuses_seen : MirrorView FuseView FuseView → MirrorSeen
-fuses_seen = mirror_seen fuse_pages fuse_failed fuse_most fuse_pages fuse_failed fuse_most
+fuses_seen = mirror_seen fuse_pages fuse_failed fuse_most fuse_calls fuse_pages fuse_failed fuse_most fuse_calls
+
+-- the pages of such a mirror
+abbrev pub mirror_pages : MirrorView FuseView FuseView → List (List ℕ)
+mirror_pages m = pages_shown (fuses_seen m)
+
+-- and its calls
+abbrev pub both_calls : MirrorView FuseView FuseView → List SideCalls
+both_calls m = mirror_calls (fuses_seen m)
 
 -- the page in each slot
 abbrev pub area_pages : AreaPager → List (List ℕ)
@@ -38,17 +49,23 @@ most_in (Ram f) = fuse_most f
 most_in (Sparse f) = fuse_most f
 most_in (Mirror m) = last_count
 
+-- the calls of each side
+abbrev pub calls_in : AreaPager → List SideCalls
+calls_in (Ram f) = fuse_calls f
+calls_in (Sparse f) = fuse_calls f
+calls_in (Mirror m) = both_calls m
+
 -- A read of an area asks its fuse once, which so counts one read; a read of a mirror asks its good sides until one succeeds
 abbrev pub ReadsOnce : {A E : Type 0} → ℕ → List ℕ → Result A E → AreaPager → AreaPager → Type 0
-ReadsOnce slot bytes result (Ram f) (Ram g) = (g.reads ≡ next_count f.reads) × (g.writes ≡ f.writes)
-ReadsOnce slot bytes result (Sparse f) (Sparse g) = (g.reads ≡ next_count f.reads) × (g.writes ≡ f.writes)
+ReadsOnce slot bytes result (Ram f) (Ram g) = g.side ≡ after_read f.side
+ReadsOnce slot bytes result (Sparse f) (Sparse g) = g.side ≡ after_read f.side
 ReadsOnce slot bytes result (Mirror m) (Mirror n) = ReadsMirror slot bytes (fuses_seen m) (fuses_seen n) result
 ReadsOnce slot bytes result _ _ = ⊥
 
 -- and a write asks its fuse once; a write of a mirror asks both sides
 abbrev pub WritesOnce : {A E : Type 0} → ℕ → List ℕ → Result A E → AreaPager → AreaPager → Type 0
-WritesOnce slot bytes result (Ram f) (Ram g) = (g.writes ≡ next_count f.writes) × (g.reads ≡ f.reads)
-WritesOnce slot bytes result (Sparse f) (Sparse g) = (g.writes ≡ next_count f.writes) × (g.reads ≡ f.reads)
+WritesOnce slot bytes result (Ram f) (Ram g) = g.side ≡ after_write slot f.side
+WritesOnce slot bytes result (Sparse f) (Sparse g) = g.side ≡ after_write slot f.side
 WritesOnce slot bytes result (Mirror m) (Mirror n) = WritesMirror slot bytes (fuses_seen m) (fuses_seen n) result
 WritesOnce slot bytes result _ _ = ⊥
 
@@ -62,7 +79,7 @@ calls_of f = record { reads = f.reads.items; writes = f.writes.items }
 
 -- a new fuse around slots of zeros: exactly the listed reads and writes will fail, and as many more as its pager may
 abbrev pub fails_at : ℕ → ℕ → FailingCalls → FuseView
-fails_at slots most calls = new_fuse (blank slots most) calls.reads calls.writes 0
+fails_at slots most calls = new_fuse (blank slots most []) calls.reads calls.writes 0
 
 -- a new area of a kind, with zeros in each slot; only a mirror has a right side
 abbrev pub IsOfKind : AreaKind → ℕ → FailingCalls → FailingCalls → AreaPager → Type 0
@@ -77,3 +94,9 @@ abbrev pub most_of_kind : AreaKind → FailingCalls → ℕ
 most_of_kind kinds.Ram left = fuse_most (fails_at 0 0 left)
 most_of_kind kinds.Sparse left = last_count
 most_of_kind kinds.Mirror left = last_count
+
+-- the calls of its sides: none yet, and those that were listed will fail
+abbrev pub calls_of_kind : AreaKind → FailingCalls → FailingCalls → List SideCalls
+calls_of_kind kinds.Ram left right = new_side left.reads left.writes ∷ []
+calls_of_kind kinds.Sparse left right = new_side left.reads left.writes ∷ []
+calls_of_kind kinds.Mirror left right = new_side left.reads left.writes ∷ new_side right.reads right.writes ∷ []

@@ -3,3 +3,4 @@ pub mod Sparse
 pub mod Fuse
 pub mod Mirror
 pub mod Areas
+pub mod Failing

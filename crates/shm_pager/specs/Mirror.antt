@@ -1,7 +1,7 @@
 -- What contracts see of a mirror.
-use Rattle.std.specs.Prelude.{ℕ, ◌≡◌, Bool, true, false, not, ◌&&◌, ◌||◌, if◌then◌else◌, List, [], ◌∷◌, length, get_or, set, drop, replicate, Result, is_ok, IfOk}
+use Rattle.std.specs.Prelude.{ℕ, ◌≡◌, Bool, true, false, not, ◌&&◌, ◌||◌, if◌then◌else◌, List, [], ◌∷◌, ◌++◌, length, get_or, set, drop, replicate, Result, is_ok, IfOk}
 use Rattle.shm_base.specs.Page.{zero_page}
-use Rattle.shm_pager.specs.Pages.{PagerView, pager_seen, served, SlotUnknown, CountsErr, TriesRead, TriesWrite}
+use Rattle.shm_pager.specs.Pages.{PagerView, SideCalls, pager_seen, served, SlotUnknown, CountsErr, TriesRead, TriesWrite}
 use Rattle.shm_pager.specs.declared.mirror.Good.{Good}
 
 pub record MirrorView (L R : Type 0) : Type 0 where
@@ -21,9 +21,9 @@ abbrev pub MirrorSeen : Type 0
 MirrorSeen = MirrorView PagerView PagerView
 
 -- a mirror, by the ghost members of its sides
-module _ {L R : Type 0} (content : L → List (List ℕ)) (failed most : L → ℕ) (content' : R → List (List ℕ)) (failed' most' : R → ℕ) where
+module _ {L R : Type 0} (content : L → List (List ℕ)) (failed most : L → ℕ) (calls : L → List SideCalls) (content' : R → List (List ℕ)) (failed' most' : R → ℕ) (calls' : R → List SideCalls) where
   abbrev pub mirror_seen : MirrorView L R → MirrorSeen
-  mirror_seen m = mirror_of (pager_seen content failed most m.left) (pager_seen content' failed' most' m.right) m.good m.failed
+  mirror_seen m = mirror_of (pager_seen content failed most calls m.left) (pager_seen content' failed' most' calls' m.right) m.good m.failed
 
 abbrev pub left_alone : Good
 left_alone = record { left = true; right = false }
@@ -41,6 +41,10 @@ merged (g ∷ gs) ls rs = (if g.left then get_or ls 0 [] else get_or rs 0 []) �
 
 abbrev pub pages_shown : MirrorSeen → List (List ℕ)
 pages_shown m = merged m.good m.left.pages m.right.pages
+
+-- the calls of both sides
+abbrev pub mirror_calls : MirrorSeen → List SideCalls
+mirror_calls m = m.left.calls ++ m.right.calls
 
 -- the sides that are good for a slot
 abbrev pub good_at : MirrorSeen → ℕ → Good

@@ -1,5 +1,5 @@
 -- Pages by slot, counts of failures, and what a call changes in a pager.
-use Rattle.std.specs.Prelude.{ℕ, ◌≡◌, ◌+◌, ◌-◌, ◌^◌, ◌≤◌, ◌⊎◌, Bool, true, ◌==◌, ◌&&◌, nat_lt, List, [], get_or, min, set, replicate, Result, MatchResult}
+use Rattle.std.specs.Prelude.{ℕ, ◌≡◌, ◌+◌, ◌-◌, ◌^◌, ◌≤◌, ◌⊎◌, Bool, true, false, Option, None, ◌==◌, ◌&&◌, nat_lt, List, [], get_or, min, set, replicate, Result, MatchResult}
 use Rattle.shm_base.specs.Page.{zero_page}
 
 -- the value at which a count stops
@@ -10,19 +10,41 @@ last_count = 2 ^ 64 - 1
 abbrev pub next_count : ℕ → ℕ
 next_count n = min (n + 1) last_count
 
--- the page in each slot, how many reads and writes have failed, and the most that ever will have
+-- the calls of one side of a pager: which of them fail, and how many there were
+pub record SideCalls : Type 0 where
+  -- the places of those that fail
+  pub bad_reads : List ℕ
+  pub bad_writes : List ℕ
+  -- the places from which on every call fails
+  pub reads_end : Option ℕ
+  pub writes_end : Option ℕ
+  -- the slots that can't be read, and whether there ever were any
+  pub bad_slots : List ℕ
+  pub had_bad_slots : Bool
+  -- how many calls there were
+  pub reads : ℕ
+  pub writes : ℕ
+
+-- no call yet; the listed ones will fail
+abbrev pub new_side : List ℕ → List ℕ → SideCalls
+new_side bad_reads bad_writes =
+    record { bad_reads = bad_reads; bad_writes = bad_writes; reads_end = None; writes_end = None; bad_slots = []; had_bad_slots = false; reads = 0; writes = 0 }
+
+-- the page in each slot, how many reads and writes have failed, the most that ever will have, and the calls of each side that fails
+-- at chosen ones
 pub record PagerView : Type 0 where
   pub pages : List (List ℕ)
   pub failed : ℕ
   pub most : ℕ
+  pub calls : List SideCalls
 
--- this many slots of zeros, no failure, and a bound on later ones
-abbrev pub blank : ℕ → ℕ → PagerView
-blank slots most = record { pages = replicate slots zero_page; failed = 0; most = most }
+-- this many slots of zeros, no failure, a bound on later ones, and the calls of its sides
+abbrev pub blank : ℕ → ℕ → List SideCalls → PagerView
+blank slots most calls = record { pages = replicate slots zero_page; failed = 0; most = most; calls = calls }
 
--- a pager, by the three ghost members of its trait
-abbrev pub pager_seen : {P : Type 0} → (P → List (List ℕ)) → (P → ℕ) → (P → ℕ) → P → PagerView
-pager_seen content failed most p = record { pages = content p; failed = failed p; most = most p }
+-- a pager, by the four ghost members of its trait
+abbrev pub pager_seen : {P : Type 0} → (P → List (List ℕ)) → (P → ℕ) → (P → ℕ) → (P → List SideCalls) → P → PagerView
+pager_seen content failed most calls p = record { pages = content p; failed = failed p; most = most p; calls = calls p }
 
 -- one slot holds some unknown page, the other slots are unchanged
 abbrev pub SlotUnknown : ℕ → List (List ℕ) → List (List ℕ) → Type 0

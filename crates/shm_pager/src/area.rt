@@ -1,9 +1,11 @@
 //! A swap area of any kind, as one type.
-ghost use Rattle.std.specs.Prelude.{◌≡◌, ◌<◌, ◌≤◌, [], IfOk, get_or, length, replicate, set};
+ghost use Rattle.std.specs.Prelude.{◌≡◌, ◌<◌, ◌≤◌, [], IfOk, OnErr, OnOk, get_or, length, replicate, set, true};
 ghost use Rattle.shm_base.specs.Page.{zero_page};
-ghost use Rattle.shm_pager.specs.Areas.{area_pages, failed_in, most_in, calls_of, fails_at, IsOfKind, ReadsOnce, WritesOnce};
-ghost use Rattle.shm_pager.specs.Pages.{last_count, CountsErr, KeepsMost, SlotUnknown};
+ghost use Rattle.shm_pager.specs.Areas.{area_pages, failed_in, most_in, calls_in, calls_of, fails_at, IsOfKind, ReadsOnce, WritesOnce};
+ghost use Rattle.shm_pager.specs.Failing.{FailsLater, IsRefusedFailure, area_will_fail, area_with_bad_slot, calls_failing, endless, is_mirror, is_to_come};
+ghost use Rattle.shm_pager.specs.Pages.{last_count, pager_seen, CountsErr, KeepsMost, SlotUnknown};
 
+use crate::failing::{ComingFailure, FailPager, FailRefused};
 use crate::fuse::FusePager;
 use crate::mirror::MirrorPager;
 use crate::pager::{ClonePager, Pager, PagerFault};
@@ -93,6 +95,8 @@ impl Pager for AreaPager {
 
     ghost most = { most_in };
 
+    ghost calls = { calls_in };
+
     fn slots(&self) -> u32 {
         match self {
             AreaPager::Ram(pager) => pager.slots(),
@@ -156,6 +160,41 @@ impl Pager for AreaPager {
             AreaPager::Ram(pager) => pager.wipe(),
             AreaPager::Sparse(pager) => pager.wipe(),
             AreaPager::Mirror(pager) => pager.wipe(),
+        }
+    }
+}
+
+impl FailPager for AreaPager {
+    ghost has_right = { is_mirror };
+
+    fn fail(&mut self, failure: &ComingFailure) -> Result<(), FailRefused>
+        ensures ok { let view = pager_seen area_pages failed_in most_in calls_in in
+            OnOk result (FailsLater failure.now (view self.old) (view self.new)) }
+        ensures exact { OnOk result (self.new ≡ area_will_fail failure.now self.old) }
+        ensures calls { OnOk result
+            (calls_in self.new ≡ calls_failing failure.now (calls_in self.old)) }
+        ensures granted { OnOk result (is_to_come (is_mirror self.old) failure.now ≡ true) }
+        ensures err { OnErr result (self.new ≡ self.old) }
+        ensures cause { IsRefusedFailure (is_mirror self.old) failure.now result }
+    {
+        match self {
+            AreaPager::Ram(pager) => pager.fail(failure),
+            AreaPager::Sparse(pager) => pager.fail(failure),
+            AreaPager::Mirror(pager) => pager.fail(failure),
+        }
+    }
+
+    fn fail_slot(&mut self, slot: u32) -> Result<(), HostMemory>
+        requires { slot < length (area_pages self.old) }
+        ensures ok { let view = pager_seen area_pages failed_in most_in calls_in in
+            OnOk result (view self.new ≡ endless slot (view self.old)) }
+        ensures exact { OnOk result (self.new ≡ area_with_bad_slot slot self.old) }
+        ensures err { OnErr result (self.new ≡ self.old) }
+    {
+        match self {
+            AreaPager::Ram(pager) => pager.fail_slot(slot),
+            AreaPager::Sparse(pager) => pager.fail_slot(slot),
+            AreaPager::Mirror(pager) => pager.fail_slot(slot),
         }
     }
 }

@@ -1,8 +1,13 @@
 //! Two pagers that hold the same pages.
-ghost use Rattle.std.specs.Prelude.{◌≡◌, ◌≢◌, ◌<◌, ◌==◌, length, set, replicate, if◌then◌else◌, IfOk, IfErr, IsErr};
-ghost use Rattle.shm_pager.specs.Pages.{last_count};
-ghost use Rattle.shm_pager.specs.Mirror.{mirror_of, mirror_seen, left_alone, both_sides, pages_shown, ReadsMirror, WritesMirror, DiscardsMirror, WipesMirror};
+ghost use Rattle.std.specs.Prelude.{◌≡◌, ◌≢◌, ◌<◌, ◌==◌, length, set, replicate, if◌then◌else◌, true, IfOk, IfErr, IsErr, OnErr, OnOk};
+ghost use Rattle.shm_pager.specs.Areas.{both_calls, mirror_pages};
+ghost use Rattle.shm_pager.specs.Failing.{FailsLater, IsRefusedFailure, calls_failing, endless, is_to_come, side_will_fail, with_bad_sides};
+ghost use Rattle.shm_pager.specs.Fuse.{FuseView};
+ghost use Rattle.shm_pager.specs.Pages.{last_count, pager_seen};
+ghost use Rattle.shm_pager.specs.Mirror.{MirrorView, mirror_of, mirror_seen, mirror_calls, left_alone, both_sides, pages_shown, ReadsMirror, WritesMirror, DiscardsMirror, WipesMirror};
 
+use crate::failing::{ComingFailure, FailPager, FailRefused, Side};
+use crate::fuse::FusePager;
 use crate::pager::{ClonePager, Pager, PagerFault, read_if, try_write};
 use shm_base::{HostMemory, PAGE_BYTES};
 use std::alloc::{AllocError, Global};
@@ -52,7 +57,7 @@ impl<L: Pager, R: Pager> Model for MirrorPager<L, R> {
 
     ghost view = { λ m. mirror_of m.left m.right m.good.items m.failed };
 
-    ghost invariant = { λ m. let seen = mirror_seen L.content L.failed L.most R.content R.failed R.most in
+    ghost invariant = { λ m. let seen = mirror_seen L.content L.failed L.most L.calls R.content R.failed R.most R.calls in
         IsMirror (seen (mirror_of m.left m.right m.good.items m.failed)) };
 }
 
@@ -121,12 +126,14 @@ impl<L: Pager, R: Pager> MirrorPager<L, R> {
 
 #[tactic(auto, using(crate::proofs::Merged::merging))]
 impl<L: Pager, R: Pager> Pager for MirrorPager<L, R> {
-    ghost content = { λ m. pages_shown (mirror_seen L.content L.failed L.most R.content R.failed R.most m) };
+    ghost content = { λ m. pages_shown (mirror_seen L.content L.failed L.most L.calls R.content R.failed R.most R.calls m) };
 
     ghost failed = { λ m. m.failed };
 
     /// A slot that no side is good for is unreadable, as often as it is read.
     ghost most = { λ _. last_count };
+
+    ghost calls = { λ m. mirror_calls (mirror_seen L.content L.failed L.most L.calls R.content R.failed R.most R.calls m) };
 
     fn slots(&self) -> u32 {
         self.left.slots()
@@ -137,10 +144,10 @@ impl<L: Pager, R: Pager> Pager for MirrorPager<L, R> {
     }
 
     fn write(&mut self, slot: u32, page: &[u8; PAGE_BYTES]) -> Result<(), PagerFault>
-        requires there { let seen = mirror_seen L.content L.failed L.most R.content R.failed R.most in
+        requires there { let seen = mirror_seen L.content L.failed L.most L.calls R.content R.failed R.most R.calls in
             slot < length (pages_shown (seen self.old)) }
         requires countable { self.old.failed < last_count }
-        ensures { let seen = mirror_seen L.content L.failed L.most R.content R.failed R.most in
+        ensures { let seen = mirror_seen L.content L.failed L.most L.calls R.content R.failed R.most R.calls in
             WritesMirror slot page.now (seen self.old) (seen self.new) result }
     {
         let left = try_write(&mut self.left, slot, page).is_ok();
@@ -155,10 +162,10 @@ impl<L: Pager, R: Pager> Pager for MirrorPager<L, R> {
 
     /// Does not call a side that is not good for the slot, nor the right side if the left one succeeds.
     fn read(&mut self, slot: u32, page: &mut [u8; PAGE_BYTES]) -> Result<(), PagerFault>
-        requires there { let seen = mirror_seen L.content L.failed L.most R.content R.failed R.most in
+        requires there { let seen = mirror_seen L.content L.failed L.most L.calls R.content R.failed R.most R.calls in
             slot < length (pages_shown (seen self.old)) }
         requires countable { self.old.failed < last_count }
-        ensures { let seen = mirror_seen L.content L.failed L.most R.content R.failed R.most in
+        ensures { let seen = mirror_seen L.content L.failed L.most L.calls R.content R.failed R.most R.calls in
             ReadsMirror slot page.new (seen self.old) (seen self.new) result }
     {
         let good = self.good[slot as usize];
@@ -173,9 +180,9 @@ impl<L: Pager, R: Pager> Pager for MirrorPager<L, R> {
     }
 
     fn discard(&mut self, slot: u32)
-        requires { let seen = mirror_seen L.content L.failed L.most R.content R.failed R.most in
+        requires { let seen = mirror_seen L.content L.failed L.most L.calls R.content R.failed R.most R.calls in
             slot < length (pages_shown (seen self.old)) }
-        ensures { let seen = mirror_seen L.content L.failed L.most R.content R.failed R.most in
+        ensures { let seen = mirror_seen L.content L.failed L.most L.calls R.content R.failed R.most R.calls in
             DiscardsMirror slot (seen self.old) (seen self.new) }
     {
         self.left.discard(slot);
@@ -188,12 +195,55 @@ impl<L: Pager, R: Pager> Pager for MirrorPager<L, R> {
 
     /// Afterwards both sides are good for each slot.
     fn wipe(&mut self)
-        ensures { let seen = mirror_seen L.content L.failed L.most R.content R.failed R.most in
+        ensures { let seen = mirror_seen L.content L.failed L.most L.calls R.content R.failed R.most R.calls in
             WipesMirror (seen self.old) (seen self.new) }
     {
         self.left.wipe();
         self.right.wipe();
         mark_both(&mut self.good);
+    }
+}
+
+impl<P: Pager, Q: Pager> FailPager for MirrorPager<FusePager<P>, FusePager<Q>> {
+    ghost has_right = { λ _. true };
+
+    fn fail(&mut self, failure: &ComingFailure) -> Result<(), FailRefused>
+        ensures ok { let view = pager_seen mirror_pages (λ (m : MirrorView FuseView FuseView). m.failed)
+            (λ (_ : MirrorView FuseView FuseView). last_count) both_calls in
+            OnOk result (FailsLater failure.now (view self.old) (view self.new)) }
+        ensures exact { OnOk result (self.new ≡ side_will_fail failure.now self.old) }
+        ensures calls { OnOk result
+            (both_calls self.new ≡ calls_failing failure.now (both_calls self.old)) }
+        ensures granted { OnOk result (is_to_come true failure.now ≡ true) }
+        ensures err { OnErr result (self.new ≡ self.old) }
+        ensures cause { IsRefusedFailure true failure.now result }
+    {
+        if !failure.is_to_come(true) {
+            return Err(FailRefused::NotThere);
+        }
+        let listed = match failure.side {
+            Side::Left => self.left.list_failure(failure),
+            Side::Right => self.right.list_failure(failure),
+        };
+        match listed {
+            Ok(()) => Ok(()),
+            Err(_) => Err(FailRefused::HostMemory),
+        }
+    }
+
+    fn fail_slot(&mut self, slot: u32) -> Result<(), HostMemory>
+        requires { slot < length (mirror_pages self.old) }
+        ensures ok { let view = pager_seen mirror_pages (λ (m : MirrorView FuseView FuseView). m.failed)
+            (λ (_ : MirrorView FuseView FuseView). last_count) both_calls in
+            OnOk result (view self.new ≡ endless slot (view self.old)) }
+        ensures exact { OnOk result (self.new ≡ with_bad_sides slot self.old) }
+        ensures err { OnErr result (self.new ≡ self.old) }
+    {
+        let left = self.left.bad_slots_with(slot)?;
+        let right = self.right.bad_slots_with(slot)?;
+        self.left.set_bad_slots(left);
+        self.right.set_bad_slots(right);
+        Ok(())
     }
 }
 

@@ -2,7 +2,7 @@
 //! the ways named here can not.
 ghost use Rattle.std.specs.Prelude.{◌≡◌, ℕ, ◌<◌, ◌≤◌, ◌&&◌, true, false, List, [], length, set, get_or, replicate, is_ok, IfOk};
 ghost use Rattle.shm_base.specs.Page.{zero_page};
-ghost use Rattle.shm_pager.specs.Pages.{last_count, pager_seen, served, SlotUnknown, CountsErr, KeepsMost, TriesWrite, TriesRead};
+ghost use Rattle.shm_pager.specs.Pages.{SideCalls, last_count, pager_seen, served, SlotUnknown, CountsErr, KeepsMost, TriesWrite, TriesRead};
 
 use shm_base::{HostMemory, PAGE_BYTES};
 use thiserror::Error;
@@ -22,6 +22,10 @@ pub trait Pager: Drop {
 
     /// The most reads and writes that will ever have failed; `u64::MAX` if no lower bound is known.
     ghost most: { Self → ℕ };
+
+    /// The calls of each side that fails at chosen ones: how many there were, and which ones fail. A pager that
+    /// does not fail at chosen calls has none.
+    ghost calls: { Self → List SideCalls };
 
     /// How many slots there are. No call changes it.
     fn slots(&self) -> u32
@@ -58,13 +62,15 @@ pub trait Pager: Drop {
         requires { slot < length (content self.old) }
         ensures content { SlotUnknown slot (content self.old) (content self.new) }
         ensures failed { failed self.new ≡ failed self.old }
-        ensures most { most self.new ≡ most self.old };
+        ensures most { most self.new ≡ most self.old }
+        ensures calls { calls self.new ≡ calls self.old };
 
     /// Fills each slot with zeros.
     fn wipe(&mut self)
         ensures content { content self.new ≡ replicate (length (content self.old)) zero_page }
         ensures failed { failed self.new ≡ failed self.old }
-        ensures most { most self.new ≡ most self.old };
+        ensures most { most self.new ≡ most self.old }
+        ensures calls { calls self.new ≡ calls self.old };
 }
 
 /// A pager that can be copied. Afterwards the copy and the original are independent.
@@ -84,9 +90,9 @@ pub fn try_write<P: Pager>(
     page: &[u8; PAGE_BYTES],
 ) -> Result<(), PagerFault>
     requires { slot < length (P.content pager.old) }
-    ensures pager { let view = pager_seen P.content P.failed P.most in
+    ensures pager { let view = pager_seen P.content P.failed P.most P.calls in
         TriesWrite slot page.now (view pager.old) (view pager.new) }
-    ensures ok { let view = pager_seen P.content P.failed P.most in
+    ensures ok { let view = pager_seen P.content P.failed P.most P.calls in
         is_ok result ≡ served (view pager.old) (view pager.new) }
 {
     if pager.failures() == u64::MAX {
@@ -103,9 +109,9 @@ pub fn try_read<P: Pager>(
     page: &mut [u8; PAGE_BYTES],
 ) -> Result<(), PagerFault>
     requires { slot < length (P.content pager.old) }
-    ensures pager { let view = pager_seen P.content P.failed P.most in
+    ensures pager { let view = pager_seen P.content P.failed P.most P.calls in
         TriesRead (view pager.old) (view pager.new) }
-    ensures ok { let view = pager_seen P.content P.failed P.most in
+    ensures ok { let view = pager_seen P.content P.failed P.most P.calls in
         is_ok result ≡ served (view pager.old) (view pager.new) }
     ensures page { IfOk result (λ _. get_or (P.content pager.old) slot [] ≡ page.new) }
 {
@@ -123,11 +129,11 @@ pub(crate) fn read_if<P: Pager>(
     page: &mut [u8; PAGE_BYTES],
 ) -> bool
     requires { slot < length (P.content pager.old) }
-    ensures asked { let view = pager_seen P.content P.failed P.most in
+    ensures asked { let view = pager_seen P.content P.failed P.most P.calls in
         asked ≡ true → TriesRead (view pager.old) (view pager.new) }
     ensures unasked { asked ≡ false → pager.new ≡ pager.old }
     ensures content { P.content pager.new ≡ P.content pager.old }
-    ensures served { let view = pager_seen P.content P.failed P.most in
+    ensures served { let view = pager_seen P.content P.failed P.most P.calls in
         result ≡ (asked && served (view pager.old) (view pager.new)) }
     ensures page { result ≡ true → get_or (P.content pager.old) slot [] ≡ page.new }
 {
@@ -144,6 +150,8 @@ impl Pager for AnyPager {
     ghost failed = { λ b. (Pager-box b).failed b.value };
 
     ghost most = { λ b. (Pager-box b).most b.value };
+
+    ghost calls = { λ b. (Pager-box b).calls b.value };
 
     fn slots(&self) -> u32 {
         (**self).slots()

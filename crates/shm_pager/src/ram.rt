@@ -49,6 +49,8 @@ impl Pager for RamPager {
 
     ghost most = { λ _. 0 };
 
+    ghost calls = { λ _. [] };
+
     fn slots(&self) -> u32 {
         self.pages.len() as u32
     }

@@ -178,6 +178,8 @@ impl Pager for SparsePager {
     /// A write may fail as often as the host refuses memory.
     ghost most = { λ _. last_count };
 
+    ghost calls = { λ _. [] };
+
     fn slots(&self) -> u32 {
         self.slots
     }

@@ -1,5 +1,7 @@
 //! What no contract says: which side of a mirrored area a failing call belongs to, and what a discard does
 //! inside a fuse.
+ghost use Rattle.std.specs.Prelude.{[]};
+
 use crate::{
     AreaKind, AreaPager, Failing, FusePager, Pager, PagerFault, RamPager, try_read, try_write,
 };
@@ -23,6 +25,8 @@ impl Pager for CountedPager {
     ghost failed = { λ p. p.failures };
 
     ghost most = { λ p. p.failures };
+
+    ghost calls = { λ _. [] };
 
     fn slots(&self) -> u32 {
         self.inner.slots()

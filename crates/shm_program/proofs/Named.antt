@@ -2,29 +2,29 @@
 use Rattle.std.proofs.Common.{◌≡◌, ◌<◌, ◌≤◌, ℕ, true, List, [], ◌∷◌, map, refl, ap, ◌∙◌, arith}
 use Rattle.std.proofs.lemmas.Grind.{common_steps}
 use Rattle.std.specs.List.{AllZip}
-use Rattle.shm_pager.specs.Pages.{blank, last_count, pager_seen}
-use Rattle.shm_pager.specs.Areas.{area_pages, failed_in, most_in}
+use Rattle.shm_pager.specs.Pages.{last_count, pager_seen}
+use Rattle.shm_pager.specs.Areas.{area_pages, failed_in, most_in, calls_in}
 use Rattle.shm_pager.specs.declared.area.AreaPager.{AreaPager}
 use Rattle.shm_pager.proofs.Made.{made-seen}
 use Rattle.shm_slots.specs.Cause.{most_total}
 use Rattle.shm_slots.specs.View.{AreaView, are_finite, fresh, new_swap}
-use Rattle.shm_program.specs.Areas.{IsAreaOf, areas_named, calls_of, kind_of, most_of, no_calls, size_of}
+use Rattle.shm_program.specs.Areas.{IsAreaOf, areas_named, blank_of, calls_of, kind_of, most_of, no_calls, size_of}
 use Rattle.shm_program.specs.Runs.{handed_in}
 use Rattle.shm_program.specs.declared.options.SwapWord.{SwapWord}
 use Rattle.shm_program.specs.declared.options.SwapWord.TheVariants.{Ram, FuseRead, FuseWrite}
 
 each-named : (swaps : List SwapWord) (ps : List AreaPager) → AllZip IsAreaOf swaps ps
-    → map (λ (p : AreaPager). fresh (pager_seen area_pages failed_in most_in p)) ps ≡ map (λ (swap : SwapWord). fresh (blank (size_of swap) (most_of swap))) swaps
+    → map (λ (p : AreaPager). fresh (pager_seen area_pages failed_in most_in calls_in p)) ps ≡ map (λ (swap : SwapWord). fresh (blank_of swap)) swaps
 each-named [] [] all = refl
 each-named [] (p ∷ ps) all = absurd all
 each-named (w ∷ ws) [] all = absurd all
 each-named (w ∷ ws) (p ∷ ps) all =
-    let first : fresh (pager_seen area_pages failed_in most_in p) ≡ fresh (blank (size_of w) (most_of w)) = ap fresh (made-seen (kind_of w) (size_of w) (calls_of w) no_calls p all.0.0) in
-    ap (λ (a : AreaView). a ∷ map (λ (q : AreaPager). fresh (pager_seen area_pages failed_in most_in q)) ps) first
-    ∙ ap (λ (areas : List AreaView). fresh (blank (size_of w) (most_of w)) ∷ areas) (each-named ws ps all.1)
+    let first : fresh (pager_seen area_pages failed_in most_in calls_in p) ≡ fresh (blank_of w) = ap fresh (made-seen (kind_of w) (size_of w) (calls_of w) no_calls p all.0.0) in
+    ap (λ (a : AreaView). a ∷ map (λ (q : AreaPager). fresh (pager_seen area_pages failed_in most_in calls_in q)) ps) first
+    ∙ ap (λ (areas : List AreaView). fresh (blank_of w) ∷ areas) (each-named ws ps all.1)
 
 -- the areas of these words
-pub named : (swaps : List SwapWord) (ps : List AreaPager) → AllZip IsAreaOf swaps ps → handed_in area_pages failed_in most_in ps ≡ areas_named swaps
+pub named : (swaps : List SwapWord) (ps : List AreaPager) → AllZip IsAreaOf swaps ps → handed_in area_pages failed_in most_in calls_in ps ≡ areas_named swaps
 named swaps ps all = ap new_swap (each-named swaps ps all)
 
 -- a ram area counts no failure

@@ -1,7 +1,7 @@
 -- The pager that is made for each word for a swap area.
 use Rattle.std.specs.Prelude.{◌≡◌, ℕ, List, [], ◌∷◌, map}
-use Rattle.shm_pager.specs.Pages.{blank}
-use Rattle.shm_pager.specs.Areas.{FailingCalls, IsOfKind, failed_in, most_of_kind}
+use Rattle.shm_pager.specs.Pages.{PagerView, blank}
+use Rattle.shm_pager.specs.Areas.{FailingCalls, IsOfKind, failed_in, calls_of_kind, most_of_kind}
 use Rattle.shm_pager.specs.declared.area.AreaKind.{AreaKind}
 use Rattle.shm_pager.specs.declared.area.AreaKind.TheVariants as kinds
 use Rattle.shm_pager.specs.declared.area.AreaPager.{AreaPager}
@@ -49,6 +49,10 @@ IsAreaOf swap p = IsOfKind (kind_of swap) (size_of swap) (calls_of swap) no_call
 abbrev pub most_of : SwapWord → ℕ
 most_of swap = most_of_kind (kind_of swap) (calls_of swap)
 
+-- its new pager as it is seen
+abbrev pub blank_of : SwapWord → PagerView
+blank_of swap = blank (size_of swap) (most_of swap) (calls_of_kind (kind_of swap) (calls_of swap) no_calls)
+
 -- the swap areas that the words name, as they are passed in
 abbrev pub areas_named : List SwapWord → SwapView
-areas_named swaps = new_swap (map (λ (swap : SwapWord). fresh (blank (size_of swap) (most_of swap))) swaps)
+areas_named swaps = new_swap (map (λ (swap : SwapWord). fresh (blank_of swap)) swaps)

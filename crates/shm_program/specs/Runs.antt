@@ -2,7 +2,7 @@
 use Rattle.std.specs.Prelude.{◌≡◌, ◌<◌, ℕ, Bool, true, false, List, length, map, take, Option, Some, None, Result, Ok, Err}
 use Rattle.std.specs.Io.KnownBytes.{Appends, Keeps}
 use Rattle.shm_base.specs.State.{Opening}
-use Rattle.shm_pager.specs.Pages.{pager_seen}
+use Rattle.shm_pager.specs.Pages.{SideCalls, pager_seen}
 use Rattle.shm_slots.specs.View.{SwapView, fresh, new_swap}
 use Rattle.shm_fault.specs.Store.{StoreView, fresh_store}
 use Rattle.shm_life.specs.declared.start.StartError.{StartError}
@@ -23,8 +23,8 @@ pub record IsOpening (script : ScriptView) (opening : Opening) : Type 0 where
   pub is : opening ≡ opening_of script opening.areas
 
 -- the swap areas when these pagers are passed in
-abbrev pub handed_in : {P : Type 0} → (P → List (List ℕ)) → (P → ℕ) → (P → ℕ) → List P → SwapView
-handed_in content failed most pagers = new_swap (map (λ p. fresh (pager_seen content failed most p)) pagers)
+abbrev pub handed_in : {P : Type 0} → (P → List (List ℕ)) → (P → ℕ) → (P → ℕ) → (P → List SideCalls) → List P → SwapView
+handed_in content failed most calls pagers = new_swap (map (λ p. fresh (pager_seen content failed most calls p)) pagers)
 
 -- the memory when a world opens over swap areas: no segments, and the areas as they were passed in
 abbrev pub IsFresh : SwapView → StoreView → Type 0

@@ -1,7 +1,7 @@
 //! The pagers of the swap areas that the command line names.
 ghost use Rattle.std.specs.Prelude.{◌≡◌, IfOk};
 ghost use Rattle.std.specs.List.{AllZip};
-ghost use Rattle.shm_pager.specs.Areas.{area_pages, failed_in, most_in};
+ghost use Rattle.shm_pager.specs.Areas.{area_pages, failed_in, most_in, calls_in};
 ghost use Rattle.shm_program.specs.Areas.{kind_of, size_of, reads_of, writes_of, IsAreaOf, areas_named};
 ghost use Rattle.shm_program.specs.Runs.{handed_in};
 
@@ -68,7 +68,7 @@ fn area_of(alloc: Global, swap: SwapWord) -> Result<AreaPager, HostMemory>
 pub fn areas_of(alloc: Global, swaps: &[SwapWord]) -> Result<Vec<AreaPager>, HostMemory>
     ensures each { IfOk result (λ pagers. AllZip IsAreaOf swaps.now pagers.items) }
     ensures seen { IfOk result (λ pagers.
-        handed_in area_pages failed_in most_in pagers.items ≡ areas_named swaps.now) }
+        handed_in area_pages failed_in most_in calls_in pagers.items ≡ areas_named swaps.now) }
 {
     let mut pagers = Vec::new(alloc);
     for swap in swaps {

@@ -19,7 +19,7 @@ pub fn open_world<P: Pager>(
     ensures opened { IfOk result (λ w. IsOpening script.now w.opening) }
     ensures areas { IfOk result (λ w. w.opening.areas ≡ map (λ p. length (P.content p)) pagers.items) }
     ensures events { IfOk result (λ w. w.events ≡ []) }
-    ensures memory { IfOk result (λ w. IsFresh (handed_in P.content P.failed P.most pagers.items) w.memory) }
+    ensures memory { IfOk result (λ w. IsFresh (handed_in P.content P.failed P.most P.calls pagers.items) w.memory) }
     ensures err { IfErr result
         (λ f. IsStop f
         (start_error script.now.limits (map (λ p. length (P.content p)) pagers.items) script.now.processes)) }

@@ -30,14 +30,14 @@ pub fn run_serial<R: Read, W: Write, P: Pager>(
     writer: &mut W,
     pagers: Vec<P>,
 ) -> Result<(), RunFault>
-    ensures ok { let text = IsOutput P.failed (handed_in P.content P.failed P.most pagers.items) in
+    ensures ok { let text = IsOutput P.failed (handed_in P.content P.failed P.most P.calls pagers.items) in
         let areas = map (λ p. length (P.content p)) pagers.items in
         OnOk result (Prints text (W.contents writer.old) (W.contents writer.new) areas (R.remaining reader.old)) }
     ensures whole { OnOk result (IsAtEnd (R.remaining reader.new)) }
     ensures cause { let areas = map (λ p. length (P.content p)) pagers.items in
         IfErr result (λ f. IsCause f areas (R.remaining reader.old)) }
     ensures serial { IfErr result (λ f. is_serial f ≡ true) }
-    ensures silent { let output = IsOutput P.failed (handed_in P.content P.failed P.most pagers.items) in
+    ensures silent { let output = IsOutput P.failed (handed_in P.content P.failed P.most P.calls pagers.items) in
         let text = IsTextFor output (map (λ p. length (P.content p)) pagers.items) (R.remaining reader.old) in
         IfErr result (λ f. IsSilent text f (W.contents writer.old) (W.contents writer.new)) }
 {
@@ -54,12 +54,12 @@ fn run_script<W: Write, P: Pager>(
     script: Script,
     pagers: Vec<P>,
 ) -> Result<(), RunFault>
-    ensures ok { let text = IsOutput P.failed (handed_in P.content P.failed P.most pagers.items) in
+    ensures ok { let text = IsOutput P.failed (handed_in P.content P.failed P.most P.calls pagers.items) in
         let areas = map (λ p. length (P.content p)) pagers.items in
         OnOk result (IsWritten (text script areas) (W.contents writer.old) (W.contents writer.new)) }
     ensures cause { IfErr result (λ f. IsCauseIn f (map (λ p. length (P.content p)) pagers.items) script) }
     ensures serial { IfErr result (λ f. is_serial f ≡ true) }
-    ensures silent { let text = IsOutput P.failed (handed_in P.content P.failed P.most pagers.items) script in
+    ensures silent { let text = IsOutput P.failed (handed_in P.content P.failed P.most P.calls pagers.items) script in
         let is = text (map (λ p. length (P.content p)) pagers.items) in
         IfErr result (λ f. IsSilent is f (W.contents writer.old) (W.contents writer.new)) }
 {

@@ -36,7 +36,7 @@ pub fn run_threaded<T: Threads + Wait + Sync, R: Read, W: Write, P: Pager + Send
     writer: &mut W,
     pagers: Vec<P>,
 ) -> Result<(), RunFault>
-    ensures { let swap = handed_in P.content P.failed P.most pagers.items in
+    ensures { let swap = handed_in P.content P.failed P.most P.calls pagers.items in
         let ended = IsThreadedRun P.failed swap result (R.remaining reader.old) (R.remaining reader.new) in
         ended (W.contents writer.old) (W.contents writer.new) (map (λ p. length (P.content p)) pagers.items) }
 {
@@ -54,14 +54,14 @@ fn run_script<T: Threads + Wait + Sync, W: Write, P: Pager + Send>(
     script: &Script,
     pagers: Vec<P>,
 ) -> Result<(), RunFault>
-    ensures ok { let swap = handed_in P.content P.failed P.most pagers.items in
+    ensures ok { let swap = handed_in P.content P.failed P.most P.calls pagers.items in
         let text = IsThreadedOutput P.failed swap false script.now in
         let areas = map (λ p. length (P.content p)) pagers.items in
         OnOk result (IsWritten (text areas) (W.contents writer.old) (W.contents writer.new)) }
     ensures cause { IfErr result
         (λ f. IsCauseIn f (map (λ p. length (P.content p)) pagers.items) script.now) }
     ensures ended { IfErr result CanFail }
-    ensures written { let swap = handed_in P.content P.failed P.most pagers.items in
+    ensures written { let swap = handed_in P.content P.failed P.most P.calls pagers.items in
         let text = IsThreadedOutput P.failed swap true script.now in
         let areas = map (λ p. length (P.content p)) pagers.items in
         let marked = IsWritten (text areas) (W.contents writer.old) (W.contents writer.new) in

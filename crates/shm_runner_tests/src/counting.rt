@@ -1,5 +1,5 @@
 //! Swap areas whose pagers count their calls.
-ghost use Rattle.shm_pager.specs.Areas.{area_pages, failed_in, most_in};
+ghost use Rattle.shm_pager.specs.Areas.{area_pages, failed_in, most_in, calls_in};
 
 use shm_pager::{AreaPager, Pager, PagerFault};
 use std::alloc::{AllocError, Global};
@@ -66,6 +66,8 @@ impl Pager for AskedPager {
     ghost failed = { λ p. failed_in p.inner };
 
     ghost most = { λ p. most_in p.inner };
+
+    ghost calls = { λ p. calls_in p.inner };
 
     fn slots(&self) -> u32 {
         self.inner.slots()

@@ -5,6 +5,7 @@
 #![tactic(auto)]
 
 mod copying;
+mod failing;
 mod head;
 mod loans;
 mod memory;

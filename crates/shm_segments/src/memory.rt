@@ -1,11 +1,13 @@
 //! The bytes of the segments, and the pages that have them.
-ghost use Rattle.std.specs.Prelude.{◌≡◌, ◌≤◌, ◌+◌, length, true, false};
+ghost use Rattle.std.specs.Prelude.{◌≡◌, ◌<◌, ◌≤◌, ◌+◌, length, true, false, OnErr, OnOk};
 ghost use Rattle.shm_base.specs.Access.{loaded};
 ghost use Rattle.shm_base.specs.Segments.{reserved};
 ghost use Rattle.shm_base.specs.Spans.{span_places};
 ghost use Rattle.shm_fault.specs.Allowed.{IsAccess};
-ghost use Rattle.shm_slots.specs.View.{swap_slots, sizes, area_at};
-ghost use Rattle.shm_fault.specs.Store.{Still};
+ghost use Rattle.shm_base.specs.declared.bounds.TheConstants.{MOST_AREAS};
+ghost use Rattle.shm_pager.specs.Pages.{pager_seen};
+ghost use Rattle.shm_slots.specs.View.{IsAreaSize, area_at, fresh, sizes, swap_slots, with_new};
+ghost use Rattle.shm_fault.specs.Store.{Still, held};
 ghost use Rattle.shm_fault.specs.Access.{NameFrames, IsUntouched, answer_of};
 ghost use Rattle.shm_fault.specs.Acting.{FitsRoom, put_by, size_of};
 ghost use Rattle.shm_segments.specs.Acted.{Acted};
@@ -15,9 +17,10 @@ ghost use Rattle.shm_segments.specs.Table.{SpanFits};
 ghost use Rattle.shm_segments.specs.View.{IsTableExact, KeepsMemory};
 
 use crate::segments::Segments;
-use shm_base::{FlushReport, Span};
+use shm_base::{FlushReport, HostMemory, Span};
 use shm_fault::{Act, PageStore, PagerFailed, Touched};
 use shm_pager::{Pager, PagerFault};
+use std::alloc::Global;
 
 impl<P: Pager> Segments<P> {
     /// The store of the pages.
@@ -72,5 +75,20 @@ impl<P: Pager> Segments<P> {
         ensures keeps { KeepsMemory self.old.memory self.new.memory }
     {
         self.store.move_off(area)
+    }
+
+    /// One more swap area, with the next number; none of its slots is owned. No byte changes, and no page moves.
+    /// HostMemory: the host refused memory, and nothing changed.
+    pub fn add_area(&mut self, alloc: Global, pager: P) -> Result<(), HostMemory>
+        requires few { length self.old.memory.swap.areas < MOST_AREAS }
+        requires size { IsAreaSize (length (P.content pager)) }
+        ensures memory { let area = fresh (pager_seen P.content P.failed P.most P.calls pager) in
+            OnOk result (self.new.memory
+            ≡ record self.old.memory { swap = with_new self.old.memory.swap area }) }
+        ensures table { self.new.table ≡ self.old.table }
+        ensures held { held self.new.memory ≡ held self.old.memory }
+        ensures err { OnErr result (self.new ≡ self.old) }
+    {
+        self.store.add_area(alloc, pager)
     }
 }

@@ -1,13 +1,14 @@
 -- A swap with one area changed.
-use Rattle.std.proofs.Common.{◌≡◌, ℕ, zero, suc, ◌<◌, ◌≤◌, Bool, true, false, not, ◌&&◌, ◌||◌, List, [], ◌∷◌, ◌++◌, Option, None, length, get_or, set, map, sum_by, refl, sym, ap, ◌∙◌, inl, inr, arith, get_or-set_same}
+use Rattle.std.proofs.Common.{◌≡◌, ℕ, zero, suc, ◌<◌, ◌≤◌, Bool, true, false, not, ◌&&◌, ◌||◌, List, [], ◌∷◌, ◌++◌, Option, None, length, get_or, set, map, sum_by, refl, sym, ap, ◌∙◌, inl, inr, arith, get_or-set_same, length-append}
 use Rattle.std.specs.Prelude.{Result, IfErr, OnErr}
 use Rattle.std.specs.List.{list_any}
 use Rattle.std.proofs.lemmas.Result.{IfErr-weaker}
 use Rattle.std.proofs.lemmas.List.{set_past, get_or_default, get_or_read, map-set, set-get_or}
 use Rattle.std.proofs.lemmas.Grind.{common_steps}
 use Rattle.shm_base.specs.declared.paging.PageRef.{PageRef}
+use Rattle.shm_pager.specs.Pages.{SideCalls}
 use Rattle.shm_base.specs.declared.bounds.TheConstants.{MOST_AREAS}
-use Rattle.shm_slots.specs.View.{AreaView, SwapView, area_at, no_area, is_spent, size_of, sizes, with_area, with_page, with_owner, off, HasSlot, CountedFault, IsArea, IsSwap, SameSlots}
+use Rattle.shm_slots.specs.View.{AreaView, SwapView, area_at, no_area, is_spent, size_of, sizes, with_area, with_calls, with_calls_at, with_new, with_page, with_owner, off, HasSlot, CountedFault, IsArea, IsSwap, SameSlots}
 use Rattle.shm_slots.specs.Cause.{some_spent, total, had_cause, GoesOn, IsSteady}
 
 -- the areas with one of them changed
@@ -53,6 +54,12 @@ flag-push (x ∷ xs) a = grind (arith, common_steps, (flag-push xs a))
 pub IsSwap-new : (xs : List AreaView) (flag : Bool) → length xs ≤ MOST_AREAS → ((k : ℕ) → IsArea (get_or xs k no_area)) → flag ≡ not (list_any is_spent xs) → IsSwap (record { areas = xs; never_spent = flag })
 IsSwap-new xs flag few each is = grind (arith, common_steps)
 
+-- a swap with one more area
+pub IsSwap-more : (s : SwapView) (a : AreaView) → IsSwap s → IsArea a → length s.areas < MOST_AREAS → IsSwap (with_new s a)
+IsSwap-more s a is area few =
+    let size = length-append s.areas (a ∷ []) in
+    IsSwap-new (s.areas ++ a ∷ []) (s.never_spent && not (is_spent a)) (omega (arith, size, few)) (areas-push s.areas a is.each area) (rw is.unspent (sym (flag-push s.areas a)))
+
 -- a function of each area that is the same for the changed one
 map-changed : {B : Type 0} (f : AreaView → B) (xs : List AreaView) (i : ℕ) (was a : AreaView) → was ≡ get_or xs i was → f a ≡ f was → map f (set xs i a) ≡ map f xs
 map-changed f [] i was a found same = refl
@@ -90,16 +97,17 @@ pub record Asked {A E : Type 0} (r : Result A E) (s : SwapView) (i : ℕ) (was a
   pub same_sizes : sizes (asked_of s i a) ≡ sizes s
   pub cause : OnErr r (had_cause s (asked_of s i a) ≡ true)
 
--- a swap after a successful call: unchanged, or with a page written
-pub asked-same : {A E : Type 0} {r : Result A E} {s : SwapView} {i : ℕ} {was a : AreaView} → Asked r s i was a → a ≡ was → asked_of s i a ≡ s
-asked-same {s = s} {i = i} {was = was} {a = a} d e =
+-- a swap after a successful call: only the calls of the area changed, or a page was written too
+pub asked-calls : {A E : Type 0} {r : Result A E} {s : SwapView} {i : ℕ} {was a : AreaView} → Asked r s i was a → a ≡ with_calls was a.calls → asked_of s i a ≡ with_calls_at s i (area_at (asked_of s i a) i).calls
+asked-calls {s = s} {i = i} {was = was} {a = a} d e =
     let same : a.failed ≡ was.failed = ap (λ (b : AreaView). b.failed) e in
-    rw (d.flag same, e, ← d.before, set-get_or) refl
+    rw (d.after, d.flag same, d.before, e) refl
 
-pub asked-page : {A E : Type 0} {r : Result A E} {s : SwapView} {i : ℕ} {was a : AreaView} (slot : ℕ) (page : List ℕ) → Asked r s i was a → a ≡ with_page was slot page → asked_of s i a ≡ with_area s i (with_page (area_at s i) slot page)
+pub asked-page : {A E : Type 0} {r : Result A E} {s : SwapView} {i : ℕ} {was a : AreaView} (slot : ℕ) (page : List ℕ) → Asked r s i was a → a ≡ with_calls (with_page was slot page) a.calls
+    → asked_of s i a ≡ with_area s i (with_calls (with_page (area_at s i) slot page) (area_at (asked_of s i a) i).calls)
 asked-page {s = s} {i = i} {was = was} {a = a} slot page d e =
     let same : a.failed ≡ was.failed = ap (λ (b : AreaView). b.failed) e in
-    rw (d.flag same, d.before, e) refl
+    rw (d.after, d.flag same, d.before, e) refl
 
 -- a swap after a call on the area at i, which was `was` and is `a`
 module _ (s : SwapView) (i : ℕ) (was a : AreaView) (found : was ≡ get_or s.areas i was) where
@@ -139,7 +147,7 @@ module _ (s : SwapView) (i : ℕ) (was a : AreaView) (found : was ≡ get_or s.a
   IsSwap-asked : i < length s.areas → was.failed ≤ a.failed → IsSwap s → IsArea a → IsSwap (asked_of s i a)
   IsSwap-asked within counts swap area = grind (arith, common_steps, at_i within, any_spent-set s.areas i a within)
 
-  module _ (pages : List (List ℕ)) (failed most : ℕ) (is : a ≡ record was { pages = pages; failed = failed; most = most }) where
+  module _ (pages : List (List ℕ)) (failed most : ℕ) (calls : List SideCalls) (is : a ≡ record was { pages = pages; failed = failed; most = most; calls = calls }) where
     GoesOn-asked : was.failed ≤ a.failed → a.most ≤ was.most → GoesOn s (asked_of s i a)
     GoesOn-asked counts mosts = grind (arith, common_steps, GoesOn-changed)
 
@@ -164,9 +172,20 @@ module _ (s : SwapView) (i : ℕ) (was a : AreaView) (found : was ≡ get_or s.a
           cause = IfErr-weaker r _ _ (λ _ f. had_cause-asked _ slot there swap f) fault;
         }
 
-  -- only the count and the bound on it changed
-  pub SameSlots-asked : a ≡ record was { failed = a.failed; most = a.most } → SameSlots s (asked_of s i a)
+  -- only the count, the bound on it and the calls changed
+  pub SameSlots-asked : a ≡ record was { failed = a.failed; most = a.most; calls = a.calls } → SameSlots s (asked_of s i a)
   SameSlots-asked is = grind (arith, common_steps)
+
+  -- only the bound on the count and the calls changed
+  module _ (is : a ≡ record was { most = a.most; calls = a.calls }) where
+    pub IsSwap-most : IsSwap s → IsArea a → IsSwap (changed s i a s.never_spent)
+    IsSwap-most swap area = IsSwap-kept swap area (ap (λ (b : AreaView). b.failed) is)
+
+    pub SameSlots-most : SameSlots s (changed s i a s.never_spent)
+    SameSlots-most = grind (arith, common_steps)
+
+    pub sizes-most : IsSwap s → IsArea a → map size_of (set s.areas i a) ≡ sizes s
+    sizes-most swap area = sizes-changed swap area (ap (λ (b : AreaView). b.here) is) (ap (λ (b : AreaView). length b.owners) is)
 
   -- the pager was dropped
   module _ (is : a ≡ off was) where

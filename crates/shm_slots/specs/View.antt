@@ -1,16 +1,16 @@
 -- What contracts see of swap areas, and the changes that calls make.
-use Rattle.std.specs.Prelude.{ℕ, ◌≡◌, ◌≢◌, ◌<◌, ◌≤◌, ◌+◌, ◌-◌, ◌*◌, ◌⊎◌, ◌==◌, ◌&&◌, nat_lt, Bool, true, false, not, if◌then◌else◌, List, [], Option, Some, None, set, get_or, map, replicate, length, is_some, sum_by, All, MatchOption}
+use Rattle.std.specs.Prelude.{ℕ, ◌≡◌, ◌≢◌, ◌<◌, ◌≤◌, ◌+◌, ◌-◌, ◌*◌, ◌⊎◌, ◌==◌, ◌&&◌, nat_lt, Bool, true, false, not, if◌then◌else◌, List, [], ◌∷◌, ◌++◌, Option, Some, None, set, get_or, map, replicate, length, is_some, sum_by, All, MatchOption}
 use Rattle.std.specs.List.{list_all, list_any}
 use Rattle.shm_base.specs.declared.paging.PageRef.{PageRef}
 use Rattle.shm_base.specs.declared.paging.Slot.{Slot}
 pub use Rattle.shm_base.specs.Segments.{slots_in}
 use Rattle.shm_base.specs.Segments.{slots}
-use Rattle.shm_pager.specs.Pages.{PagerView, SlotUnknown, last_count}
+use Rattle.shm_pager.specs.Pages.{PagerView, SideCalls, SlotUnknown, last_count}
 use Rattle.shm_slots.specs.Owners.{used_count}
 use Rattle.shm_base.specs.declared.bounds.TheConstants.{MOST_AREAS, MOST_SLOTS}
 
--- a swap area: whether it is active, the page and the owner of each slot, its pager's count of failures at the start and now, and
--- the most that the pager will ever count
+-- a swap area: whether it is active, the page and the owner of each slot, its pager's count of failures at the start and now, the
+-- most that the pager will ever count, and the calls of each of its sides: how many there were, and which ones fail
 pub record AreaView : Type 0 where
   pub here : Bool
   pub pages : List (List ℕ)
@@ -18,6 +18,7 @@ pub record AreaView : Type 0 where
   pub start : ℕ
   pub failed : ℕ
   pub most : ℕ
+  pub calls : List SideCalls
 
 -- the pages of a pager; none once it is gone
 abbrev pub content_of : {P : Type 0} → (P → List (List ℕ)) → Option P → List (List ℕ)
@@ -29,9 +30,14 @@ abbrev pub count_of : {P : Type 0} → (P → ℕ) → ℕ → Option P → ℕ
 count_of failed last None = last
 count_of failed last (Some p) = failed p
 
+-- the calls of its sides; none once it is gone
+abbrev pub calls_of : {P : Type 0} → (P → List SideCalls) → Option P → List SideCalls
+calls_of calls None = []
+calls_of calls (Some p) = calls p
+
 -- the value beyond the last area
 abbrev pub no_area : AreaView
-no_area = record { here = false; pages = []; owners = []; start = 0; failed = 0; most = 0 }
+no_area = record { here = false; pages = []; owners = []; start = 0; failed = 0; most = 0; calls = [] }
 
 -- how much the area's count has risen
 abbrev pub rise : AreaView → ℕ
@@ -53,14 +59,19 @@ is_spent_here a = is_spent a && a.here
 abbrev pub CountedFault : AreaView → AreaView → Type 0
 CountedFault before after = (after.failed ≡ before.failed + 1) ⊎ ((before.failed ≡ last_count) × (after ≡ before))
 
--- a read that failed changes at most the count and the bound on it
-abbrev pub AfterReadFault : AreaView → AreaView → Type 0
-AfterReadFault before after = (after ≡ record before { failed = after.failed; most = after.most }) × CountedFault before after
+-- the area after calls of its sides
+abbrev pub with_calls : AreaView → List SideCalls → AreaView
+with_calls a calls = record a { calls = calls }
 
--- a write that failed may change the slot's page, the count and the bound on it
+-- a read that failed changes at most the count, the bound on it and the calls
+abbrev pub AfterReadFault : AreaView → AreaView → Type 0
+AfterReadFault before after =
+    (after ≡ record before { failed = after.failed; most = after.most; calls = after.calls }) × CountedFault before after
+
+-- a write that failed may change the slot's page, the count, the bound on it and the calls
 abbrev pub AfterWriteFault : ℕ → AreaView → AreaView → Type 0
 AfterWriteFault slot before after =
-    (after ≡ record before { pages = after.pages; failed = after.failed; most = after.most }) × SlotUnknown slot before.pages after.pages × CountedFault before after
+    (after ≡ record before { pages = after.pages; failed = after.failed; most = after.most; calls = after.calls }) × SlotUnknown slot before.pages after.pages × CountedFault before after
 
 -- the area with this page in one slot
 abbrev pub with_page : AreaView → ℕ → List ℕ → AreaView
@@ -72,11 +83,11 @@ with_owner a slot owner = record a { owners = set a.owners slot owner }
 
 -- the area after its pager is gone, which counts no more failures
 abbrev pub off : AreaView → AreaView
-off a = record { here = false; pages = []; owners = []; start = a.start; failed = a.failed; most = a.failed }
+off a = record { here = false; pages = []; owners = []; start = a.start; failed = a.failed; most = a.failed; calls = [] }
 
 -- an area when its pager is passed in
 abbrev pub fresh : PagerView → AreaView
-fresh p = record { here = true; pages = p.pages; owners = replicate (length p.pages) None; start = p.failed; failed = p.failed; most = p.most }
+fresh p = record { here = true; pages = p.pages; owners = replicate (length p.pages) None; start = p.failed; failed = p.failed; most = p.most; calls = p.calls }
 
 -- the areas, and whether none of them was ever spent
 pub record SwapView : Type 0 where
@@ -86,6 +97,10 @@ pub record SwapView : Type 0 where
 -- the areas when their pagers are passed in
 abbrev pub new_swap : List AreaView → SwapView
 new_swap areas = record { areas = areas; never_spent = not (list_any is_spent areas) }
+
+-- one more area, whose number is the next one
+abbrev pub with_new : SwapView → AreaView → SwapView
+with_new s a = record { areas = s.areas ++ a ∷ []; never_spent = s.never_spent && not (is_spent a) }
 
 abbrev pub area_at : SwapView → ℕ → AreaView
 area_at s i = get_or s.areas i no_area
@@ -109,9 +124,13 @@ page_in s area slot = get_or (area_at s area).pages slot []
 abbrev pub with_slot_owner : SwapView → Slot → Option PageRef → SwapView
 with_slot_owner s k owner = with_area s k.area (with_owner (area_at s k.area) k.slot owner)
 
--- one slot has this page
-abbrev pub with_slot_page : SwapView → Slot → List ℕ → SwapView
-with_slot_page s k page = with_area s k.area (with_page (area_at s k.area) k.slot page)
+-- one slot has this page, and its area made this call
+abbrev pub with_slot_page : SwapView → Slot → List ℕ → List SideCalls → SwapView
+with_slot_page s k page calls = with_area s k.area (with_calls (with_page (area_at s k.area) k.slot page) calls)
+
+-- an area made a call, which changed nothing but the calls
+abbrev pub with_calls_at : SwapView → ℕ → List SideCalls → SwapView
+with_calls_at s area calls = with_area s area (with_calls (area_at s area) calls)
 
 -- one slot is free, and holds an arbitrary page
 abbrev pub without_slot : SwapView → Slot → List ℕ → SwapView

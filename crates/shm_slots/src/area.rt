@@ -1,11 +1,13 @@
 //! One swap area: its pager while it has one, and the owner of each slot.
-ghost use Rattle.std.specs.Prelude.{◌≡◌, ◌<◌, ◌≤◌, [], length, get_or, Some, None, IfOk, IfErr};
+ghost use Rattle.std.specs.Prelude.{◌≡◌, ◌<◌, ◌≤◌, [], length, get_or, Some, None, IfOk, IfErr, OnErr, OnOk};
 ghost use Rattle.shm_pager.specs.Pages.{pager_seen, SlotUnknown};
 ghost use Rattle.shm_slots.specs.Owners.{IsLeastFree};
 
 use crate::owners::Owners;
 use shm_base::{HostMemory, PAGE_BYTES, PageRef};
-use shm_pager::{ClonePager, Pager, PagerFault, try_read, try_write};
+use shm_pager::{
+    ClonePager, ComingFailure, FailPager, FailRefused, Pager, PagerFault, try_read, try_write,
+};
 use std::alloc::{AllocError, Global};
 use std::marker::Model;
 
@@ -31,7 +33,7 @@ impl<P: Pager> Drop for Area<P> {
 
 impl<P: Pager> Model for Area<P> {
     ghost use Rattle.std.specs.Prelude.{is_some};
-    ghost use Rattle.shm_slots.specs.View.{AreaView, content_of, count_of, IsArea, IsCountOf};
+    ghost use Rattle.shm_slots.specs.View.{AreaView, calls_of, content_of, count_of, IsArea, IsCountOf};
 
     ghost Value = { AreaView };
 
@@ -42,6 +44,7 @@ impl<P: Pager> Model for Area<P> {
       start = a.start;
       failed = count_of P.failed a.last a.pager;
       most = count_of P.most a.last a.pager;
+      calls = calls_of P.calls a.pager;
     } };
 
     ghost invariant = { λ a. IsArea (record {
@@ -51,17 +54,18 @@ impl<P: Pager> Model for Area<P> {
       start = a.start;
       failed = count_of P.failed a.last a.pager;
       most = count_of P.most a.last a.pager;
+      calls = calls_of P.calls a.pager;
     }) × IsCountOf P.failed a.start × IsCountOf P.failed a.last };
 }
 
 impl<P: Pager> Area<P> {
     ghost use Rattle.shm_base.specs.declared.bounds.TheConstants.{MOST_SLOTS};
-    ghost use Rattle.shm_slots.specs.View.{with_page, with_owner, AfterReadFault, AfterWriteFault, is_spent, rise, off, fresh, size_of, IsArea, IsCounted};
+    ghost use Rattle.shm_slots.specs.View.{with_calls, with_page, with_owner, AfterReadFault, AfterWriteFault, is_spent, rise, off, fresh, size_of, IsArea, IsCounted};
 
     /// An area with no slot owned.
     pub(crate) fn new(alloc: Global, pager: P) -> Result<Area<P>, AllocError>
         requires { length (P.content pager) ≤ MOST_SLOTS }
-        ensures made { IfOk result (λ a. a ≡ fresh (pager_seen P.content P.failed P.most pager)) }
+        ensures made { IfOk result (λ a. a ≡ fresh (pager_seen P.content P.failed P.most P.calls pager)) }
         ensures sound { IfOk result IsArea }
     {
         let start = pager.failures();
@@ -138,10 +142,15 @@ impl<P: Pager> Area<P> {
     /// Writes a page to a slot.
     pub(crate) fn write(&mut self, slot: u32, page: &[u8; PAGE_BYTES]) -> Result<(), PagerFault>
         requires { slot < length self.old.pages }
-        ensures ok { IfOk result (λ _. self.new ≡ with_page self.old slot page.now) }
+        ensures ok { IfOk result (λ _.
+            self.new ≡ with_calls (with_page self.old slot page.now) self.new.calls) }
         ensures err { IfErr result (λ _. AfterWriteFault slot self.old self.new) }
-        ensures rest { self.new
-            ≡ record self.old { pages = self.new.pages; failed = self.new.failed; most = self.new.most } }
+        ensures rest { self.new ≡ record self.old {
+          pages = self.new.pages;
+          failed = self.new.failed;
+          most = self.new.most;
+          calls = self.new.calls;
+        } }
         ensures counts { self.old.failed ≤ self.new.failed }
         ensures most { self.new.most ≤ self.old.most }
         ensures sound { IsArea self.new }
@@ -155,10 +164,14 @@ impl<P: Pager> Area<P> {
     /// Reads the page in a slot.
     pub(crate) fn read(&mut self, slot: u32, page: &mut [u8; PAGE_BYTES]) -> Result<(), PagerFault>
         requires { slot < length self.old.pages }
-        ensures ok { IfOk result (λ _. self.new ≡ self.old) }
+        ensures ok { IfOk result (λ _. self.new ≡ with_calls self.old self.new.calls) }
         ensures page { IfOk result (λ _. get_or self.old.pages slot [] ≡ page.new) }
         ensures err { IfErr result (λ _. AfterReadFault self.old self.new) }
-        ensures rest { self.new ≡ record self.old { failed = self.new.failed; most = self.new.most } }
+        ensures rest { self.new ≡ record self.old {
+          failed = self.new.failed;
+          most = self.new.most;
+          calls = self.new.calls;
+        } }
         ensures counts { self.old.failed ≤ self.new.failed }
         ensures most { self.new.most ≤ self.old.most }
         ensures sound { IsArea self.new }
@@ -201,5 +214,40 @@ impl<P: ClonePager> Area<P> {
             start: self.start,
             last: self.last,
         })
+    }
+}
+
+impl<P: FailPager> Area<P> {
+    ghost use Rattle.shm_slots.specs.Failing.{FailsInArea, IsRefusedIn, with_bad};
+    ghost use Rattle.shm_slots.specs.View.{IsArea};
+
+    /// Makes a call of the pager to come fail. `NotThere` also if the pager is gone.
+    pub(crate) fn fail(&mut self, failure: &ComingFailure) -> Result<(), FailRefused>
+        ensures ok { OnOk result (FailsInArea failure.now self.old self.new) }
+        ensures err { OnErr result (self.new ≡ self.old) }
+        ensures cause { IsRefusedIn self.old failure.now result }
+        ensures rest { self.new
+            ≡ record self.old { most = self.new.most; calls = self.new.calls } }
+        ensures sound { IsArea self.new }
+    {
+        match &mut self.pager {
+            Some(pager) => pager.fail(failure),
+            None => Err(FailRefused::NotThere),
+        }
+    }
+
+    /// Makes each read of a slot fail until the slot is written.
+    pub(crate) fn fail_slot(&mut self, slot: u32) -> Result<(), HostMemory>
+        requires { slot < length self.old.pages }
+        ensures ok { OnOk result (self.new ≡ with_bad slot self.old) }
+        ensures err { OnErr result (self.new ≡ self.old) }
+        ensures rest { self.new
+            ≡ record self.old { most = self.new.most; calls = self.new.calls } }
+        ensures sound { IsArea self.new }
+    {
+        match &mut self.pager {
+            Some(pager) => pager.fail_slot(slot),
+            None => unreachable!(),
+        }
     }
 }

@@ -1,12 +1,12 @@
 //! All swap areas. A slot has one owner or none. Areas and slots have numbers, which do not change when
 //! another area is dropped.
-ghost use Rattle.std.specs.Prelude.{◌≡◌, ◌+◌, ◌<◌, ◌≤◌, ◌&&◌, [], length, set, map, min, true, false, not, Some, None, All, IfOk, IfErr, OnErr, IfNone, EachIndex};
+ghost use Rattle.std.specs.Prelude.{◌≡◌, ◌+◌, ◌<◌, ◌≤◌, ◌&&◌, [], length, set, map, min, true, false, not, Some, None, All, IfOk, IfErr, OnErr, OnOk, IfNone, EachIndex};
 ghost use Rattle.shm_pager.specs.Pages.{pager_seen, last_count};
 ghost use Rattle.shm_slots.specs.View.{is_spent};
 
 use crate::area::Area;
 use shm_base::{HostMemory, PAGE_BYTES, PageRef, Slot};
-use shm_pager::{ClonePager, Pager, PagerFault};
+use shm_pager::{ClonePager, ComingFailure, FailPager, FailRefused, Pager, PagerFault};
 use std::alloc::Global;
 use std::marker::Model;
 
@@ -47,7 +47,7 @@ fn unspent_after<P: Pager>(failed: bool, never_spent: bool, area: &Area<P>) -> b
 }
 
 impl<P: Pager> Swap<P> {
-    ghost use Rattle.shm_slots.specs.View.{SwapView, new_swap, fresh, area_at, with_area, off, HasSlot, owner_of, page_in, with_slot_page, without_slot, FoundFree, Takes, OneArea, SameSlots, AfterReadFault, AfterWriteFault, size_of, sizes, swap_slots, used_in, used_slots, IsAreaSize, IsSwap, AreCountsOf};
+    ghost use Rattle.shm_slots.specs.View.{SwapView, new_swap, with_new, fresh, area_at, with_area, off, HasSlot, owner_of, page_in, with_calls_at, with_slot_page, without_slot, FoundFree, Takes, OneArea, SameSlots, AfterReadFault, AfterWriteFault, size_of, sizes, swap_slots, used_in, used_slots, IsAreaSize, IsSwap, AreCountsOf};
     ghost use Rattle.shm_slots.specs.Cause.{total, had_cause, GoesOn, IsSteady};
     ghost use Rattle.shm_base.specs.declared.bounds.TheConstants.{MOST_AREAS};
     ghost use Rattle.shm_base.specs.Stored.{padded};
@@ -58,7 +58,7 @@ impl<P: Pager> Swap<P> {
         requires areas { (1 ≤ length pagers.items) × (length pagers.items ≤ MOST_AREAS) }
         requires sizes { All (λ p. IsAreaSize (length (P.content p))) pagers.items }
         ensures { IfOk result (λ s.
-            s ≡ new_swap (map (λ p. fresh (pager_seen P.content P.failed P.most p)) pagers.items)) }
+            s ≡ new_swap (map (λ p. fresh (pager_seen P.content P.failed P.most P.calls p)) pagers.items)) }
     {
         let mut areas = Vec::with_capacity(alloc, pagers.len())?;
         let mut never_spent = true;
@@ -68,6 +68,24 @@ impl<P: Pager> Swap<P> {
             areas.push(area)?;
         }
         Ok(Swap { areas, never_spent })
+    }
+
+    /// One more area, with the next number; none of its slots is owned. The other areas stay as they are. The
+    /// count is at its last value if the pager is spent when it is passed in. HostMemory: the host refused
+    /// memory, and nothing changed.
+    pub fn add(&mut self, alloc: Global, pager: P) -> Result<(), HostMemory>
+        requires few { length self.old.areas < MOST_AREAS }
+        requires size { IsAreaSize (length (P.content pager)) }
+        ensures ok { let area = fresh (pager_seen P.content P.failed P.most P.calls pager) in
+            OnOk result (self.new ≡ with_new self.old area) }
+        ensures err { OnErr result (self.new ≡ self.old) }
+        ensures sound { OnOk result (IsSwap self.new) }
+    {
+        let area = Area::new(alloc, pager)?;
+        let never_spent = stays_unspent(self.never_spent, &area);
+        self.areas.push(area)?;
+        self.never_spent = never_spent;
+        Ok(())
     }
 
     /// The number of slots of all active areas.
@@ -206,7 +224,8 @@ impl<P: Pager> Swap<P> {
     #[tactic(auto, using(crate::proofs::Changes::area_within, crate::proofs::Changes::slot_within))]
     pub fn write_slot(&mut self, slot: Slot, page: &[u8; PAGE_BYTES]) -> Result<(), PagerFault>
         requires { HasSlot self.old slot.area slot.slot }
-        ensures ok { IfOk result (λ _. self.new ≡ with_slot_page self.old slot page.now) }
+        ensures ok { IfOk result (λ _.
+            self.new ≡ with_slot_page self.old slot page.now (area_at self.new slot.area).calls) }
         ensures err { IfErr result (λ _.
             AfterWriteFault slot.slot (area_at self.old slot.area) (area_at self.new slot.area)) }
         ensures cause { OnErr result (had_cause self.old self.new ≡ true) }
@@ -225,7 +244,8 @@ impl<P: Pager> Swap<P> {
     #[tactic(auto, using(crate::proofs::Changes::area_within, crate::proofs::Changes::slot_within))]
     pub fn read_slot(&mut self, slot: Slot, page: &mut [u8; PAGE_BYTES]) -> Result<(), PagerFault>
         requires { HasSlot self.old slot.area slot.slot }
-        ensures ok { IfOk result (λ _. self.new ≡ self.old) }
+        ensures ok { IfOk result (λ _.
+            self.new ≡ with_calls_at self.old slot.area (area_at self.new slot.area).calls) }
         ensures page { IfOk result (λ _. page_in self.old slot.area slot.slot ≡ page.new) }
         ensures err { IfErr result (λ _.
             AfterReadFault (area_at self.old slot.area) (area_at self.new slot.area)) }
@@ -283,5 +303,41 @@ impl<P: ClonePager> Swap<P> {
             areas,
             never_spent: self.never_spent,
         })
+    }
+}
+
+impl<P: FailPager> Swap<P> {
+    ghost use Rattle.shm_slots.specs.Failing.{FailsInSwap, IsRefusedIn, with_bad};
+    ghost use Rattle.shm_slots.specs.View.{HasSlot, IsSwap, SameSlots, area_at, sizes, with_area};
+
+    /// Makes a call of an area to come fail. Calls no pager, and no page changes. `NotThere`: the area is gone
+    /// or never was, its pager does not have the side, or the call is 0. Refused so, or with `HostMemory`,
+    /// nothing changes.
+    pub fn fail(&mut self, area: u32, failure: &ComingFailure) -> Result<(), FailRefused>
+        ensures ok { OnOk result (FailsInSwap failure.now area self.old self.new) }
+        ensures err { OnErr result (self.new ≡ self.old) }
+        ensures cause { IsRefusedIn (area_at self.old area) failure.now result }
+        ensures kept { SameSlots self.old self.new }
+        ensures sizes { sizes self.new ≡ sizes self.old }
+        ensures sound { IsSwap self.new }
+    {
+        if area as usize >= self.areas.len() {
+            return Err(FailRefused::NotThere);
+        }
+        self.areas[area as usize].fail(failure)
+    }
+
+    /// Makes each read of a slot fail until the slot is written or freed. Calls no pager, and no page changes.
+    /// HostMemory: the host refused memory, and nothing changed.
+    pub fn fail_slot(&mut self, slot: Slot) -> Result<(), HostMemory>
+        requires { HasSlot self.old slot.area slot.slot }
+        ensures ok { OnOk result
+            (self.new ≡ with_area self.old slot.area (with_bad slot.slot (area_at self.old slot.area))) }
+        ensures err { OnErr result (self.new ≡ self.old) }
+        ensures kept { SameSlots self.old self.new }
+        ensures sizes { sizes self.new ≡ sizes self.old }
+        ensures sound { IsSwap self.new }
+    {
+        self.areas[slot.area as usize].fail_slot(slot.slot)
     }
 }

@@ -190,17 +190,23 @@ impl<T: Copy> SparseVec<T> {
     }
 
     /// The item at an index; `other` from the end on.
-    #[inline(always)]
     pub fn get(&self, index: usize) -> T
         ensures { result ≡ get_or self.now.items index self.now.other }
     {
-        let Some(place) = self.runs.get(index / RUN) else {
-            return self.other;
-        };
-        match self.stored.get(*place as usize * RUN + index % RUN) {
+        match self.stored(index) {
             Some(item) => *item,
             None => self.other,
         }
+    }
+
+    /// The item at an index if it is stored. An item that is not stored is `other`.
+    #[inline(always)]
+    pub fn stored(&self, index: usize) -> Option<&T>
+        ensures some { IfSome result (λ item. item.now ≡ get_or self.now.items index self.now.other) }
+        ensures none { IfNone result (get_or self.now.items index self.now.other ≡ self.now.other) }
+    {
+        let place = self.runs.get(index / RUN)?;
+        self.stored.get(*place as usize * RUN + index % RUN)
     }
 
     /// Sets the item at an index.

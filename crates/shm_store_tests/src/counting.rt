@@ -1,4 +1,6 @@
 //! Pages in memory that count the calls of their pager in a variable outside.
+ghost use Rattle.std.specs.Prelude.{[]};
+
 use shm_pager::{Pager, PagerFault, RamPager};
 use std::alloc::{AllocError, Global};
 use std::sync::Arc;
@@ -21,6 +23,8 @@ impl Pager for CountingPager {
     ghost failed = { λ p. p.failures };
 
     ghost most = { λ p. p.failures };
+
+    ghost calls = { λ _. [] };
 
     fn slots(&self) -> u32 {
         self.inner.slots()

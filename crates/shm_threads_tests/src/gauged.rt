@@ -1,5 +1,5 @@
 //! Gauged runs with a reader, which waits for no lock.
-ghost use Rattle.std.specs.Prelude.{◌≡◌};
+ghost use Rattle.std.specs.Prelude.{◌≡◌, []};
 ghost use Rattle.shm_threads.specs.Outcomes.{IsOpened};
 
 use crate::runs::{COUNTER, COUNTS, late, repeated};
@@ -260,6 +260,8 @@ impl Pager for WaitingPager<'_> {
     ghost failed = { λ _. 0 };
 
     ghost most = { λ _. 0 };
+
+    ghost calls = { λ _. [] };
 
     fn slots(&self) -> u32 {
         self.inner.slots()

@@ -1,6 +1,7 @@
 //! Boxes that count their drops: those of a start that is refused, and those of areas that a swapoff takes
 //! away. Each is dropped once, and none early. The test of starts also passes if the host refuses memory: `rt
 //! try --test --fail-alloc N -- boxes::a_refused_start` makes the N-th allocation fail.
+ghost use Rattle.std.specs.Prelude.{[]};
 ghost use Rattle.shm_pager.specs.Pages.{last_count};
 
 use crate::histories::{Ask, Row, Want, answers, opened_by};
@@ -26,6 +27,8 @@ impl Pager for CountedPager {
     ghost failed = { λ p. p.inner.failed };
 
     ghost most = { λ _. last_count };
+
+    ghost calls = { λ _. [] };
 
     fn slots(&self) -> u32 {
         self.inner.slots()

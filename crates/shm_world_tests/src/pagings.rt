@@ -1,5 +1,7 @@
 //! How often each pager is called: one read for each page that comes back from its slot, one write for each
 //! page that is written out, one discard for each slot that is returned, and nothing else.
+ghost use Rattle.std.specs.Prelude.{[]};
+
 use crate::histories::{Ask, Row, Want, answers, opened_by};
 use shm_base::{Errno, Limits};
 use shm_history::World;
@@ -24,6 +26,8 @@ impl Pager for AskedPager {
     ghost failed = { λ _. 0 };
 
     ghost most = { λ _. 0 };
+
+    ghost calls = { λ _. [] };
 
     fn slots(&self) -> u32 {
         self.inner.slots()

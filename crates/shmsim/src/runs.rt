@@ -64,7 +64,7 @@ fn run_over<T: Threads + Wait + Sync, R: Read, W: Write, P: Pager + Send>(
     mode: Mode,
     pagers: Vec<P>,
 ) -> Result<(), RunFault>
-    ensures { let swap = handed_in P.content P.failed P.most pagers.items in
+    ensures { let swap = handed_in P.content P.failed P.most P.calls pagers.items in
         let ended = IsRun mode P.failed swap result (R.remaining reader.old) (R.remaining reader.new) in
         ended (W.contents writer.old) (W.contents writer.new) (map (λ p. length (P.content p)) pagers.items) }
 {

@@ -28,7 +28,7 @@ pub(crate) fn view<R: Read, W: Write, P: Pager>(
     pagers: Vec<P>,
     asked: Option<Steps>,
 ) -> Result<(), Stop>
-    ensures { let swap = handed_in P.content P.failed P.most pagers.items in
+    ensures { let swap = handed_in P.content P.failed P.most P.calls pagers.items in
         let ended = IsView swap asked result (R.remaining reader.old) (R.remaining reader.new) in
         ended (W.contents writer.old) (W.contents writer.new) (map (λ p. length (P.content p)) pagers.items) }
 {
@@ -59,13 +59,13 @@ fn view_script<W: Write, P: Pager>(
     pagers: Vec<P>,
     asked: Option<Steps>,
 ) -> Result<(), Stop>
-    ensures ok { let text = IsRecord (handed_in P.content P.failed P.most pagers.items) asked in
+    ensures ok { let text = IsRecord (handed_in P.content P.failed P.most P.calls pagers.items) asked in
         let areas = map (λ p. length (P.content p)) pagers.items in
         OnOk result (IsWritten (text script.now areas) (W.contents writer.old) (W.contents writer.new)) }
     ensures cause { IfErr result
         (λ s. IsStopIn s asked (map (λ p. length (P.content p)) pagers.items) script.now) }
     ensures silent { let areas = map (λ p. length (P.content p)) pagers.items in
-        let text = IsRecord (handed_in P.content P.failed P.most pagers.items) asked script.now areas in
+        let text = IsRecord (handed_in P.content P.failed P.most P.calls pagers.items) asked script.now areas in
         IfErr result (λ s. WritesNothing text s (W.contents writer.old) (W.contents writer.new)) }
 {
     if let Some(lines) = too_many(script, asked) {

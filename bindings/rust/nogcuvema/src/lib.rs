@@ -352,6 +352,18 @@ pub struct Failure {
     pub side: u32,
 }
 
+impl Failure {
+    fn of_area(&self, area: u32) -> raw::Failure {
+        raw::Failure {
+            area,
+            side: self.side,
+            is_write: u32::from(self.is_write),
+            unused: 0,
+            call: self.call,
+        }
+    }
+}
+
 /// A swap area.
 #[derive(Clone, Debug, PartialEq, Eq)]
 pub struct Area {
@@ -674,13 +686,7 @@ impl Machine {
         let failures: Vec<raw::Failure> = (0_u32..)
             .zip(areas)
             .flat_map(|(area, it)| it.failures.iter().map(move |failure| (area, failure)))
-            .map(|(area, failure)| raw::Failure {
-                area,
-                side: failure.side,
-                is_write: u32::from(failure.is_write),
-                unused: 0,
-                call: failure.call,
-            })
+            .map(|(area, failure)| failure.of_area(area))
             .collect();
         let areas: Vec<raw::Area> = areas
             .iter()
@@ -1122,6 +1128,42 @@ impl Machine {
         done(unsafe { raw::nog_set_limits(self.handle(), shmmax, shmmni, shmall, memlock) })
     }
 
+    /// Adds a swap area of zeros with the next number to the running machine. It is not counted as a call.
+    ///
+    /// # Errors
+    /// [`Errno::OUT_OF_RANGE`] for a failure of a side that the area does not have, or of call 0; 2021 if the machine had eight
+    /// areas already, those that were removed included; 2022 for a number of slots that the limits do not allow;
+    /// [`Errno::NO_MEMORY`].
+    pub fn swapon(&mut self, area: &Area) -> Answer<()> {
+        let failures: Vec<raw::Failure> = area.failures.iter().map(|failure| failure.of_area(0)).collect();
+        let area = raw::Area {
+            kind: area.kind,
+            slots: area.slots,
+        };
+        done(unsafe { raw::nog_swapon(self.handle(), &area, failures.as_ptr(), failures.len()) })
+    }
+
+    /// Makes a read or a write of a swap area fail while the machine runs: the one numbered `failure.call` from now on, so 1 is the
+    /// next; if it is lasting, every later one too. No byte changes. It is not counted as a call.
+    ///
+    /// # Errors
+    /// [`Errno::OUT_OF_RANGE`] if the area does not exist, or no longer, or does not have the side, or if the call is 0;
+    /// [`Errno::NO_MEMORY`].
+    pub fn fail(&mut self, area: u32, failure: &Failure, is_lasting: bool) -> Answer<()> {
+        let failure = failure.of_area(area);
+        done(unsafe { raw::nog_fail(self.handle(), &failure, u32::from(is_lasting)) })
+    }
+
+    /// Makes each read of the slot that a page has now fail, until the slot is written or no longer used; of a mirror on both
+    /// sides. No byte changes. It is not counted as a call.
+    ///
+    /// # Errors
+    /// EINVAL if no segment has the identifier, OUT_OF_RANGE if it has no such page, ENOENT if the page is in no slot;
+    /// [`Errno::NO_MEMORY`].
+    pub fn fail_page(&mut self, id: i32, page: u32) -> Answer<()> {
+        done(unsafe { raw::nog_fail_page(self.handle(), id, page) })
+    }
+
     /// How many pages of a segment are in frames, and how many only in slots. It looks at each page that was touched, and at each
     /// slot.
     ///
@@ -1144,6 +1186,16 @@ impl Machine {
             gone.push(id);
         }
         gone
+    }
+
+    /// A count that each attach, detach, unmap, protect, exec and exit of the process raises, and each fork of it, even if the
+    /// call fails. As long as it is the same, so are the pieces of the process. Processes whose pids have the same remainder
+    /// modulo 64 share a count.
+    pub fn changes(&mut self, pid: u32) -> u64 {
+        let mut count = 0;
+        // For an open machine this returns 0.
+        unsafe { raw::nog_changes(self.handle(), pid, &mut count) };
+        count
     }
 
     /// A flush round: writes at most this many dirty pages out to swap.

@@ -160,6 +160,9 @@ extern "C" {
     pub fn nog_set_user(machine: *mut Handle, pid: u32, uid: u32, gid: u32) -> u32;
     pub fn nog_set_time(machine: *mut Handle, time: u64) -> u32;
     pub fn nog_set_limits(machine: *mut Handle, shmmax: u64, shmmni: u64, shmall: u64, memlock: u64) -> u32;
+    pub fn nog_swapon(machine: *mut Handle, area: *const Area, failures: *const Failure, failure_count: usize) -> u32;
+    pub fn nog_fail(machine: *mut Handle, failure: *const Failure, is_lasting: u32) -> u32;
+    pub fn nog_fail_page(machine: *mut Handle, id: i32, page: u32) -> u32;
     pub fn nog_unmap(machine: *mut Handle, pid: u32, addr: u64, len: u64) -> u32;
     pub fn nog_protect(machine: *mut Handle, pid: u32, addr: u64, len: u64, is_writable: u32) -> u32;
     pub fn nog_snapshot(machine: *mut Handle, copy: *mut Handle) -> u32;
@@ -176,6 +179,7 @@ extern "C" {
     pub fn nog_limits_of(machine: *mut Handle, limits: *mut Limits) -> u32;
     pub fn nog_pages_of(machine: *mut Handle, id: i32, resident: *mut u64, swapped: *mut u64) -> u32;
     pub fn nog_gone(machine: *mut Handle, told: *mut u32, told_count: usize, id: *mut i32) -> u32;
+    pub fn nog_changes(machine: *mut Handle, pid: u32, count: *mut u64) -> u32;
     pub fn nog_flush(machine: *mut Handle, pages: u64, flushed: *mut Flushed) -> u32;
     pub fn nog_tally_of(machine: *mut Handle, tally: *mut Tally) -> u32;
     pub fn nog_indexes(machine: *mut Handle, indexes: *mut u32) -> u32;

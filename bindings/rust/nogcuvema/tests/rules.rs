@@ -577,6 +577,59 @@ fn destroyed_segments_are_named_once() {
 }
 
 #[test]
+fn changes_of_pieces_are_counted() {
+    let (mut machine, _, at) = with_two_frames(Area::ram(64));
+    let (count, other) = (machine.changes(1), machine.changes(2));
+    machine.store(1, at, b"x").expect("a store");
+    assert_eq!(machine.changes(1), count);
+    machine.protect(1, at, PAGE_BYTES as u64, false).expect("it is protected");
+    machine.detach(1, at).expect("it is detached");
+    assert_eq!((machine.changes(1), machine.changes(2)), (count + 2, other));
+}
+
+#[test]
+fn a_swap_area_is_added() {
+    let (mut machine, _, _) = with_two_frames(Area::ram(64));
+    machine.swapon(&Area::ram(7)).expect("it is added");
+    assert_eq!(machine.tally().slots, 71);
+    assert!(machine.swapon(&Area::ram(0)).is_err());
+}
+
+// Loads of four pages, for which there are two frames; how many of them end in SIGBUS.
+fn failed_loads(machine: &mut Machine, at: u64) -> usize {
+    (0..4)
+        .filter(|page| machine.load(1, at + page * PAGE_BYTES as u64, &mut [0]) == Err(Errno::SIGBUS))
+        .count()
+}
+
+#[test]
+fn a_running_area_fails() {
+    let (mut machine, id, at) = with_two_frames(Area::ram(64));
+    for page in 0..4 {
+        machine.store(1, at + page * PAGE_BYTES as u64, b"x").expect("a store");
+    }
+    machine.flush(4);
+    let next = Failure {
+        call: 1,
+        is_write: false,
+        side: 0,
+    };
+    machine.fail(0, &next, false).expect("it is added");
+    assert_eq!((failed_loads(&mut machine, at), failed_loads(&mut machine, at)), (1, 0));
+    for (area, failure) in [(1, next), (0, Failure { side: 1, ..next }), (0, Failure { call: 0, ..next })] {
+        assert_eq!(machine.fail(area, &failure, false), Err(Errno::OUT_OF_RANGE));
+    }
+    machine.fail_page(id, 0).expect("the page has a slot");
+    let fresh = machine.get(1, PRIVATE, 1, 0o600, 0).expect("a segment");
+    assert_eq!(machine.fail_page(fresh, 0), Err(Errno::ENOENT));
+    assert_eq!(machine.fail_page(id, 4), Err(Errno::OUT_OF_RANGE));
+    assert_eq!(machine.fail_page(-1, 0), Err(Errno::EINVAL));
+    machine.fail(0, &next, true).expect("it is added");
+    // The first failure left a frame free.
+    assert_eq!((failed_loads(&mut machine, at), failed_loads(&mut machine, at)), (3, 3));
+}
+
+#[test]
 fn limits_change_while_the_machine_runs() {
     let (mut machine, _, _) = with_two_frames(Area::ram(64));
     let before = machine.limits();

@@ -10,20 +10,20 @@ pub returns-in-Ok : goal.returns-in-Ok
 returns-in-Ok g c =
     let to = c.in-Some.to in
     let s = c.args.swap.now in
-    let sound : IsSwap (with_slot_page (with_slot_owner s to (Some c.args.page)) to c.args.bytes.now) = rw (c.in-Ok.ensures.ok, c.in-Some.ensures.taken) at c.write_slot.ensures.sound in
+    let sound : IsSwap (with_slot_page (with_slot_owner s to (Some c.args.page)) to c.args.bytes.now _) = rw (c.in-Ok.ensures.ok, c.in-Some.ensures.taken) at c.write_slot.ensures.sound in
     let given = c.give_slot.ensures in
     record {
       ok = rw (given.given, c.in-Ok.ensures.ok, c.in-Some.ensures.taken)
-          (relocated c.args.page c.args.from to s c.args.bytes.now _ c.requires.sound sound c.requires.there c.in-Some.ensures.found c.requires.bytes);
+          (relocated c.args.page c.args.from to s c.args.bytes.now _ _ c.requires.sound sound c.requires.there c.in-Some.ensures.found c.requires.bytes);
       found = found-free s (Some c.args.from.area) to c.requires.sound.each c.in-Some.ensures.found;
-      owners = rw (given.given, c.in-Ok.ensures.ok, c.in-Some.ensures.taken) (owners-moved s c.args.page c.args.from to c.args.bytes.now _);
+      owners = rw (given.given, c.in-Ok.ensures.ok, c.in-Some.ensures.taken) (owners-moved s c.args.page c.args.from to c.args.bytes.now _ _);
       err = tt;
       same = tt;
       cause = tt;
       none =
           let taken = c.take_outside.ensures.steady in
           let there : to.area < length c.take_outside.new.self.areas = rw taken.goes_on.areas c.in-Some.ensures.found.there.0 in
-          let wrote : total c.write_slot.new.self ≡ total c.take_outside.new.self = rw c.in-Ok.ensures.ok (total-written c.take_outside.new.self to c.args.bytes.now there) in
+          let wrote : total c.write_slot.new.self ≡ total c.take_outside.new.self = rw c.in-Ok.ensures.ok (total-written c.take_outside.new.self to c.args.bytes.now _ there) in
           given.steady.failures ∙ wrote ∙ taken.failures;
       failed = tt;
       goes_on = GoesOn-trans _ _ _ (GoesOn-trans _ _ _ c.take_outside.ensures.steady.goes_on c.write_slot.ensures.goes_on) given.steady.goes_on;

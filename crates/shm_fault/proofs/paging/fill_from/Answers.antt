@@ -8,7 +8,7 @@ returns-in-Some g c =
     record {
       frames = grind (arith, common_steps);
       bytes = grind (arith, common_steps);
-      swap = grind (arith, common_steps);
+      swap = rw c.in-Some.is read.ok;
       kept = read.kept;
       slot = grind (arith, common_steps);
       cause = read.cause;

@@ -7,7 +7,7 @@ use Rattle.shm_runner.proofs.threaded.run_script.Goals as goal
 
 pub returns-in-Ok-clause-ok : goal.returns-in-Ok-clause-ok
 returns-in-Ok-clause-ok g c =
-    let swap : c.in-Ok.world.memory.swap ≡ handed_in g.P.Pager.content g.P.Pager.failed g.P.Pager.most c.args.pagers.items = ap (λ (m : StoreView). m.swap) c.in-Ok.ensures.memory in
+    let swap : c.in-Ok.world.memory.swap ≡ handed_in g.P.Pager.content g.P.Pager.failed g.P.Pager.most g.P.Pager.calls c.args.pagers.items = ap (λ (m : StoreView). m.swap) c.in-Ok.ensures.memory in
     rw (← c.in-Ok.ensures.areas, ← swap) c.run_in.ensures.ok
 
 pub returns-in-Ok-clause-cause : goal.returns-in-Ok-clause-cause
@@ -15,7 +15,7 @@ returns-in-Ok-clause-cause g c = rw (← c.in-Ok.ensures.areas) c.run_in.ensures
 
 pub returns-in-Ok-clause-written : goal.returns-in-Ok-clause-written
 returns-in-Ok-clause-written g c =
-    let swap : c.in-Ok.world.memory.swap ≡ handed_in g.P.Pager.content g.P.Pager.failed g.P.Pager.most c.args.pagers.items = ap (λ (m : StoreView). m.swap) c.in-Ok.ensures.memory in
+    let swap : c.in-Ok.world.memory.swap ≡ handed_in g.P.Pager.content g.P.Pager.failed g.P.Pager.most g.P.Pager.calls c.args.pagers.items = ap (λ (m : StoreView). m.swap) c.in-Ok.ensures.memory in
     rw (← c.in-Ok.ensures.areas, ← swap) c.run_in.ensures.written
 
 pub returns-in-Err-clause-cause : goal.returns-in-Err-clause-cause

@@ -3,7 +3,7 @@ use Rattle.shm_store_tests.proofs.Trials.{fresh-free, fresh-held, three_pages-ad
 use Rattle.shm_store_tests.proofs.paging.store_over.Goals as goal
 
 pub new-requires-2-clause-free : goal.new-requires-2-clause-free
-new-requires-2-clause-free g c = λ area slot. rw c.in-Ok.ensures (fresh-free (λ p. pager_seen g.P.Pager.content g.P.Pager.failed g.P.Pager.most p) c.args.pagers.items area slot)
+new-requires-2-clause-free g c = λ area slot. rw c.in-Ok.ensures (fresh-free (λ p. pager_seen g.P.Pager.content g.P.Pager.failed g.P.Pager.most g.P.Pager.calls p) c.args.pagers.items area slot)
 
 pub add_segment-requires-clause-new : goal.add_segment-requires-clause-new
 add_segment-requires-clause-new g c = grind (arith, common_steps, fresh-held)

@@ -9,7 +9,7 @@ use Rattle.shmview.proofs.view.view.Goals as goal
 
 pub returns-in-Ok : goal.returns-in-Ok
 returns-in-Ok g c =
-    let run = IsRecord (handed_in g.P.Pager.content g.P.Pager.failed g.P.Pager.most c.args.pagers.items) c.args.asked in
+    let run = IsRecord (handed_in g.P.Pager.content g.P.Pager.failed g.P.Pager.most g.P.Pager.calls c.args.pagers.items) c.args.asked in
     let areas = map (λ p. length (g.P.Pager.content p)) c.args.pagers.items in
     let input = g.R.Read.remaining c.args.reader.now in
     record {

@@ -7,7 +7,7 @@ use Rattle.shmview.proofs.view.view_script.Goals as goal
 
 pub returns-in-Ok-clause-ok : goal.returns-in-Ok-clause-ok
 returns-in-Ok-clause-ok g c =
-    let swap : c.in-Ok.world.memory.swap ≡ handed_in g.P.Pager.content g.P.Pager.failed g.P.Pager.most c.args.pagers.items = ap (λ (m : StoreView). m.swap) c.in-Ok.ensures.memory in
+    let swap : c.in-Ok.world.memory.swap ≡ handed_in g.P.Pager.content g.P.Pager.failed g.P.Pager.most g.P.Pager.calls c.args.pagers.items = ap (λ (m : StoreView). m.swap) c.in-Ok.ensures.memory in
     rw (← c.in-Ok.ensures.areas, ← swap) c.view_in.ensures.ok
 
 pub returns-in-Ok-clause-cause : goal.returns-in-Ok-clause-cause
@@ -18,7 +18,7 @@ returns-in-Err-clause-cause g c = open_stop c.in-Err.fault c.args.asked (map (λ
 
 pub returns-in-Ok-clause-silent : goal.returns-in-Ok-clause-silent
 returns-in-Ok-clause-silent g c =
-    let swap : c.in-Ok.world.memory.swap ≡ handed_in g.P.Pager.content g.P.Pager.failed g.P.Pager.most c.args.pagers.items = ap (λ (m : StoreView). m.swap) c.in-Ok.ensures.memory in
+    let swap : c.in-Ok.world.memory.swap ≡ handed_in g.P.Pager.content g.P.Pager.failed g.P.Pager.most g.P.Pager.calls c.args.pagers.items = ap (λ (m : StoreView). m.swap) c.in-Ok.ensures.memory in
     rw (← c.in-Ok.ensures.areas, ← swap) c.view_in.ensures.silent
 
 pub returns-in-Err-clause-silent : goal.returns-in-Err-clause-silent

@@ -1,6 +1,7 @@
 use Rattle.std.proofs.lemmas.Result.{err_from_is_err_and, MatchResult-from_err}
 use Rattle.shm_fault.proofs.Names.{total, ◌≡◌, ◌∙◌, ◌+◌, arith, common_steps, nat_tests, is_some, [], ◌∷◌, ◌++◌, Option, Some, None, refl, ap, MatchOption, PageRef, Slot, HasSlot, Came, rec_by, StoreView, one_if}
 use Rattle.shm_fault.proofs.Seen.{seen}
+use Rattle.shm_fault.proofs.Slots.{bytes-kept}
 use Rattle.shm_fault.proofs.Sound.{slot-own}
 use Rattle.shm_fault.proofs.Pages.{by-still}
 use Rattle.shm_fault.proofs.Visits.{Visits-trans, moves-more, moves-still, moves-trans}
@@ -27,7 +28,7 @@ settle-requires-clause-away g c = rw c.load.ensures.rest c.requires.away
 
 pub settle-requires-clause-bytes : goal.settle-requires-clause-bytes
 settle-requires-clause-bytes g c =
-    rw (c.in_ok-load.ensures.bytes, c.in_ok-load.ensures.swap, c.page-slot.ensures, ap (λ (v : StoreView). v.segs) c.load.ensures.rest, ← c.self.view_is) refl
+    rw (c.in_ok-load.ensures.bytes, ← bytes-kept _ _ c.load.ensures.kept, c.page-slot.ensures, ap (λ (v : StoreView). v.segs) c.load.ensures.rest, ← c.self.view_is) refl
 
 pub returns : goal.returns
 returns g c =

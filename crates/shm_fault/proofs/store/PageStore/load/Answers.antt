@@ -1,8 +1,9 @@
 use Rattle.std.proofs.lemmas.Result.{err_from_is_err_and, MatchResult-from_err}
-use Rattle.shm_fault.proofs.Names.{ap, total, ℕ, refl, arith, common_steps, nat_tests, frame_at, inl, unlocked}
+use Rattle.shm_fault.proofs.Names.{ℕ, refl, arith, common_steps, nat_tests, frame_at, inl, unlocked}
 use Rattle.shm_fault.proofs.Seen.{seen}
 use Rattle.shm_fault.proofs.Skipped.{skipped-set}
 use Rattle.shm_fault.proofs.Visits.{IsStep, step-load}
+use Rattle.shm_fault.proofs.Failures.{total-filled}
 use Rattle.shm_fault.proofs.Placed.{owners-kept}
 use Rattle.shm_fault.proofs.Places.{same-places}
 use Rattle.shm_clock.specs.Skips.{AreSkipped}
@@ -43,6 +44,7 @@ returns g c =
     (record {
       bytes = e.bytes;
       swap = e.swap;
+      kept = c.fill_from.ensures.kept;
       rest = refl;
       ins = grind (arith, nat_tests, common_steps);
       free = grind (arith, common_steps);
@@ -50,7 +52,7 @@ returns g c =
       slot = tt;
       visits = k.visits;
       cause = tt;
-      failures = ap total e.swap;
+      failures = total-filled _ s.swap _ (rw (← c.self.view_is) at c.requires.slot) e.swap;
     })
 
 pub returns-in_err-fill_from : goal.returns-in_err-fill_from
@@ -64,6 +66,7 @@ returns-in_err-fill_from g c =
     (record {
       bytes = grind (arith, common_steps);
       swap = grind (arith, common_steps);
+      kept = c.fill_from.ensures.kept;
       rest = refl;
       ins = grind (arith, common_steps);
       free = grind (arith, common_steps);

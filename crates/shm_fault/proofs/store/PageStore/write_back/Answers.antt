@@ -1,5 +1,5 @@
 use Rattle.std.proofs.lemmas.Result.{err_from_is_err_and}
-use Rattle.shm_fault.proofs.Names.{◌≡◌, ℕ, Some, true, false, set, refl, sym, arith, set-get_or, IsSome, PageRef, Slot, SwapView, IsSwap, HasSlot, sizes, area_at, with_slot_page, OneArea, AfterWriteFault, GoesOn, no_frame, frame_at, rec_by, StoreView, IsStoreSound, common_steps, nat_tests, inl, unlocked}
+use Rattle.shm_fault.proofs.Names.{◌≡◌, ℕ, Some, true, false, set, refl, sym, arith, set-get_or, IsSome, List, SideCalls, PageRef, Slot, SwapView, IsSwap, HasSlot, sizes, area_at, with_slot_page, OneArea, AfterWriteFault, GoesOn, no_frame, frame_at, rec_by, StoreView, IsStoreSound, common_steps, nat_tests, inl, unlocked}
 use Rattle.shm_fault.proofs.Seen.{seen}
 use Rattle.shm_fault.proofs.Skipped.{skipped-set}
 use Rattle.shm_fault.proofs.Slots.{OnlySlot-page, OnlySlot-fault, owner-written, owner-fault, page-written}
@@ -12,8 +12,8 @@ use Rattle.shm_fault.proofs.store.PageStore.write_back.Goals as goal
 use Rattle.shm_fault.proofs.store.PageStore.write_back.Goals.{After-self, After-saturating_add-self-inside, After-from_residual}
 
 -- the swap with the frame's bytes in the slot
-abbrev written : StoreView → ℕ → Slot → SwapView
-written s f k = with_slot_page s.swap k (frame_at s.frames f).bytes
+abbrev written : StoreView → ℕ → Slot → List SideCalls → SwapView
+written s f k calls = with_slot_page s.swap k (frame_at s.frames f).bytes calls
 
 module _ (s : StoreView) (sound : IsStoreSound s) (f : ℕ) (k : Slot) (some : IsSome (frame_at s.frames f).owner)
     (slot : (r : PageRef) → (frame_at s.frames f).owner ≡ Some r → (rec_by s.segs r).slot ≡ Some k) where
@@ -25,12 +25,12 @@ module _ (s : StoreView) (sound : IsStoreSound s) (f : ℕ) (k : Slot) (some : I
   has = ((sound.tied.pages owner.page (sound.tied.owners f owner.page owner.is)).slot_owned k (slot owner.page owner.is)).0
 
   -- the write was done
-  done : (outs : ℕ) → IsSwap (written s f k) → sizes (written s f k) ≡ sizes s.swap → GoesOn s.swap (written s f k)
-      → Keeps s (record s { frames = set s.frames f (record (frame_at s.frames f) { dirty = false }); swap = written s f k; outs = outs })
-  done outs swap same goes =
+  done : (outs : ℕ) (calls : List SideCalls) → IsSwap (written s f k calls) → sizes (written s f k calls) ≡ sizes s.swap → GoesOn s.swap (written s f k calls)
+      → Keeps s (record s { frames = set s.frames f (record (frame_at s.frames f) { dirty = false }); swap = written s f k calls; outs = outs })
+  done outs calls swap same goes =
       let bytes = (frame_at s.frames f).bytes in
-      keeps-write s sound owner.page f k (record (frame_at s.frames f) { dirty = false }) (written s f k) s.ins outs owner.is (slot owner.page owner.is) owner.is refl
-      (OnlySlot-page k s.swap bytes) (owner-written k s.swap bytes has) (λ e. sym (page-written k s.swap bytes has)) swap same goes
+      keeps-write s sound owner.page f k (record (frame_at s.frames f) { dirty = false }) (written s f k calls) s.ins outs owner.is (slot owner.page owner.is) owner.is refl
+      (OnlySlot-page k s.swap bytes calls) (owner-written k s.swap bytes calls has) (λ e. sym (page-written k s.swap bytes calls has)) swap same goes
 
   -- it failed
   failed : (u : SwapView) → (frame_at s.frames f).dirty ≡ true → OneArea k.area s.swap u → AfterWriteFault k.slot (area_at s.swap k.area) (area_at u k.area)
@@ -49,10 +49,10 @@ wrote : (g : given.Over) (c : After-saturating_add-self-inside g)
 wrote g c =
     let s = seen c.self.inside in
     let e = c.write_slot.ensures in
-    let u : c.write_slot.new.self ≡ written s c.args.frame c.args.slot = rw c.bytes.ensures.value at c.in_ok-write_slot.ensures.ok in
+    let u : c.write_slot.new.self ≡ written s c.args.frame c.args.slot (area_at c.write_slot.new.self c.args.slot.area).calls = rw c.bytes.ensures.value at c.in_ok-write_slot.ensures.ok in
     rw (c.set_dirty.ensures, u)
     (done s c.self.invariant.0 c.args.frame c.args.slot (rw (← c.self.view_is) at c.requires.owned) (rw (← c.self.view_is) at c.requires.slot)
-    c.saturating_add-self-inside.result (rw u at e.sound) (rw u at e.sizes) (rw u at e.goes_on))
+    c.saturating_add-self-inside.result _ (rw u at e.sound) (rw u at e.sizes) (rw u at e.goes_on))
 
 unwritten : (g : given.Over) (c : After-from_residual g) → Keeps (seen c.self.inside) (record (seen c.self.inside) { swap = c.write_slot.new.self })
 unwritten g c =
@@ -86,8 +86,8 @@ returns g c =
       outs = grind (arith, nat_tests, common_steps);
       goes = k.goes;
       cause = tt;
-      failures = rw c.in_ok-write_slot.ensures.ok (total-written s.swap c.args.slot c.bytes.result.now at.0);
-      placed = bit-set s t c.args.frame false refl refl (rw c.in_ok-write_slot.ensures.ok (owners-page s.swap c.args.slot c.bytes.result.now)) (rw c.set_dirty.ensures refl);
+      failures = rw c.in_ok-write_slot.ensures.ok (total-written s.swap c.args.slot c.bytes.result.now _ at.0);
+      placed = bit-set s t c.args.frame false refl refl (rw c.in_ok-write_slot.ensures.ok (owners-page s.swap c.args.slot c.bytes.result.now _)) (rw c.set_dirty.ensures refl);
       sound = k.sound;
     })
 

@@ -9,7 +9,7 @@ pub new-requires-clause-sizes : goal.new-requires-clause-sizes
 new-requires-clause-sizes g c = (is_open c.args.limits (λ p. length (g.P.Pager.content p)) c.args.pagers.items c.args.processes.now (rw c.most_processes.ensures.value at c.most_processes.ensures.range.1) (rw c.most_slots.ensures.value at c.most_slots.ensures.range.1) c.requires.none).sizes
 
 pub new-requires-2-clause-free : goal.new-requires-2-clause-free
-new-requires-2-clause-free g c = λ area slot. rw c.in_ok-new.ensures (owners-new g.P.Pager.content g.P.Pager.failed g.P.Pager.most c.args.pagers.items area slot)
+new-requires-2-clause-free g c = λ area slot. rw c.in_ok-new.ensures (owners-new g.P.Pager.content g.P.Pager.failed g.P.Pager.most g.P.Pager.calls c.args.pagers.items area slot)
 
 pub new-requires-3-clause-apart : goal.new-requires-3-clause-apart
 new-requires-3-clause-apart g c = (is_open c.args.limits (λ p. length (g.P.Pager.content p)) c.args.pagers.items c.args.processes.now (rw c.most_processes.ensures.value at c.most_processes.ensures.range.1) (rw c.most_slots.ensures.value at c.most_slots.ensures.range.1) c.requires.none).apart
@@ -31,8 +31,9 @@ returns g c = record {
   opening = rw (c.in_ok-from_slice.ensures.items, c.in_ok-sizes_of.ensures, c.deref.ensures.value) refl;
   calls = refl;
   clock = refl;
+  changes = refl;
   machine =
-      rw (c.in_ok-new-2.ensures.memory, c.in_ok-new-2.ensures.table, c.in_ok-new.ensures, sizes-new g.P.Pager.content g.P.Pager.failed g.P.Pager.most c.args.pagers.items, c.in_ok-new-3.ensures.runners, c.in_ok-from_slice.ensures.items, c.in_ok-sizes_of.ensures, c.deref.ensures.value) refl;
+      rw (c.in_ok-new-2.ensures.memory, c.in_ok-new-2.ensures.table, c.in_ok-new.ensures, sizes-new g.P.Pager.content g.P.Pager.failed g.P.Pager.most g.P.Pager.calls c.args.pagers.items, c.in_ok-new-3.ensures.runners, c.in_ok-from_slice.ensures.items, c.in_ok-sizes_of.ensures, c.deref.ensures.value) refl;
   memory = rw (← c.in_ok-new.ensures) c.in_ok-new-2.ensures.memory;
 }
 

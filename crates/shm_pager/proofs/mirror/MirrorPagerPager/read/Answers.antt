@@ -11,13 +11,13 @@ use Rattle.shm_pager.proofs.mirror.MirrorPagerPager.read.Goals.{After-read_if}
 
 -- what is seen of a mirror
 abbrev seen : (g : given.Over) → MirrorView g.row.L.Denot g.row.R.Denot → MirrorSeen
-seen g = mirror_seen g.L.Pager.content g.L.Pager.failed g.L.Pager.most g.R.Pager.content g.R.Pager.failed g.R.Pager.most
+seen g = mirror_seen g.L.Pager.content g.L.Pager.failed g.L.Pager.most g.L.Pager.calls g.R.Pager.content g.R.Pager.failed g.R.Pager.most g.R.Pager.calls
 
 asked : (g : given.Over) (c : After-read_if g) → c.index-good.result.now.left ≡ left_asked c.args.slot (seen g c.args.self.now)
 asked g c = ap (λ (m : Good). m.left) (good-found _ _ _ _ (ap (seen g) c.self.view_is) c.index-good.ensures c.requires.there)
 
-unasked : (g : given.Over) (c : After-read_if g) → left_asked c.args.slot (seen g c.args.self.now) ≡ false → pager_seen g.L.Pager.content g.L.Pager.failed g.L.Pager.most c.read_if.new.pager ≡ (seen g c.args.self.now).left
-unasked g c off = ap (pager_seen g.L.Pager.content g.L.Pager.failed g.L.Pager.most) (c.read_if.ensures.unasked (asked g c ∙ off) ∙ ap (λ (m : MirrorView g.row.L.Denot g.row.R.Denot). m.left) c.self.view_is)
+unasked : (g : given.Over) (c : After-read_if g) → left_asked c.args.slot (seen g c.args.self.now) ≡ false → pager_seen g.L.Pager.content g.L.Pager.failed g.L.Pager.most g.L.Pager.calls c.read_if.new.pager ≡ (seen g c.args.self.now).left
+unasked g c off = ap (pager_seen g.L.Pager.content g.L.Pager.failed g.L.Pager.most g.L.Pager.calls) (c.read_if.ensures.unasked (asked g c ∙ off) ∙ ap (λ (m : MirrorView g.row.L.Denot g.row.R.Denot). m.left) c.self.view_is)
 
 pub returns-then-read_if : goal.returns-then-read_if
 returns-then-read_if g c =

@@ -11,7 +11,7 @@ done : (g : Over) (c : After-unspent_after-self-inside g)
 done g c =
     let e = c.write-result.ensures in
     let there : HasSlot (record { areas = c.self.inside.areas.items; never_spent = c.self.inside.never_spent }) c.args.slot.area c.args.slot.slot = rw (← c.self.view_is) at c.requires in
-    asked _ _ _ _ c.index_mut-area.ensures.value _ _ _ e.rest c.write-result.result _ there c.self.invariant e.counts e.most e.sound (IfErr-weaker c.write-result.result _ _ (λ _ fault. fault.2) e.err)
+    asked _ _ _ _ c.index_mut-area.ensures.value _ _ _ _ e.rest c.write-result.result _ there c.self.invariant e.counts e.most e.sound (IfErr-weaker c.write-result.result _ _ (λ _ fault. fault.2) e.err)
 
 pub invariant_of-self : goal.invariant_of-self
 invariant_of-self g c = rw c.unspent_after-self-inside.ensures (done g (goal.at.invariant_of-self g c).After-unspent_after-self-inside).sound
