@@ -7,3 +7,4 @@ pub mod Text
 pub mod Alike
 pub mod Digests
 pub mod Same
+pub mod Lacking

@@ -1,8 +1,9 @@
 //! The machine on which a search runs a script.
-ghost use Rattle.std.specs.Prelude.{◌≡◌, ℕ, ◌+◌, ◌-◌, ◌<◌, ◌^◌, false, IfOk, OnErr, OnOk};
+ghost use Rattle.std.specs.Prelude.{◌≡◌, ℕ, ◌+◌, ◌-◌, ◌<◌, ◌^◌, true, false, IfOk, OnErr, OnOk};
 ghost use Rattle.shm_base.specs.History.{is_refusal};
 ghost use Rattle.shm_base.specs.State.{Machine};
 ghost use Rattle.shm_base.specs.Step.{step};
+ghost use Rattle.shm_schedules.specs.Lacking.{may_lack_memory};
 ghost use Rattle.shm_schedules.specs.Places.{place_of};
 ghost use Rattle.shm_schedules.specs.Schedules.{is_live};
 
@@ -31,12 +32,14 @@ pub trait Engine: Drop {
         ensures calls { IfOk result (λ copy. calls copy ≡ calls self.now) };
 
     /// A process's call, which is one step of the flat machine. HostMemory: the host refused memory. It occurs only
-    /// for a call that the flat machine does not refuse; the machine's state is unknown then.
+    /// for a shmget, a shmat, an access or a swapoff, and only if the flat machine does not refuse it; the machine's
+    /// state is unknown then.
     fn call(&mut self, pid: u32, call: &Call) -> Result<Reply, HostMemory>
         requires room { calls self.old < 2 ^ 64 - 1 }
         ensures step { IfOk result (λ r. step (flat self.old) (calls self.old + 1) pid call.now
             ≡ record { reply = r; state = flat self.new }) }
         ensures calls { OnOk result (calls self.new ≡ calls self.old + 1) }
+        ensures memory { OnErr result (may_lack_memory call.now ≡ true) }
         ensures instead { OnErr result (
             is_refusal (step (flat self.old) (calls self.old + 1) pid call.now).reply ≡ false) };
 }

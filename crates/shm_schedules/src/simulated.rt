@@ -75,7 +75,7 @@ fn is_failure(call: &Call, reply: &Reply) -> bool
     }
 }
 
-#[tactic(auto, using(crate::proofs::Failing::is_excused))]
+#[tactic(auto, using(crate::proofs::Failing::failed_lacks, crate::proofs::Failing::is_excused, crate::proofs::Failing::takes_lacks))]
 impl Engine for Simulated {
     ghost flat = { λ s. s.machine };
 
