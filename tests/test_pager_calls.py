@@ -7,9 +7,9 @@ which a read or a write fails. The usage that the built program prints must foll
 of tests/asked.shm were worked out by hand.
 
 Scripts that have only ram areas and no swapoff also run under callgrind, which counts calls: in the built
-program such a pager is a part of the swap's functions that call it. Each page that it reads or writes is one
-copy there, and a slot that it discards is cleared. So there are as many copies as the usage has pages in and
-out, and no slot is cleared meanwhile.
+program such a pager is a part of the swap's functions that call it, or has functions of its own. Each page
+that it reads or writes is one copy there, and a slot that it discards is cleared. So there are as many copies
+as the usage has pages in and out, and no slot is cleared meanwhile.
 """
 
 from __future__ import annotations
@@ -26,7 +26,7 @@ import pytest
 from asked import replay
 from commands import TOP, run, text_of
 
-READ, WRITE = "Swap::read_slot", "Swap::write_slot"
+READ, WRITE, PAGERS = "Swap::read_slot", "Swap::write_slot", "shm_pager::"
 COPY, CLEAR = re.compile(r"mem(cpy|move)"), re.compile(r"memset")
 # a swapoff moves pages by a function of its own
 MOVES = re.compile(r"^\d+ swapoff\b", re.MULTILINE)
@@ -128,6 +128,14 @@ def calls_in(profile: Any) -> Any:
     return counts
 
 
+def made_by(function: str, calls: Any) -> Any:
+    """Returns how often each function was called by this one, and by functions of pagers that it calls."""
+    inside = {name for names in calls for name in names if function in name}
+    while more := {called for caller, called in calls if caller in inside and PAGERS in called} - inside:
+        inside |= more
+    return [(called, many) for (caller, called), many in calls.items() if caller in inside]
+
+
 @pytest.mark.skipif(not shutil.which("valgrind"), reason="there is no valgrind")
 @pytest.mark.parametrize("script", [path for path in SERIAL if is_compared(path)], ids=name_of)
 def test_copies(script: str, proved_shmsim: str, folder: str) -> None:
@@ -139,7 +147,7 @@ def test_copies(script: str, proved_shmsim: str, folder: str) -> None:
     calls = calls_in(profile)
     for function, number in zip((READ, WRITE), usage.groups() if usage else ()):
         asked = sum(many for (_, called), many in calls.items() if function in called)
-        own = {called: many for (caller, called), many in calls.items() if function in caller}
-        copies = sum(many for called, many in own.items() if COPY.search(called))
-        cleared = sum(many for called, many in own.items() if CLEAR.search(called))
+        made = made_by(function, calls)
+        copies = sum(many for called, many in made if COPY.search(called))
+        cleared = sum(many for called, many in made if CLEAR.search(called))
         assert (asked, copies, cleared) == (int(number), int(number), 0)
