@@ -1,5 +1,6 @@
 -- The codes of the interface's functions, and the handles afterwards. One definition serves all calls.
 use Rattle.std.specs.Prelude.{ℕ, ◌≡◌, ◌⊎◌, Bool, true, false, List, length, Option, Some, None, Result, Ok, Err}
+use Rattle.shm_base.specs.Bounds.{within}
 use Rattle.shm_base.specs.Codes.{code_of}
 use Rattle.shm_base.specs.Calls.{ProcessCall}
 use Rattle.shm_base.specs.declared.call.Call.TheVariants.{Load, Store, Xadd, Exchange, CompareExchange}
@@ -9,7 +10,7 @@ use Rattle.shm_machine.specs.declared.machine.Machine.{Machine}
 use Rattle.shm_machine.specs.declared.refusal.Refusal.{Refusal}
 use Rattle.shm_machine.specs.declared.refusal.Refusal.TheVariants.{Refused, HostMemory, Spent, Lent}
 use Rattle.shm_machine.specs.Answered.{Answered}
-use Rattle.shm_machine.specs.Ready.{AccessedBy, Deed, Does}
+use Rattle.shm_machine.specs.Ready.{AccessedBy, Deed, Does, reply_at, size_at}
 
 abbrev pub no_memory : ℕ
 no_memory = 2001
@@ -86,6 +87,14 @@ accesses a call before result after =
 -- what a process does at some bytes
 abbrev pub does : Deed → Machine → Result Reply Refusal → Machine → Type 0
 does d before result after = Does d before.system result after.system
+
+-- its code, where these are the old bytes
+abbrev pub DoesBy : Deed → Machine → List ℕ → ℕ → Machine → Type 0
+DoesBy d before old code after = AnswersBy (does d before) (reply_at d old) code after
+
+-- the same through a handle, for 1 to 64 bytes
+abbrev pub DoesIn : Deed → Option Machine → List ℕ → ℕ → Option Machine → Type 0
+DoesIn d before old code after = AnswersInWhere (within 1 64 (size_at d)) (does d) before (reply_at d old) code after
 
 abbrev pub loads : ℕ → ℕ → ℕ → Machine → Result Reply Refusal → Machine → Type 0
 loads pid addr len = accesses (record { pid = pid; addr = addr; len = len; puts = false }) (Load addr len)

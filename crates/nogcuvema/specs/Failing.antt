@@ -1,5 +1,5 @@
 -- Failures that a host adds to a running machine, through a handle.
-use Rattle.std.specs.Prelude.{ℕ, ◌≡◌, ◌⊎◌, not, ◌==◌, Option, Some, None, Ok, Err}
+use Rattle.std.specs.Prelude.{ℕ, ◌≡◌, ◌⊎◌, not, ◌==◌, nat_lt, Option, Some, None, Ok, Err}
 use Rattle.shm_base.specs.Codes.{code_of}
 use Rattle.shm_base.specs.declared.errno.Errno.TheVariants.{Einval, Enoent}
 use Rattle.shm_base.specs.declared.paging.PageRef.{PageRef}
@@ -11,6 +11,7 @@ use Rattle.shm_life.specs.declared.failing.PageNotFailed.{PageNotFailed}
 use Rattle.shm_life.specs.declared.failing.PageNotFailed.TheVariants as pages
 use Rattle.shm_machine.specs.declared.machine.Machine.{Machine}
 use Rattle.nogcuvema.specs.Answers.{no_memory, out_of_range}
+use Rattle.nogcuvema.specs.Lending.{IfFits}
 use Rattle.nogcuvema.specs.Opens.{side_of}
 use Rattle.nogcuvema.specs.declared.structs.NogFailure.{NogFailure}
 
@@ -32,6 +33,10 @@ abbrev pub FailsBy : ℕ → ComingFailure → Machine → ℕ → Machine → T
 FailsBy area c before code after =
     ((code ≡ 0) × IsFailing area c before.system (Ok tt) after.system)
     ⊎ ((refusal : FailRefused) × (code ≡ fail_code refusal) × IsFailing area c before.system (Err refusal) after.system)
+
+-- the same as the header's struct says it, of which the side is 0 or 1
+abbrev pub FailsAs : NogFailure → ℕ → Machine → ℕ → Machine → Type 0
+FailsAs f is_lasting before code after = IfFits (nat_lt f.side 2) (FailsBy f.area (coming_of f is_lasting)) before code after
 
 -- reads of the page's slot fail, or the code says why not
 abbrev pub PageFailsBy : Option PageRef → Machine → ℕ → Machine → Type 0

@@ -3,8 +3,8 @@ ghost use Rattle.std.specs.Prelude.{◌≡◌, ◌≢◌, ◌≤◌, length};
 ghost use Rattle.shm_base.specs.Bounds.{within};
 ghost use Rattle.shm_base.specs.declared.call.Reply.TheVariants as reply;
 ghost use Rattle.shm_fault.specs.Acting.{FitsRoom, size_of};
-ghost use Rattle.shm_machine.specs.Ready.{Deed, reply_at, size_at};
-ghost use Rattle.nogcuvema.specs.Answers.{AnswersBy, AnswersIn, AnswersInWhere, adds, does, loads, stores};
+ghost use Rattle.shm_machine.specs.Ready.{deed};
+ghost use Rattle.nogcuvema.specs.Answers.{AnswersBy, AnswersIn, AnswersInWhere, DoesBy, DoesIn, adds, loads, stores};
 
 use crate::code::{DONE, OUT_OF_RANGE, refusal_code};
 use crate::handle::{Handle, with_machine};
@@ -26,8 +26,8 @@ fn is_size(len: usize) -> bool
 fn answer(machine: &mut Machine, pid: u32, addr: u64, act: Act<'_>, there: &mut [u8]) -> u32
     requires fits { FitsRoom act (length there.old) }
     requires size { let size = size_of act (length there.old) in (1 ≤ size) × (size ≤ 64) }
-    ensures answers { let deed : Deed = record { pid = pid; addr = addr; act = act.entry; room = length there.old } in
-        AnswersBy (does deed machine.old) (reply_at deed there.new) result machine.new }
+    ensures answers { let asked = deed pid addr act.entry (length there.old) in
+        DoesBy asked machine.old there.new result machine.new }
     ensures kept { result ≢ 0 → there.new ≡ there.old }
 {
     match machine.access(pid, addr, act, there) {
@@ -47,9 +47,8 @@ pub(crate) fn access(
     there: &mut [u8],
 ) -> u32
     requires fits { FitsRoom act (length there.old) }
-    ensures answers { let deed : Deed = record { pid = pid; addr = addr; act = act.entry; room = length there.old } in
-        AnswersInWhere (within 1 64 (size_at deed)) (does deed) handle.old.kept.value
-        (reply_at deed there.new) result handle.new.kept.value }
+    ensures answers { let asked = deed pid addr act.entry (length there.old) in
+        DoesIn asked handle.old.kept.value there.new result handle.new.kept.value }
     ensures kept { result ≢ 0 → there.new ≡ there.old }
 {
     if !is_size(act.size(there.len())) {

@@ -1,8 +1,8 @@
 //! Failures of swap areas that the host adds to a running machine.
-ghost use Rattle.std.specs.Prelude.{◌≡◌, nat_lt};
-ghost use Rattle.nogcuvema.specs.Failing.{FailsBy, PageFailsBy, coming_of, fail_code, page_code};
+ghost use Rattle.std.specs.Prelude.{◌≡◌};
+ghost use Rattle.nogcuvema.specs.Failing.{FailsAs, PageFailsBy, coming_of, fail_code, page_code};
 ghost use Rattle.nogcuvema.specs.Hosting.{HostedThrough};
-ghost use Rattle.nogcuvema.specs.Lending.{IfFits, page_by};
+ghost use Rattle.nogcuvema.specs.Lending.{page_by};
 
 use crate::code::{DONE, NO_MEMORY, OUT_OF_RANGE};
 use crate::handle::{Handle, with_machine};
@@ -47,8 +47,7 @@ fn coming_of(failure: &NogFailure, is_lasting: u32) -> ComingFailure
 }
 
 fn fail(machine: &mut Machine, failure: &NogFailure, is_lasting: u32) -> u32
-    ensures { let fails = FailsBy failure.now.area (coming_of failure.now is_lasting) in
-        IfFits (nat_lt failure.now.side 2) fails machine.old result machine.new }
+    ensures { FailsAs failure.now is_lasting machine.old result machine.new }
 {
     if failure.side >= 2 {
         return OUT_OF_RANGE;
@@ -83,9 +82,7 @@ pub extern "C" fn nog_fail(
     failure: &NogFailure,
     is_lasting: u32,
 ) -> u32
-    ensures { let fails = FailsBy failure.now.area (coming_of failure.now is_lasting) in
-        HostedThrough (IfFits (nat_lt failure.now.side 2) fails)
-        handle.old.kept.value result handle.new.kept.value }
+    ensures { HostedThrough (FailsAs failure.now is_lasting) handle.old.kept.value result handle.new.kept.value }
 {
     with_machine!(alloc, handle, |machine| fail(machine, failure, is_lasting))
 }

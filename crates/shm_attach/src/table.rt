@@ -120,7 +120,8 @@ impl Table {
     pub(crate) fn frame(&self, page: usize) -> Option<FrameNo>
         ensures { result ≡ frame_in (Some self.now) page }
     {
-        // The constant in place of the list's own `other` keeps the compiler from choosing between two places.
+        // Not `get`: that would load the frame from one of two addresses, and an access would take eight
+        // instructions more.
         match self.frames.stored(page) {
             Some(frame) => *frame,
             None => None,

@@ -66,6 +66,9 @@ pub record Deed : Type 0 where
   pub act : Act
   pub room : ℕ
 
+abbrev pub deed : ℕ → ℕ → Act → ℕ → Deed
+deed pid addr act room = record { pid = pid; addr = addr; act = act; room = room }
+
 abbrev pub size_at : Deed → ℕ
 size_at d = size_of d.act d.room
 

@@ -9,7 +9,7 @@ ghost use Rattle.shm_fault.specs.Acting.{FitsRoom, size_of};
 ghost use Rattle.shm_life.specs.Lending.{pages_asked};
 ghost use Rattle.shm_life.specs.SystemState.{most_calls};
 ghost use Rattle.shm_machine.specs.Answered.{as_reply, done};
-ghost use Rattle.shm_machine.specs.Ready.{AccessedBy, Deed, Did, IsReady, NotMade, refusal_of};
+ghost use Rattle.shm_machine.specs.Ready.{AccessedBy, Did, deed, IsReady, NotMade, refusal_of};
 
 use crate::machine::Machine;
 use crate::refusal::Refusal;
@@ -59,8 +59,8 @@ impl Machine {
     ) -> Result<(), Refusal>
         requires fits { FitsRoom act (length there.old) }
         requires size { let size = size_of act (length there.old) in (1 ≤ size) × (size ≤ PAGE_SIZE) }
-        ensures did { let deed : Deed = record { pid = pid; addr = addr; act = act.entry; room = length there.old } in
-            Did deed self.old.system result there.new self.new.system }
+        ensures did { let asked = deed pid addr act.entry (length there.old) in
+            Did asked self.old.system result there.new self.new.system }
         ensures kept { OnErr result (there.new ≡ there.old) }
     {
         let len = act.size(there.len()) as u64;
