@@ -291,7 +291,8 @@ uint32_t nog_get(nog_machine *machine, uint32_t pid, uint32_t key, uint64_t size
    identifier.
    NOG_EIDRM: its segment is destroyed.
    NOG_EACCES: no permission to read, or, without NOG_RDONLY, to write.
-   NOG_EINVAL: the range is not within 0x10000 to 0x7ffffffff000, or holds a piece and NOG_REMAP is not set.
+   NOG_EINVAL: the range is not within 0x10000 to 0x7ffffffff000, or NOG_REMAP is not set and the range meets a piece or
+   a range that the host reserved.
    NOG_ENOMEM: no free range is large enough.
    NOG_EMFILE: the process would have more pieces than the limits allow.
    NOG_NO_MEMORY: the heap gave no memory. */
@@ -414,6 +415,22 @@ uint32_t nog_admit(nog_machine *machine, const nog_process *process);
 /* An ended process or an unborn child leaves: its pid may be admitted again, and its room is free.
    NOG_DISMISS_NONE, NOG_DISMISS_LIVE: the first of these. */
 uint32_t nog_dismiss(nog_machine *machine, uint32_t pid);
+
+/* Reserves `len` bytes of a process's addresses from `addr` on for memory that is not the library's, such as the code,
+   the heap and the stack of a guest. From then on nog_attach takes none of them unless NOG_REMAP is set: at a given
+   address it returns NOG_EINVAL, and at address 0 it chooses a free range beside them. No other function looks at a
+   reserved range, and it stays when the process unmaps, execs or exits. A child inherits none. The process need not
+   exist yet.
+   NOG_OUT_OF_RANGE: the length is 0, the address or the length is not a multiple of 4096, or the range is not within
+   0x10000 to 0x7ffffffff000.
+   NOG_EEXIST: the range meets a piece of the process, or another range that is reserved for it.
+   NOG_NO_MEMORY: the heap gave no memory. */
+uint32_t nog_reserve(nog_machine *machine, uint32_t pid, uint64_t addr, uint64_t len);
+
+/* Releases a reserved range, of which the address and the length are those of its nog_reserve.
+   NOG_OUT_OF_RANGE: the range reaches 2^64.
+   NOG_ENOENT: exactly this range is not reserved for the process. */
+uint32_t nog_release(nog_machine *machine, uint32_t pid, uint64_t addr, uint64_t len);
 
 /* Calls set this number as their times from now on, until another is given. Before the first nog_set_time a time is the
    number of its call. */

@@ -3,7 +3,6 @@
 #include <errno.h>
 #include <fcntl.h>
 #include <linux/futex.h>
-#include <string.h>
 #include <sys/mman.h>
 #include <sys/syscall.h>
 #include <time.h>
@@ -12,51 +11,37 @@
 
 enum { CLONE_CHILD = 0x01000000, CLONE_MEMORY = 0x100, SET_FS = 0x1002, SAME = -1, SYSCALL_BYTES = 2, ROOM = 65536 };
 
-static uint64_t page_up(uint64_t number) { return (number + PAGE - 1) / PAGE * PAGE; }
-
 /* ---- memory ---- */
 
 static int64_t map_memory(struct process *process, uint64_t len, uint64_t flags) {
     if (!len) return -EINVAL;
     if (!(flags & MAP_ANONYMOUS)) return -ENOSYS;
-    process->next_map -= page_up(len);
-    add_region(process, process->next_map, page_up(len));
+    len = (len + PAGE - 1) / PAGE * PAGE;
+    process->next_map -= len;
+    add_memory(process, process->next_map, len);
     return (int64_t)process->next_map;
 }
 
-/* The heap lies after the program, in its region. */
+/* The memory of the heap was added with the program. */
 static int64_t move_heap(struct process *process, uint64_t end) {
-    const uint64_t old = process->heap_end;
-    if (end > old && region_at(process, old, end - old)) process->heap_end = end;
+    if (end > process->heap_end && end <= process->most_heap) process->heap_end = end;
     return (int64_t)process->heap_end;
 }
 
 /* After a call that changes attachments, addresses may show other pages, and segments may have ended. */
 static int64_t changed(struct process *process, int64_t answer) {
     forget_pages(process);
-    end_loans();
     return answer;
 }
 
 /* The rights of private memory are not kept. */
 static int64_t protect_memory(struct process *process, uint64_t addr, uint64_t len, uint64_t rights) {
-    if (region_at(process, addr, 1)) return 0;
-    const uint32_t code = nog_protect(&machine, process->pid, addr, len, (rights & PROT_WRITE) != 0);
-    return changed(process, nog_linux_answer(code, 0));
-}
-
-static bool meets_region(const struct process *process, uint64_t addr, uint64_t len) {
-    for (const struct region *it = process->regions; it < process->regions + MOST_REGIONS; it++)
-        if (it->bytes && addr < it->base + it->len && it->base < addr + len) return true;
-    return false;
-}
-
-static int64_t attach(struct process *process, int32_t id, uint64_t addr, int32_t flags) {
-    nog_segment segment;
-    const uint64_t base = flags & NOG_RND ? addr / PAGE * PAGE : addr;
-    if (addr && nog_segment_of(&machine, id, &segment) == NOG_DONE && meets_region(process, base, page_up(segment.size)))
-        return -EINVAL;
-    return changed(process, nog_linux_shmat(&machine, process->pid, id, addr, flags));
+    nog_piece piece;
+    uint8_t byte;
+    const bool is_shared = nog_piece_of(&machine, process->pid, addr, &piece) == NOG_DONE;
+    if (!is_shared && uc_mem_read(process->engine, addr, &byte, 1) == UC_ERR_OK) return 0;
+    const bool is_writable = rights & PROT_WRITE;
+    return changed(process, nog_linux_answer(nog_protect(&machine, process->pid, addr, len, is_writable), 0));
 }
 
 static int64_t control(struct process *process, int32_t id, int32_t command, uint64_t addr) {
@@ -90,48 +75,31 @@ static int64_t make_pipe(struct process *process, uint64_t addr) {
 
 /* ---- processes ---- */
 
-static int64_t clone_process(struct process *process, uint64_t flags, uint64_t child_id) {
-    if (flags & CLONE_MEMORY) return -ENOSYS;
-    const int64_t pid = fork_process(process);
-    const int32_t told = (int32_t)pid;
-    if (pid > 0 && flags & CLONE_CHILD) copy_to_guest(find_process((uint32_t)pid), child_id, &told, sizeof told);
-    return pid;
-}
-
 /* One user is kept, the effective one. User 0 may become any other. */
 static int64_t set_user(struct process *process, int32_t uid, int32_t gid) {
     const uint32_t user = uid == SAME ? process->uid : (uint32_t)uid;
     const uint32_t group = gid == SAME ? process->gid : (uint32_t)gid;
     if (process->uid && (user != process->uid || group != process->gid)) return -EPERM;
     must(nog_set_user(&machine, process->pid, user, group), "set user");
-    process->uid = user;
-    process->gid = group;
-    return 0;
-}
-
-static int64_t set_thread(struct process *process, uint64_t code, uint64_t base) {
-    if (code != SET_FS) return -EINVAL;
-    must_run(uc_reg_write(process->engine, UC_X86_REG_FS_BASE, &base), "the thread's base");
+    process->uid = user, process->gid = group;
     return 0;
 }
 
 /* ---- futexes: a word in shared memory is that of its page, wherever it is attached ---- */
 
-static struct futex futex_at(const struct process *process, uint64_t addr) {
+/* The place of a shared word, by its segment and its offset there, which is below 2^32. Words of one process have the
+   place 0: nobody waits there for another. */
+static uint64_t futex_at(const struct process *process, uint64_t addr) {
     int32_t id;
     uint32_t page, is_writable;
-    if (nog_page_at(&machine, process->pid, addr, &id, &page, &is_writable) == NOG_DONE)
-        return (struct futex){id, 0, (uint64_t)page * PAGE + addr % PAGE};
-    return (struct futex){-1, process->pid, addr};
+    if (nog_page_at(&machine, process->pid, addr, &id, &page, &is_writable) != NOG_DONE) return 0;
+    return (uint64_t)(id + 1) << 32 | (page * PAGE + addr % PAGE);
 }
 
-static int64_t wake(struct futex futex, uint64_t most) {
+static int64_t wake(uint64_t futex, uint64_t most) {
     int64_t count = 0;
     for (struct process *it = processes; it < processes + MOST_PROCESSES && count < (int64_t)most; it++)
-        if (it->is_there && it->sleep == ASLEEP && !memcmp(&it->futex, &futex, sizeof futex)) {
-            it->sleep = WOKEN;
-            count++;
-        }
+        if (it->pid && it->sleep == ASLEEP && it->futex == futex) it->sleep = WOKEN, count++;
     return count;
 }
 
@@ -154,40 +122,21 @@ static int64_t use_futex(struct process *process, uint64_t addr, uint64_t what, 
 /* ---- the calls by number; the others do not exist ---- */
 
 static int64_t memory_call(struct process *process, const uint64_t *a) {
+    const uint32_t pid = process->pid;
     switch (process->number) {
     case SYS_mmap: return map_memory(process, a[1], a[3]);
     case SYS_brk: return move_heap(process, a[0]);
-    case SYS_munmap: return changed(process, nog_linux_answer(nog_unmap(&machine, process->pid, a[0], a[1]), 0));
+    case SYS_munmap: return changed(process, nog_linux_answer(nog_unmap(&machine, pid, a[0], a[1]), 0));
     case SYS_mprotect: return protect_memory(process, a[0], a[1], a[2]);
-    case SYS_shmget: return nog_linux_shmget(&machine, process->pid, (int32_t)a[0], a[1], (int32_t)a[2]);
-    case SYS_shmat: return attach(process, (int32_t)a[0], a[1], (int32_t)a[2]);
-    case SYS_shmdt: return changed(process, nog_linux_shmdt(&machine, process->pid, a[0]));
+    case SYS_shmget: return nog_linux_shmget(&machine, pid, (int32_t)a[0], a[1], (int32_t)a[2]);
+    case SYS_shmat: return changed(process, nog_linux_shmat(&machine, pid, (int32_t)a[0], a[1], (int32_t)a[2]));
+    case SYS_shmdt: return changed(process, nog_linux_shmdt(&machine, pid, a[0]));
     case SYS_shmctl: return control(process, (int32_t)a[0], (int32_t)a[1], a[2]);
     case SYS_read: case SYS_write: return use_file(process, a[0], a[1], a[2]);
     case SYS_close: return close_file(process, a[0]);
     case SYS_pipe: case SYS_pipe2: return make_pipe(process, a[0]);
     case SYS_ioctl: return -ENOTTY;
     default: return -ENOSYS;
-    }
-}
-
-static int64_t process_call(struct process *process, const uint64_t *a) {
-    switch (process->number) {
-    case SYS_fork: return fork_process(process);
-    case SYS_clone: return clone_process(process, a[0], a[3]);
-    case SYS_wait4: return wait_for(process, (int32_t)a[0], a[1]);
-    case SYS_getpid: case SYS_gettid: case SYS_set_tid_address: return process->pid;
-    case SYS_getppid: return process->parent;
-    case SYS_getuid: case SYS_geteuid: return process->uid;
-    case SYS_getgid: case SYS_getegid: return process->gid;
-    case SYS_setuid: return set_user(process, (int32_t)a[0], SAME);
-    case SYS_setgid: return set_user(process, SAME, (int32_t)a[0]);
-    case SYS_setresuid: return set_user(process, (int32_t)a[1], SAME);
-    case SYS_setresgid: return set_user(process, SAME, (int32_t)a[1]);
-    case SYS_setgroups: case SYS_sched_yield: case SYS_rt_sigaction: case SYS_rt_sigprocmask: return 0;
-    case SYS_arch_prctl: return set_thread(process, a[0], a[1]);
-    case SYS_futex: return use_futex(process, a[0], a[1], (uint32_t)a[2]);
-    default: return memory_call(process, a);
     }
 }
 
@@ -199,7 +148,22 @@ int64_t make_call(struct process *process) {
     case SYS_exit: case SYS_exit_group: return end_process(process, (int)(a[0] & 255) << 8);
     case SYS_kill: return end_process(process, (int)a[1]);
     case SYS_tgkill: return end_process(process, (int)a[2]);
-    default: return process_call(process, a);
+    case SYS_fork: return fork_process(process, 0);
+    case SYS_clone: return a[0] & CLONE_MEMORY ? -ENOSYS : fork_process(process, a[0] & CLONE_CHILD ? a[3] : 0);
+    case SYS_wait4: return wait_for(process, (int32_t)a[0], a[1]);
+    case SYS_getpid: case SYS_gettid: case SYS_set_tid_address: return process->pid;
+    case SYS_getppid: return process->parent;
+    case SYS_getuid: case SYS_geteuid: return process->uid;
+    case SYS_getgid: case SYS_getegid: return process->gid;
+    case SYS_setuid: return set_user(process, (int32_t)a[0], SAME);
+    case SYS_setgid: return set_user(process, SAME, (int32_t)a[0]);
+    case SYS_setresuid: return set_user(process, (int32_t)a[1], SAME);
+    case SYS_setresgid: return set_user(process, SAME, (int32_t)a[1]);
+    case SYS_setgroups: case SYS_sched_yield: case SYS_rt_sigaction: case SYS_rt_sigprocmask: return 0;
+    case SYS_arch_prctl:
+        return a[0] == SET_FS && !uc_reg_write(process->engine, UC_X86_REG_FS_BASE, a + 1) ? 0 : -EINVAL;
+    case SYS_futex: return use_futex(process, a[0], a[1], (uint32_t)a[2]);
+    default: return memory_call(process, a);
     }
 }
 
@@ -207,12 +171,11 @@ int64_t make_call(struct process *process) {
 
 static void at_call(uc_engine *engine, void *given) {
     struct process *process = given;
-    static const int registers[ARGUMENTS] = {UC_X86_REG_RDI, UC_X86_REG_RSI, UC_X86_REG_RDX, UC_X86_REG_R10,
+    uint64_t *a = process->arguments;
+    int registers[] = {UC_X86_REG_RAX, UC_X86_REG_RIP, UC_X86_REG_RDI, UC_X86_REG_RSI, UC_X86_REG_RDX, UC_X86_REG_R10,
         UC_X86_REG_R8, UC_X86_REG_R9};
-    must_run(uc_reg_read(engine, UC_X86_REG_RAX, &process->number), "read a register");
-    must_run(uc_reg_read(engine, UC_X86_REG_RIP, &process->next_pc), "read a register");
-    for (int i = 0; i < ARGUMENTS; i++)
-        must_run(uc_reg_read(engine, registers[i], &process->arguments[i]), "read a register");
+    void *values[] = {&process->number, &process->next_pc, a, a + 1, a + 2, a + 3, a + 4, a + 5};
+    must_run(uc_reg_read_batch(engine, registers, values, ARGUMENTS + 2), "read the registers");
     process->next_pc += SYSCALL_BYTES;
     process->is_calling = true;
     must_run(uc_emu_stop(engine), "stop");
@@ -230,8 +193,7 @@ static void at_block(uc_engine *engine, uint64_t addr, uint32_t size, void *give
 /* An access to a page that is not mapped, or that is mapped for reading. It continues if the page could be borrowed. */
 static bool at_fault(uc_engine *engine, uc_mem_type kind, uint64_t addr, int size, int64_t value, void *given) {
     (void)engine, (void)size, (void)value;
-    uint8_t *byte;
-    return find_byte(given, addr, kind == UC_MEM_WRITE_UNMAPPED || kind == UC_MEM_WRITE_PROT, &byte);
+    return show_page(given, addr, kind == UC_MEM_WRITE_UNMAPPED || kind == UC_MEM_WRITE_PROT);
 }
 
 void add_hooks(struct process *process) {

@@ -8,27 +8,18 @@
 #include <nogcuvema.h>
 #include <nogcuvema_linux.h>
 
-enum { PAGE = 4096, MOST_FRAMES = 4096, MOST_PROCESSES = 64, MOST_REGIONS = 32, MOST_FILES = 32, ARGUMENTS = 6 };
-enum { SIGNAL_BUS = 7, SIGNAL_SEGV = 11, NO_FILE = -1 };
+enum { PAGE = 4096, MOST_FRAMES = 4096, MOST_PROCESSES = 64, MOST_FILES = 32, NO_FILE = -1, ARGUMENTS = 6 };
 /* what a call returns that has to wait; the loop makes it again at the process's next turn */
 #define WAITS INT64_MIN
 
-/* Memory of one process: its program, heap and stack, and what mmap gave it. Empty if it has no bytes. */
-struct region { uint64_t base, len; uint8_t *bytes; };
-
-/* A place that a futex names: a page of a segment, or the memory of one process (id -1). */
-struct futex { int32_t id; uint32_t owner; uint64_t offset; };
-
 struct process {
-    uint32_t pid, parent, uid, gid;
-    bool is_there, has_ended, is_calling;
+    uint32_t pid, parent, uid, gid;                   /* pid 0: there is no process */
+    bool has_ended, is_calling;
     enum { AWAKE, ASLEEP, WOKEN } sleep;              /* at a futex */
     int status, signal;                               /* as wait4 tells; the signal that ends this turn */
-    uc_engine *engine;
-    struct region regions[MOST_REGIONS];
-    uint64_t heap_end, next_map, next_pc, blocks_left;  /* blocks_left: of its turn */
-    uint64_t number, arguments[ARGUMENTS];            /* the call that it makes */
-    struct futex futex;
+    uc_engine *engine;                                /* has the memory of the process */
+    uint64_t heap_end, most_heap, next_map, next_pc, blocks_left;  /* blocks_left: of its turn */
+    uint64_t number, arguments[ARGUMENTS], futex;     /* the call that it makes; where it sleeps */
     int files[MOST_FILES];                            /* each a file of the host, or NO_FILE */
 };
 
@@ -41,20 +32,18 @@ void must(uint32_t code, const char *what);
 void must_run(uc_err error, const char *what);
 
 /* process.c */
-struct region *add_region(struct process *process, uint64_t base, uint64_t len);
-struct region *region_at(struct process *process, uint64_t addr, uint64_t len);
-void load_program(struct process *process, const char *path);
-int64_t fork_process(struct process *parent);
-int64_t end_process(struct process *process, int status);
 struct process *find_process(uint32_t pid);
+void add_memory(struct process *process, uint64_t base, uint64_t len);
+void load_program(struct process *process, const char *path);
+int64_t fork_process(struct process *parent, uint64_t child_id);
+int64_t end_process(struct process *process, int status);
 void reap_orphans(void);
 int64_t wait_for(struct process *parent, int32_t pid, uint64_t status);
 int64_t close_file(struct process *process, uint64_t file);
 
 /* shared.c: pages on loan */
-bool find_byte(struct process *process, uint64_t addr, bool is_write, uint8_t **byte);
+bool show_page(struct process *process, uint64_t addr, bool is_write);
 void forget_pages(struct process *process);
-void end_loans(void);
 int copy_from_guest(void *process, uint64_t addr, void *bytes, size_t len);
 int copy_to_guest(void *process, uint64_t addr, const void *bytes, size_t len);
 

@@ -2,10 +2,12 @@
    the rules of Linux. USAGE says which words it takes. */
 #define _GNU_SOURCE
 #include <inttypes.h>
+#include <signal.h>
 #include <stdio.h>
 #include <stdlib.h>
 #include <string.h>
 #include <unistd.h>
+#include <nogcuvema_names.h>
 #include "emulator.h"
 
 #define USAGE "emulator [-f FRAMES] [-s SLOTS] [-r READ] [-l SHMMAX,SHMMNI,SHMALL,MEMLOCK] PROGRAM"
@@ -22,11 +24,7 @@ _Noreturn void die(const char *what, const char *why) {
 }
 
 void must(uint32_t code, const char *what) {
-    uint8_t text[200] = "";
-    size_t len;
-    if (code == NOG_DONE) return;
-    nog_text(code, text, sizeof text - 1, &len);
-    die(what, (const char *)text);
+    if (code != NOG_DONE) die(what, nog_name(code));
 }
 
 void must_run(uc_err error, const char *what) {
@@ -43,28 +41,23 @@ static bool run_turn(struct process *process) {
     }
     process->blocks_left = TURN;
     const uc_err error = uc_emu_start(process->engine, process->next_pc, 0, 0, 0);
-    if (process->signal) {
-        end_process(process, process->signal);
-    } else if (error != UC_ERR_OK) {
+    if (error != UC_ERR_OK && !process->signal) {
         fprintf(stderr, "emulator: process %" PRIu32 ": %s\n", process->pid, uc_strerror(error));
-        end_process(process, SIGNAL_SEGV);
+        process->signal = SIGSEGV;
     }
+    if (process->signal) end_process(process, process->signal);
     return true;
 }
 
-/* Turns, until the last process has ended. */
+/* Turns, until no process does anything: each one has ended. */
 static void run(void) {
-    for (int left = 1; left > 0;) {
-        bool is_any = false;
-        left = 0;
-        for (struct process *it = processes; it < processes + MOST_PROCESSES; it++) {
-            if (!it->is_there || it->has_ended) continue;
-            is_any |= run_turn(it);
-            left += !it->has_ended;
-        }
-        if (left && !is_any) die("the guests", "each one waits");
-        reap_orphans();
+    const struct process *end = processes + MOST_PROCESSES;
+    for (bool is_any = true; is_any; reap_orphans()) {
+        is_any = false;
+        for (struct process *it = processes; it < end; it++) is_any |= it->pid && !it->has_ended && run_turn(it);
     }
+    for (const struct process *it = processes; it < end; it++)
+        if (it->pid && !it->has_ended) die("the guests", "each one waits");
 }
 
 static uint32_t number(const char *text, uint32_t most) {
@@ -75,9 +68,8 @@ static uint32_t number(const char *text, uint32_t most) {
 }
 
 static void read_limits(char *text) {
-    uint32_t values[4];
-    for (int i = 0; i < 4; i++) values[i] = number(strsep(&text, ","), UINT32_MAX);
-    limits.shmmax = values[0], limits.shmmni = values[1], limits.shmall = values[2], limits.memlock = values[3];
+    uint64_t *values[] = {&limits.shmmax, &limits.shmmni, &limits.shmall, &limits.memlock};
+    for (int i = 0; i < 4; i++) *values[i] = number(strsep(&text, ","), UINT32_MAX);
 }
 
 int main(int count, char **words) {

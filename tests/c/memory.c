@@ -1,7 +1,7 @@
 /* memory: each allocation of a call fails in turn: the answer is NOG_NO_MEMORY, nothing is changed, and the call made
    again is done. A twin of the machine, which never lacks memory, makes the same calls: both show the same afterwards, and
-   read the same bytes. Functions but nog_open, nog_get, nog_attach, nog_snapshot, nog_copy, nog_admit, nog_swapon, nog_fail and
-   nog_fail_page take no memory. A sparse area gives a page's memory back,
+   read the same bytes. Functions but nog_open, nog_get, nog_attach, nog_snapshot, nog_copy, nog_admit, nog_swapon, nog_fail,
+   nog_fail_page and nog_reserve take no memory. A sparse area gives a page's memory back,
    with nothing but zeros in it, once nobody needs the page. It is linked with --wrap for malloc, realloc and free, so that the
    library's own allocations come here. */
 #include <stdlib.h>
@@ -184,6 +184,8 @@ static uint32_t flush(nog_machine *m) {
 }
 static uint32_t fail_later(nog_machine *m) { return nog_fail(m, &(nog_failure){.is_write = 1, .call = 1000000}, 0); }
 static uint32_t fail_page(nog_machine *m) { return nog_fail_page(m, 0, 0); }
+static uint32_t reserve(nog_machine *m) { return nog_reserve(m, UNDECLARED, LOWEST, PAGE); }
+static uint32_t release(nog_machine *m) { return nog_release(m, UNDECLARED, LOWEST, PAGE); }
 static uint32_t remove_it(nog_machine *m) { return nog_remove(m, USER, 0); }
 static uint32_t swapoff(nog_machine *m) { return nog_swapoff(m, ROOT, 0); }
 static uint32_t end(nog_machine *m) { return nog_exit(m, CHILD); }
@@ -273,9 +275,9 @@ static void give_back(nog_machine *m) {
 
 int main(void) {
     static const struct { step make; int takes_memory; } steps[] = {
-        {get, 1}, {attach, 1}, {fork_child, 0}, {store, 0}, {add, 0}, {snapshot, 1}, {snapshot_here, 1}, {lend, 0}, {exchange, 0},
+        {get, 1}, {attach, 1}, {fork_child, 0}, {store, 0}, {add, 0}, {reserve, 1}, {snapshot, 1}, {snapshot_here, 1}, {lend, 0}, {exchange, 0},
         {compare, 0}, {copy_bytes, 1}, {set, 0}, {flush, 0}, {fail_later, 1}, {fail_page, 1}, {protect, 0}, {unprotect, 0}, {unmap, 0},
-        {snapshot, 1}, {detach, 0}, {exec, 0}, {remove_it, 0}, {get, 1}, {attach_next, 1}, {store, 0}, {detach, 0}, {remove_next, 0}, {swapoff, 0}, {end, 0} };
+        {snapshot, 1}, {release, 0}, {detach, 0}, {exec, 0}, {remove_it, 0}, {get, 1}, {attach_next, 1}, {store, 0}, {detach, 0}, {remove_next, 0}, {swapoff, 0}, {end, 0} };
     nog_machine machine = NOG_MACHINE_INITIALIZER;
     fail_each_open(&machine, open_mirror);
     fail_each(&machine, open_usual, 1);

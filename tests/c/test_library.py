@@ -26,7 +26,7 @@ SANITIZERS = ["-g", "-fsanitize=address,undefined", "-fno-sanitize-recover=all"]
 LANGUAGES = (("c", "c99"), ("c", "c11"), ("c++", "c++98"), ("c++", "c++17"))
 COMPILERS = {"c": ("cc", "clang"), "c++": ("c++", "clang++")}
 TESTS = {"layout": [], "numbers": [], "calls": [], "exchanges": [], "guests": [], "mappings": [], "rules": [],
-         "failures": [], "large": [], "linux_guest": [], "loans": [], "lookups": [],
+         "failures": [], "large": [], "linux_guest": [], "loans": [], "lookups": [], "ranges": [],
          "memory": ["-Wl,--wrap=malloc", "-Wl,--wrap=realloc", "-Wl,--wrap=free"],
          "bytes": ["-Wl,--wrap=malloc", "-Wl,--wrap=realloc"]}
 # words with which a program does less, for valgrind

@@ -95,6 +95,8 @@ FUNCTIONS: Dict[str, List[type]] = {
     "nog_swapoff": [c_uint32, c_uint32],
     "nog_admit": [POINTER(ProcessStruct)],
     "nog_dismiss": [c_uint32],
+    "nog_reserve": [c_uint32, c_uint64, c_uint64],
+    "nog_release": [c_uint32, c_uint64, c_uint64],
     "nog_set_user": [c_uint32, c_uint32, c_uint32],
     "nog_set_time": [c_uint64],
     "nog_set_limits": [c_uint64, c_uint64, c_uint64, c_uint64],

@@ -555,6 +555,19 @@ class Machine:
         """Removes an ended process, or a child that is not born. Its pid may be admitted again."""
         self._call("nog_dismiss", _pid(pid))
 
+    def reserve(self, pid: int, addr: int, length: int) -> None:
+        """Reserves a range of a process's addresses for memory that is not the machine's: an attach takes none
+        of it unless `Flag.REMAP` is set. It stays until `release`. The process need not exist, and a child inherits
+        no range. Raises `OutOfRange` if the range is empty, is not whole pages, or is not within 0x10000 to
+        0x7ffffffff000; `Refused` with EEXIST if it meets an attachment of the process or another of its
+        ranges."""
+        self._call("nog_reserve", _pid(pid), _addr(addr), _number(length, U64, "length"))
+
+    def release(self, pid: int, addr: int, length: int) -> None:
+        """Releases a reserved range, by the same address and length. Raises `Refused` with ENOENT if exactly
+        this range is not reserved."""
+        self._call("nog_release", _pid(pid), _addr(addr), _number(length, U64, "length"))
+
     def set_user(self, pid: int, uid: int, gid: int) -> None:
         """setuid: gives a process another effective user and group. Its attachments stay."""
         self._call("nog_set_user", _pid(pid), _number(uid, U32, "uid"), _number(gid, U32, "gid"))

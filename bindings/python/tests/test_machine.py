@@ -302,6 +302,23 @@ class TestGuests:
             found = it.stat(2, it.get(2, PRIVATE, 1))
             assert (found.uid, found.gid, found.cpid) == (3, 4, 2)
 
+    def test_a_range_is_reserved(self, machine: Machine) -> None:
+        segment = machine.get(1, PRIVATE, 2 * PAGE)
+        machine.reserve(1, FIRST + PAGE, PAGE)
+        assert machine.attach(1, segment) == FIRST + 2 * PAGE
+        assert_refused(errno.EINVAL, machine.attach, 1, segment, FIRST + PAGE)
+        assert machine.attach(1, segment, FIRST, Flag.REMAP) == FIRST
+        for addr in FIRST + PAGE, FIRST + 3 * PAGE:
+            assert_refused(errno.EEXIST, machine.reserve, 1, addr, PAGE)
+        machine.reserve(3, FIRST + PAGE, PAGE)
+        for addr, length in ((FIRST, 0), (FIRST + 1, PAGE), (0, PAGE), (FIRST, 2 ** 64 - PAGE)):
+            pytest.raises(OutOfRange, machine.reserve, 1, addr, length)
+        assert_refused(errno.ENOENT, machine.release, 1, FIRST + PAGE, 2 * PAGE)
+        machine.release(1, FIRST + PAGE, PAGE)
+        assert_refused(errno.ENOENT, machine.release, 1, FIRST + PAGE, PAGE)
+        machine.detach(1, FIRST)
+        assert machine.attach(1, segment) == FIRST
+
     def test_a_user_changes(self) -> None:
         with opened(processes=[Process(1, 7, 8), Process(2, 9, 9)]) as it:
             segment = it.get(1, PRIVATE, 1, 0o600)

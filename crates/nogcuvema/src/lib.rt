@@ -18,6 +18,7 @@ mod open;
 mod owned;
 mod parts;
 mod perform;
+mod ranges;
 mod segments;
 mod snapshot;
 mod stretch;
@@ -42,6 +43,7 @@ pub use perform::{
     nog_detach, nog_exec, nog_exit, nog_fork, nog_lock, nog_protect, nog_remove, nog_set,
     nog_set_user, nog_swapoff, nog_unlock, nog_unmap,
 };
+pub use ranges::{nog_release, nog_reserve};
 pub use segments::{nog_attach, nog_get, nog_stat};
 pub use snapshot::nog_snapshot;
 pub use stretch::{nog_copy, nog_read, nog_write};

@@ -139,10 +139,11 @@ filled-without filled addr seg ps f =
     lowered-filled filled addr ps (stored_without addr seg ps) f
     (λ a lt full. rw (bare_filter addr seg ps) (occupied-without a (a + 1) addr seg (bare_all ps) (omega (arith, lt)) full))
 
--- the search that begins there finds the least gap
-pub gap-behind : (pages filled last n : ℕ) (ps : List Piece) → 1 ≤ pages → Arranged lowest_address (bare_all ps) → IsFilled filled ps → IsPieceRange filled (filled + 1) ps n last
-    → gap_from pages first_chosen (bare_all ps) ≡ gap_from pages filled (bare_all (drop n ps))
-gap-behind pages filled last n ps some ar f r =
-    skip pages filled lowest_address first_chosen n ps some f.first ar
-    (λ a from lt. occupied-longer (bare_all ps) a (a + 1) (a + 4096 * pages) (omega (arith, some)) (f.full a from lt))
+-- the search that begins there, or above, finds the least gap
+pub gap-behind : (pages from filled last n : ℕ) (ps : List Piece) → 1 ≤ pages → Arranged lowest_address (bare_all ps) → IsFilled filled ps
+    → IsPieceRange (max from filled) (max from filled + 1) ps n last
+    → gap_from pages (max from first_chosen) (bare_all ps) ≡ gap_from pages (max from filled) (bare_all (drop n ps))
+gap-behind pages from filled last n ps some ar f r =
+    skip pages (max from filled) lowest_address (max from first_chosen) n ps some (omega (arith, f.first)) ar
+    (λ a ge lt. occupied-longer (bare_all ps) a (a + 1) (a + 4096 * pages) (omega (arith, some)) (f.full a (omega (arith, ge)) (omega (arith, ge, lt))))
     r.before r.after

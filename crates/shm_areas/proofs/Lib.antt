@@ -7,3 +7,4 @@ pub mod Origins
 pub mod Leaving
 pub mod Passing
 pub mod Filled
+pub mod FreeGaps

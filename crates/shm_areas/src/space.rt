@@ -75,7 +75,8 @@ impl Clone for Space {
 }
 
 impl Space {
-    ghost use Rattle.std.specs.Prelude.{[], MatchOption};
+    ghost use Rattle.std.specs.Prelude.{[], MatchOption, max};
+    ghost use Rattle.shm_areas.specs.Gap.{gap_from};
 
     /// An empty space, with room for the most pieces that there may be, at most 65530. HostMemory: the host
     /// refused memory.
@@ -147,15 +148,29 @@ impl Space {
     /// The address of the least gap for this many pages at or above 0x40000000, a multiple of 4096 (this
     /// profile; shmop(2) leaves the choice to the system). None if no gap is large enough. Walks up the pieces
     /// that end above the filled addresses, to the gap.
-    #[tactic(auto, using(crate::proofs::Gaps::free_below))]
     pub fn choose(&self, pages: u32) -> Option<u64>
         requires { (1 ≤ pages) × (pages ≤ MOST_SHMALL) }
         ensures value { result ≡ flat.choose (bare_all self.now.pieces) pages }
         ensures least { MatchOption result (HasNoGap (bare_all self.now.pieces) pages)
             (λ base. IsLeastGap (bare_all self.now.pieces) pages base) }
+        ensures beside { result ≡ flat.choose_beside (bare_all self.now.pieces) [] pages }
     {
-        let run = run_in(&self.pieces, self.filled, self.filled + 1);
-        least_gap(&self.pieces[run.first..], self.filled, pages)
+        self.gap_from(0, pages)
+    }
+
+    // The least gap for this many pages at or above an address and 0x40000000.
+    #[tactic(auto, using(crate::proofs::Gaps::free_below))]
+    pub(crate) fn gap_from(&self, from: u64, pages: u32) -> Option<u64>
+        requires pages { (1 ≤ pages) × (pages ≤ MOST_SHMALL) }
+        requires from { from ≤ flat.end_address }
+        ensures value { let first = max from flat.first_chosen in
+            result ≡ gap_from pages first (bare_all self.now.pieces) }
+        ensures room { IfSome result (λ base. base + PAGE_SIZE * pages ≤ flat.end_address) }
+        ensures arranged { Arranged flat.lowest_address (bare_all self.now.pieces) }
+    {
+        let from = from.max(self.filled);
+        let run = run_in(&self.pieces, from, from + 1);
+        least_gap(&self.pieces[run.first..], from, pages)
     }
 
     /// Whether a piece has a page among this many from an address on. The range may end above the last

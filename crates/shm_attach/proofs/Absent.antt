@@ -1,10 +1,10 @@
 -- The first address whose page has no frame, when one page serves several addresses.
-use Rattle.shm_attach.proofs.Names.{◌≡◌, ℕ, zero, suc, ◌+◌, ◌/◌, ◌%◌, ◌<◌, ◌≤◌, Bool, true, false, List, Option, Some, None, get_or, refl, arith, All, Slab, get, covering, place_covering, bare, IsCovering, Stored, TableView, HasTable, AllTrue, frame_in, size_in}
+use Rattle.shm_attach.proofs.Names.{◌≡◌, ℕ, zero, suc, ◌+◌, ◌/◌, ◌%◌, ◌<◌, ◌≤◌, Bool, true, false, List, Option, Some, None, refl, arith, All, Slab, get, covering, place_covering, bare, IsCovering, Stored, TableView, HasTable, AllTrue, frame_in, size_in}
 use Rattle.std.specs.Prelude.{is_some}
 use Rattle.shm_base.specs.State.{Piece}
 use Rattle.shm_base.specs.Access.{place_by}
 use Rattle.shm_attach.specs.Failing.{first_absent}
-use Rattle.shm_attach.proofs.HavingTables.{has_table, tables-passes, tables-passed, frame-true}
+use Rattle.shm_attach.proofs.HavingTables.{frame-true, table-of}
 
 module _ (frame : ℕ → ℕ → Option ℕ) (ps : List Piece) where
   -- an address without a piece
@@ -39,7 +39,7 @@ pub own-frame : (frame : ℕ → ℕ → Option ℕ) (t : Slab TableView) (ps : 
     → ((test : Stored → Bool) → All (λ (q : Stored). test q ≡ true) ps → test p ≡ true) → IsCovering a p
     → frame_in (get t p.key) ((place_by (bare p) a).at / 4096) ≡ frame p.seg ((place_by (bare p) a).at / 4096)
 own-frame frame t ps p a true-all tables among within =
-    let own : HasTable t p = tables-passed t p (among (has_table t) (λ k d lt. tables-passes t (get_or ps k d) (tables k d lt))) in
+    let own : HasTable t p = table-of t ps p tables among in
     let page = (place_by (bare p) a).at / 4096 in
     let inside : page < size_in (get t p.key) = omega (arith, within.from, within.to, own.pages) in
     frame-true frame (get t p.key) p.seg page own.seg (true-all p.key) inside

@@ -1,5 +1,6 @@
 -- The table of each piece, after a change of the pieces and of the tables.
 use Rattle.shm_attach.proofs.Names.{HaveRoom, most_at, values_of, gets, slice_get-map, ◌≡◌, ◌≢◌, inl, inr, ℕ, zero, suc, ◌+◌, ◌<◌, ◌≤◌, ◌==◌, ◌&&◌, Bool, true, false, nat_lt, List, [], ◌∷◌, length, filter, get_or, slice_get, Option, Some, None, refl, ap, sym, subst, ◌∙◌, arith, common_steps, All, cases_Bool, cases_eq, slice_get_cases, All-append, All-cons, All-head, All-tail, All-filter, length-map, set_value_at, Slab, get, pieces_of, bare, bare_all, stored_inserted, stored_parts, stored_cut, Tables, runner_view, runners_view, pieces_at, seg_in, size_in, frame_in, TrueSlot, counted, stored_in, stored_at, HasTable, AllHaveTables, AreCountsExact, Piece, Runner, TableView}
+use Rattle.std.specs.Prelude.{is_some}
 use Rattle.shm_base.specs.State as flat
 use Rattle.shm_attach.proofs.Processes.{entry_there, entries_set}
 use Rattle.shm_attach.proofs.Keeping.{own_counted, pieces_of-there, bare-get_or}
@@ -55,14 +56,25 @@ seg_is None seg = false
 seg_is (Some own) seg = own == seg
 
 -- whether a piece has its table
-abbrev pub has_table : Slab TableView → Piece → Bool
+abbrev has_table : Slab TableView → Piece → Bool
 has_table t p = seg_is (seg_in (get t p.key)) p.seg && nat_lt (p.first_page + p.pages) (size_in (get t p.key) + 1)
 
-pub tables-passes : (t : Slab TableView) (p : Piece) → HasTable t p → has_table t p ≡ true
+tables-passes : (t : Slab TableView) (p : Piece) → HasTable t p → has_table t p ≡ true
 tables-passes t p own = grind (arith, common_steps)
 
-pub tables-passed : (t : Slab TableView) (p : Piece) → has_table t p ≡ true → HasTable t p
+tables-passed : (t : Slab TableView) (p : Piece) → has_table t p ≡ true → HasTable t p
 tables-passed t p passes = grind (arith, common_steps)
+
+-- a piece that is among those that have their tables
+pub table-of : (t : Slab TableView) (ps : List Piece) (p : Piece) → All (HasTable t) ps → ((test : Piece → Bool) → All (λ (q : Piece). test q ≡ true) ps → test p ≡ true) → HasTable t p
+table-of t ps p tables among = tables-passed t p (among (has_table t) (λ k d lt. tables-passes t (get_or ps k d) (tables k d lt)))
+
+held : (o : Option TableView) (seg : ℕ) → seg_in o ≡ Some seg → is_some o ≡ true
+held (Some e) seg is = refl
+held None seg is = grind arith
+
+pub key-held : (t : Slab TableView) (p : Piece) → HasTable t p → is_some (get t p.key) ≡ true
+key-held t p has = held (get t p.key) p.seg has.seg
 
 -- a frame that is read by a key is true
 pub frame-true : (at : ℕ → ℕ → Option ℕ) (o : Option TableView) (seg page : ℕ) → seg_in o ≡ Some seg → TrueSlot at o → page < size_in o → frame_in o page ≡ at seg page

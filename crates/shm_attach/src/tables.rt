@@ -2,7 +2,7 @@
 //! table, and each has its key, so a move of a page is noted in one place. A segment without pieces has no
 //! table.
 ghost use Rattle.std.specs.Prelude.{◌≡◌, ◌↔◌, ℕ, ◌+◌, ◌^◌, ◌<◌, ◌≤◌, true, [], Option, Some, IfOk, OnOk, OnErr};
-ghost use Rattle.slab.specs.Slab.{get};
+ghost use Rattle.slab.specs.Slab.{get, ContainsKey};
 ghost use Rattle.shm_fault.specs.Steps.{moved};
 ghost use Rattle.shm_fault.specs.Store.{frame_of};
 ghost use Rattle.shm_attach.specs.Spaces.{IsOnlyAt};
@@ -95,9 +95,10 @@ impl Tables {
     /// The frame of a page of the segment whose table has this key.
     #[inline(always)]
     pub(crate) fn frame(&self, key: usize, page: usize) -> Option<FrameNo>
+        requires { ContainsKey self.now.slab key }
         ensures { result ≡ frame_in (get self.now.slab key) page }
     {
-        self.slab.get(key)?.frame(page)
+        self.slab[key].frame(page)
     }
 
     // Extends a table to this many pages of its segment.

@@ -1,12 +1,18 @@
--- Changes that the host makes between calls: a process joins, or leaves. They are not calls.
-use Rattle.std.specs.Prelude.{ℕ, ◌+◌, ◌==◌, Bool, true, false, not, nat_le, if◌then◌else◌, List, [], ◌∷◌, ◌++◌, length, Option, Some, None, Result, Ok, Err, slice_set, swap_remove}
+-- Changes that the host makes between calls: a process joins or leaves, and a range is reserved or released. They are not calls.
+use Rattle.std.specs.Prelude.{ℕ, ◌+◌, ◌%◌, ◌==◌, ◌&&◌, ◌||◌, nat_lt, Bool, true, false, not, nat_le, if◌then◌else◌, List, [], ◌∷◌, ◌++◌, length, Option, Some, None, Result, Ok, Err, slice_set, swap_remove, remove}
 use Rattle.shm_base.specs.Bounds.{within}
+use Rattle.shm_base.specs.Callers.{Caller, caller_of}
+use Rattle.shm_base.specs.Space.{lowest_address, end_address, occupied, is_reserved, ranges_of}
 use Rattle.shm_base.specs.State.{Life, Unborn, Live, Ended, Runner, Machine, runner_at_start}
 use Rattle.shm_base.specs.declared.bounds.TheConstants.{LAST_PID}
+use Rattle.shm_base.specs.declared.paging.TheConstants.{PAGE_SIZE}
 use Rattle.shm_base.specs.declared.call.Process.{Process}
 use Rattle.shm_base.specs.declared.guest.AdmitRefusal.{AdmitRefusal}
 use Rattle.shm_base.specs.declared.guest.AdmitRefusal.TheVariants.{BadPid, PidTaken, TooManyProcesses}
 use Rattle.shm_base.specs.declared.guest.DismissRefusal.{DismissRefusal}
+use Rattle.shm_base.specs.declared.guest.HostRange.{HostRange}
+use Rattle.shm_base.specs.declared.guest.RangeRefusal.{RangeRefusal}
+use Rattle.shm_base.specs.declared.guest.RangeRefusal.TheVariants.{BadRange, RangeTaken, NoRange}
 use Rattle.shm_base.specs.declared.guest.DismissRefusal.TheVariants.{NoProcess, StillLive}
 
 -- a process with its position in the list of processes
@@ -69,3 +75,42 @@ admits s p = with_runners s (joins s.limits.most_processes p s.runners)
 
 abbrev pub dismisses : Machine → ℕ → Result Machine DismissRefusal
 dismisses s pid = with_runners s (leaves pid s.runners)
+
+-- RESERVED RANGES
+
+-- whole pages of the addresses that can be attached, at least one
+abbrev pub is_range : HostRange → Bool
+is_range r =
+    (r.from % PAGE_SIZE == 0) && (r.to % PAGE_SIZE == 0)
+    && nat_lt r.from r.to
+    && nat_le lowest_address r.from && nat_le r.to end_address
+
+abbrev pub meets_piece : HostRange → Option Caller → Bool
+meets_piece r None = false
+meets_piece r (Some c) = occupied c.pieces r.from r.to
+
+abbrev pub is_range_taken : Machine → HostRange → Bool
+is_range_taken s r = meets_piece r (caller_of s r.pid) || is_reserved (ranges_of r.pid s.host_ranges) r.from r.to
+
+-- the range is reserved for its process, of which nothing is asked: it may be born later
+abbrev pub reserves : Machine → HostRange → Result Machine RangeRefusal
+reserves s r =
+    if not (is_range r) then Err BadRange else
+    if is_range_taken s r then Err RangeTaken else
+    Ok (record s { host_ranges = s.host_ranges ++ r ∷ [] })
+
+abbrev pub is_same_range : HostRange → HostRange → Bool
+is_same_range q r = (q.pid == r.pid) && (q.from == r.from) && (q.to == r.to)
+
+-- the position of a reserved range
+abbrev pub position_from : ℕ → HostRange → List HostRange → Option ℕ
+position_from i r [] = None
+position_from i r (q ∷ qs) = if is_same_range q r then Some i else position_from (i + 1) r qs
+
+abbrev pub releases_at : Machine → Option ℕ → Result Machine RangeRefusal
+releases_at s None = Err NoRange
+releases_at s (Some i) = Ok (record s { host_ranges = remove s.host_ranges i })
+
+-- exactly this range is no longer reserved
+abbrev pub releases : Machine → HostRange → Result Machine RangeRefusal
+releases s r = releases_at s (position_from 0 r s.host_ranges)

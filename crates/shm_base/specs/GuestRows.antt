@@ -9,10 +9,13 @@ use Rattle.shm_base.specs.declared.guest.AdmitRefusal.{AdmitRefusal}
 use Rattle.shm_base.specs.declared.guest.AdmitRefusal.TheVariants.{BadPid, PidTaken, TooManyProcesses}
 use Rattle.shm_base.specs.declared.guest.DismissRefusal.{DismissRefusal}
 use Rattle.shm_base.specs.declared.guest.DismissRefusal.TheVariants.{NoProcess, StillLive}
+use Rattle.shm_base.specs.declared.guest.HostRange.{HostRange}
+use Rattle.shm_base.specs.declared.guest.RangeRefusal.{RangeRefusal}
+use Rattle.shm_base.specs.declared.guest.RangeRefusal.TheVariants.{BadRange, RangeTaken, NoRange}
 use Rattle.shm_base.specs.Bounds.{profile}
 use Rattle.shm_base.specs.State.{Machine, start_of}
 use Rattle.shm_base.specs.Step.{step}
-use Rattle.shm_base.specs.Guest.{admits, dismisses}
+use Rattle.shm_base.specs.Guest.{admits, dismisses, releases, reserves}
 use Rattle.shm_base.specs.Rows.{does, id, mode, rdonly, shmget, shmat, stat, shows, process, child, of_processes}
 
 -- a call at its time, or a change by the host, with its reply or its refusal
@@ -20,6 +23,8 @@ pub data Deed : Type 0 where
   At : (n : ℕ) → (event : Event) → Deed
   Admits : (process : Process) → (refusal : Option AdmitRefusal) → Deed
   Dismisses : (pid : ℕ) → (refusal : Option DismissRefusal) → Deed
+  Reserves : (range : HostRange) → (refusal : Option RangeRefusal) → Deed
+  Releases : (range : HostRange) → (refusal : Option RangeRefusal) → Deed
 
 abbrev pub refusal_of : {E : Type 0} → Result Machine E → Option E
 refusal_of (Ok s) = None
@@ -34,11 +39,15 @@ abbrev pub answered : Machine → Deed → Deed
 answered s (At n e) = At n (record e { reply = (step s n e.pid e.call).reply })
 answered s (Admits p refusal) = Admits p (refusal_of (admits s p))
 answered s (Dismisses pid refusal) = Dismisses pid (refusal_of (dismisses s pid))
+answered s (Reserves r refusal) = Reserves r (refusal_of (reserves s r))
+answered s (Releases r refusal) = Releases r (refusal_of (releases s r))
 
 abbrev pub after : Machine → Deed → Machine
 after s (At n e) = (step s n e.pid e.call).state
 after s (Admits p refusal) = state_of s (admits s p)
 after s (Dismisses pid refusal) = state_of s (dismisses s pid)
+after s (Reserves r refusal) = state_of s (reserves s r)
+after s (Releases r refusal) = state_of s (releases s r)
 
 abbrev pub all_answered : Machine → List Deed → List Deed
 all_answered s [] = []
@@ -226,4 +235,78 @@ FewPiecesRow =
     ∷ At 5 (does 1 (Munmap 0x50001000 (bytes_in 1)) Done)
     ∷ At 6 (does 1 (Munmap 0x50003000 (bytes_in 1)) (Refused Enomem))
     ∷ At 7 (does 1 (stat 0) (shows 0 32768 1 2 2 5))
+    ∷ [])
+
+-- RESERVED RANGES
+
+-- the pages of a process from one address up to another
+abbrev pub range : ℕ → ℕ → ℕ → HostRange
+range pid from to = record { pid = pid; from = from; to = to }
+
+-- two processes, of which the first has attached a segment of eight pages at 0x50000000
+abbrev pub eight_of_two : Machine
+eight_of_two =
+    after
+    (after (of_processes (process 1 100 100 ∷ process 2 100 100 ∷ [])) (At 1 (does 1 (shmget 0 32768 (mode 6 0 0) 0) (id 0))))
+    (At 2 (does 1 (shmat 0 0x50000000 0) (Addr 0x50000000)))
+
+-- an attach at an address in a reserved range is refused until the range is released; another process is not concerned
+abbrev pub ReservedRow : Type 0
+ReservedRow =
+    Go eight_of_two
+    (Reserves (range 1 0x60000000 0x60002000) None
+    ∷ At 3 (does 1 (shmat 0 0x60001000 0) (Refused Einval))
+    ∷ At 4 (does 1 (shmat 0 0x5FFF9000 0) (Refused Einval))
+    ∷ At 5 (does 1 (shmat 0 0x5FFF8000 0) (Addr 0x5FFF8000))
+    ∷ At 6 (does 2 (shmat 0 0x60001000 0) (Addr 0x60001000))
+    ∷ At 7 (does 1 (Munmap 0x60000000 8192) Done)
+    ∷ At 8 (does 1 (shmat 0 0x60001000 0) (Refused Einval))
+    ∷ Releases (range 1 0x60000000 0x60002000) None
+    ∷ At 9 (does 1 (shmat 0 0x60001000 0) (Addr 0x60001000))
+    ∷ [])
+
+-- a chosen address passes the reserved ranges, in whichever order they were reserved
+abbrev pub BesideRow : Type 0
+BesideRow =
+    Go eight_of_two
+    (Reserves (range 1 0x40010000 0x40012000) None
+    ∷ Reserves (range 1 0x40000000 0x40001000) None
+    ∷ At 3 (does 1 (shmat 0 0 0) (Addr 0x40001000))
+    ∷ At 4 (does 1 (shmat 0 0 0) (Addr 0x40012000))
+    ∷ Releases (range 1 0x40000000 0x40001000) None
+    ∷ At 5 (does 1 (shmat 0 0 0) (Addr 0x4001A000))
+    ∷ At 6 (does 2 (shmat 0 0 0) (Addr 0x40000000))
+    ∷ Reserves (range 2 0x40008000 0x7FFFFFFFF000) None
+    ∷ At 7 (does 2 (shmat 0 0 0) (Refused Enomem))
+    ∷ [])
+
+-- a remap covers a reserved range, and the range stays reserved
+abbrev pub CoveredRow : Type 0
+CoveredRow =
+    Go eight_of_two
+    (Reserves (range 1 0x60000000 0x60002000) None
+    ∷ At 3 (does 1 (shmat 0 0x60000000 16384) (Addr 0x60000000))
+    ∷ At 4 (does 1 (Shmdt 0x60000000) Done)
+    ∷ At 5 (does 1 (shmat 0 0x60000000 0) (Refused Einval))
+    ∷ [])
+
+-- a range is whole pages that can be attached, and meets no piece and no other range of its process; it is released as it was
+-- reserved, whether the process lives or not
+abbrev pub RangeRow : Type 0
+RangeRow =
+    Go eight_of_two
+    (Reserves (range 1 0x60000000 0x60000000) (Some BadRange)
+    ∷ Reserves (range 1 0x60000800 0x60002000) (Some BadRange)
+    ∷ Reserves (range 1 0x60000000 0x60000800) (Some BadRange)
+    ∷ Reserves (range 1 0xF000 0x11000) (Some BadRange)
+    ∷ Reserves (range 1 0x7FFFFFFFE000 0x800000000000) (Some BadRange)
+    ∷ Reserves (range 1 0x50007000 0x50009000) (Some RangeTaken)
+    ∷ Reserves (range 2 0x50007000 0x50009000) None
+    ∷ Reserves (range 2 0x50008000 0x5000A000) (Some RangeTaken)
+    ∷ Reserves (range 1 0x50008000 0x5000A000) None
+    ∷ Releases (range 1 0x50008000 0x50009000) (Some NoRange)
+    ∷ Releases (range 2 0x50008000 0x5000A000) (Some NoRange)
+    ∷ At 3 (does 1 Exit Done)
+    ∷ Releases (range 1 0x50008000 0x5000A000) None
+    ∷ Reserves (range 3 0x60000000 0x60002000) None
     ∷ [])

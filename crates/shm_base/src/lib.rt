@@ -27,7 +27,7 @@ pub use bounds::{
 pub use call::{Call, Event, Placed, Process, Reply, ShmId, ShmidDs, Step, has_pid, index_of};
 pub use errno::Errno;
 pub use flags::{AtFlags, GetFlags, Rules, Status};
-pub use guest::{AdmitRefusal, DismissRefusal};
+pub use guest::{AdmitRefusal, DismissRefusal, HostRange, RangeRefusal};
 pub use limits::{BadLimits, Limits, Sizes};
 pub use memory::HostMemory;
 pub use numbers::Numbers;

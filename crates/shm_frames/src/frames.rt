@@ -89,19 +89,6 @@ fn state_of(table: &Vec<FrameState>, frame: FrameNo) -> FrameState
         .unwrap_or(FrameState::FREE)
 }
 
-// The bytes of a frame that was never used.
-const ZEROS: [u8; PAGE_BYTES] = [0; PAGE_BYTES];
-
-// The bytes of a frame.
-fn page_at(pages: &Vec<[u8; PAGE_BYTES]>, frame: FrameNo) -> &[u8; PAGE_BYTES]
-    ensures { result.now ≡ get_or pages.now.items frame zero_page }
-{
-    match pages.get(frame as usize) {
-        Some(page) => page,
-        None => &ZEROS,
-    }
-}
-
 // One more frame is used, and zeros. Kept out of line, so that other calls do not pay for a page on their
 // stack.
 #[inline(never)]
@@ -332,13 +319,14 @@ impl Frames {
         self.first_free = self.first_free.min(frame);
     }
 
-    /// The bytes of a frame.
+    /// The bytes of an owned frame.
     pub fn bytes(&self, frame: FrameNo) -> &[u8; PAGE_BYTES]
-        requires { frame < length self.now }
+        requires there { frame < length self.now }
+        requires owned { IsSome (frame_at self.now frame).owner }
         ensures value { result.now ≡ (frame_at self.now frame).bytes }
         ensures whole { length result.now ≡ PAGE_BYTES }
     {
-        let page = page_at(&self.pages, frame);
+        let page = &self.pages[frame as usize];
         prove!(page.get(PAGE_BYTES - 1).is_some());
         page
     }

@@ -3,3 +3,4 @@ pub mod Counted
 pub mod Clear
 pub mod Steps
 pub mod Cells
+pub mod Sent

@@ -2,7 +2,12 @@
 use Rattle.shm_laws.proofs.Names.{◌≡◌, ℕ, ◌+◌, ◌-◌, ◌*◌, ◌%◌, ◌≤◌, ◌==◌, ℤ, pos, negsuc, Bool, true, false, not, nat_lt, if◌then◌else◌, List, [], ◌∷◌, length, map, get_or, Option, Some, None, refl, sym, ap, subst, ◌∙◌, arith, common_steps, All, find, not-false, none-some, All-map, Errno, Eacces, Einval, Enomem, AtFlags, end_of, grants, Segment, Piece, Machine, pages_in, Look, Found, Removed, Invalid, identifier, destroyed_at, look, inside, occupied, choose, is_gap, first_chosen, lowest_address, end_address, Caller, at_wish, is_remap, is_taken, is_full, is_misplaced, pieces_errno, pieces_beside, pieces_with, piece_for, Placed, placed, placed_at, placed_found, base_for, chosen_base, fixed_base, all-cons, all-head, all-tail, Stands, length-inserted}
 use Rattle.std.specs.Prelude.{Result, Ok, Err}
 use Rattle.std.specs.Option.{ok_or}
-use Rattle.shm_base.specs.Step.{outside_errno}
+use Rattle.std.specs.Prelude.{min, ◌++◌}
+use Rattle.std.proofs.Common.{inl, inr}
+use Rattle.std.proofs.lemmas.Bool.{cases_lt}
+use Rattle.shm_base.specs.Space.{choose_beside, is_free_gap, least_where, lesser}
+use Rattle.shm_base.specs.declared.guest.HostRange.{HostRange}
+use Rattle.shm_base.specs.Step.{host_ranges, outside_errno}
 use Rattle.shm_laws.proofs.Looks.{found-own}
 use Rattle.shm_laws.proofs.Parting.{IsAligned}
 
@@ -31,33 +36,26 @@ few-enough most n h = grind (arith, common_steps)
 
 -- THE SYSTEM CHOOSES
 
-find-all : {X : Type 0} (P : X → Type 0) (test : X → Bool) (xs : List X) (x : X) → find test xs ≡ Some x → All P xs → P x
-find-all P test [] x found all = absurd (none-some x found)
-find-all P test (y ∷ ys) x found all =
-    let first = all-head P y ys all in
-    let rest = λ (h : find test ys ≡ Some x). find-all P test ys x h (all-tail P y ys all) in
-    grind arith
+passing-one : (test : ℕ → Bool) (x a : ℕ) (b : Bool) (o : Option ℕ) → test x ≡ b → ((y : ℕ) → o ≡ Some y → test y ≡ true) → (if b then lesser x o else o) ≡ Some a → test a ≡ true
+passing-one test x a false o own rest is = rest a is
+passing-one test x a true None own rest is = subst (λ y. test y ≡ true) (cc is) own
+passing-one test x a true (Some y) own rest is = elim (cases_lt x y) [
+  | inl lt ↦ let least : min x y ≡ x = omega (arith, lt) in subst (λ z. test z ≡ true) (sym least ∙ cc is) own
+  | inr ge ↦ let least : min x y ≡ y = omega (arith, ge) in subst (λ z. test z ≡ true) (sym least ∙ cc is) (rest y refl)
+]
 
-chosen-page : (ps : List Piece) (pages base : ℕ) → choose ps pages ≡ Some base → All IsAligned ps → base % 4096 ≡ 0
-chosen-page ps pages base found all =
-    find-all (λ a. a % 4096 ≡ 0) (is_gap ps pages) (first_chosen ∷ map end_of ps) base found
-    (all-cons (λ a. a % 4096 ≡ 0) first_chosen (map end_of ps) refl (All-map (λ a. a % 4096 ≡ 0) end_of ps (λ k d lt. ends (get_or ps k d) (all k d lt))))
-  where
-    ends : (p : Piece) → IsAligned p → end_of p % 4096 ≡ 0
-    ends p h = omega (arith, h)
+passing : (test : ℕ → Bool) (xs : List ℕ) (a : ℕ) → least_where test xs ≡ Some a → test a ≡ true
+passing test [] a found = absurd (none-some a found)
+passing test (x ∷ xs) a found = passing-one test x a (test x) (least_where test xs) refl (λ y h. passing test xs y h) found
 
-find-passes : {X : Type 0} (test : X → Bool) (xs : List X) (x : X) → find test xs ≡ Some x → test x ≡ true
-find-passes test [] x found = absurd (none-some x found)
-find-passes test (y ∷ ys) x found = let rest = find-passes test ys x in grind arith
+in-gap : (flags : AtFlags) (ps : List Piece) (rs : List HostRange) (pages base : ℕ) → is_free_gap ps rs pages base ≡ true → IsBase ps flags pages base
+in-gap flags ps rs pages base gap = record { page = λ all. grind (arith, common_steps); from = grind (arith, common_steps); to = grind (arith, common_steps); free = λ plain. grind (arith, common_steps) }
 
-in-gap : (flags : AtFlags) (ps : List Piece) (pages base : ℕ) → (All IsAligned ps → base % 4096 ≡ 0) → is_gap ps pages base ≡ true → IsBase ps flags pages base
-in-gap flags ps pages base page gap = record { page = page; from = grind (arith, common_steps); to = grind (arith, common_steps); free = λ plain. grind (arith, common_steps) }
-
-chosen : (c : Caller) (flags : AtFlags) (x : Segment) (base : ℕ) (o : Option ℕ) → choose c.pieces (pages_in x) ≡ o → ok_or o Enomem ≡ Ok base → IsBase c.pieces flags (pages_in x) base
-chosen c flags x base None found is = absurd (cc is)
-chosen c flags x base (Some a) found is =
-    let there : choose c.pieces (pages_in x) ≡ Some base = found ∙ cc is in
-    in-gap flags c.pieces (pages_in x) base (chosen-page c.pieces (pages_in x) base there) (find-passes (is_gap c.pieces (pages_in x)) (first_chosen ∷ map end_of c.pieces) base there)
+chosen : (c : Caller) (rs : List HostRange) (flags : AtFlags) (x : Segment) (base : ℕ) (o : Option ℕ) → choose_beside c.pieces rs (pages_in x) ≡ o → ok_or o Enomem ≡ Ok base → IsBase c.pieces flags (pages_in x) base
+chosen c rs flags x base None found is = absurd (cc is)
+chosen c rs flags x base (Some a) found is =
+    let there : choose_beside c.pieces rs (pages_in x) ≡ Some base = found ∙ cc is in
+    in-gap flags c.pieces rs (pages_in x) base (passing (is_free_gap c.pieces rs (pages_in x)) (first_chosen ∷ map end_of c.pieces ++ map (λ (r : HostRange). r.to) rs) base there)
 
 -- THE CALLER GIVES THE ADDRESS
 
@@ -73,8 +71,8 @@ fixed s c x flags at base page is =
     subst (IsBase c.pieces flags (pages_in x)) (cc within.1) (in-range s c x flags at page taken.0 within.0)
 
 is-base : (s : Machine) (c : Caller) (x : Segment) (flags : AtFlags) (addr base : ℕ) (b : Bool)
-    → (if b then chosen_base c x else fixed_base s c x flags (addr - addr % 4096)) ≡ Ok base → IsBase c.pieces flags (pages_in x) base
-is-base s c x flags addr base true is = chosen c flags x base (choose c.pieces (pages_in x)) refl is
+    → (if b then chosen_base s c x else fixed_base s c x flags (addr - addr % 4096)) ≡ Ok base → IsBase c.pieces flags (pages_in x) base
+is-base s c x flags addr base true is = chosen c (host_ranges s c) flags x base (choose_beside c.pieces (host_ranges s c) (pages_in x)) refl is
 is-base s c x flags addr base false is = fixed s c x flags (addr - addr % 4096) base (omega arith) is
 
 -- THE PLACE

@@ -1,4 +1,5 @@
 -- The replies to an access that succeeded, and to one that was refused or at which a pager failed.
+use Rattle.shm_base.specs.declared.guest.HostRange.{HostRange}
 use Rattle.shm_life.proofs.Names.{All, InPage, SegmentsView, eq-eqb, ◌≤◌, ◌≡◌, ◌∙◌, ℕ, ◌+◌, ◌%◌, Bool, true, false, if◌then◌else◌, List, length, Some, None, refl, sym, ap, arith, common_steps, OnOk, OnErr, Entry, Span, Place, Outcome, gives, refuses, Bytes, Done, Machine, Piece, wanted_in, load-wanted, store-wanted, loaded, span_places, SameTable, same-refl, stored-same, Bounds, Runner, StoreView, sizes}
 use Rattle.std.specs.Borrow.{Bor}
 use Rattle.std.specs.Int.{w64, from_le_bytes, to_le_bytes}
@@ -45,14 +46,14 @@ accessed o table puts bytes names reply s t (Ok x) fails none grant step leaves 
 accessed o table puts bytes names reply s t (Err e) fails none grant step leaves =
     rw (leaves.err.told, fails) (failing o (Touches puts bytes) Sigbus false s t (record { instead = none; unchanged = leaves.same; cause = leaves.err.cause }) leaves.keeps leaves.stopped)
 
-abbrev pub view_with : Bounds → List Entry → List Runner → StoreView → MachineView
-view_with limits t rs m = record { flat = record { limits = limits; areas = sizes m.swap; table = t; runners = rs }; memory = m }
+abbrev pub view_with : Bounds → List HostRange → List Entry → List Runner → StoreView → MachineView
+view_with limits hosts t rs m = record { flat = record { limits = limits; areas = sizes m.swap; table = t; runners = rs; host_ranges = hosts }; memory = m }
 
 -- an access of the segments, as one of the machine
-pub told : {A E : Type 0} (r : Result A E) (limits : Bounds) (put : Option (List ℕ)) (before after : List ℕ) (rs rest : List Runner) (s t : SegmentsView) (ps : List Span) (touched : Touched) → length ps ≤ 2 → All InPage ps → rest ≡ rs
+pub told : {A E : Type 0} (r : Result A E) (limits : Bounds) (hosts : List HostRange) (put : Option (List ℕ)) (before after : List ℕ) (rs rest : List Runner) (s t : SegmentsView) (ps : List Span) (touched : Touched) → length ps ≤ 2 → All InPage ps → rest ≡ rs
     → Acted put ps before after s t r (answer_of touched r)
-    → LeavesOrFails (table_with s.table (span_places false ps) put) (is_some put) (page_spans (span_places false ps)) (view_with limits s.table rs s.memory) (result_or r (Err Sigbus)) (view_with limits t.table rest t.memory)
-told (Ok a) limits put before after rs rest s t ps touched few fit runners acted =
+    → LeavesOrFails (table_with s.table (span_places false ps) put) (is_some put) (page_spans (span_places false ps)) (view_with limits hosts s.table rs s.memory) (result_or r (Err Sigbus)) (view_with limits hosts t.table rest t.memory)
+told (Ok a) limits hosts put before after rs rest s t ps touched few fit runners acted =
     let have = have-pages ps few fit in
     record {
       written = rw (acted.written, runners, acted.access.same_sizes) refl;
@@ -62,7 +63,7 @@ told (Ok a) limits put before after rs rest s t ps touched few fit runners acted
       came = comes-in (is_some put) s.memory t.memory touched ps _ have acted.has acted.access.paged acted.places;
       stopped = tt;
     }
-told (Err e) limits put before after rs rest s t ps touched few fit runners acted =
+told (Err e) limits hosts put before after rs rest s t ps touched few fit runners acted =
     let have = have-pages ps few fit in
     record {
       written = tt;

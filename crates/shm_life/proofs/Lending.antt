@@ -1,4 +1,5 @@
 -- Pages on loan: what a host's load of a page leaves, and what an access leaves while pages are on loan.
+use Rattle.shm_base.specs.declared.guest.HostRange.{HostRange}
 use Rattle.shm_life.proofs.Names.{◌≡◌, ◌<◌, ◌≤◌, ◌*◌, ◌+◌, ◌/◌, ◌∙◌, ◌∷◌, [], ℕ, Bool, true, false, not, Some, None, List, length, if◌then◌else◌, refl, sym, ap, arith, subst, IsAccess, IsCaller, Machine, pieces_at, wanted_in, All-nil, none-some, Bounds, Runner, Translation, IsWell, inl, inr, loaded, ◌⊎◌, OnOk, Entry, Segment, Span, PageRef, InPage, page_of, span_places, StoreView, SpanFits, page_there, live, pages_held, Held, find_held, KeepsMemory, memory-refl, memory-trans, Place, nat_tests}
 use Rattle.std.proofs.Common.{true≢false, nat_lt, cond, get_or, suc, zero}
 use Rattle.std.proofs.lemmas.List.Sums.{sum_by-cons}
@@ -191,14 +192,14 @@ fetched-here r s t (Ok a) has l = ap is_some (frame-after r t.memory (after_visi
 -- A PAGE IS LENT
 
 -- only marks of frames changed
-pub same-flat : (limits : Bounds) (rs : List Runner) (t u : List Entry) (m n : StoreView) → u ≡ t → n ≡ record m { frames = n.frames } → (view_with limits u rs n).flat ≡ (view_with limits t rs m).flat
-same-flat limits rs t u m n same rest =
-    ap (λ (l : List Entry). (view_with limits l rs n).flat) same ∙ ap (λ (v : StoreView). (view_with limits t rs v).flat) rest
+pub same-flat : (limits : Bounds) (hosts : List HostRange) (rs : List Runner) (t u : List Entry) (m n : StoreView) → u ≡ t → n ≡ record m { frames = n.frames } → (view_with limits hosts u rs n).flat ≡ (view_with limits hosts t rs m).flat
+same-flat limits hosts rs t u m n same rest =
+    ap (λ (l : List Entry). (view_with limits hosts l rs n).flat) same ∙ ap (λ (v : StoreView). (view_with limits hosts t rs v).flat) rest
 
-pub lent-view : (r : PageRef) (s : MachineView) (limits : Bounds) (rs : List Runner) (t u : List Entry) (m n : StoreView) (out : List ℕ) → is_barred r None (places s.memory) ≡ false
-    → LeavesOrFails s.flat.table false (whole_page r ∷ []) s granted (view_with limits t rs m) → out ≡ loaded s.flat.table (page_places r) → SetsLent r true m n → KeepsMemory m n → u ≡ t
-    → IsLent r s out (view_with limits u rs n)
-lent-view r s limits rs t u m n out free l bytes set keeps same = lent-now r s (view_with limits t rs m) (view_with limits u rs n) out free l bytes set keeps (same-flat limits rs t u m n same set.rest)
+pub lent-view : (r : PageRef) (s : MachineView) (limits : Bounds) (hosts : List HostRange) (rs : List Runner) (t u : List Entry) (m n : StoreView) (out : List ℕ) → is_barred r None (places s.memory) ≡ false
+    → LeavesOrFails s.flat.table false (whole_page r ∷ []) s granted (view_with limits hosts t rs m) → out ≡ loaded s.flat.table (page_places r) → SetsLent r true m n → KeepsMemory m n → u ≡ t
+    → IsLent r s out (view_with limits hosts u rs n)
+lent-view r s limits hosts rs t u m n out free l bytes set keeps same = lent-now r s (view_with limits hosts t rs m) (view_with limits hosts u rs n) out free l bytes set keeps (same-flat limits hosts rs t u m n same set.rest)
 
 -- what a result that is no error, or one, is known of
 pub went : (table : List Entry) (ps : List Span) (s t : MachineView) (r : Result (Unit {0}) Errno) → is_err r ≡ false → LeavesOrFails table false ps s r t → LeavesOrFails table false ps s granted t
@@ -253,10 +254,10 @@ with-span : (r : PageRef) (f : Option ℕ) (p : Span) (s : Places) → p ≡ spa
 unfolding with_dirty
 with-span r f p s is = ap (λ (q : Span). dirtied (rec_by s.segs (ref_of q)).frame s) is
 
-pub puts-some : (r : PageRef) (f : Option ℕ) (p : Span) (bytes : List ℕ) (limits : Bounds) (rs : List Runner) (t u : List Entry) (m n : StoreView) → p ≡ span_at r f → PutAt bytes (p ∷ []) m n → u ≡ table_with t (span_places false (p ∷ [])) (Some bytes)
-    → KeepsMemory m n → PutsBytes r (Some bytes) (view_with limits t rs m) (view_with limits u rs n)
-puts-some r f p bytes limits rs t u m n is put same keeps = record {
-  flat = same-flat limits rs (table_with t (page_places r) (Some bytes)) u m n (same ∙ ap (λ ps. table_with t ps (Some bytes)) (span-places r f p is)) put.rest;
+pub puts-some : (r : PageRef) (f : Option ℕ) (p : Span) (bytes : List ℕ) (limits : Bounds) (hosts : List HostRange) (rs : List Runner) (t u : List Entry) (m n : StoreView) → p ≡ span_at r f → PutAt bytes (p ∷ []) m n → u ≡ table_with t (span_places false (p ∷ [])) (Some bytes)
+    → KeepsMemory m n → PutsBytes r (Some bytes) (view_with limits hosts t rs m) (view_with limits hosts u rs n)
+puts-some r f p bytes limits hosts rs t u m n is put same keeps = record {
+  flat = same-flat limits hosts rs (table_with t (page_places r) (Some bytes)) u m n (same ∙ ap (λ ps. table_with t ps (Some bytes)) (span-places r f p is)) put.rest;
   placed = put.placed ∙ with-span r f p (places m) is;
   rest = put.rest;
   count = put.count;
@@ -270,10 +271,10 @@ put-well limits t u rs ts m n ps bytes w same rest count = still-well limits t u
 pub resident-still : (r : PageRef) (m n : StoreView) → n ≡ record m { frames = n.frames } → IsSome (frame_by m r) → IsSome (frame_by n r)
 resident-still r m n rest here = ap (λ (v : StoreView). is_some (frame_by v r)) rest ∙ here
 
-pub returned : (r : PageRef) (bytes : Option (List ℕ)) (s : MachineView) (limits : Bounds) (rs : List Runner) (t u : List Entry) (m n : StoreView) → PutsBytes r bytes s (view_with limits t rs m) → SetsLent r false m n → KeepsMemory m n → u ≡ t
-    → IsReturned r bytes s (view_with limits u rs n)
-returned r bytes s limits rs t u m n put set keeps same = record {
-  flat = same-flat limits rs t u m n same set.rest ∙ put.flat;
+pub returned : (r : PageRef) (bytes : Option (List ℕ)) (s : MachineView) (limits : Bounds) (hosts : List HostRange) (rs : List Runner) (t u : List Entry) (m n : StoreView) → PutsBytes r bytes s (view_with limits hosts t rs m) → SetsLent r false m n → KeepsMemory m n → u ≡ t
+    → IsReturned r bytes s (view_with limits hosts u rs n)
+returned r bytes s limits hosts rs t u m n put set keeps same = record {
+  flat = same-flat limits hosts rs t u m n same set.rest ∙ put.flat;
   placed = lent-places r false m n set ∙ ap (on_loan r false) put.placed;
   rest = marked-twice s.memory m n put.rest set.rest;
   keeps = memory-trans s.memory m n put.keeps keeps;

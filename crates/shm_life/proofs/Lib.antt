@@ -28,3 +28,5 @@ pub mod Residing
 mod Paged
 pub mod Counted
 mod Enlarged
+pub mod Ranges
+pub mod Sent

@@ -19,3 +19,4 @@ pub mod Residency
 pub mod Changing
 pub mod Enlarging
 pub mod Failing
+pub mod Reserving

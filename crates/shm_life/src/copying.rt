@@ -26,6 +26,7 @@ impl<P: ClonePager> Kernel<P> {
             limits: self.limits,
             segments: self.segments.try_clone()?,
             spaces: self.spaces.try_clone()?,
+            host_ranges: Vec::from_slice(*self.host_ranges.allocator(), &self.host_ranges)?,
         })
     }
 }

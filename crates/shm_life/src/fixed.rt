@@ -13,6 +13,7 @@ ghost use Rattle.shm_segments.specs.Table.{IsFound, segment_seen};
 
 use crate::kernel::Kernel;
 use bitflags::Flags;
+use shm_areas::is_reserved;
 use shm_attach::Caller;
 use shm_base::{AtFlags, END_ADDRESS, Errno, LOWEST_ADDRESS, PAGE_SIZE, Rules};
 use shm_pager::Pager;
@@ -48,7 +49,18 @@ fn is_beyond(base: u64, pages: u32) -> bool
 }
 
 impl<P: Pager> Kernel<P> {
-    // Whether a range may not be taken: it meets a piece, or its bytes reach 2^64.
+    // Whether the host has reserved one of this many pages for a process. The range may end above the last
+    // address, where nothing is reserved.
+    fn is_reserved(&self, pid: u32, base: u64, pages: u32) -> bool
+        requires { pages ≤ MOST_SHMALL }
+        ensures { let ranges = flat_space.ranges_of pid self.now.flat.host_ranges in
+            result ≡ flat_space.is_reserved ranges base (base + PAGE_SIZE * pages) }
+    {
+        let to = base.saturating_add(PAGE_SIZE * pages as u64);
+        is_reserved(&self.host_ranges, pid, base, to)
+    }
+
+    // Whether a range may not be taken: it meets a piece or a reserved range, or its bytes reach 2^64.
     fn is_taken(&self, caller: &Caller, found: &Found, flags: AtFlags, base: u64) -> bool
         requires caller { IsCaller caller.now self.now.flat.runners }
         requires found { IsFound self.now.flat.table found.now }
@@ -62,8 +74,10 @@ impl<P: Pager> Kernel<P> {
         if self.limits.rules().contains(Rules::LOW_IS_EPERM) && base == 0 {
             return false;
         }
+        let pages = found.pages();
         base.checked_add(found.head.size).is_none()
-            || self.spaces.space(caller).is_occupied(base, found.pages())
+            || self.spaces.space(caller).is_occupied(base, pages)
+            || self.is_reserved(caller.pid, base, pages)
     }
 
     // Whether the process can attach nothing more, not even by a remap.
@@ -104,7 +118,7 @@ impl<P: Pager> Kernel<P> {
 
     /// A base that the caller gives, if shmat may attach there.
     ///
-    /// - Einval: the range meets a piece without SHM_REMAP, or reaches 2^64.
+    /// - Einval: the range meets a piece or a reserved range without SHM_REMAP, or reaches 2^64.
     /// - Enomem: the process can attach nothing more, under `Rules::PIECES_ARE_ENOMEM`.
     /// - Einval: the range is not within 0x10000 to 0x7ffffffff000; rules replace this by Enomem or Eperm.
     pub(crate) fn fixed_base(

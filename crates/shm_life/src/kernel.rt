@@ -6,17 +6,19 @@ ghost use Rattle.shm_life.specs.MachineView.{AnsweredBy, IsWithoutMemory, Served
 ghost use Rattle.shm_base.specs.Memory.{TakesNoMemory};
 
 use shm_attach::{Caller, Spaces};
-use shm_base::{Call, Errno, HostMemory, Limits, Reply};
+use shm_base::{Call, Errno, HostMemory, HostRange, Limits, Reply};
 use shm_fault::Act;
 use shm_pager::Pager;
 use shm_segments::Segments;
 use std::marker::Model;
 
-/// The machine's state: its segments with their memory, and the pieces of its processes.
+/// The machine's state: its segments with their memory, the pieces of its processes, and the ranges that the
+/// host has reserved.
 pub(crate) struct Kernel<P: Pager> {
     pub(crate) limits: Limits,
     pub(crate) segments: Segments<P>,
     pub(crate) spaces: Spaces,
+    pub(crate) host_ranges: Vec<HostRange>,
 }
 
 impl<P: Pager> Drop for Kernel<P> {
@@ -25,6 +27,7 @@ impl<P: Pager> Drop for Kernel<P> {
             limits: _,
             segments: _,
             spaces: _,
+            host_ranges: _,
         } = self;
     }
 }
@@ -32,6 +35,7 @@ impl<P: Pager> Drop for Kernel<P> {
 impl<P: Pager> Model for Kernel<P> {
     ghost use Rattle.std.specs.Prelude.{◌≡◌};
     ghost use Rattle.shm_slots.specs.View.{sizes};
+    ghost use Rattle.shm_areas.specs.FreeGap.{AreRanges};
     ghost use Rattle.shm_life.specs.Sound.{IsWell};
     ghost use Rattle.shm_life.specs.MachineView.{MachineView};
 
@@ -43,13 +47,14 @@ impl<P: Pager> Model for Kernel<P> {
         areas = sizes m.segments.memory.swap;
         table = m.segments.table;
         runners = m.spaces.runners;
+        host_ranges = m.host_ranges.items;
       };
       memory = m.segments.memory;
     } };
 
     ghost invariant = { λ m.
         IsWell m.limits m.segments.table m.spaces.runners m.spaces.translations m.segments.memory
-        × (m.spaces.most ≡ m.limits.most_pieces) };
+        × (m.spaces.most ≡ m.limits.most_pieces) × AreRanges m.host_ranges.items };
 }
 
 impl<P: Pager> Kernel<P> {

@@ -16,6 +16,7 @@ mod listing;
 mod loans;
 mod mapping;
 mod notices;
+mod reserving;
 mod residency;
 mod rows;
 mod shmat;

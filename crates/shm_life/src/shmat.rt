@@ -62,7 +62,7 @@ impl<P: Pager> Kernel<P> {
     /// - Einval: SHM_REMAP with a null address, or an unaligned address without SHM_RND.
     /// - Einval, Eidrm: the identifier was never issued, or its segment was destroyed.
     /// - Eacces: the process has no permission.
-    /// - Einval: the range is not within the addresses, or is occupied without SHM_REMAP.
+    /// - Einval: the range is not within the addresses, or is taken without SHM_REMAP.
     /// - Enomem: the address is null, and no gap is large enough.
     /// - Emfile: the process would have too many pieces.
     fn place_for(
@@ -92,7 +92,9 @@ impl<P: Pager> Kernel<P> {
         let space = self.spaces.space(caller);
         let (seg, pages) = (found.seg, found.pages());
         let wish = if addr == 0 {
-            space.choose(pages).ok_or(Errno::Enomem)
+            space
+                .choose_beside(&self.host_ranges, caller.pid, pages)
+                .ok_or(Errno::Enomem)
         } else {
             self.fixed_base(caller, &found, flags, addr - addr % PAGE_SIZE)
         };

@@ -147,6 +147,7 @@ impl<P: Pager> System<P> {
             limits,
             segments: Segments::new(alloc, limits.frames() as u32, Swap::new(alloc, pagers)?)?,
             spaces: Spaces::new(alloc, processes, limits.most_pieces())?,
+            host_ranges: Vec::new(alloc),
         };
         Ok(System {
             opening,

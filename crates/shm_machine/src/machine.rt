@@ -16,7 +16,7 @@ use shm_pager::AreaPager;
 use std::alloc::Global;
 
 /// A machine over swap areas of any kind. Its `system` has the counts, the listings, the flush rounds, and
-/// the changes by its host: processes, credentials and the time.
+/// the changes by its host: processes, reserved ranges, credentials and the time.
 pub struct Machine {
     pub system: System<AreaPager>,
 }

@@ -46,7 +46,7 @@ fn empties(frames: &mut Frames, frame: u32) -> bool {
     frames.empty(frame);
     frames.owner(frame).is_none()
         && frames.free_frame() == Some(frame)
-        && frames.bytes(frame)[4095] == 9
+        && frames.bytes_mut(frame)[4095] == 9
 }
 
 /// A change of frames or a question about them.

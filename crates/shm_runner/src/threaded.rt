@@ -6,7 +6,7 @@ ghost use Rattle.shm_program.specs.Runs.{IsCauseIn, IsFresh, IsOpening, IsWritte
 ghost use Rattle.shm_laws.specs.Worlds.{IsWorldSound};
 ghost use Rattle.shm_runner.specs.Faults.{CanFail};
 ghost use Rattle.shm_runner.specs.Output.{world_text};
-ghost use Rattle.shm_runner.specs.Marks.{is_marked, has_mark, have_mark};
+ghost use Rattle.shm_runner.specs.Marks.{have_mark};
 ghost use Rattle.shm_runner.specs.Threaded.{IsAnyOutput, IsThreadedOutput, IsThreadedRun, IsAllOrNothing};
 
 use crate::fault::run_fault;
@@ -16,7 +16,7 @@ use shm_laws::lawful;
 use shm_pager::Pager;
 use shm_program::{RunFault, open_world, whole_script};
 use shm_text::Script;
-use shm_threads::{Answer, Entry, OpenGate, Outcome, Transcript, run_threads};
+use shm_threads::{OpenGate, Outcome, Transcript, run_threads_unkept};
 use std::alloc::Global;
 use std::io::{Read, Write};
 use std::sync::Wait;
@@ -98,7 +98,7 @@ fn run_in<T: Threads + Wait + Sync, W: Write, P: Pager + Send>(
 {
     // Calling this tells the proof that the laws hold for the world at the start.
     let _sound = lawful(&world);
-    match run_threads(rt, alloc, world, script, &OpenGate) {
+    match run_threads_unkept(rt, alloc, world, script, &OpenGate) {
         Ok(outcome) => write_outcome(alloc, writer, &outcome),
         Err(error) => Err(run_fault(error)),
     }
@@ -142,20 +142,5 @@ fn have_mark(transcripts: &[Transcript]) -> bool
 {
     transcripts
         .iter()
-        .any(|transcript| has_mark(&transcript.entries))
-}
-
-fn has_mark(entries: &[Entry]) -> bool
-    ensures { result ≡ has_mark entries.now }
-{
-    entries.iter().any(|entry| is_marked(&entry.answer))
-}
-
-fn is_marked(answer: &Answer) -> bool
-    ensures { result ≡ is_marked answer.now }
-{
-    match answer {
-        Answer::Reply(_) => false,
-        Answer::HostMemory => true,
-    }
+        .any(|transcript| transcript.entries.has_mark())
 }

@@ -10,7 +10,7 @@ use shm_pager::RamPager;
 use shm_program::RunFault;
 use shm_runner::{run_threaded, write_outcome};
 use shm_text::{Script, read_script};
-use shm_threads::{Answer, Entry, OpenGate, Outcome, Transcript, run_threads};
+use shm_threads::{Answer, EntryList, OpenGate, Outcome, Transcript, run_threads};
 use std::alloc::Global;
 use std::io::ErrorKind;
 use std::sync::Wait;
@@ -89,11 +89,10 @@ fn answer_of(reply: Option<Reply>) -> Answer {
 
 // A transcript with one call for which the host refused memory, or without calls.
 fn transcripts(alloc: Global, marked: bool) -> Result<Vec<Transcript>, Fail> {
-    let mut entries = Vec::new(alloc);
+    let mut entries = EntryList::with_room(alloc, 1, true)?;
     if marked {
         let refused: Option<Reply> = None;
-        let (call, answer) = (Call::Exit, answer_of(refused));
-        entries.push(Entry { call, answer })?;
+        entries.push_reserved(Call::Exit, answer_of(refused));
     }
     Ok(vec![in alloc; Transcript { pid: 1, entries }]?)
 }

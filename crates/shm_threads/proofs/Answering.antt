@@ -12,10 +12,10 @@ use Rattle.shm_base.specs.Rules.{pieces_are_enomem, removed_is_invalid}
 use Rattle.shm_base.specs.Segments.{reserved, slots}
 use Rattle.shm_base.specs.Access.{end_of}
 use Rattle.shm_base.specs.Mapping.{Protected, done_or, has_protection, munmap, protects_from, protects_piece, protects_pieces, rounded, turned, unmaps}
-use Rattle.shm_base.specs.Space.{choose, covering, cut, end_address, inside}
+use Rattle.shm_base.specs.Space.{choose_beside, covering, cut, end_address, inside}
 use Rattle.shm_base.specs.State.{Machine, Piece, Segment, pages_in, pages_of}
 use Rattle.shm_base.specs.Callers.{Caller, Outcome, caller_of}
-use Rattle.shm_base.specs.Step.{acts, at_wish, attaches_if, base_for, creates, creates_at, creates_small, fixed_base, gets, huge_errno, if_few, is_full, is_misplaced, is_taken, outside_errno, pieces_beside, placed, placed_at, placed_found, shmat, step_by, wants_creation, wants_no_other}
+use Rattle.shm_base.specs.Step.{acts, at_wish, attaches_if, base_for, creates, creates_at, creates_small, fixed_base, gets, host_ranges, huge_errno, if_few, is_full, is_misplaced, is_taken, outside_errno, pieces_beside, placed, placed_at, placed_found, shmat, step_by, wants_creation, wants_no_other}
 use Rattle.shm_base.specs.declared.call.Call.TheVariants.{Mprotect, Munmap, Shmat, Shmget}
 use Rattle.shm_base.specs.declared.call.Event.{Event}
 use Rattle.shm_base.specs.declared.call.Placed.{Placed}
@@ -117,7 +117,7 @@ module _ (s : Machine) (n : ℕ) (c : Caller) where
       (if-named (is_full s c) _ _ refl (if-named (not (inside base (pages_in x))) (Err (outside_errno s c (base + 4096 * pages_in x))) (Ok base) (grind (arith, common_steps)) tt))
 
   named-base : (x : Segment) (flags : AtFlags) (addr : ℕ) → IsNamed (base_for s c x flags addr)
-  named-base x flags addr = if-named (addr == 0) _ _ (named-chosen (choose c.pieces (pages_in x))) (named-fixed x flags (addr - addr % 4096))
+  named-base x flags addr = if-named (addr == 0) _ _ (named-chosen (choose_beside c.pieces (host_ranges s c) (pages_in x))) (named-fixed x flags (addr - addr % 4096))
 
   named-found : (flags : AtFlags) (addr : ℕ) (l : Look) → IsNamed (placed_found s c flags addr l)
   named-found flags addr Invalid = refl

@@ -4,6 +4,7 @@ mod Entries
 mod Expiring
 mod Idle
 mod Keeping
+mod Kept
 mod Least
 mod Moving
 mod Lives
@@ -13,6 +14,7 @@ mod Over
 mod Passing
 mod Placing
 mod Remaining
+mod Sent
 mod Starts
 mod Stepping
 mod Steps

@@ -6,7 +6,6 @@ use Rattle.std.proofs.lemmas.Bool.{cases_eq}
 use Rattle.std.proofs.lemmas.List.{length_push}
 use Rattle.std.proofs.lemmas.List.Elements.{All-map}
 use Rattle.shm_text.specs.Script.{ScriptView}
-use Rattle.shm_text.specs.declared.script.Line.{Line}
 use Rattle.shm_threads.specs.Asked.{rounds_of}
 use Rattle.shm_threads.specs.Passed.{AreAllPassed, ArePassed, Passes}
 use Rattle.shm_threads.specs.Strands.{IsFresh, transcript_of}
@@ -25,8 +24,8 @@ module _ (answers : ℕ → ℕ → Bool → Bool) where
       ]
 
   -- before the first call
-  pub passed-fresh : (lines : List Line) (ss : List Strand) → All (IsFresh lines) ss → ArePassed answers ss 0
-  passed-fresh lines ss fresh =
+  pub passed-fresh : (callers : List ℕ) (ss : List Strand) → All (IsFresh callers) ss → ArePassed answers ss 0
+  passed-fresh callers ss fresh =
       record {
         calls = λ k d lt n within. let none : length (get_or ss k d).entries.items ≡ 0 = ap length (fresh k d lt).entries in absurd (omega (arith, none, within.0, within.1));
         rounds = λ n within. absurd (omega (arith, within.0, within.1));

@@ -1,13 +1,13 @@
--- The command lines of a process that are left at a line.
-use Rattle.std.specs.Prelude.{◌≡◌, ◌<◌, ◌+◌, ◌++◌, ℕ, List, [], ◌∷◌, length, drop}
-use Rattle.std.proofs.Common.{ap, ◌∙◌, refl, inl, inr, eq-eqb, ne_eqb}
+-- The command lines of a process: how many there are, and those that are left at a line.
+use Rattle.std.specs.Prelude.{◌≡◌, ◌<◌, ◌+◌, ◌++◌, ◌==◌, ℕ, List, [], ◌∷◌, length, drop, filter}
+use Rattle.std.proofs.Common.{suc, ap, ◌∙◌, refl, inl, inr, eq-eqb, ne_eqb}
 use Rattle.std.proofs.Math.ListN.{get_or}
 use Rattle.std.proofs.lemmas.Bool.{cases_eq}
 use Rattle.std.proofs.lemmas.List.{drop_more}
 use Rattle.shm_text.specs.Form.{CommandView}
 use Rattle.shm_text.specs.declared.script.Line.{Line}
 use Rattle.shm_text.specs.declared.script.Line.TheVariants.{Command, Flush}
-use Rattle.shm_threads.specs.Transcripts.{commands_of}
+use Rattle.shm_threads.specs.Transcripts.{callers_of, commands_of}
 
 first : (pid : ℕ) (l : Line) (ls : List Line) → commands_of pid (l ∷ ls) ≡ commands_of pid (l ∷ []) ++ commands_of pid ls
 first pid (Flush n) ls = refl
@@ -15,6 +15,16 @@ first pid (Command c) ls =
     elim (cases_eq c.pid pid) [
       | inl own ↦ rw (eq-eqb c.pid pid own) refl
       | inr other ↦ rw (ne_eqb c.pid pid other) refl
+    ]
+
+-- a process has as many command lines as callers
+pub count_callers : (pid : ℕ) (ls : List Line) → length (filter (λ p. p == pid) (callers_of ls)) ≡ length (commands_of pid ls)
+count_callers pid [] = refl
+count_callers pid (Flush n ∷ ls) = count_callers pid ls
+count_callers pid (Command c ∷ ls) =
+    elim (cases_eq c.pid pid) [
+      | inl own ↦ rw (eq-eqb c.pid pid own) (ap suc (count_callers pid ls))
+      | inr other ↦ rw (ne_eqb c.pid pid other) (count_callers pid ls)
     ]
 
 module _ (pid : ℕ) (ls : List Line) (i : ℕ) (l : Line) (lt : i < length ls) (here : get_or ls i l ≡ l) (found : List CommandView) (is : commands_of pid (l ∷ []) ≡ found) where

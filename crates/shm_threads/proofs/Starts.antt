@@ -20,10 +20,11 @@ use Rattle.shm_text.specs.declared.script.Line.TheVariants.{Command, Flush}
 use Rattle.shm_threads.specs.Outcomes.{IsOpened}
 use Rattle.shm_threads.specs.Running.{IsRunning}
 use Rattle.shm_threads.specs.Strands.{IsFresh, IsStrand, StandsAt, left_in, life_from, pid_of_strand}
-use Rattle.shm_threads.specs.Transcripts.{IsAdmitted, IsMarkAllowed, commands_of, is_child, pid_in, transcript_events}
+use Rattle.shm_threads.specs.Transcripts.{IsAdmitted, IsMarkAllowed, callers_of, commands_of, is_child, pid_in, transcript_events}
 use Rattle.shm_threads.specs.declared.strand.Strand.{Strand}
 use Rattle.shm_threads.specs.declared.transcript.Entry.{Entry}
 use Rattle.shm_threads.proofs.Placing.{has-at}
+use Rattle.shm_threads.proofs.Remaining.{count_callers}
 use Rattle.shm_threads.proofs.Turns.{as-long, pid-at, some-process}
 
 once : (p : Process) (ps : List Process) → are_pids (p ∷ ps) ≡ true → has_pid p.pid ps ≡ false
@@ -86,22 +87,22 @@ total-few ps [] pids = let none = total-none ps in omega (arith, none)
 total-few ps (Flush n ∷ ls) pids = let same = total-flush ps n ls in let few = total-few ps ls pids in omega (arith, same, few)
 total-few ps (Command c ∷ ls) pids = let most = total-command ps c ls pids in let few = total-few ps ls pids in omega (arith, most, few)
 
-left-total : (ls : List Line) (ss : List Strand) (ps : List Process) → map pid_of_strand ss ≡ map pid_in ps → All (IsFresh ls) ss → left_in ss ≡ total ps ls
+left-total : (ls : List Line) (ss : List Strand) (ps : List Process) → map pid_of_strand ss ≡ map pid_in ps → All (IsFresh (callers_of ls)) ss → left_in ss ≡ total ps ls
 left-total ls [] [] same fresh = refl
 left-total ls [] (p ∷ ps) same fresh = absurd (cc same)
 left-total ls (s ∷ ss) [] same fresh = absurd (cc same)
 left-total ls (s ∷ ss) (p ∷ ps) same fresh =
     let first : s.pid ≡ p.pid = cc same in
     let rest : map pid_of_strand ss ≡ map pid_in ps = cc same in
-    let f = All-head (IsFresh ls) s ss fresh in
-    let more = left-total ls ss ps rest (All-tail (IsFresh ls) s ss fresh) in
-    let mine : s.lines ≡ length (commands_of p.pid ls) = f.lines ∙ ap (λ (q : ℕ). length (commands_of q ls)) first in
+    let f = All-head (IsFresh (callers_of ls)) s ss fresh in
+    let more = left-total ls ss ps rest (All-tail (IsFresh (callers_of ls)) s ss fresh) in
+    let mine : s.lines ≡ length (commands_of p.pid ls) = f.lines ∙ count_callers s.pid ls ∙ ap (λ (q : ℕ). length (commands_of q ls)) first in
     let none : length s.entries.items ≡ 0 = ap length f.entries in
     omega (arith, more, mine, none)
 
 -- THE START
 
-module _ (script : ScriptView) (w : WorldState) (s : Strand) (is : IsFresh script.lines s) where
+module _ (script : ScriptView) (w : WorldState) (s : Strand) (is : IsFresh (callers_of script.lines) s) where
   fresh-stands : (born : Option Cred) → (born ≡ None → is_child s.pid script.processes ≡ true) → StandsAt script [] s (Some (life_at_start born))
   fresh-stands None child = (child refl, is.entries, is.values, refl)
   fresh-stands (Some cred) child = rw (is.entries, is.values) (λ more follows. follows)
@@ -109,7 +110,7 @@ module _ (script : ScriptView) (w : WorldState) (s : Strand) (is : IsFresh scrip
   fresh-strand : (born : Option Cred) → life_from s.pid w.machine.runners ≡ Some (life_at_start born) → (born ≡ None → is_child s.pid script.processes ≡ true) → IsStrand script w.machine [] s
   fresh-strand born life child =
       record {
-        lines = is.lines;
+        lines = is.lines ∙ count_callers s.pid script.lines;
         room = is.room;
         place = subst (StandsAt script [] s) (sym life) (fresh-stands born child);
         own = ap (λ (es : List Entry). transcript_events s.pid es) is.entries;
@@ -117,7 +118,7 @@ module _ (script : ScriptView) (w : WorldState) (s : Strand) (is : IsFresh scrip
       }
 
 pub running-start : (script : ScriptView) (w : WorldState) (ss : List Strand) → IsOpened script w → w.machine ≡ start_of w.opening
-    → map pid_of_strand ss ≡ map pid_in script.processes → All (IsFresh script.lines) ss → length script.lines ≤ w.room → IsRunning script w w ss 0
+    → map pid_of_strand ss ≡ map pid_in script.processes → All (IsFresh (callers_of script.lines)) ss → length script.lines ≤ w.room → IsRunning script w w ss 0
 running-start script w ss opened start listed fresh room =
     let ps = script.processes in
     let runners : w.machine.runners ≡ map runner_at_start ps = ap (λ (m : Machine). m.runners) start ∙ ap (map runner_at_start) opened.processes in
@@ -143,7 +144,7 @@ running-start script w ss opened start listed fresh room =
 
 -- and where room was reserved in the world
 pub running-prepared : (script : ScriptView) (old new : WorldState) (ss : List Strand) → IsOpened script old → IsHistory old.opening old.events old.machine → new ≡ record old { room = new.room }
-    → map pid_of_strand ss ≡ map pid_in script.processes → All (IsFresh script.lines) ss → length script.lines ≤ new.room → IsRunning script new new ss 0
+    → map pid_of_strand ss ≡ map pid_in script.processes → All (IsFresh (callers_of script.lines)) ss → length script.lines ≤ new.room → IsRunning script new new ss 0
 running-prepared script old new ss opened legal rest listed fresh room =
     let begun : LeadsFrom 1 (start_of old.opening) [] old.machine = subst (λ (es : List Event). LeadsFrom 1 (start_of old.opening) es old.machine) opened.events legal in
     let full : WorldState = record old { room = new.room } in

@@ -1,5 +1,5 @@
 -- A step of a run: one strand has one more entry, and the others stay as they are.
-use Rattle.std.specs.Prelude.{◌≡◌, ◌≢◌, ◌<◌, ◌++◌, ℕ, Bool, true, false, List, [], ◌∷◌, Option, Some, None, length, MatchBool, All, vec_capacity}
+use Rattle.std.specs.Prelude.{◌≡◌, ◌≢◌, ◌<◌, ◌++◌, ℕ, Bool, true, false, List, [], ◌∷◌, Option, Some, None, length, MatchBool, All}
 use Rattle.std.proofs.Common.{subst, sym, ap, ◌∙◌, refl, inl, inr}
 use Rattle.std.proofs.Math.ListN.{get_or}
 use Rattle.std.proofs.lemmas.Bool.{cases_Bool}
@@ -52,7 +52,7 @@ pub record Notes (s : Strand) (e : Entry) (c : CommandView) (t : Strand) : Type 
   pub lines : t.lines ≡ s.lines
   pub values : t.vars ≡ values_after s.vars c.var (reply_in e.answer)
   pub entries : t.entries.items ≡ s.entries.items ++ e ∷ []
-  pub room : vec_capacity t.entries ≡ vec_capacity s.entries
+  pub room : t.entries.room ≡ s.entries.room
 
 module _ (script : ScriptView) (m n : Machine) (h after : List Event) (s t : Strand) (e : Entry) (c : CommandView) (notes : Notes s e c t) (is : IsStrand script m h s)
     (less : length s.entries.items < length (commands_of s.pid script.lines)) (next : get_or (commands_of s.pid script.lines) (length s.entries.items) c ≡ c) (live : IsLive s.pid m.runners)

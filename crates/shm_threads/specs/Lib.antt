@@ -1,6 +1,7 @@
 pub mod Asked
 pub mod Births
 pub mod Ends
+pub mod Entries
 pub mod Keepers
 pub mod Moves
 pub mod Outcomes

@@ -1,5 +1,5 @@
 -- Where the processes of a run are in their lines.
-use Rattle.std.specs.Prelude.{◌≡◌, ◌≤◌, ◌+◌, ◌-◌, ◌++◌, ◌==◌, ◌&&◌, ℕ, Bool, true, false, List, [], ◌∷◌, length, drop, vec_capacity, nat_lt, is_some, if◌then◌else◌, Option, Some, None, All}
+use Rattle.std.specs.Prelude.{◌≡◌, ◌≤◌, ◌+◌, ◌-◌, ◌++◌, ◌==◌, ◌&&◌, ℕ, Bool, true, false, List, [], ◌∷◌, length, drop, filter, nat_lt, is_some, if◌then◌else◌, Option, Some, None, All}
 use Rattle.shm_base.specs.Calls.{ProcessCall}
 use Rattle.shm_base.specs.History.{own_part}
 use Rattle.shm_base.specs.Memory.{takes_memory}
@@ -12,7 +12,6 @@ use Rattle.shm_history.specs.WorldState.{WorldState, IsCalled}
 use Rattle.shm_text.specs.Form.{CommandView}
 use Rattle.shm_text.specs.Script.{ScriptView}
 use Rattle.shm_text.specs.Variables.{no_values, call_of, values_after}
-use Rattle.shm_text.specs.declared.script.Line.{Line}
 use Rattle.shm_threads.specs.Transcripts.{Follows, IsMarkAllowed, commands_of, is_child, is_forked, reply_in, transcript_events}
 use Rattle.shm_threads.specs.declared.strand.Made.{Made}
 use Rattle.shm_threads.specs.declared.strand.Made.TheVariants.{Birth, End, Nothing}
@@ -33,12 +32,16 @@ abbrev pub left_in : List Strand → ℕ
 left_in [] = 0
 left_in (s ∷ ss) = left_of s + left_in ss
 
--- a strand before its first line
-pub record IsFresh (all : List Line) (s : Strand) : Type 0 where
-  pub lines : s.lines ≡ length (commands_of s.pid all)
+-- a strand before its first line, where these are the pids of all command lines
+pub record IsFresh (callers : List ℕ) (s : Strand) : Type 0 where
+  pub lines : s.lines ≡ length (filter (λ p. p == s.pid) callers)
   pub values : s.vars ≡ no_values
   pub entries : s.entries.items ≡ []
-  pub room : s.lines ≤ vec_capacity s.entries
+  pub room : s.lines ≤ s.entries.room
+
+-- the strand keeps its entries, or does not
+abbrev pub IsKeptAs : Bool → Strand → Type 0
+IsKeptAs is_kept s = s.entries.is_kept ≡ is_kept
 
 -- what a call did to the lives of processes
 abbrev pub made_by : ProcessCall → Answer → Made
@@ -61,7 +64,8 @@ pub record IsMade (before : WorldState) (s : Strand) (command : CommandView) (ma
   pub lines : t.lines ≡ s.lines
   pub values : t.vars ≡ values_after s.vars command.var (reply_in entry.answer)
   pub entries : t.entries.items ≡ s.entries.items ++ entry ∷ []
-  pub room : vec_capacity t.entries ≡ vec_capacity s.entries
+  pub room : t.entries.room ≡ s.entries.room
+  pub kept : t.entries.is_kept ≡ s.entries.is_kept
 
 -- More entries that follow the lines that are left make, after those so far, entries that follow all lines
 abbrev pub IsUnderway : List CommandView → List (Option ℕ) → List Entry → Type 0
@@ -83,7 +87,7 @@ StandsAt script history s (Some Ended) = Follows no_values (commands_of s.pid sc
 -- A strand of a script, its place in its lines, and its own part of the history
 pub record IsStrand (script : ScriptView) (machine : Machine) (history : List Event) (s : Strand) : Type 0 where
   pub lines : s.lines ≡ length (commands_of s.pid script.lines)
-  pub room : s.lines ≤ vec_capacity s.entries
+  pub room : s.lines ≤ s.entries.room
   pub place : StandsAt script history s (life_from s.pid machine.runners)
   pub own : transcript_events s.pid s.entries.items ≡ own_part s.pid history
   pub marks : All IsMarkAllowed s.entries.items

@@ -31,6 +31,12 @@ commands_of pid [] = []
 commands_of pid (Flush n ∷ ls) = commands_of pid ls
 commands_of pid (Command c ∷ ls) = if c.pid == pid then c ∷ commands_of pid ls else commands_of pid ls
 
+-- the pids of all command lines, in order
+abbrev pub callers_of : List Line → List ℕ
+callers_of [] = []
+callers_of (Flush n ∷ ls) = callers_of ls
+callers_of (Command c ∷ ls) = c.pid ∷ callers_of ls
+
 -- the command of a line, if there is one
 abbrev pub commands_in : Option (Bor CommandView) → List CommandView
 commands_in None = []
@@ -99,6 +105,10 @@ pub record IsTranscript (script : ScriptView) (history : List Event) (t : Transc
   pub lines : HasLines script history t
   pub own : transcript_events t.pid t.entries.items ≡ own_part t.pid history
   pub marks : All IsMarkAllowed t.entries.items
+
+-- the transcript keeps its entries, or does not
+abbrev pub HasEntries : Bool → Transcript → Type 0
+HasEntries is_kept t = t.entries.is_kept ≡ is_kept
 
 -- The event is one of a declared process that was live
 pub record IsAdmitted (processes : List Process) (e : Event) : Type 0 where

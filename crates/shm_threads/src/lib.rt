@@ -3,6 +3,7 @@
 
 mod births;
 mod callers;
+mod entry_list;
 mod flusher;
 mod gate;
 mod lines;
@@ -15,7 +16,8 @@ mod strand;
 mod transcript;
 mod worker;
 
+pub use entry_list::EntryList;
 pub use gate::{Gate, OpenGate};
 pub use outcome::{Outcome, RunError};
-pub use run::{run_threads, run_threads_gauged};
+pub use run::{run_threads, run_threads_gauged, run_threads_unkept};
 pub use transcript::{Answer, Entry, Transcript};

@@ -3,7 +3,7 @@
 use std::marker::Brand;
 
 /// The script of a run, the world at its start, the cell of the keeper that was passed in and what it had
-/// stored, and the answers that the gate may give before each call.
+/// stored, the answers that the gate may give before each call, and whether the strands keep their entries.
 pub trait Origin {
     ghost use Rattle.std.specs.Prelude.{Option, List, ℕ, Bool};
     ghost use Rattle.shm_history.specs.Gauges.{CellName};
@@ -20,6 +20,8 @@ pub trait Origin {
     ghost stored: { List Reading };
 
     ghost answers: { ℕ → ℕ → Bool → Bool };
+
+    ghost is_kept: { Bool };
 }
 
 impl Origin for Brand {
@@ -35,4 +37,6 @@ impl Origin for Brand {
     ghost stored = { [] };
 
     ghost answers = { λ pid n may. false };
+
+    ghost is_kept = { false };
 }

@@ -1,5 +1,5 @@
 //! A run with threads: it starts them, joins them, and takes out what they share.
-ghost use Rattle.std.specs.Prelude.{◌≡◌, ◌≤◌, [], All, IfErr, IfOk, length, vec_capacity};
+ghost use Rattle.std.specs.Prelude.{◌≡◌, ◌≤◌, [], All, IfErr, IfOk, length, true, vec_capacity};
 ghost use Rattle.shm_history.specs.Gauges.{StartsWith};
 ghost use Rattle.shm_threads.specs.Asked.{rounds_of};
 ghost use Rattle.shm_threads.specs.Ends.{CanEnd, CanStop};
@@ -8,7 +8,8 @@ ghost use Rattle.shm_threads.specs.Outcomes.{IsOpened, IsOutcome};
 ghost use Rattle.shm_threads.specs.Passed.{AreAllPassed};
 ghost use Rattle.shm_threads.specs.Plans.{HaveRoom};
 ghost use Rattle.shm_threads.specs.Running.{IsRunning};
-ghost use Rattle.shm_threads.specs.Strands.{IsFresh};
+ghost use Rattle.shm_threads.specs.Strands.{IsFresh, IsKeptAs};
+ghost use Rattle.shm_threads.specs.Transcripts.{HasEntries, callers_of};
 
 use crate::births::{ProcessState, states};
 use crate::flusher::rounds;
@@ -62,11 +63,31 @@ pub fn run_threads<R: Threads + Wait + Sync, G: Gate, P: Pager + Send>(
 ) -> Result<Outcome<P>, RunError>
     requires { IsOpened script.now world }
     ensures outcome { IfOk result (λ o. IsOutcome script.now world o.world o.transcripts.items) }
+    ensures entries { IfOk result (λ o. All (HasEntries true) o.transcripts.items) }
     ensures passed { let answers = G.answers gate.now in
         IfOk result (λ o. AreAllPassed answers script.now o.transcripts.items) }
     ensures error { IfErr result (CanEnd (G.answers gate.now) script.now world) }
 {
-    let (outcome, _) = run_with(rt, alloc, world, None, script, gate)?;
+    let (outcome, _) = run_with(rt, alloc, world, None, script, gate, true)?;
+    Ok(outcome)
+}
+
+/// Like `run_threads`, but the transcripts do not keep their entries, which takes less time: the program can ask each only
+/// for the number of its calls, and whether one is marked.
+pub fn run_threads_unkept<R: Threads + Wait + Sync, G: Gate, P: Pager + Send>(
+    rt: &R,
+    alloc: Global,
+    world: World<P>,
+    script: &Script,
+    gate: &G,
+) -> Result<Outcome<P>, RunError>
+    requires { IsOpened script.now world }
+    ensures outcome { IfOk result (λ o. IsOutcome script.now world o.world o.transcripts.items) }
+    ensures passed { let answers = G.answers gate.now in
+        IfOk result (λ o. AreAllPassed answers script.now o.transcripts.items) }
+    ensures error { IfErr result (CanEnd (G.answers gate.now) script.now world) }
+{
+    let (outcome, _) = run_with(rt, alloc, world, None, script, gate, false)?;
     Ok(outcome)
 }
 
@@ -85,6 +106,7 @@ pub fn run_threads_gauged<R: Threads + Wait + Sync, G: Gate, P: Pager + Send>(
 ) -> Result<(Outcome<P>, Keeper), RunError>
     requires { IsOpened script.now world }
     ensures outcome { IfOk result (λ r. IsOutcome script.now world r.0.world r.0.transcripts.items) }
+    ensures entries { IfOk result (λ r. All (HasEntries true) r.0.transcripts.items) }
     ensures cell { IfOk result (λ r. r.1.cell ≡ keeper.cell) }
     ensures stored { IfOk result (λ r. StartsWith r.1.stored keeper.stored) }
     ensures numbers { IfOk result (λ r. IsCaughtUp r.0.world r.1.numbers) }
@@ -92,13 +114,13 @@ pub fn run_threads_gauged<R: Threads + Wait + Sync, G: Gate, P: Pager + Send>(
         IfOk result (λ r. AreAllPassed answers script.now r.0.transcripts.items) }
     ensures error { IfErr result (CanEnd (G.answers gate.now) script.now world) }
 {
-    let (outcome, keeper) = run_with(rt, alloc, world, Some(keeper), script, gate)?;
+    let (outcome, keeper) = run_with(rt, alloc, world, Some(keeper), script, gate, true)?;
     let mut keeper = keeper.unwrap();
     outcome.world.publish(rt, &mut keeper);
     Ok((outcome, keeper))
 }
 
-// The body of both functions, with or without a keeper. It takes all memory that the run needs, and names its origin.
+// The body of these functions, with or without a keeper. It takes all memory that the run needs, and names its origin.
 fn run_with<R: Threads + Wait + Sync, G: Gate, P: Pager + Send>(
     rt: &R,
     alloc: Global,
@@ -106,15 +128,17 @@ fn run_with<R: Threads + Wait + Sync, G: Gate, P: Pager + Send>(
     keeper: Option<Keeper>,
     script: &Script,
     gate: &G,
+    is_kept: bool,
 ) -> Result<(Outcome<P>, Option<Keeper>), RunError>
     requires { IsOpened script.now world }
     ensures outcome { IfOk result (λ r. IsOutcome script.now world r.0.world r.0.transcripts.items) }
+    ensures entries { IfOk result (λ r. All (HasEntries is_kept) r.0.transcripts.items) }
     ensures kept { IfOk result (λ r. IsKept (cell_of keeper) (stored_of keeper) r.1) }
     ensures passed { let answers = G.answers gate.now in
         IfOk result (λ r. AreAllPassed answers script.now r.0.transcripts.items) }
     ensures error { IfErr result (CanEnd (G.answers gate.now) script.now world) }
 {
-    let start = match prepared(alloc, &mut world, script) {
+    let start = match prepared(alloc, &mut world, script, is_kept) {
         Ok(start) => start,
         Err(HostMemory) => return Err(RunError::HostMemory),
     };
@@ -134,10 +158,13 @@ fn run_from<O: Origin + Send + Sync, R: Threads + Wait + Sync, G: Gate, P: Pager
     requires room { HaveRoom script.now.processes start.handles start.transcripts }
     requires start { O.start ≡ world }
     requires running { IsRunning O.script world world start.strands.items 0 }
-    requires fresh { All (IsFresh O.script.lines) start.strands.items }
+    requires fresh { All (IsFresh (callers_of O.script.lines)) start.strands.items }
     requires rounds { start.rounds.items ≡ rounds_of script.now.lines }
     requires kept { IsKept O.cell O.stored keeper }
     requires gate { G.answers gate.now ≡ O.answers }
+    requires kept_as { O.is_kept ≡ start.is_kept }
+    requires entries { All (IsKeptAs O.is_kept) start.strands.items }
+    ensures entries { IfOk result (λ r. All (HasEntries O.is_kept) r.0.transcripts.items) }
     ensures outcome { IfOk result (λ r. IsOutcome script.now world r.0.world r.0.transcripts.items) }
     ensures kept { IfOk result (λ r. IsKept O.cell O.stored r.1) }
     ensures passed { IfOk result (λ r. AreAllPassed O.answers script.now r.0.transcripts.items) }
@@ -149,6 +176,7 @@ fn run_from<O: Origin + Send + Sync, R: Threads + Wait + Sync, G: Gate, P: Pager
         processes,
         handles,
         transcripts,
+        is_kept: _,
     } = start;
     let count = rounds.len();
     let shared: Shared<P, O> = Shared::new(world, strands, rounds, processes, keeper);
@@ -168,7 +196,8 @@ fn run_from<O: Origin + Send + Sync, R: Threads + Wait + Sync, G: Gate, P: Pager
 }
 
 // All memory that a run takes before its workers start, except the room in its world: a strand and a state for each
-// process, the pages of the flush rounds, and empty lists with room for each worker and each transcript.
+// process, the pages of the flush rounds, and empty lists with room for each worker and each transcript; and whether the
+// strands keep their entries.
 #[derive(Drop)]
 struct Start {
     strands: Vec<Strand>,
@@ -176,6 +205,7 @@ struct Start {
     processes: Vec<ProcessState>,
     handles: Vec<WorkerHandle>,
     transcripts: Vec<Transcript>,
+    is_kept: bool,
 }
 
 // The start of a run. There is room for an event of each line.
@@ -183,11 +213,14 @@ fn prepared<P: Pager>(
     alloc: Global,
     world: &mut World<P>,
     script: &Script,
+    is_kept: bool,
 ) -> Result<Start, HostMemory>
     requires { IsOpened script.now world.old }
     ensures room { IfOk result (λ s. HaveRoom script.now.processes s.handles s.transcripts) }
     ensures running { IfOk result (λ s. IsRunning script.now world.new world.new s.strands.items 0) }
-    ensures fresh { IfOk result (λ s. All (IsFresh script.now.lines) s.strands.items) }
+    ensures fresh { IfOk result (λ s. All (IsFresh (callers_of script.now.lines)) s.strands.items) }
+    ensures kept_as { IfOk result (λ s. s.is_kept ≡ is_kept) }
+    ensures kept { IfOk result (λ s. All (IsKeptAs is_kept) s.strands.items) }
     ensures rounds { IfOk result (λ s. s.rounds.items ≡ rounds_of script.now.lines) }
     ensures rest { IfOk result (λ _. world.new ≡ record world.old { room = world.new.room }) }
 {
@@ -196,7 +229,7 @@ fn prepared<P: Pager>(
         let _ = world.history();
         true
     });
-    let strands = strands(alloc, script)?;
+    let strands = strands(alloc, script, is_kept)?;
     let rounds = rounds(alloc, &script.lines)?;
     let processes = states(alloc, &script.processes)?;
     let handles = Vec::with_capacity(alloc, script.processes.len())?;
@@ -208,6 +241,7 @@ fn prepared<P: Pager>(
         processes,
         handles,
         transcripts,
+        is_kept,
     })
 }
 

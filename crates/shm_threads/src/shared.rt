@@ -11,8 +11,8 @@ ghost use Rattle.shm_threads.specs.Keepers.{IsKept, cell_of, stored_of, HasPubli
 ghost use Rattle.shm_threads.specs.Running.{IsFlush, IsFlushed, IsIdle, IsOver, IsProcessAt};
 ghost use Rattle.shm_threads.specs.Passed.{ArePassed};
 ghost use Rattle.shm_threads.specs.Running.{IsRunning, IsTurn, can_come, is_next};
-ghost use Rattle.shm_threads.specs.Strands.{IsFresh, can_go, transcript_of};
-ghost use Rattle.shm_threads.specs.Transcripts.{commands_of};
+ghost use Rattle.shm_threads.specs.Strands.{IsFresh, IsKeptAs, can_go, transcript_of};
+ghost use Rattle.shm_threads.specs.Transcripts.{callers_of, commands_of};
 
 use crate::births::{News, ProcessState, is_born, may_fork, note_birth, note_end};
 use crate::gate::Gate;
@@ -45,12 +45,13 @@ pub(crate) struct RunState<P: Pager, O: Origin> {
 }
 
 impl<P: Pager, O: Origin> Model for RunState<P, O> {
-    ghost use Rattle.std.specs.Prelude.{◌≡◌, IfSome};
+    ghost use Rattle.std.specs.Prelude.{◌≡◌, All, IfSome};
     ghost use Rattle.shm_threads.specs.Asked.{rounds_of};
     ghost use Rattle.shm_threads.specs.Ends.{IsEnded};
     ghost use Rattle.shm_threads.specs.Keepers.{IsKept};
     ghost use Rattle.shm_threads.specs.Passed.{ArePassed};
     ghost use Rattle.shm_threads.specs.Running.{IsRunning, RunView};
+    ghost use Rattle.shm_threads.specs.Strands.{IsKeptAs};
 
     ghost Value = { RunView };
 
@@ -67,7 +68,8 @@ impl<P: Pager, O: Origin> Model for RunState<P, O> {
     ghost invariant = { λ s. IsRunning O.script O.start s.world s.strands.items s.made
         × ((s.rounds.items ≡ rounds_of O.script.lines)
         × (IsKept O.cell O.stored s.keeper × (IfSome s.expired (IsEnded O.answers O.script)
-        × ArePassed O.answers s.strands.items s.made))) };
+        × (ArePassed O.answers s.strands.items s.made
+        × All (IsKeptAs O.is_kept) s.strands.items)))) };
 }
 
 // Whether a strand can continue: its process is live, and has a line left.
@@ -300,9 +302,10 @@ impl<P: Pager, O: Origin> Shared<P, O> {
         keeper: Option<Keeper>,
     ) -> Shared<P, O>
         requires running { IsRunning O.script O.start world strands.items 0 }
-        requires fresh { All (IsFresh O.script.lines) strands.items }
+        requires fresh { All (IsFresh (callers_of O.script.lines)) strands.items }
         requires rounds { rounds.items ≡ rounds_of O.script.lines }
         requires kept { IsKept O.cell O.stored keeper }
+        requires entries { All (IsKeptAs O.is_kept) strands.items }
     {
         Shared {
             state: Mutex::new(RunState {
@@ -395,6 +398,7 @@ impl<P: Pager, O: Origin> Shared<P, O> {
             × (IsOver O.script O.start l.world l.strands.items made None
             × ArePassed O.answers l.strands.items made)) }
         ensures kept { IfOk result (λ l. IsKept O.cell O.stored l.keeper) }
+        ensures entries { IfOk result (λ l. All (IsKeptAs O.is_kept) l.strands.items) }
         ensures joined { OnOk result (is_some refused ≡ false) }
         ensures refused { IfErr result (λ e. (e ≡ RunError.ThreadRefused) ↔ (is_some refused ≡ true)) }
         ensures error { IfErr result (CanStop O.answers O.script O.start) }

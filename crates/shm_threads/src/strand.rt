@@ -1,14 +1,15 @@
 //! Where a process of a run is in its lines.
-ghost use Rattle.std.specs.Prelude.{◌≡◌, ◌<◌, ◌≤◌, All, IfOk, length, map, vec_capacity};
-ghost use Rattle.shm_threads.specs.Strands.{IsFresh, IsMade, made_by, pid_of_strand};
-ghost use Rattle.shm_threads.specs.Transcripts.{pid_in};
+ghost use Rattle.std.specs.Prelude.{◌≡◌, ◌<◌, All, IfOk, length, map};
+ghost use Rattle.shm_threads.specs.Strands.{IsFresh, IsKeptAs, IsMade, made_by, pid_of_strand};
+ghost use Rattle.shm_threads.specs.Transcripts.{callers_of, pid_in};
 
-use crate::lines::count;
-use crate::transcript::{Answer, Entry};
+use crate::entry_list::EntryList;
+use crate::lines::{callers, count};
+use crate::transcript::Answer;
 use shm_base::{Call, HostMemory, Reply};
 use shm_history::World;
 use shm_pager::Pager;
-use shm_text::{Command, Line, Script, Vars};
+use shm_text::{Command, Script, Vars};
 use std::alloc::Global;
 
 /// A process of a run: how many lines it has, its variables now, and an entry for each call so far. So the
@@ -18,7 +19,7 @@ pub(crate) struct Strand {
     pub(crate) pid: u32,
     pub(crate) lines: usize,
     pub(crate) vars: Vars,
-    pub(crate) entries: Vec<Entry>,
+    pub(crate) entries: EntryList,
 }
 
 /// What a call did to the lives of processes.
@@ -31,25 +32,33 @@ pub(crate) enum Made {
     Nothing,
 }
 
-/// A strand for each process before its first line, with room for an entry of each.
-pub(crate) fn strands(alloc: Global, script: &Script) -> Result<Vec<Strand>, HostMemory>
+/// A strand for each process before its first line, with room for an entry of each, which it keeps or not.
+pub(crate) fn strands(
+    alloc: Global,
+    script: &Script,
+    is_kept: bool,
+) -> Result<Vec<Strand>, HostMemory>
     ensures pids { IfOk result (λ ss. map pid_of_strand ss.items ≡ map pid_in script.now.processes) }
-    ensures fresh { IfOk result (λ ss. All (IsFresh script.now.lines) ss.items) }
+    ensures fresh { IfOk result (λ ss. All (IsFresh (callers_of script.now.lines)) ss.items) }
+    ensures kept { IfOk result (λ ss. All (IsKeptAs is_kept) ss.items) }
 {
     let mut strands = Vec::with_capacity(alloc, script.processes.len())?;
+    let pids = callers(alloc, &script.lines)?;
+    let callers = pids.as_slice();
     for process in &script.processes {
-        let strand = strand_of(alloc, &script.lines, process.pid)?;
+        let strand = strand_of(alloc, callers, process.pid, is_kept)?;
         strands.push(strand)?;
     }
     Ok(strands)
 }
 
-fn strand_of(alloc: Global, lines: &[Line], pid: u32) -> Result<Strand, HostMemory>
+fn strand_of(alloc: Global, callers: &[u32], pid: u32, is_kept: bool) -> Result<Strand, HostMemory>
     ensures pid { IfOk result (λ s. s.pid ≡ pid) }
-    ensures fresh { IfOk result (IsFresh lines.now) }
+    ensures fresh { IfOk result (IsFresh callers.now) }
+    ensures kept { IfOk result (IsKeptAs is_kept) }
 {
-    let lines = count(lines, pid);
-    let entries = Vec::with_capacity(alloc, lines)?;
+    let lines = count(callers, pid);
+    let entries = EntryList::with_room(alloc, lines, is_kept)?;
     Ok(Strand {
         pid,
         lines,
@@ -58,10 +67,10 @@ fn strand_of(alloc: Global, lines: &[Line], pid: u32) -> Result<Strand, HostMemo
     })
 }
 
-fn made_of(entry: &Entry) -> Made
-    ensures { result ≡ made_by entry.now.call entry.now.answer }
+fn made_of(call: &Call, answer: &Answer) -> Made
+    ensures { result ≡ made_by call.now answer.now }
 {
-    match (&entry.call, &entry.answer) {
+    match (call, answer) {
         (Call::Fork { child }, Answer::Reply(Reply::Done)) => Made::Birth(*child),
         (Call::Exit, Answer::Reply(Reply::Done)) => Made::End,
         _ => Made::Nothing,
@@ -70,7 +79,7 @@ fn made_of(entry: &Entry) -> Made
 
 /// Makes the call of a strand's next line, which is this command, and notes it with its answer. There is room for it.
 pub(crate) fn make<P: Pager>(world: &mut World<P>, strand: &mut Strand, command: &Command) -> Made
-    requires noted { length strand.old.entries.items < vec_capacity strand.old.entries }
+    requires noted { length strand.old.entries.items < strand.old.entries.room }
     requires recorded { 0 < world.old.room }
     ensures { IsMade world.old strand.old command.now result world.new strand.new }
 {
@@ -80,8 +89,7 @@ pub(crate) fn make<P: Pager>(world: &mut World<P>, strand: &mut Strand, command:
         Err(HostMemory) => Answer::HostMemory,
     };
     strand.vars.took(command, answer.reply());
-    let entry = Entry { call, answer };
-    let made = made_of(&entry);
-    strand.entries.push_reserved(entry);
+    let made = made_of(&call, &answer);
+    strand.entries.push_reserved(call, answer);
     made
 }

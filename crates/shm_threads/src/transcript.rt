@@ -1,4 +1,5 @@
 //! The calls of a worker and their answers.
+use crate::entry_list::EntryList;
 use shm_base::{Call, Reply};
 
 /// The answer to a worker's call: the system's reply, or that the host refused memory. In that case the call
@@ -62,11 +63,11 @@ impl Entry {
     }
 }
 
-/// The calls of one process's worker, in order.
+/// The calls of one process's worker, in order. Not every run keeps them.
 #[derive(Debug)]
 pub struct Transcript {
     pub pid: u32,
-    pub entries: Vec<Entry>,
+    pub entries: EntryList,
 }
 
 impl Drop for Transcript {

@@ -270,7 +270,7 @@ fn calls_of(transcripts: &[Transcript]) -> [usize; 5] {
 fn marked_in(transcripts: &[Transcript]) -> usize {
     let mut marked = 0usize;
     for transcript in transcripts {
-        for entry in &transcript.entries {
+        for entry in transcript.entries.kept().unwrap_or(&[]) {
             if entry.answer.reply().is_none() {
                 marked = marked.saturating_add(1);
             }

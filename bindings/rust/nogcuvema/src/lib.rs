@@ -952,6 +952,25 @@ impl Machine {
         done(unsafe { raw::nog_dismiss(self.handle(), pid) })
     }
 
+    /// Reserves a range of a process's addresses for memory that is not the machine's: an attach takes none of it unless [`REMAP`]
+    /// is set. It stays until [`Machine::release`]. The process need not exist, and a child inherits no range. It is not counted as
+    /// a call.
+    ///
+    /// # Errors
+    /// [`Errno::OUT_OF_RANGE`] if the range is empty, is not whole pages, or is not within 0x10000 to 0x7ffffffff000; EEXIST if it
+    /// meets an attachment of the process or another of its ranges; [`Errno::NO_MEMORY`].
+    pub fn reserve(&mut self, pid: u32, addr: u64, len: u64) -> Answer<()> {
+        done(unsafe { raw::nog_reserve(self.handle(), pid, addr, len) })
+    }
+
+    /// Releases a reserved range, by the same address and length. It is not counted as a call.
+    ///
+    /// # Errors
+    /// [`Errno::OUT_OF_RANGE`] if the range reaches 2^64; ENOENT if exactly this range is not reserved.
+    pub fn release(&mut self, pid: u32, addr: u64, len: u64) -> Answer<()> {
+        done(unsafe { raw::nog_release(self.handle(), pid, addr, len) })
+    }
+
     /// setuid(2) and setgid(2): gives a process another effective user and group. Its attachments stay.
     ///
     /// # Errors

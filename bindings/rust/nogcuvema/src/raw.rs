@@ -157,6 +157,8 @@ extern "C" {
     pub fn nog_swapoff(machine: *mut Handle, pid: u32, area: u32) -> u32;
     pub fn nog_admit(machine: *mut Handle, process: *const Process) -> u32;
     pub fn nog_dismiss(machine: *mut Handle, pid: u32) -> u32;
+    pub fn nog_reserve(machine: *mut Handle, pid: u32, addr: u64, len: u64) -> u32;
+    pub fn nog_release(machine: *mut Handle, pid: u32, addr: u64, len: u64) -> u32;
     pub fn nog_set_user(machine: *mut Handle, pid: u32, uid: u32, gid: u32) -> u32;
     pub fn nog_set_time(machine: *mut Handle, time: u64) -> u32;
     pub fn nog_set_limits(machine: *mut Handle, shmmax: u64, shmmni: u64, shmall: u64, memlock: u64) -> u32;

@@ -1,6 +1,6 @@
 //! The wrapper passes calls on by the rules, and its structs are the library's.
 use nogcuvema::{raw, Area, Errno, Failure, Frame, Limits, Machine, Piece, Process, Segment, SegmentPages, ShownPage, State, Usage};
-use nogcuvema::{rules, CREAT, EXCL, EXEC, HUGETLB, LOCKED, NORESERVE, PAGE_BYTES, PRIVATE, RDONLY};
+use nogcuvema::{rules, CREAT, EXCL, EXEC, HUGETLB, LOCKED, NORESERVE, PAGE_BYTES, PRIVATE, RDONLY, REMAP};
 use std::mem::size_of;
 
 fn machine() -> Machine {
@@ -217,6 +217,28 @@ fn processes_come_and_go() {
 }
 
 const PAGE: u64 = 4096;
+
+#[test]
+fn a_range_is_reserved() {
+    let mut machine = machine();
+    let first = 0x4000_0000;
+    let id = machine.get(1, PRIVATE, 2 * PAGE, 0o600, 0).unwrap();
+    assert_eq!(machine.reserve(1, first + PAGE, PAGE), Ok(()));
+    assert_eq!(machine.attach(1, id, 0, 0), Ok(first + 2 * PAGE));
+    assert_eq!(machine.attach(1, id, first + PAGE, 0), Err(Errno::EINVAL));
+    assert_eq!(machine.attach(1, id, first, REMAP), Ok(first));
+    assert_eq!(machine.reserve(1, first + PAGE, PAGE), Err(Errno::EEXIST));
+    assert_eq!(machine.reserve(1, first + 3 * PAGE, PAGE), Err(Errno::EEXIST));
+    assert_eq!(machine.reserve(9, first + PAGE, PAGE), Ok(()));
+    for (addr, len) in [(first, 0), (first + 1, PAGE), (0, PAGE), (first, 0u64.wrapping_sub(PAGE))] {
+        assert_eq!(machine.reserve(1, addr, len), Err(Errno::OUT_OF_RANGE));
+    }
+    assert_eq!(machine.release(1, first + PAGE, 2 * PAGE), Err(Errno::ENOENT));
+    assert_eq!(machine.release(1, first + PAGE, PAGE), Ok(()));
+    assert_eq!(machine.release(1, first + PAGE, PAGE), Err(Errno::ENOENT));
+    assert_eq!(machine.detach(1, first), Ok(()));
+    assert_eq!(machine.attach(1, id, 0, 0), Ok(first));
+}
 
 /// A machine in which process 1 has eight pages of a segment attached.
 fn attached() -> (Machine, i32, u64) {

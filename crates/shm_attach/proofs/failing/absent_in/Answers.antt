@@ -2,6 +2,7 @@ use Rattle.shm_attach.proofs.Names.{◌≡◌, ◌∙◌, ◌+◌, ◌-◌, ◌/
 use Rattle.std.specs.Prelude.{is_some}
 use Rattle.shm_base.specs.Access.{place_by}
 use Rattle.shm_attach.proofs.Absent.{absent-none, absent-here, absent-served, same_page, own-frame}
+use Rattle.shm_attach.proofs.HavingTables.{key-held, table-of}
 use Rattle.shm_attach.proofs.failing.absent_in.Goals as goal
 
 pub loop-left-init : goal.loop-left-init
@@ -39,3 +40,8 @@ loop-left-preserved c = λ frame all.
     (λ b from to. c.in-Some.ensures.whole b (omega (arith, within.from, from)) (omega (arith, within.from, within.to, within.fit.aligned, whole, to)))
     (λ b from to. same_page (bare p) at b served within.fit.aligned within.from (omega (arith, whole)) from to))
     ∙ rw split at c.loop-left.invariant frame all
+
+pub frame-requires : goal.frame-requires
+frame-requires c =
+    let t = c.args.tables.now.slab in
+    key-held t c.in-Some.piece (table-of t c.args.space.now.pieces c.in-Some.piece c.requires c.in-Some.ensures.among)

@@ -1,4 +1,4 @@
-use Rattle.shm_attach.proofs.Names.{Arranged, lowest_address, true≢false, most_at, ◌≡◌, ◌∙◌, ◌<◌, ◌+◌, length-map, option_to_list, ℕ, Option, bare_all, true, false, List, length, Some, get_or, ap, sym, subst, arith, common_steps, All, get, covering, cut, bare, runners_view, pieces_at, stored_at, size_in, HasTable}
+use Rattle.shm_attach.proofs.Names.{Arranged, lowest_address, true≢false, most_at, ◌≡◌, ◌∙◌, ◌<◌, ◌+◌, length-map, option_to_list, ℕ, Option, bare_all, true, false, List, length, Some, ap, sym, subst, arith, common_steps, All, get, covering, cut, bare, runners_view, pieces_at, stored_at, size_in, HasTable}
 use Rattle.shm_base.specs.State.{Piece}
 use Rattle.shm_base.specs.Access.{end_of}
 use Rattle.shm_base.specs.Space.{inserted}
@@ -6,7 +6,7 @@ use Rattle.shm_base.specs.Mapping.{has_protection, low_end, high_end, part_betwe
 use Rattle.shm_areas.specs.declared.piece.Piece.{Piece as Stored}
 use Rattle.shm_attach.specs.Mapping.{AreNow, KeepsOwn, noted, split_in}
 use Rattle.shm_attach.proofs.Growing.{never-fewer, length-turned, grows}
-use Rattle.shm_attach.proofs.HavingTables.{pieces_at-bare, has_table, tables-passes, tables-passed}
+use Rattle.shm_attach.proofs.HavingTables.{pieces_at-bare, table-of}
 use Rattle.shm_attach.proofs.Protecting.{replaced_by, IsTurnable, protects-refused, protects-turned, IsLow, IsHigh, now-same, pieces-now, low_is, high_is, sized_by, stretch_of, part_replaces}
 use Rattle.shm_attach.proofs.Renewed.{own-same, turned-cut, turned-named, turned-has}
 use Rattle.shm_attach.proofs.mapping.protect_piece.Goals.{Start, After-high_end-high, else-writable-via-then-writable+else-not-piece, else-writable-via-else-writable}
@@ -51,7 +51,7 @@ table c =
     let t = c.args.tables.now.slab in
     let ps = c.space_at-space.result.now.pieces in
     let own : All (HasTable t) ps = rw c.space_at-space.ensures.stored (c.requires.process.sound.tables c.args.index) in
-    tables-passed t c.in-Some.piece (c.in-Some.ensures.among (has_table t) (λ k d lt. tables-passes t (get_or ps k d) (own k d lt)))
+    table-of t ps c.in-Some.piece own c.in-Some.ensures.among
 
 low : (c : After-high_end-high) → IsLow (bare c.in-Some.piece) c.args.at c.low_end-low.result
 low c =

@@ -1,7 +1,7 @@
-use Rattle.shm_attach.proofs.Names.{◌≡◌, ℕ, ◌+◌, ◌-◌, ◌/◌, ◌<◌, ◌∙◌, true, get_or, refl, sym, arith, common_steps, true≢false, bare, bare_all, IsCovering, get, size_in, HasTable}
+use Rattle.shm_attach.proofs.Names.{◌≡◌, ℕ, ◌+◌, ◌-◌, ◌/◌, ◌<◌, ◌∙◌, true, refl, sym, arith, common_steps, true≢false, bare, bare_all, IsCovering, get, size_in, HasTable}
 use Rattle.shm_base.specs.State.{Piece}
 use Rattle.shm_attach.proofs.Accesses.{wanted_in-run, wanted_in-none, wanted_in-readonly, covering-passes, in_page}
-use Rattle.shm_attach.proofs.HavingTables.{has_table, tables-passes, tables-passed, frame-true}
+use Rattle.shm_attach.proofs.HavingTables.{frame-true, key-held, table-of}
 use Rattle.shm_attach.proofs.spans.span_in.Goals as goal
 use Rattle.shm_attach.proofs.spans.span_in.Goals.{else-write-via-then-write+else-not-piece, else-write-via-else-write}
 
@@ -41,7 +41,12 @@ returns-clause-some c =
           (covering-passes (λ (x : Piece). (j : ℕ) → j < x.pages → test x.seg (x.first_page + j) ≡ true) c.args.addr (bare_all ps) p all
           (sym c.in_ok-piece.ensures.value) ((c.args.addr - p.base) / 4096) inside);
       frames = λ at all.
-          let own : HasTable t q = tables-passed t q (c.in_ok-piece.ensures.among (has_table t) (λ k d lt. tables-passes t (get_or ps k d) (c.requires.tables k d lt))) in
+          let own : HasTable t q = table-of t ps q c.requires.tables c.in_ok-piece.ensures.among in
           let inside : page < size_in (get t q.key) = omega (arith, within.from, within.to, own.pages) in
           c.frame.ensures ∙ frame-true at (get t q.key) q.seg page own.seg (all q.key) inside;
     }
+
+pub frame-requires : goal.frame-requires
+frame-requires c =
+    let t = c.args.tables.now.slab in
+    key-held t c.in_ok-piece.piece (table-of t c.args.space.now.pieces c.in_ok-piece.piece c.requires.tables c.in_ok-piece.ensures.among)

@@ -5,8 +5,8 @@ use Rattle.shm_runner.proofs.Opened.{known-run, opens, sound-world, starts}
 use Rattle.shm_runner.proofs.Texts.{threaded_text, marked_text}
 use Rattle.shm_runner.proofs.threaded.run_in.Goals as goal
 
-pub run_threads-requires : goal.run_threads-requires
-run_threads-requires g c = (search rules, (search rules, (search rules, opens c.args.script.now c.args.world c.requires.opened c.requires.events)))
+pub run_threads_unkept-requires : goal.run_threads_unkept-requires
+run_threads_unkept-requires g c = (search rules, (search rules, (search rules, opens c.args.script.now c.args.world c.requires.opened c.requires.events)))
 
 pub returns-in-Ok-clause-ok : goal.returns-in-Ok-clause-ok
 returns-in-Ok-clause-ok g c =

@@ -3,6 +3,7 @@ use Rattle.shm_history.specs.WorldState.{WorldState}
 use Rattle.shm_text.specs.Script.{ScriptView}
 use Rattle.shm_threads.specs.Running.{IsOver}
 use Rattle.shm_threads.specs.Asked.{rounds_of}
+use Rattle.shm_threads.proofs.Kept.{kept-all}
 use Rattle.shm_threads.proofs.Over.{outcome-of}
 use Rattle.shm_threads.proofs.Passing.{passed-all}
 use Rattle.shm_threads.proofs.Turns.{as-long}
@@ -24,6 +25,9 @@ returns-clause-outcome g c =
     let Ends : ScriptView → WorldState → Type 0 = λ s start. IsOver s start left.world left.strands.items made None in
     let here : Ends script w = subst (λ (s : ScriptView). Ends s w) c.requires.script (subst (Ends g.O.Origin.script) c.requires.start over) in
     outcome-of script w left.world w.room left.strands.items made c.transcripts_of-transcripts.result.items here c.history.ensures.legal c.transcripts_of-transcripts.ensures
+
+pub returns-clause-entries : goal.returns-clause-entries
+returns-clause-entries g c = kept-all g.O.Origin.is_kept c.in_ok-world.field-0.strands.items c.transcripts_of-transcripts.result.items c.transcripts_of-transcripts.ensures c.in_ok-world.ensures.entries
 
 pub returns-clause-passed : goal.returns-clause-passed
 returns-clause-passed g c =

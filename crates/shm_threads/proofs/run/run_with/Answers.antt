@@ -1,6 +1,10 @@
+use Rattle.std.specs.Prelude.{Bool, All, IfOk}
+use Rattle.std.proofs.Common.{subst, sym}
 use Rattle.std.proofs.lemmas.Result.{IfErr-weaker, IfOk-weaker}
 use Rattle.shm_threads.specs.Ends.{CanEnd, CanStop}
 use Rattle.shm_threads.specs.Outcomes.{IsOutcome}
+use Rattle.shm_threads.specs.Strands.{IsKeptAs}
+use Rattle.shm_threads.specs.Transcripts.{HasEntries}
 use Rattle.shm_threads.proofs.Least.{stop-end}
 use Rattle.shm_threads.proofs.Over.{outcome-passed}
 use Rattle.shm_threads.proofs.run.run_with.Goals as goal
@@ -20,3 +24,9 @@ returns-clause-error g c =
     let old = c.args.world in
     let new = c.prepared.new.world in
     IfErr-weaker c.run_from.result (CanStop answers script new) (CanEnd answers script old) (λ e. stop-end answers script old new e c.in-Ok.ensures.rest) c.run_from.ensures.error
+
+pub run_from-requires-clause-entries : goal.run_from-requires-clause-entries
+run_from-requires-clause-entries g c κs within = subst (λ (b : Bool). All (IsKeptAs b) c.in-Ok.start.strands.items) (sym c.in-Ok.ensures.kept_as) c.in-Ok.ensures.kept
+
+pub returns-clause-entries : goal.returns-clause-entries
+returns-clause-entries g c = subst (λ (b : Bool). IfOk c.run_from.result (λ r. All (HasEntries b) r.0.transcripts.items)) c.in-Ok.ensures.kept_as c.run_from.ensures.entries

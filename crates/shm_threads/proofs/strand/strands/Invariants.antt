@@ -1,5 +1,5 @@
 use Rattle.std.proofs.Common.{◌≡◌, All, map, take}
-use Rattle.shm_threads.specs.Strands.{IsFresh, pid_of_strand}
+use Rattle.shm_threads.specs.Strands.{IsFresh, IsKeptAs, pid_of_strand}
 use Rattle.shm_threads.specs.Transcripts.{pid_in}
 use Rattle.shm_threads.proofs.strand.strands.Given as goal
 
@@ -7,5 +7,6 @@ use Rattle.shm_threads.proofs.strand.strands.Given as goal
 abbrev pub invariant-loop-process : goal.invariant-loop-process
 invariant-loop-process l = record {
   pids : map pid_of_strand l.strands.items ≡ map pid_in (take l.process-index l.script.processes);
-  fresh : All (IsFresh l.script.lines) l.strands.items;
+  fresh : All (IsFresh l.callers) l.strands.items;
+  kept : All (IsKeptAs l.is_kept) l.strands.items;
 }

@@ -5,7 +5,9 @@ use Rattle.shm_fault.proofs.Spans.{span-read}
 use Rattle.shm_fault.proofs.store.PageStore.copy_out.Goals as goal
 
 pub bytes-bytes-requires : goal.bytes-bytes-requires
-bytes-bytes-requires g c = (frame-own (seen c.self.inside) c.self.invariant.0 (ref_of c.args.span.now) c.args.frame (rw (← c.self.view_is) at c.requires.here)).0
+bytes-bytes-requires g c =
+    let own = frame-own (seen c.self.inside) c.self.invariant.0 (ref_of c.args.span.now) c.args.frame (rw (← c.self.view_is) at c.requires.here) in
+    record { there = own.0; owned = rw own.1 refl }
 
 pub returns : goal.returns
 returns g c =

@@ -12,6 +12,7 @@ invariant_of-self g c = (
       written-well c.access-done.result _ _ _ _ _ _ _ _ _ _ _ c.access-done.new.touched c.self.invariant.0 (noted (put_by c.args.act (loaded t places)) places t)
       e.written e.same e.keeps.frames e.access c.note.ensures.runners (rw c.as_slice.ensures.value at c.note.ensures.translated)),
   c.note.ensures.most ∙ c.self.invariant.1,
+  c.self.invariant.2,
 )
 
 pub returns : goal.returns
@@ -20,4 +21,4 @@ returns g c =
     let r = c.access-done.result in
     rw (← c.self.view_is, c.or.ensures)
     (did c.args.act c.args.spans.now _ _ _ _ c.requires.spans.sum r e.there e.kept
-    (told r _ _ _ _ _ _ _ _ c.args.spans.now c.access-done.new.touched c.requires.spans.few (λ k d lt. (c.requires.spans.fit k d lt).0) c.note.ensures.runners e))
+    (told r _ _ _ _ _ _ _ _ _ c.args.spans.now c.access-done.new.touched c.requires.spans.few (λ k d lt. (c.requires.spans.fit k d lt).0) c.note.ensures.runners e))

@@ -21,6 +21,7 @@ invariant_of-self-2 g c = (
         translated = true_still c.self.inside.spaces.translations c.self.inside.segments.memory c.create.new.self.memory still c.self.invariant.0.translated;
       }),
   c.self.invariant.1,
+  c.self.invariant.2,
 )
 
 pub returns-in_err-create-clause-memory : goal.returns-in_err-create-clause-memory

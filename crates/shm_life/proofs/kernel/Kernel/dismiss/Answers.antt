@@ -21,4 +21,5 @@ invariant_of-self g c =
         translated = subst (λ (ts : List Translation). AreTrue ts c.self.inside.segments.memory) (sym (ap (λ (v : SpacesView). v.translations) e.rest)) w.translated;
       },
       ap (λ (v : SpacesView). v.most) e.rest ∙ c.self.invariant.1,
+      c.self.invariant.2,
     )

@@ -23,4 +23,5 @@ pub invariant_of-self : goal.invariant_of-self
 invariant_of-self g c = (
   (c.after_detach.ensures.well _ (left g (goal.at.invariant_of-self g c).After-lost).1),
   c.exit.ensures.most ∙ c.self.invariant.1,
+  c.self.invariant.2,
 )

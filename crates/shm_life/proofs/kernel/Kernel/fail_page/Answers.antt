@@ -5,4 +5,5 @@ pub invariant_of-self : goal.invariant_of-self
 invariant_of-self g c = (
   enlarged_well c.self.inside.limits c.self.inside.segments.table c.fail_page.new.self.table c.self.inside.spaces.runners c.self.inside.spaces.translations c.self.inside.segments.memory c.fail_page.new.self.memory _ c.fail_page.ensures.memory c.fail_page.ensures.table c.self.invariant.0,
   c.self.invariant.1,
+  c.self.invariant.2,
 )

@@ -48,6 +48,7 @@ invariant_of-self g c = (
         translated = translated;
       }) same refl translated)),
   c.fork.ensures.most ∙ c.self.invariant.1,
+  c.self.invariant.2,
 )
 
 pub returns : goal.returns

@@ -15,13 +15,13 @@ set_lent-requires g c =
     record { here = resident-still c.args.page c.args.self.now.memory c.self.inside.segments.memory (rw (← c.self.view_is) at c.put_bytes.ensures.rest) here }
 
 pub invariant_of-self : goal.invariant_of-self
-invariant_of-self g c = let e = c.set_lent.ensures in (loan-well _ _ _ _ _ _ _ c.self.invariant.0 e.table e.set.rest e.set.count, c.self.invariant.1)
+invariant_of-self g c = let e = c.set_lent.ensures in (loan-well _ _ _ _ _ _ _ c.self.invariant.0 e.table e.set.rest e.set.count, c.self.invariant.1, c.self.invariant.2)
 
 pub returns : goal.returns
 returns g c =
     let none : return_refusal c.args.self.now c.args.page ≡ None = sym c.return_refusal.ensures ∙ c.in_default.is in
     let e = c.set_lent.ensures in
     record {
-      ok = (none, returned c.args.page _ c.args.self.now _ _ _ _ _ _ (rw (← c.self.view_is) at c.put_bytes.ensures) e.set e.keeps e.table);
+      ok = (none, returned c.args.page _ c.args.self.now _ _ _ _ _ _ _ (rw (← c.self.view_is) at c.put_bytes.ensures) e.set e.keeps e.table);
       err = tt;
     }

@@ -15,7 +15,7 @@ returns-then-is_err g c =
     }
 
 pub invariant_of-self : goal.invariant_of-self
-invariant_of-self g c = (loan-well _ _ _ _ _ _ _ c.self.invariant.0 c.set_lent.ensures.table c.set_lent.ensures.set.rest c.set_lent.ensures.set.count, c.self.invariant.1)
+invariant_of-self g c = (loan-well _ _ _ _ _ _ _ c.self.invariant.0 c.set_lent.ensures.table c.set_lent.ensures.set.rest c.set_lent.ensures.set.count, c.self.invariant.1, c.self.invariant.2)
 
 pub returns : goal.returns
 returns g c =
@@ -25,7 +25,7 @@ returns g c =
     let bytes = ok_fact c.fetch.result _ fine c.fetch.ensures.bytes in
     let e = c.set_lent.ensures in
     record {
-      ok = (none, lent-view c.args.page c.args.self.now _ _ _ _ _ _ _ (lendable c.args.self.now c.args.page none).1 (rw (← c.self.view_is) at came) bytes e.set e.keeps e.table);
+      ok = (none, lent-view c.args.page c.args.self.now _ _ _ _ _ _ _ _ (lendable c.args.self.now c.args.page none).1 (rw (← c.self.view_is) at came) bytes e.set e.keeps e.table);
       err = tt;
       kept = tt;
     }

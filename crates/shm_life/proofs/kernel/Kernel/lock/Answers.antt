@@ -34,6 +34,7 @@ invariant_of-self g c = (
   (let few = few g (goal.at.invariant_of-self g c).In_default in
       rw c.set_locked.ensures.table (relocked-well _ _ _ _ _ _ c.in_ok-found.found.seg (Some c.args.caller.now.cred.uid) c.self.invariant.0 few (ap (λ (m : StoreView). length m.frames) c.set_locked.ensures.only) c.set_locked.ensures.still)),
   c.self.invariant.1,
+  c.self.invariant.2,
 )
 
 pub returns : goal.returns

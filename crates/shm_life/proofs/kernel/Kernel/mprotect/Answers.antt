@@ -37,12 +37,13 @@ invariant_of-self g c = (
         translated = translated;
       }) same refl translated)),
   c.protect-protected.ensures.most ∙ c.self.invariant.1,
+  c.self.invariant.2,
 )
 
 pub returns : goal.returns
 returns g c =
     let rs = c.self.inside.spaces.runners in
-    let m : Machine = record { limits = c.self.inside.limits; areas = sizes c.self.inside.segments.memory.swap; table = c.self.inside.segments.table; runners = rs } in
+    let m : Machine = record { limits = c.self.inside.limits; areas = sizes c.self.inside.segments.memory.swap; table = c.self.inside.segments.table; runners = rs; host_ranges = c.self.inside.host_ranges.items } in
     let e = c.protect-protected.ensures in
     let step = mprotect-as m c.args.time (caller_seen c.args.caller.now rs) _ c.args.writable c.args.addr c.args.len c.protect-protected.result c.self.invariant.1 e.refusal in
     unmoved _ _ _ _ _ (rw (← c.self.view_is) (step ∙ rw (c.attach_rests.ensures, c.rules.ensures.value, c.lost.ensures.value, e.lost, e.runners) refl))

@@ -44,6 +44,7 @@ invariant_of-self-2 g c = (
       let translated = c.unmap.ensures.translated m c.self.invariant.0.translated in
       c.after_detach.ensures.well c.self.inside.limits (rw same (well-gone _ _ _ _ _ _ _ _ c.self.invariant.0 (goes g (goal.at.invariant_of-self-2 g c).After-lost) translated))),
   c.unmap.ensures.most ∙ c.self.invariant.1,
+  c.self.invariant.2,
 )
 
 pub returns : goal.returns

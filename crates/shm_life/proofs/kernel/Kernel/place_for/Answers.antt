@@ -1,13 +1,26 @@
 use Rattle.shm_life.proofs.Names.{rules, ◌≡◌, ◌<◌, ◌≤◌, ◌∙◌, true, false, length, sym, ap, to_z, of_z, w32, arith, look, grants, at_wish, caller_seen, look_of, is_misplaced, base_for, segment_seen, Placed, pieces_beside, placed_at, placed}
-use Rattle.shm_life.proofs.Attaching.{placed-found, if_few-under, if_few-over}
+use Rattle.shm_life.proofs.Changed.{pages-seen}
+use Rattle.shm_life.proofs.Attaching.{chosen-for, placed-found, if_few-under, if_few-over}
 use Rattle.std.specs.Prelude.{IfOk}
+use Rattle.shm_life.specs.MachineView.{MachineView}
+use Rattle.shm_areas.specs.Arranged.{bare_all}
+use Rattle.shm_base.specs.Space.{choose_beside, ranges_of}
 use Rattle.shm_attach.specs.Place.{IsRange}
 use Rattle.shm_life.proofs.kernel.Kernel.place_for.Given.{Over}
 use Rattle.shm_life.proofs.kernel.Kernel.place_for.Goals as goal
 use Rattle.shm_life.proofs.kernel.Kernel.place_for.Goals.{After-branch-base, then-addr-eq0, else-addr-eq0}
 
 wish : (g : Over) (c : After-branch-base g) → c.if-addr-eq0.wish ≡ base_for c.args.self.now.flat (caller_seen c.args.caller.now c.args.self.now.flat.runners) (segment_seen c.args.self.now.flat.table c.in_ok-found.found) c.args.flags c.args.addr
-wish g c = elim c.if-addr-eq0.branch [ then-addr-eq0 w ↦ search rules | else-addr-eq0 w ↦ search rules ]
+wish g c = elim c.if-addr-eq0.branch [
+  | then-addr-eq0 w ↦
+      let ranges : w.deref.result.now ≡ c.args.self.now.flat.host_ranges = w.deref.ensures.value ∙ ap (λ (v : MachineView). v.flat.host_ranges) c.self.view_is in
+      let m = c.args.self.now.flat in
+      let k = caller_seen c.args.caller.now m.runners in
+      let x = segment_seen m.table c.in_ok-found.found in
+      chosen-for m k x c.args.flags c.args.addr c.pages-pages.result (bare_all c.space-space.result.now.pieces) w.choose_beside.result c.if-addr-eq0.wish
+      w.if-addr-eq0.true (c.pages-pages.ensures.value ∙ sym (pages-seen m.table c.in_ok-found.found c.in_ok-found.ensures.found)) (rw (← c.self.view_is) c.space-space.ensures.pieces) (w.choose_beside.ensures.value ∙ ap (λ hs. choose_beside (bare_all c.space-space.result.now.pieces) (ranges_of k.pid hs) c.pages-pages.result) ranges) (w.wish-is ∙ w.ok_or-wish.ensures.value)
+  | else-addr-eq0 w ↦ search rules
+]
 
 ranged : (g : Over) (c : After-branch-base g) → IfOk c.if-addr-eq0.wish (IsRange c.pages-pages.result)
 ranged g c = elim c.if-addr-eq0.branch [ then-addr-eq0 w ↦ search rules | else-addr-eq0 w ↦ search rules ]

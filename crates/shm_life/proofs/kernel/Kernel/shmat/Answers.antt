@@ -56,6 +56,7 @@ invariant_of-self-2 g c = (
       let same : c.attached.new.self.memory ≡ m = ap (λ (v : SegmentsView). v.memory) c.attached.ensures ∙ ap (λ (v : SegmentsView). v.memory) c.attach_rests.ensures in
       c.after_detach.ensures.well c.self.inside.limits (rw same (well-gone _ _ _ _ _ _ _ _ c.self.invariant.0 (goes g (goal.at.invariant_of-self-2 g c).After-lost) translated))),
   c.attach.ensures.most ∙ c.self.invariant.1,
+  c.self.invariant.2,
 )
 
 -- what the flat machine does

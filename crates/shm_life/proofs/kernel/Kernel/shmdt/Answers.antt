@@ -30,11 +30,12 @@ invariant_of-self-2 g c = (
   (let translated = c.detach.ensures.translated c.self.inside.segments.memory c.self.invariant.0.translated in
       c.after_detach.ensures.well c.self.inside.limits (well-gone _ _ _ _ _ _ _ _ c.self.invariant.0 (goes g (goal.at.invariant_of-self-2 g c).In-Some) translated)),
   c.detach.ensures.most ∙ c.self.invariant.1,
+  c.self.invariant.2,
 )
 
 pub returns : goal.returns
 returns g c =
     let rs = c.self.inside.spaces.runners in
-    let m : Machine = record { limits = c.self.inside.limits; areas = sizes c.self.inside.segments.memory.swap; table = c.self.inside.segments.table; runners = rs } in
+    let m : Machine = record { limits = c.self.inside.limits; areas = sizes c.self.inside.segments.memory.swap; table = c.self.inside.segments.table; runners = rs; host_ranges = c.self.inside.host_ranges.items } in
     let step = shmdt-named m c.args.time (caller_seen c.args.caller.now rs) c.args.addr c.in-Some.seg (named g (goal.at.returns g c).In-Some) in
     granted _ _ _ _ _ _ (rw (← c.self.view_is) (step ∙ rw (c.after_detach.ensures.sizes, c.after_detach.ensures.table, c.in-Some.ensures.gone) refl)) refl (search (rules, kept_refl)) (rw (← c.self.view_is) c.after_detach.ensures.ends.moves)

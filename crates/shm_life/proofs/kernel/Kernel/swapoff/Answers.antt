@@ -16,7 +16,7 @@ there g c =
 pub returns-then-capacity-reserved : goal.returns-then-capacity-reserved
 returns-then-capacity-reserved g c = λ n.
     let rs = c.self.inside.spaces.runners in
-    let m : Machine = record { limits = c.self.inside.limits; areas = sizes c.self.inside.segments.memory.swap; table = c.self.inside.segments.table; runners = rs } in
+    let m : Machine = record { limits = c.self.inside.limits; areas = sizes c.self.inside.segments.memory.swap; table = c.self.inside.segments.table; runners = rs; host_ranges = c.self.inside.host_ranges.items } in
     let at = there g (goal.at.returns-then-capacity-reserved g c).After-from in
     refused_as _ _ _ _ _ (rw (← c.self.view_is) (off-few m (caller_seen c.args.caller.now rs) c.args.area c.in-Some.size c.if-caller-ne0.false at.0 (omega (arith, c.if-capacity-reserved.true, c.from.ensures, c.reserved.ensures, at.1))))
 
@@ -25,7 +25,7 @@ done : (g : Over) (c : After-is_err g) → IsThere (sizes c.self.inside.segments
     → swapoff c.args.self.now.flat (caller_seen c.args.caller.now c.args.self.now.flat.runners) c.args.area ≡ gives (record c.args.self.now.flat { areas = slice_set c.args.self.now.flat.areas c.args.area None }) Done
 done g c at =
     let rs = c.self.inside.spaces.runners in
-    let m : Machine = record { limits = c.self.inside.limits; areas = sizes c.self.inside.segments.memory.swap; table = c.self.inside.segments.table; runners = rs } in
+    let m : Machine = record { limits = c.self.inside.limits; areas = sizes c.self.inside.segments.memory.swap; table = c.self.inside.segments.table; runners = rs; host_ranges = c.self.inside.host_ranges.items } in
     rw (← c.self.view_is) (off-done m (caller_seen c.args.caller.now rs) c.args.area c.in-Some.size c.if-caller-ne0.false at.0 (omega (arith, c.if-capacity-reserved.false, c.from.ensures, c.reserved.ensures, at.1)))
 
 pub returns-then-is_err : goal.returns-then-is_err

@@ -11,6 +11,7 @@ invariant_of-self g c = (
       let few = unlock-few t c.in_ok-found.found (lockable c.self.inside.limits) found c.self.invariant.0.kept.locked in
       rw c.set_locked.ensures.table (relocked-well _ _ _ _ _ _ c.in_ok-found.found.seg None c.self.invariant.0 few (ap (λ (m : StoreView). length m.frames) c.set_locked.ensures.only) c.set_locked.ensures.still)),
   c.self.invariant.1,
+  c.self.invariant.2,
 )
 
 pub returns : goal.returns

@@ -1,4 +1,7 @@
-use Rattle.std.proofs.Common.{length, refl, ◌∙◌, arith}
+use Rattle.std.proofs.Common.{length, refl, true, ◌≡◌, ◌∙◌, arith}
+use Rattle.std.proofs.lemmas.List.Elements.{All-nil}
+use Rattle.shm_base.specs.Guest.{is_range}
+use Rattle.shm_base.specs.declared.guest.HostRange.{HostRange}
 use Rattle.shm_life.proofs.Opens.{is_open, sizes-new, owners-new, fresh-kept}
 use Rattle.shm_life.proofs.system.System.open.Goals as goal
 
@@ -24,6 +27,7 @@ invariant_of-kernel g c = (
     translated = rw c.in_ok-new-3.ensures.translations (λ k d lt. absurd (omega (arith, lt)));
   },
   c.in_ok-new-3.ensures.most ∙ c.most_pieces.ensures.value,
+  rw c.new-4.ensures.items (All-nil (λ (r : HostRange). is_range r ≡ true)),
 )
 
 pub returns : goal.returns
@@ -33,7 +37,7 @@ returns g c = record {
   clock = refl;
   changes = refl;
   machine =
-      rw (c.in_ok-new-2.ensures.memory, c.in_ok-new-2.ensures.table, c.in_ok-new.ensures, sizes-new g.P.Pager.content g.P.Pager.failed g.P.Pager.most g.P.Pager.calls c.args.pagers.items, c.in_ok-new-3.ensures.runners, c.in_ok-from_slice.ensures.items, c.in_ok-sizes_of.ensures, c.deref.ensures.value) refl;
+      rw (c.in_ok-new-2.ensures.memory, c.in_ok-new-2.ensures.table, c.in_ok-new.ensures, sizes-new g.P.Pager.content g.P.Pager.failed g.P.Pager.most g.P.Pager.calls c.args.pagers.items, c.in_ok-new-3.ensures.runners, c.new-4.ensures.items, c.in_ok-from_slice.ensures.items, c.in_ok-sizes_of.ensures, c.deref.ensures.value) refl;
   memory = rw (← c.in_ok-new.ensures) c.in_ok-new-2.ensures.memory;
 }
 

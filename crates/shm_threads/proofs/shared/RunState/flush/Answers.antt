@@ -19,5 +19,5 @@ invariant_of-self g c =
     let next : slice_get old.rounds.items old.made ≡ Some pages = here ∙ ap (λ (p : ℕ). Some p) value in (
       running-flush g.O.Origin.script g.O.Origin.start old.world c.flush-report.new.self old.strands.items old.made pages c.flush-report.result c.self.invariant.0
           (ap (λ ps. slice_get ps old.made) (sym rest.0) ∙ next) (record { flushed = c.flush-report.ensures.flushed; keeps = c.flush-report.ensures.keeps; rest = c.flush-report.ensures.rest }),
-      (rest.0, (kept-trans g.O.Origin.cell g.O.Origin.stored old.keeper c.publish.new.keeper rest.1.0 c.publish.ensures.kept, (rest.1.1.0, passed-flush g.O.Origin.answers old.strands.items old.made c.args.n (search rules) c.requires rest.1.1.1))),
+      (rest.0, (kept-trans g.O.Origin.cell g.O.Origin.stored old.keeper c.publish.new.keeper rest.1.0 c.publish.ensures.kept, (rest.1.1.0, (passed-flush g.O.Origin.answers old.strands.items old.made c.args.n (search rules) c.requires rest.1.1.1.0, rest.1.1.1.1)))),
     )

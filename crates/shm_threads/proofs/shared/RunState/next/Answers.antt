@@ -1,4 +1,4 @@
-use Rattle.std.proofs.Common.{◌≡◌, ◌∙◌, arith, length, subst, sym}
+use Rattle.std.proofs.Common.{◌≡◌, ◌∙◌, subst, sym}
 use Rattle.std.proofs.Math.ListN.{get_or}
 use Rattle.std.proofs.lemmas.Bool.{and_parts}
 use Rattle.std.proofs.lemmas.List.Quantifiers.{position-Some}
@@ -29,5 +29,4 @@ returns-clause-line g c =
     let here : s ≡ get_or state.strands k s = subst (λ (v : RunView). s ≡ get_or v.strands k s) c.self.view_is c.index-strand.ensures in
     let first = get_or state.strands k s in
     let go = (and_parts (comes_before first.pid state.expired) (can_go state.world.machine first) at.1).1 in
-    let entries : c.len.result ≡ length s.entries.items = omega (arith, c.len.ensures, s.entries.ok.0) in
-    rw entries (within-lines g.O.Origin.script g.O.Origin.start state.world state.strands state.made k s c.first.ensures.running at.0 here go)
+    rw c.len.ensures.value (within-lines g.O.Origin.script g.O.Origin.start state.world state.strands state.made k s c.first.ensures.running at.0 here go)

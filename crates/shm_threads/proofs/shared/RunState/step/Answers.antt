@@ -7,6 +7,7 @@ use Rattle.shm_threads.specs.Running.{IsTurn, RunView, goes_on_by, is_next}
 use Rattle.shm_threads.specs.Strands.{can_go}
 use Rattle.shm_threads.specs.declared.births.ProcessState.{ProcessState}
 use Rattle.shm_threads.specs.declared.strand.Strand.{Strand}
+use Rattle.shm_threads.proofs.Kept.{kept-set}
 use Rattle.shm_threads.proofs.Passing.{passed-step}
 use Rattle.shm_threads.proofs.Turns.{has-place, nth-next, pid-of, running-step}
 use Rattle.shm_threads.proofs.shared.RunState.step.Goals as goal
@@ -50,8 +51,11 @@ invariant_of-self g c =
           rest.1.0,
           (
             rest.1.1.0,
-            passed-step g.O.Origin.answers items c.self.inside.made c.args.index c.args.n c.args.pid s c.make-made.new.strand c.make-made.ensures.entry lt here
-                own nth c.requires.passed c.make-made.ensures.pid c.make-made.ensures.entries rest.1.1.1,
+            (
+              passed-step g.O.Origin.answers items c.self.inside.made c.args.index c.args.n c.args.pid s c.make-made.new.strand c.make-made.ensures.entry lt here
+                  own nth c.requires.passed c.make-made.ensures.pid c.make-made.ensures.entries rest.1.1.1.0,
+              kept-set g.O.Origin.is_kept items c.args.index s c.make-made.new.strand lt here c.make-made.ensures.kept rest.1.1.1.1,
+            ),
           ),
         ),
       ),

@@ -1,6 +1,7 @@
+use Rattle.shm_threads.specs.Transcripts.{callers_of}
 use Rattle.shm_threads.proofs.Passing.{passed-fresh}
 use Rattle.shm_threads.proofs.shared.Shared.new.Goals as goal
 
 pub invariant_of-new : goal.invariant_of-new
 invariant_of-new g c =
-    (c.requires.running, (c.requires.rounds, (c.requires.kept, (tt, passed-fresh g.O.Origin.answers g.O.Origin.script.lines c.args.strands.items c.requires.fresh))))
+    (c.requires.running, (c.requires.rounds, (c.requires.kept, (tt, (passed-fresh g.O.Origin.answers (callers_of g.O.Origin.script.lines) c.args.strands.items c.requires.fresh, c.requires.entries)))))
