@@ -12,7 +12,7 @@ use shm_schedules::{Engine, Run, push_followers};
 use shm_text::Script;
 use std::alloc::{AllocError, Global};
 
-// The longest path, for going back.
+// The most runs on the stack, for going back.
 const LONGEST: usize = 64;
 
 // The most moves for each line.
@@ -102,13 +102,13 @@ fn goes_as<M: Engine>(
     Ok(Some(next))
 }
 
-// Drops the first run, if the path is as long as it may be.
-fn forget_first<M: Engine>(path: &mut Vec<Run<M>>)
+// Drops the first run, if there are as many as there may be.
+fn forget_first<M: Engine>(stack: &mut Vec<Run<M>>)
     ensures reached { (script : ScriptView) (first : FlatRun) →
-        All (IsReached script first) path.old.items → All (IsReached script first) path.new.items }
+        All (IsReached script first) stack.old.items → All (IsReached script first) stack.new.items }
 {
-    if path.len() >= LONGEST {
-        path.remove(0);
+    if stack.len() >= LONGEST {
+        stack.remove(0);
     }
 }
 
@@ -117,20 +117,20 @@ fn put_next<M: Engine>(
     alloc: Global,
     script: &Script,
     entry: &Entry,
-    path: &mut Vec<Run<M>>,
+    stack: &mut Vec<Run<M>>,
 ) -> Result<bool, HostMemory>
     ensures reached { OnOk result ((first : FlatRun) →
-        All (IsReached script.now first) path.old.items → All (IsReached script.now first) path.new.items) }
+        All (IsReached script.now first) stack.old.items → All (IsReached script.now first) stack.new.items) }
 {
-    let count = path.len();
+    let count = stack.len();
     if count == 0 {
         return Ok(false);
     }
-    let Some(next) = goes_as(alloc, script, &path[count - 1], entry)? else {
+    let Some(next) = goes_as(alloc, script, &stack[count - 1], entry)? else {
         return Ok(false);
     };
-    forget_first(path);
-    path.push(next)?;
+    forget_first(stack);
+    stack.push(next)?;
     Ok(true)
 }
 
@@ -140,17 +140,17 @@ fn walk_on<M: Engine>(
     script: &Script,
     entries: &[Entry],
     plan: &mut Plan,
-    path: &mut Vec<Run<M>>,
+    stack: &mut Vec<Run<M>>,
 ) -> Result<bool, HostMemory>
     ensures reached { OnOk result ((first : FlatRun) →
-        All (IsReached script.now first) path.old.items → All (IsReached script.now first) path.new.items) }
+        All (IsReached script.now first) stack.old.items → All (IsReached script.now first) stack.new.items) }
 {
     match plan.next(entries.len()) {
         Move::Try(line) => {
             if line >= entries.len() {
                 return Ok(false);
             }
-            if put_next(alloc, script, &entries[line], path)? {
+            if put_next(alloc, script, &entries[line], stack)? {
                 plan.took(entries, line)?;
             } else {
                 plan.failed(line);
@@ -159,7 +159,7 @@ fn walk_on<M: Engine>(
         }
         Move::Back => {
             plan.back(entries);
-            Ok(path.len() > 1 && path.pop().is_some())
+            Ok(stack.len() > 1 && stack.pop().is_some())
         }
         Move::End => Ok(false),
     }
@@ -177,22 +177,22 @@ fn near_order<M: Engine>(
     ensures { IfOk result (λ r. IfSome r (IsReached script.now (fresh (M.flat machine)))) }
 {
     let mut plan = Plan::of(alloc, script, entries)?;
-    let mut path = first_path(alloc, machine)?;
+    let mut stack = first_stack(alloc, machine)?;
     for _ in 0..entries.len().saturating_mul(MOVES) {
-        if !walk_on(alloc, script, entries, &mut plan, &mut path)? {
+        if !walk_on(alloc, script, entries, &mut plan, &mut stack)? {
             break;
         }
     }
-    Ok(path.pop())
+    Ok(stack.pop())
 }
 
 // The run before its first line, alone.
-fn first_path<M: Engine>(alloc: Global, machine: M) -> Result<Vec<Run<M>>, HostMemory>
+fn first_stack<M: Engine>(alloc: Global, machine: M) -> Result<Vec<Run<M>>, HostMemory>
     requires { M.calls machine ≡ 0 }
-    ensures { IfOk result (λ path. path.items ≡ fresh (M.flat machine) ∷ []) }
+    ensures { IfOk result (λ stack. stack.items ≡ fresh (M.flat machine) ∷ []) }
 {
-    let mut path = Vec::new(alloc);
+    let mut stack = Vec::new(alloc);
     let first = Run::first(alloc, machine)?;
-    path.push(first)?;
-    Ok(path)
+    stack.push(first)?;
+    Ok(stack)
 }

@@ -3,4 +3,4 @@ use Rattle.shm_schedules.specs.Schedules.{fresh, IsReached}
 use Rattle.shm_judge.proofs.guess.near_order.Given as goal
 
 abbrev pub invariant-loop : goal.invariant-loop
-invariant-loop g l = All (IsReached l.script (fresh (g.M.Engine.flat l.fn.machine))) l.path.items
+invariant-loop g l = All (IsReached l.script (fresh (g.M.Engine.flat l.fn.machine))) l.stack.items

@@ -12,6 +12,6 @@ returns g c =
           λ first all.
           (let at : IsReached c.args.script.now first c.index.result.now = subst (IsReached c.args.script.now first) (sym c.index.ensures) (all _ c.index.result.now (search rules)) in
           subst (All (IsReached c.args.script.now first)) (sym c.in_ok-push.ensures.items)
-          (All-push (IsReached c.args.script.now first) c.forget_first.new.path.items c.in-Some.next (c.forget_first.ensures.reached c.args.script.now first all)
+          (All-push (IsReached c.args.script.now first) c.forget_first.new.stack.items c.in-Some.next (c.forget_first.ensures.reached c.args.script.now first all)
           (follower-reached c.args.script.now first c.index.result.now at c.args.entry.now.pid c.in-Some.next goes-on)));
     }
