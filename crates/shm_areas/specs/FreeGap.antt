@@ -1,6 +1,6 @@
 -- The least gap beside the ranges that the host reserved, and how it is searched: from the first address that may be chosen, and
 -- from the end of each reserved range.
-use Rattle.std.specs.Prelude.{◌≡◌, ℕ, ◌+◌, ◌*◌, ◌%◌, ◌≤◌, ◌==◌, true, false, if◌then◌else◌, List, [], ◌∷◌, Option, Some, None, max, All}
+use Rattle.std.specs.Prelude.{◌≡◌, ℕ, ◌+◌, ◌*◌, ◌%◌, ◌≤◌, ◌==◌, true, false, if◌then◌else◌, List, [], ◌∷◌, Option, Some, None, MatchOption, max, All}
 use Rattle.shm_base.specs.State.{Piece}
 use Rattle.shm_base.specs.Guest.{is_range}
 use Rattle.shm_base.specs.Space.{first_chosen, is_free_gap, is_reserved, lesser}
@@ -20,6 +20,10 @@ pub record IsLeastFreeGap (ps : List Piece) (rs : List HostRange) (pages base : 
 
 abbrev pub HasNoFreeGap : List Piece → List HostRange → ℕ → Type 0
 HasNoFreeGap ps rs pages = (b : ℕ) → is_free_gap ps rs pages b ≡ false
+
+-- the least gap, or none if there is no gap
+abbrev pub ChoosesLeast : List Piece → List HostRange → ℕ → Option ℕ → Type 0
+ChoosesLeast ps rs pages chosen = MatchOption chosen (HasNoFreeGap ps rs pages) (IsLeastFreeGap ps rs pages)
 
 -- an address, if this many pages from it meet no reserved range
 abbrev pub unless_reserved : List HostRange → ℕ → Option ℕ → Option ℕ

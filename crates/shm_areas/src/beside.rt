@@ -1,10 +1,10 @@
 //! The ranges that the host reserved, and the least gap beside them.
-ghost use Rattle.std.specs.Prelude.{◌≡◌, ◌*◌, ◌+◌, ◌≤◌, MatchOption, length, max};
+ghost use Rattle.std.specs.Prelude.{◌≡◌, ◌*◌, ◌+◌, ◌≤◌, length, max};
 ghost use Rattle.shm_base.specs.Space as flat;
 ghost use Rattle.shm_base.specs.declared.bounds.TheConstants.{MOST_SHMALL};
 ghost use Rattle.shm_base.specs.declared.paging.TheConstants.{PAGE_SIZE};
 ghost use Rattle.shm_areas.specs.Arranged.{Arranged, bare_all};
-ghost use Rattle.shm_areas.specs.FreeGap.{AreRanges, HasNoFreeGap, IsLeastFreeGap, free_from, lesser_of};
+ghost use Rattle.shm_areas.specs.FreeGap.{AreRanges, ChoosesLeast, free_from, lesser_of};
 
 use crate::space::Space;
 use shm_base::{HostRange, PAGE_SIZE};
@@ -56,8 +56,7 @@ impl Space {
         ensures value { let reserved = flat.ranges_of pid ranges.now in
             result ≡ flat.choose_beside (bare_all self.now.pieces) reserved pages }
         ensures least { let reserved = flat.ranges_of pid ranges.now in
-            MatchOption result (HasNoFreeGap (bare_all self.now.pieces) reserved pages)
-            (λ base. IsLeastFreeGap (bare_all self.now.pieces) reserved pages base) }
+            ChoosesLeast (bare_all self.now.pieces) reserved pages result }
     {
         let mut best = self.free_from(ranges, pid, 0, pages);
         if best.is_some() {
