@@ -22,7 +22,7 @@ struct Mark {
 /// all the same.
 #[derive(Drop)]
 pub struct EntryList {
-    room: usize,
+    room: Snapshot<usize>,
     is_kept: bool,
     marks: Vec<Mark>,
     kept: Vec<Entry>,
@@ -36,13 +36,13 @@ impl Model for EntryList {
 
     ghost view = { λ e. record {
       items = map (λ m. m.entry.value) e.marks.items;
-      room = e.room;
+      room = e.room.value;
       is_kept = e.is_kept;
     } };
 
-    ghost invariant = { λ e. (e.room ≤ vec_capacity e.marks)
+    ghost invariant = { λ e. (e.room.value ≤ vec_capacity e.marks)
         × (e.is_kept ≡ true → e.kept.items ≡ map (λ m. m.entry.value) e.marks.items)
-        × (e.is_kept ≡ true → e.room ≤ vec_capacity e.kept) };
+        × (e.is_kept ≡ true → e.room.value ≤ vec_capacity e.kept) };
 }
 
 fn is_any_set(marks: &[Mark]) -> bool
@@ -62,7 +62,7 @@ impl EntryList {
         let kept = Vec::with_capacity(alloc, if is_kept { room } else { 0 })?;
         let marks = Vec::with_capacity(alloc, room)?;
         Ok(EntryList {
-            room,
+            room: Snapshot::of(&room),
             is_kept,
             marks,
             kept,
