@@ -18,6 +18,7 @@ use Rattle.nogcuvema.specs.declared.structs.NogPiece.{NogPiece}
 use Rattle.nogcuvema.specs.declared.structs.NogSegment.{NogSegment}
 use Rattle.nogcuvema.specs.Shown.{piece_shown, shown_by}
 use Rattle.nogcuvema.specs.Answers.{closed, Unchanged}
+use Rattle.nogcuvema.specs.Opens.{numbers_of}
 
 -- a lookup in this machine, which stays unchanged
 abbrev pub Asks : Option Machine → (SystemState → Type 0) → ℕ → Option Machine → Type 0
@@ -48,18 +49,7 @@ SegmentOf id segment code s = SegmentFound id segment code (segment_of s.machine
 
 -- the numbers of limits
 abbrev pub numbers_by : NogLimits → Bounds
-numbers_by l =
-    record {
-      shmmax = l.shmmax;
-      shmmni = l.shmmni;
-      shmall = l.shmall;
-      frames = l.frames;
-      memlock = l.memlock;
-      most_pieces = l.most_pieces;
-      most_processes = l.most_processes;
-      most_slots = l.most_slots;
-      rules = record { 0 = l.rules };
-    }
+numbers_by l = record (numbers_of l) { rules = record { 0 = l.rules } }
 
 -- how many pages of a segment are in frames, and how many only in slots; or that there is no such segment
 abbrev pub PagesOf : ℤ → ℕ → ℕ → ℕ → SystemState → Type 0

@@ -1,5 +1,5 @@
--- What the lines of a script leave as it was, and lines that ran in parts.
-use Rattle.std.specs.Prelude.{◌≡◌, ◌++◌, List, [], ◌∷◌}
+-- What the lines of a script leave as it was.
+use Rattle.std.specs.Prelude.{◌≡◌, List, [], ◌∷◌}
 use Rattle.std.proofs.Common.{ap, subst, sym, ◌∙◌}
 use Rattle.shm_history.specs.WorldState.{WorldState}
 use Rattle.shm_slots.specs.Cause.{GoesOn}
@@ -8,16 +8,6 @@ use Rattle.shm_text.specs.declared.script.Line.{Line}
 use Rattle.shm_text.specs.declared.script.Line.TheVariants.{Command, Flush}
 use Rattle.shm_program.specs.Running.{HasRun, HaveRun, RunStep}
 use Rattle.shm_program.specs.Values.{HolderView}
-
--- lines ran, and then others
-pub both-ran : (hs middle later : List HolderView) (w between end : WorldState) (ls others : List Line) (ss more : List RunStep)
-    → HaveRun hs w ls ss middle between → HaveRun middle between others more later end → HaveRun hs w (ls ++ others) (ss ++ more) later end
-both-ran hs middle later w between end [] others [] more (values, same) ran =
-    subst (λ (v : WorldState). HaveRun hs v others more later end) same (subst (λ (vs : List HolderView). HaveRun vs between others more later end) values ran)
-both-ran hs middle later w between end [] others (s ∷ ss) more one ran = absurd one
-both-ran hs middle later w between end (l ∷ ls) others [] more one ran = absurd one
-both-ran hs middle later w between end (l ∷ ls) others (s ∷ ss) more (first, rest) ran =
-    (first, both-ran s.values middle later s.world between end ls others ss more rest ran)
 
 -- the opening stays, and the counts of failures go on from where they were
 abbrev GoesOnFrom : WorldState → WorldState → Type 0

@@ -1,12 +1,12 @@
--- The lines of a script that run in parts.
-use Rattle.std.specs.Prelude.{◌≡◌, ◌++◌, ℕ, List, drop, map, take}
-use Rattle.std.proofs.Common.{subst, sym, ap, ◌∙◌, take-append-drop}
+-- A run begins anew when its world has got room for its events.
+use Rattle.std.specs.Prelude.{◌≡◌, ℕ, List, Result, OnOk, map}
+use Rattle.std.proofs.Common.{subst, sym}
+use Rattle.std.proofs.lemmas.Result.{on_ok_weaker}
 use Rattle.shm_history.specs.WorldState.{WorldState}
 use Rattle.shm_laws.specs.Worlds.{IsWorldSound}
 use Rattle.shm_slots.specs.View.{SwapView}
 use Rattle.shm_text.specs.Script.{ScriptView}
 use Rattle.shm_text.specs.declared.script.Line.{Line}
-use Rattle.shm_program.proofs.Chains.{both-ran}
 use Rattle.shm_program.specs.Running.{HaveRun, IsRunOf, IsStart, RunStep}
 use Rattle.shm_program.specs.Values.{HolderView, fresh_holder}
 
@@ -24,15 +24,9 @@ module _ (swap : SwapView) (script : ScriptView) (areas : List ℕ) (old start :
   starts : IsStart IsWorldSound swap script areas start
   starts = subst (IsStart IsWorldSound swap script areas) (sym same) (starts-anew swap script areas old start.room is)
 
-  -- the first lines ran and then the others, so all lines did
-  pub halves-ran : (hs middle later : List HolderView) (between end : WorldState) (k : ℕ) (first second : List Line) (ss more : List RunStep)
-      → hs ≡ map fresh_holder script.processes → first ≡ take k script.lines → second ≡ drop k script.lines → HaveRun hs start first ss middle between → HaveRun middle between second more later end
-      → IsRunOf IsWorldSound swap script areas start (ss ++ more) end
-  halves-ran hs middle later between end k first second ss more fresh is_first is_second one two =
-      let joined : first ++ second ≡ script.lines = ap (λ (ls : List Line). ls ++ second) is_first ∙ ap (λ (ls : List Line). take k script.lines ++ ls) is_second ∙ take-append-drop k script.lines in
-      let all : HaveRun hs start (first ++ second) (ss ++ more) later end = both-ran hs middle later start between end first second ss more one two in
-      record {
-        begins = starts;
-        values = later;
-        ran = subst (λ (vs : List HolderView). HaveRun vs start script.lines (ss ++ more) later end) fresh (subst (λ (ls : List Line). HaveRun hs start ls (ss ++ more) later end) joined all);
-      }
+  -- from the start with room, all lines ran, so the script did
+  pub script-ran : {E : Type 0} (r : Result (Unit {0}) E) (hs later : List HolderView) (end : WorldState) (ls : List Line) → OnOk r ((steps : List RunStep) × HaveRun hs start ls steps later end) → ls ≡ script.lines → hs ≡ map fresh_holder script.processes
+      → OnOk r ((begin : WorldState) × (steps : List RunStep) × IsRunOf IsWorldSound swap script areas begin steps end)
+  script-ran r hs later end ls done same fresh =
+      let from = λ (vs : List HolderView) (steps : List RunStep). HaveRun vs start script.lines steps later end in
+      on_ok_weaker r (λ it. (start, it.0, record { begins = starts; values = later; ran = subst (λ (vs : List HolderView). from vs it.0) fresh (subst (λ (left : List Line). HaveRun hs start left it.0 later end) same it.1) })) done

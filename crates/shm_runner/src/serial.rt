@@ -93,13 +93,12 @@ fn run_in<W: Write, P: Pager>(
     }
 }
 
-// Runs the lines of a script in file order, in the world that it opened. It stops at the first line that is
-// out of memory. The first two thirds of the lines are freed before the others run, so the memory never
-// holds all lines and all events.
+// Runs the lines of a script in file order, in the world that it opened, and frees the script. It stops at the
+// first line that is out of memory.
 fn run_lines<P: Pager>(
     alloc: Global,
     world: &mut World<P>,
-    mut script: Script,
+    script: Script,
 ) -> Result<(), HostMemory>
     requires { let areas = world.old.opening.areas in
         IsStart IsWorldSound world.old.memory.swap script areas world.old }
@@ -108,19 +107,12 @@ fn run_lines<P: Pager>(
         OnOk result ((start : WorldState) × (steps : List RunStep) × is_run start steps world.new) }
 {
     let mut values = Values::new(alloc, &script.processes)?;
-    let count = script.lines.len();
-    world.reserve(count)?;
-    let middle = count - count / 3;
-    let rest = script.lines.split_off(middle)?;
-    script.lines.shrink_to_fit();
-    run_part(world, &mut values, &script.lines)?;
-    drop(script);
-    run_part(world, &mut values, &rest)?;
-    Ok(())
+    world.reserve(script.lines.len())?;
+    run_each(world, &mut values, &script.lines)
 }
 
-// Runs some lines in order. It stops at the first that is out of memory.
-fn run_part<P: Pager>(
+// Runs lines in order. It stops at the first that is out of memory.
+fn run_each<P: Pager>(
     world: &mut World<P>,
     values: &mut Values,
     lines: &[Line],

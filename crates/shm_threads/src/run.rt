@@ -26,6 +26,7 @@ use shm_pager::Pager;
 use shm_text::Script;
 use std::alloc::Global;
 use std::marker::Brand;
+use std::snapshot::Snapshot;
 use std::sync::Wait;
 use std::thread;
 use std::thread::{Scope, Threads};
@@ -162,7 +163,7 @@ fn run_from<O: Origin + Send + Sync, R: Threads + Wait + Sync, G: Gate, P: Pager
     requires rounds { start.rounds.items ≡ rounds_of script.now.lines }
     requires kept { IsKept O.cell O.stored keeper }
     requires gate { G.answers gate.now ≡ O.answers }
-    requires kept_as { O.is_kept ≡ start.is_kept }
+    requires kept_as { O.is_kept ≡ start.is_kept.value }
     requires entries { All (IsKeptAs O.is_kept) start.strands.items }
     ensures entries { IfOk result (λ r. All (HasEntries O.is_kept) r.0.transcripts.items) }
     ensures outcome { IfOk result (λ r. IsOutcome script.now world r.0.world r.0.transcripts.items) }
@@ -196,8 +197,8 @@ fn run_from<O: Origin + Send + Sync, R: Threads + Wait + Sync, G: Gate, P: Pager
 }
 
 // All memory that a run takes before its workers start, except the room in its world: a strand and a state for each
-// process, the pages of the flush rounds, and empty lists with room for each worker and each transcript; and whether the
-// strands keep their entries.
+// process, the pages of the flush rounds, and empty lists with room for each worker and each transcript. Contracts also see
+// whether the strands keep their entries.
 #[derive(Drop)]
 struct Start {
     strands: Vec<Strand>,
@@ -205,7 +206,7 @@ struct Start {
     processes: Vec<ProcessState>,
     handles: Vec<WorkerHandle>,
     transcripts: Vec<Transcript>,
-    is_kept: bool,
+    is_kept: Snapshot<bool>,
 }
 
 // The start of a run. There is room for an event of each line.
@@ -219,7 +220,7 @@ fn prepared<P: Pager>(
     ensures room { IfOk result (λ s. HaveRoom script.now.processes s.handles s.transcripts) }
     ensures running { IfOk result (λ s. IsRunning script.now world.new world.new s.strands.items 0) }
     ensures fresh { IfOk result (λ s. All (IsFresh (callers_of script.now.lines)) s.strands.items) }
-    ensures kept_as { IfOk result (λ s. s.is_kept ≡ is_kept) }
+    ensures kept_as { IfOk result (λ s. s.is_kept.value ≡ is_kept) }
     ensures kept { IfOk result (λ s. All (IsKeptAs is_kept) s.strands.items) }
     ensures rounds { IfOk result (λ s. s.rounds.items ≡ rounds_of script.now.lines) }
     ensures rest { IfOk result (λ _. world.new ≡ record world.old { room = world.new.room }) }
@@ -241,7 +242,7 @@ fn prepared<P: Pager>(
         processes,
         handles,
         transcripts,
-        is_kept,
+        is_kept: Snapshot::of(&is_kept),
     })
 }
 

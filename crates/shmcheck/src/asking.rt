@@ -35,10 +35,7 @@ pub(crate) fn answer_question(
         Ok(condition) => condition,
         Err(fault) => return Err(Stop::BadCondition(fault)),
     };
-    let machine = match open_machine(alloc, script) {
-        Ok(machine) => machine,
-        Err(stop) => return Err(stop),
-    };
+    let machine = open_machine(alloc, script)?;
     let found = match outcomes(alloc, script, machine, options.most) {
         Ok(found) => found,
         Err(error) => return Err(stopped(error, options.most)),

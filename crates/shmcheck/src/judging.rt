@@ -33,10 +33,7 @@ pub(crate) fn judge_script(
         Err(error) => return Err(unread(error)),
     };
     let answered = log_of(alloc, script, &entries)?;
-    let machine = match open_machine(alloc, script) {
-        Ok(machine) => machine,
-        Err(stop) => return Err(stop),
-    };
+    let machine = open_machine(alloc, script)?;
     let verdict = match judge_log(alloc, script, &answered, &entries, machine, options.most) {
         Ok(verdict) => verdict,
         Err(error) => return Err(doubted(error, options.most)),

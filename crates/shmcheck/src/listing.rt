@@ -27,10 +27,7 @@ pub(crate) fn list_outcomes(
         IfOk result (λ a. is a.status script.now one_area a.text.items) }
     ensures cause { IfErr result (λ s. IsStopIn s (Asked.Outcomes options) [] one_area script.now) }
 {
-    let machine = match open_machine(alloc, script) {
-        Ok(machine) => machine,
-        Err(stop) => return Err(stop),
-    };
+    let machine = open_machine(alloc, script)?;
     let found = match outcomes(alloc, script, machine, options.most) {
         Ok(found) => found,
         Err(error) => return Err(stopped(error, options.most)),

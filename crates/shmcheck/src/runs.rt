@@ -88,10 +88,7 @@ fn run_asked<R: Read, W: Write>(
         Err(fault) => return Err(Stop::Fault(fault)),
     };
     put_rules(&mut script, rules_asked(asked));
-    let answer = match answer_of(alloc, &script, asked, given) {
-        Ok(answer) => answer,
-        Err(stop) => return Err(stop),
-    };
+    let answer = answer_of(alloc, &script, asked, given)?;
     match write_output(writer, &answer.text) {
         Ok(()) => Ok(answer.status),
         Err(_) => Err(Stop::Fault(RunFault::WriteFailed)),

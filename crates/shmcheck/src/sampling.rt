@@ -20,10 +20,7 @@ pub(crate) fn sample_runs(alloc: Global, script: &Script, draws: Draws) -> Resul
         IfOk result (λ a. is a.status script.now one_area a.text.items) }
     ensures cause { IfErr result (λ s. IsStopIn s (Asked.Sample draws) [] one_area script.now) }
 {
-    let machine = match open_machine(alloc, script) {
-        Ok(machine) => machine,
-        Err(stop) => return Err(stop),
-    };
+    let machine = open_machine(alloc, script)?;
     let mut rng = Xoshiro256PlusPlus::seed_from_u64(draws.seed);
     let text = samples(alloc, script, &machine, draws.runs, &mut rng)?;
     Ok(Answer { text, status: 0 })

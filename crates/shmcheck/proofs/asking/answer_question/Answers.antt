@@ -10,7 +10,7 @@ pub returns-in-Err-outcomes-clause-cause : goal.returns-in-Err-outcomes-clause-c
 returns-in-Err-outcomes-clause-cause c =
     rw c.stopped.ensures
     (question_stop c.in-Err-outcomes.error c.args.wish c.args.options c.args.words.now one_area c.args.script.now
-    c.in-Ok-open_machine.machine.machine c.in-Ok-open_machine.ensures.machine c.in-Err-outcomes.ensures.err)
+    c.in_ok-machine.machine.machine c.in_ok-machine.ensures.machine c.in-Err-outcomes.ensures.err)
 
 pub returns-clause-ok : goal.returns-clause-ok
 returns-clause-ok c =
@@ -21,8 +21,8 @@ returns-clause-ok c =
       sym c.in_ok-condition.ensures ∙ c.in-Ok.is,
       (
         met,
-        witness c.args.script.now one_area condition c.in-Ok-open_machine.machine.machine c.in-Ok-outcomes.found.items met
-            c.in-Ok-open_machine.ensures.machine c.in-Ok-outcomes.ensures.ok some,
+        witness c.args.script.now one_area condition c.in_ok-machine.machine.machine c.in-Ok-outcomes.found.items met
+            c.in_ok-machine.ensures.machine c.in-Ok-outcomes.ensures.ok some,
         c.question_status-status.ensures ∙ ap (question_status c.args.wish) c.deref-3.ensures.value,
         c.in_ok-text.ensures ∙ ap (answer_text c.args.script.now) c.deref-2.ensures.value,
       ),

@@ -4,14 +4,14 @@ use Rattle.shmcheck.proofs.Stops.{bound_stop}
 use Rattle.shmcheck.proofs.Texts.{listed}
 use Rattle.shmcheck.proofs.listing.list_outcomes.Goals as goal
 
-pub returns-in-Err-outcomes-clause-cause : goal.returns-in-Err-outcomes-clause-cause
-returns-in-Err-outcomes-clause-cause c =
+pub returns-in-Err-clause-cause : goal.returns-in-Err-clause-cause
+returns-in-Err-clause-cause c =
     rw c.stopped.ensures
-    (bound_stop c.in-Err-outcomes.error c.args.options [] one_area c.args.script.now c.in-Ok.machine.machine c.in-Ok.ensures.machine c.in-Err-outcomes.ensures.err)
+    (bound_stop c.in-Err.error c.args.options [] one_area c.args.script.now c.in_ok-machine.machine.machine c.in_ok-machine.ensures.machine c.in-Err.ensures.err)
 
 pub returns-clause-ok : goal.returns-clause-ok
 returns-clause-ok c = (
   refl,
-  listed c.args.options.masked c.args.script.now one_area c.in-Ok.machine.machine c.in-Ok-outcomes.found.items c.deref.result.now c.in_ok-text.text.items c.in-Ok.ensures.machine c.deref.ensures.value
-      c.in-Ok-outcomes.ensures.ok c.in_ok-text.ensures,
+  listed c.args.options.masked c.args.script.now one_area c.in_ok-machine.machine.machine c.in-Ok.found.items c.deref.result.now c.in_ok-text.text.items c.in_ok-machine.ensures.machine c.deref.ensures.value
+      c.in-Ok.ensures.ok c.in_ok-text.ensures,
 )

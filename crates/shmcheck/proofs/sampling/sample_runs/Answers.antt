@@ -12,7 +12,7 @@ pub returns-clause-ok : goal.returns-clause-ok
 returns-clause-ok c =
     let rest : Stream = stream_of (steps_u64_high plus_plus) c.samples.new.rng in
     let are =
-    subst (λ (s : List ℕ). AreSamples c.args.script.now (fresh c.in-Ok.machine.machine) c.args.draws.runs (stream_of (steps_u64_high plus_plus) s) rest c.in_ok-text.text.items) c.seed_from_u64-rng.ensures
+    subst (λ (s : List ℕ). AreSamples c.args.script.now (fresh c.in_ok-machine.machine.machine) c.args.draws.runs (stream_of (steps_u64_high plus_plus) s) rest c.in_ok-text.text.items) c.seed_from_u64-rng.ensures
     c.in_ok-text.ensures
     in
-    (refl, sampled c.args.script.now one_area c.in-Ok.machine.machine c.args.draws.seed c.args.draws.runs rest c.in_ok-text.text.items c.in-Ok.ensures.machine are)
+    (refl, sampled c.args.script.now one_area c.in_ok-machine.machine.machine c.args.draws.seed c.args.draws.runs rest c.in_ok-text.text.items c.in_ok-machine.ensures.machine are)

@@ -3,7 +3,7 @@ use Rattle.std.proofs.lemmas.Grind.{common_steps}
 use Rattle.std.proofs.lemmas.List.{drop_more}
 use Rattle.shm_text.specs.declared.script.Line.{Line}
 use Rattle.shm_program.specs.Running.{HaveRun, RunStep}
-use Rattle.shm_runner.proofs.serial.run_part.Goals as goal
+use Rattle.shm_runner.proofs.serial.run_each.Goals as goal
 
 pub loop-line-init : goal.loop-line-init
 loop-line-init g c = λ steps later end ran. (steps, ran)
