@@ -345,12 +345,12 @@ def padded(lines: Any, length: Any) -> Any:
 
 
 def test_bytes(host: Host) -> None:
-    """More lines, from one to all that a script may have, need memory only for their events and for the two
-    parts into which a serial run divides them. A longer script needs memory for itself and for its lines."""
+    """More lines, from one to all that a script may have, need memory only for their events. A longer script
+    needs memory for itself and for its lines."""
     few, many, short = (host(["serial", "ram:1"], padded(lines, length), 0).bytes
                         for lines, length in ((1, LONGEST_SCRIPT), (MOST_LINES, LONGEST_SCRIPT), (1, BUFFER)))
-    # a list of one event has room for four; a list without lines has none
-    assert many - few == (MOST_LINES - 4) * EVENT + (MOST_LINES - 1) * LINE
+    # a list of one event has room for four
+    assert many - few == (MOST_LINES - 4) * EVENT
     assert few - short == script_bytes(LONGEST_SCRIPT) - script_bytes(BUFFER)
 
 
