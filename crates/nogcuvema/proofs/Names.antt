@@ -8,7 +8,7 @@ pub use Rattle.std.proofs.raw_atomic.Walks.{leaves, proved_at}
 pub use Rattle.std.specs.Box.Ownership.{box_owns}
 pub use Rattle.std.specs.Prelude.{IsSome, Option, Some}
 pub use Rattle.std.specs.contracts.impls.GlobalAllocator.TheImpl.{ghosts}
-pub use Rattle.shm_base.specs.Bounds.{Bounds, bad, limits_of}
+pub use Rattle.shm_base.specs.Bounds.{Bounds, bad}
 pub use Rattle.shm_base.specs.Calls.{ProcessCall}
 pub use Rattle.shm_base.specs.declared.call.Process.{Process}
 pub use Rattle.shm_base.specs.declared.call.Reply.{Reply}

@@ -1,6 +1,6 @@
 -- The pieces that a range meets are consecutive. Taking it out leaves a part of the first of them below, and one of the last
 -- above.
-use Rattle.shm_areas.proofs.Names.{nat_tests, sym, ◌≡◌, ◌⊎◌, ℕ, zero, suc, ◌+◌, ◌-◌, ◌<◌, ◌≤◌, true, false, nat_lt, List, [], ◌∷◌, ◌++◌, length, get_or, take, drop, refl, ap, ◌∙◌, arith, append_assoc, append-nil, length-append, length-take, length-drop, common_steps, splice, lt-ltb, le-ltb, cases_lt, cases_eq, and_right, get_or_default, end_of, meets, occupied, Piece, bare, bare_all, Arranged, stored_below, stored_above, stored_cut, met, IsPieceRange}
+use Rattle.shm_areas.proofs.Names.{nat_tests, sym, ◌≡◌, ◌⊎◌, ℕ, zero, suc, ◌+◌, ◌-◌, ◌<◌, ◌≤◌, true, false, nat_lt, List, [], ◌∷◌, ◌++◌, length, get_or, take, drop, refl, ap, ◌∙◌, arith, append_assoc, append-nil, length-take, length-drop, common_steps, splice, lt-ltb, le-ltb, cases_lt, cases_eq, and_right, get_or_default, end_of, meets, occupied, Piece, bare, bare_all, Arranged, stored_below, stored_above, stored_cut, met, IsPieceRange}
 use Rattle.std.specs.Prelude.{slice_range}
 use Rattle.shm_areas.proofs.Placing.{low_bound}
 
@@ -144,8 +144,3 @@ run_from low from to count last ps e ar lt c l some reaches = grind (arith, comm
 pub run_behind : (low from to count last : ℕ) (ps : List Piece) (e : Piece) → Arranged low (bare_all ps) → from < to → IsCount from ps count → IsCount (to - 1) ps last
     → (count ≡ 0) ⊎ (end_of (bare (get_or ps (count - 1) e)) ≤ from) → IsPieceRange from to ps count last
 run_behind low from to count last ps e ar lt c l over = grind (arith, common_steps, cases_lt, cases_eq, end_of, bare, get_or_default, ends_before)
-
--- HOW MANY ARE LEFT
-
-pub length-splice : (ps xs : List Piece) (first last : ℕ) → first ≤ last → last ≤ length ps → length (splice ps first last xs) ≡ first + (length xs + (length ps - last))
-length-splice ps xs first last order bound = grind (arith, common_steps, length-append, length-take, length-drop)

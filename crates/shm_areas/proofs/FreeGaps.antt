@@ -1,5 +1,5 @@
 -- The search from the first address and from the ends of the reserved ranges finds the least gap beside them.
-use Rattle.shm_areas.proofs.Names.{◌≡◌, ℕ, ◌+◌, ◌*◌, ◌%◌, ◌≤◌, ◌⊎◌, inl, inr, Bool, true, false, nat_le, if◌then◌else◌, List, [], ◌∷◌, ◌++◌, drop, length, map, max, Option, Some, None, MatchOption, refl, sym, ap, ◌∙◌, arith, common_steps, cases_lt, cases_Bool, both_ways, le-leb, lt-leb, leb-true, none-some, false_from_ne_true, and_right, end_of, lowest_address, first_chosen, end_address, occupied, is_gap, Arranged, gap_from}
+use Rattle.shm_areas.proofs.Names.{◌≡◌, ℕ, ◌+◌, ◌*◌, ◌%◌, ◌≤◌, ◌⊎◌, inl, inr, Bool, true, false, nat_le, if◌then◌else◌, List, [], ◌∷◌, ◌++◌, drop, length, map, max, Option, Some, None, MatchOption, refl, sym, ap, ◌∙◌, arith, common_steps, cases_lt, cases_Bool, both_ways, le-leb, lt-leb, leb-true, none-some, false_from_ne_true, end_of, lowest_address, first_chosen, end_address, occupied, is_gap, Arranged, gap_from}
 use Rattle.std.proofs.Common.{subst, eq-eqb}
 use Rattle.std.proofs.Math.ListN.{drop_of_length-le}
 use Rattle.std.specs.Prelude.{is_some, min, ◌==◌, All, IfSome, ◌&&◌, not}

@@ -1,5 +1,5 @@
 -- The names that the proofs use: those of the crates below, and of the specs of this crate.
-pub use Rattle.std.proofs.Common.{◌≡◌, ◌⊎◌, inl, inr, ℕ, zero, suc, ◌+◌, ◌-◌, ◌<◌, ◌≤◌, true, false, nat_lt, List, [], ◌∷◌, ◌++◌, length, get_or, take, drop, refl, ap, ◌∙◌, arith, ◌≢◌, append_assoc, append-nil, length-append, length-take, length-drop, ◌*◌, ◌/◌, ◌%◌, Bool, filter, insert, map, find, max, MatchOption, drop-cons, add-one, sym, cond, Some, option_map, ne_eqb, nat_le, if◌then◌else◌, Option, None, IfSome, leb, leb-true, rules, tests, not}
+pub use Rattle.std.proofs.Common.{◌≡◌, ◌⊎◌, inl, inr, ℕ, zero, suc, ◌+◌, ◌-◌, ◌<◌, ◌≤◌, true, false, nat_lt, List, [], ◌∷◌, ◌++◌, length, get_or, take, drop, refl, ap, ◌∙◌, arith, append_assoc, append-nil, length-take, length-drop, ◌*◌, ◌/◌, ◌%◌, Bool, filter, insert, map, find, max, MatchOption, drop-cons, add-one, sym, cond, Some, option_map, ne_eqb, nat_le, if◌then◌else◌, Option, None, IfSome, leb, leb-true, rules, not}
 pub use Rattle.std.proofs.lemmas.Grind.{common_steps}
 pub use Rattle.std.proofs.lemmas.Bool.Decides.{nat_tests}
 pub use Rattle.std.specs.List.{splice}

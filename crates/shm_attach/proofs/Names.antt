@@ -25,7 +25,7 @@ pub use Rattle.shm_base.specs.Access.{Place, all_writable, byte_at, covers, end_
 pub use Rattle.shm_base.specs.Segments.{after_detach, attach_count}
 pub use Rattle.shm_base.specs.Space.{covering, cut, cut_segments, inserted, end_address, lowest_address, meets, occupied, origin_of, part_above, part_below, parts, pieces_of, without_named}
 pub use Rattle.shm_base.specs.Spans.{page_of, run}
-pub use Rattle.shm_base.specs.State.{Machine, runner_at_start, Unborn}
+pub use Rattle.shm_base.specs.State.{Machine, runner_at_start}
 pub use Rattle.shm_base.specs.Callers.{caller_by, caller_from, gives, with_end, with_pieces}
 pub use Rattle.shm_base.specs.Callers.{Caller as FlatCaller}
 pub use Rattle.shm_base.specs.Step.{is_unborn, load, shmdt, store, unborn_from}

@@ -1,8 +1,8 @@
 -- Tables whose frames become known.
-use Rattle.std.proofs.Common.{◌≡◌, ℕ, ◌+◌, ◌<◌, ◌≤◌, List, Option, None, length, get_or, set, sym, ap, ◌∙◌, arith, inl, inr, ◌⊎◌}
+use Rattle.std.proofs.Common.{◌≡◌, ℕ, ◌+◌, ◌<◌, ◌≤◌, List, Option, None, length, get_or, set, sym, ◌∙◌, arith, inl, inr, ◌⊎◌}
 use Rattle.std.proofs.lemmas.Grind.{common_steps}
 use Rattle.std.proofs.lemmas.Bool.{cases_lt}
-use Rattle.std.proofs.lemmas.List.{get_or_past, get_or-set_same, get_or-set_other}
+use Rattle.std.proofs.lemmas.List.{get_or_past}
 use Rattle.shm_base.specs.declared.paging.PageRef.{PageRef}
 use Rattle.shm_base.specs.Stored.{padded}
 use Rattle.shm_base.proofs.Stored.{get_or-padded}
@@ -15,11 +15,6 @@ table_of seg count fs = record { seg = seg; count = count; frames = fs }
 pub true-set : (at : ℕ → ℕ → Option ℕ) (seg count : ℕ) (fs : List (Option ℕ)) (r : PageRef) (f : Option ℕ) → r.seg ≡ seg → r.page < length fs → TrueTable at (table_of seg count fs)
     → TrueTable (with_frame r f at) (table_of seg count (set fs r.page f))
 true-set at seg count fs r f same there h = λ j lt. grind (arith, common_steps, h j)
-
--- another frame for a page that the table does not have
-pub true-beyond : (at : ℕ → ℕ → Option ℕ) (seg count : ℕ) (fs : List (Option ℕ)) (r : PageRef) (f : Option ℕ) → length fs ≤ r.page → TrueTable at (table_of seg count fs)
-    → TrueTable (with_frame r f at) (table_of seg count fs)
-true-beyond at seg count fs r f past h = λ j lt. grind (arith, common_steps, h j)
 
 -- the frames of the pages before one are known, and no other page is resident in the table
 pub record KnownBelow (at : ℕ → Option ℕ) (page : ℕ) (fs : List (Option ℕ)) : Type 0 where
@@ -37,20 +32,6 @@ known-over at first next fs on none k =
     by : (j : ℕ) → j < next → (j < first) ⊎ (first ≤ j) → get_or fs j None ≡ at j
     by j lt (inl before) = k.known j before
     by j lt (inr from) = k.rest j from ∙ sym (none j from lt)
-
--- one more page is known
-pub known-more : (at : ℕ → Option ℕ) (page : ℕ) (fs : List (Option ℕ)) (f : Option ℕ) → page < length fs → f ≡ at page → KnownBelow at page fs → KnownBelow at (page + 1) (set fs page f)
-known-more at page fs f there is k =
-    record {
-      known = λ j lt. by j lt (cases_lt j page);
-      rest = λ j past. get_or-set_other fs page j f None (λ same. omega (arith, past, same)) ∙ k.rest j (omega (arith, past));
-    }
-  where
-    by : (j : ℕ) → j < page + 1 → (j < page) ⊎ (page ≤ j) → get_or (set fs page f) j None ≡ at j
-    by j lt (inl before) = get_or-set_other fs page j f None (λ same. omega (arith, before, same)) ∙ k.known j before
-    by j lt (inr from) =
-        let e : page ≡ j = omega (arith, lt, from) in
-        ap (λ n. get_or (set fs page f) n None) (sym e) ∙ get_or-set_same fs page f None there ∙ is ∙ ap at e
 
 -- the pages of a true table are known, and those that are new to it are not
 pub known-first : (at : ℕ → Option ℕ) (n : ℕ) (fs : List (Option ℕ)) → ((j : ℕ) → j < length fs → get_or fs j None ≡ at j) → KnownBelow at (length fs) (padded fs n None)

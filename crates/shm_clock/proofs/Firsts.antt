@@ -28,10 +28,6 @@ pub first_of-none : (xs : List ℕ) → first_of xs ≡ None → xs ≡ []
 first_of-none [] e = refl
 first_of-none (y ∷ ys) e = cc
 
-pub first_of-passes : (r : ℕ → Bool) (xs : List ℕ) (v : ℕ) → EachPasses r xs → first_of xs ≡ Some v → r v ≡ true
-first_of-passes r [] v each e = cc
-first_of-passes r (y ∷ ys) v each e = grind (arith, common_steps)
-
 first_of-some : (xs : List ℕ) (v : ℕ) → first_of xs ≡ Some v → slice_index xs 0 ≡ v
 first_of-some [] v e = cc
 first_of-some (y ∷ ys) v e = cc

@@ -1,7 +1,6 @@
 -- The position of a frame on the ring, and its distance from the hand.
-use Rattle.std.proofs.Common.{◌≡◌, ℕ, ◌+◌, ◌-◌, ◌<◌, ◌≤◌, length, refl, arith, zero-add, length-append}
+use Rattle.std.proofs.Common.{◌≡◌, ℕ, ◌+◌, ◌-◌, ◌<◌, ◌≤◌, length, arith, zero-add, length-append}
 use Rattle.std.proofs.lemmas.Grind.{common_steps}
-use Rattle.std.proofs.lemmas.Bool.{lt-ltb, le-ltb}
 use Rattle.std.proofs.lemmas.List.{get_or_append_left, get_or-append_right}
 use Rattle.std.proofs.lemmas.List.FromFn.{length-range_with_len, get_or-range_with_len}
 use Rattle.shm_clock.specs.Clock.{ring, ring_at, distance}
@@ -14,12 +13,6 @@ ring_at-high hand n j on le lt = grind (arith, common_steps, get_or-append_right
 
 pub length-ring : (hand n : ℕ) → hand < n → length (ring hand n) ≡ n
 length-ring hand n on = grind (arith, common_steps, length-append, length-range_with_len)
-
-distance-before : (hand n i : ℕ) → i < hand → distance hand n i ≡ n - hand + i
-distance-before hand n i lt = rw (lt-ltb i hand lt) refl
-
-distance-after : (hand n i : ℕ) → hand ≤ i → distance hand n i ≡ i - hand
-distance-after hand n i le = rw (le-ltb i hand le) refl
 
 pub distance-lt : (hand n i : ℕ) → hand < n → i < n → distance hand n i < n
 distance-lt hand n i on lt = grind arith

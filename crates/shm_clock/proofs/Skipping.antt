@@ -1,10 +1,9 @@
 -- Blocks that the hand steps over.
-use Rattle.std.proofs.Common.{◌≡◌, ℕ, zero, suc, ◌+◌, ◌-◌, ◌/◌, ◌%◌, ◌<◌, ◌≤◌, List, length, get_or, set, replicate, Bool, true, false, not, ◌&&◌, Option, true≢false, refl, sym, ap, ◌∙◌, inl, inr, arith, length-set}
-use Rattle.std.specs.Prelude.{min}
-use Rattle.std.proofs.lemmas.Bool.{cases_lt, cases_eq}
-use Rattle.std.proofs.lemmas.List.{length-replicate, get_or_past, get_or-set_other}
+use Rattle.std.proofs.Common.{◌≡◌, ℕ, zero, suc, ◌+◌, ◌-◌, ◌/◌, ◌%◌, ◌<◌, ◌≤◌, List, length, get_or, replicate, Bool, true, false, not, ◌&&◌, Option, true≢false, refl, sym, ap, ◌∙◌, inl, inr, arith, length-set}
+use Rattle.std.proofs.lemmas.Bool.{cases_eq}
+use Rattle.std.proofs.lemmas.List.{length-replicate}
 use Rattle.shm_base.specs.declared.paging.PageRef.{PageRef}
-use Rattle.shm_frames.specs.Frame.{Frame, no_frame, frame_at}
+use Rattle.shm_frames.specs.Frame.{Frame, frame_at}
 use Rattle.shm_clock.specs.Clock.{ring_at, owner_passes, is_pinned, may_go, unset}
 use Rattle.shm_frames.specs.Skips.{is_skipped}
 use Rattle.shm_clock.specs.Skips.{AreSkipped}
@@ -13,34 +12,11 @@ use Rattle.shm_clock.proofs.Bits.{unset-at}
 use Rattle.shm_clock.proofs.Turning.{IsOnWay, passes_over}
 
 module _ (passes : PageRef → Bool) where
-  abbrev may_leave : List Frame → ℕ → Bool
-  may_leave frames i = owner_passes passes (frame_at frames i).owner
-
   -- a bit that is cleared changes no owner
   pub skipped-unset : (frames : List Frame) (skips : List Bool) (k : ℕ) → AreSkipped passes frames skips → AreSkipped passes (unset frames k) skips
   skipped-unset frames skips k s = record {
     room = rw (length-set frames k (record (frame_at frames k) { referenced = false })) s.room;
     stay = λ i skip. ap (λ (f : Frame). owner_passes passes f.owner) (unset-at frames k i) ∙ s.stay i skip;
-  }
-
-  past-stays : (frames : List Frame) (i : ℕ) → length frames ≤ i → may_leave frames i ≡ false
-  past-stays frames i past = ap (λ (f : Frame). owner_passes passes f.owner) (get_or_past frames i no_frame past)
-
-  -- a block that was looked through from its first frame to its end or to the last frame
-  pub skipped-more : (frames : List Frame) (skips : List Bool) (frame end : ℕ) → AreSkipped passes frames skips → frame % 64 ≡ 0 → end ≡ frame + min (64 - frame % 64) (length frames - frame)
-      → may_leave frames frame ≡ false → ((i : ℕ) → frame + 1 ≤ i → i < end → may_leave frames i ≡ false) → AreSkipped passes frames (set skips (frame / 64) true)
-  skipped-more frames skips frame end s first is here rest = record {
-    room = rw (length-set skips (frame / 64) true) s.room;
-    stay = λ i skip. elim (cases_eq (i / 64) (frame / 64)) [
-      | inl same ↦ elim (cases_lt i (length frames)) [
-        | inl lt ↦ elim (cases_eq i frame) [
-          | inl e ↦ rw e here
-          | inr ne ↦ rest i (omega (arith, same, first, ne)) (omega (arith, same, first, is, lt))
-        ]
-        | inr past ↦ past-stays frames i past
-      ]
-      | inr other ↦ s.stay i (sym (get_or-set_other skips (frame / 64) (i / 64) true false other) ∙ skip)
-    ];
   }
 
 -- where the ring has not come round, the frames follow one another

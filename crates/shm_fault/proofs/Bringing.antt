@@ -1,5 +1,5 @@
 -- What an access leaves, put together from the visits to its pages.
-use Rattle.shm_fault.proofs.Names.{◌≡◌, ◌≢◌, ℕ, map, ◌≤◌, ◌+◌, Bool, true, false, ◌&&◌, cond, List, [], ◌∷◌, length, get_or, Option, Some, None, is_some, Result, Ok, Err, is_ok, OnErr, refl, sym, ap, ◌∙◌, arith, All, IsSome, false≢true, PageRef, Span, holds_locked, SwapView, Frame, frame_at, PageRec, Touched, SegRec, rec_by, locked_by, StoreView, held_by, page_of, ref_of, IsResident, LockedPagesStay, KeepsLocked, Visits, frame_by, referenced_at, InFrames, PagerFailed, IsStoreSound, raised, counted, Visited, AreIn, Brings, Accessed, IsUntouched, nat_tests, common_steps}
+use Rattle.shm_fault.proofs.Names.{◌≡◌, ◌≢◌, ℕ, map, ◌≤◌, ◌+◌, Bool, true, false, ◌&&◌, List, [], ◌∷◌, length, get_or, Some, None, is_some, Result, Ok, Err, is_ok, OnErr, refl, sym, ap, ◌∙◌, arith, All, IsSome, false≢true, Span, holds_locked, SwapView, Frame, frame_at, Touched, SegRec, locked_by, StoreView, held_by, page_of, ref_of, IsResident, LockedPagesStay, KeepsLocked, frame_by, referenced_at, InFrames, PagerFailed, IsStoreSound, raised, counted, Visited, AreIn, Brings, Accessed, IsUntouched, nat_tests, common_steps}
 use Rattle.shm_fault.specs.Access.{answer_of}
 use Rattle.shm_fault.proofs.Written.{no_span}
 use Rattle.shm_fault.specs.Store.{held, frame_of}
@@ -162,9 +162,6 @@ two-of (p ∷ q ∷ r ∷ ps) e = absurd (omega (arith, e))
 -- the frames of their pages
 pub in-one : (t : StoreView) (ps : List Span) (p : Span) (here : InFrames) → p ∷ [] ≡ ps → AreIn t ps here → frame_by t (ref_of p) ≡ Some here.first
 in-one t ps p here is are = let in_them : AreIn t (p ∷ []) here = rw (← is) at are in in_them.at
-
-pub in-two : (t : StoreView) (ps : List Span) (p q : Span) (here : InFrames) → p ∷ q ∷ [] ≡ ps → AreIn t ps here → (frame_by t (ref_of p) ≡ Some here.first) × (frame_by t (ref_of q) ≡ Some here.second)
-in-two t ps p q here is are = let in_them : AreIn t (p ∷ q ∷ []) here = rw (← is) at are in (in_them.0.at, in_them.1.at)
 
 -- where nothing moved the second page is where it was
 pub unmoved : (p q : Span) (s t : StoreView) (u v : Touched) (ok : Bool) → IsUntouched u → Visited (ref_of p) None (frame_by s (ref_of p)) s t u v ok → v.moved.items ≡ [] → q.frame ≡ frame_by s (ref_of q) → q.frame ≡ frame_by t (ref_of q)

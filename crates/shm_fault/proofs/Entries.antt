@@ -91,14 +91,6 @@ entry-there os are id there (Some g) at = elim (cases_eq g.id id) [
   | inr ne ↦ absurd (there (find-is os are id ∙ rw (at, ne_eqb g.id id ne) refl))
 ]
 
--- all have different identifiers
-pub apart-indexed : (first : ℕ) (os : List (Option SegRec)) → AreIndexed first os → AreApart (present os)
-apart-indexed first [] are = tt
-apart-indexed first (None ∷ os) are = apart-indexed (suc first) os (rest first None os are)
-apart-indexed first (Some g ∷ os) are =
-    let own : g.id % INDEXES ≡ first + 0 = are 0 g refl in
-    (below (suc first) os (rest first (Some g) os are) g.id (omega (arith, own)), apart-indexed (suc first) os (rest first (Some g) os are))
-
 -- ENTRIES CHANGED
 
 -- an entry gets a segment of its index, or none
@@ -218,12 +210,6 @@ module _ (os : List (Option SegRec)) (are : AreIndexed 0 os) (id k : ℕ) (index
 
       pub edit-read : (f : SegRec → SegRec) → present (set os k (Some (f g))) ≡ map (edit_at id f) (present os)
       edit-read f = present-edit f 0 os are k g at-index ∙ ap (λ n. map (edit_at n f) (present os)) id-read
-
-      pub indexed-edit : (h : SegRec) → h.id ≡ g.id → AreIndexed 0 (set os k (Some h))
-      indexed-edit h same = indexed-set 0 os are k (Some h) (λ x e. let own : g.id % INDEXES ≡ 0 + k = are k g at-index in let one : h ≡ x = cc in rw (← one, same) own)
-
-pub indexed-out : (os : List (Option SegRec)) → AreIndexed 0 os → (k : ℕ) → AreIndexed 0 (set os k None)
-indexed-out os are k = indexed-set 0 os are k None (λ g e. cc)
 
 -- the segment of a page that there is
 pub page-there : (gs : List SegRec) (r : PageRef) → HasPage gs r → find_seg gs r.seg ≢ None

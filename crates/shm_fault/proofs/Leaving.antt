@@ -1,7 +1,6 @@
 -- The page that would leave its frame.
-use Rattle.shm_fault.proofs.Names.{◌≡◌, ℕ, zero, suc, ◌<◌, ◌≤◌, ◌+◌, get_or, Bool, [], ◌∷◌, cond, one_if, count_by, count_by-le-length, sum_by-cons, PageRef, is_none, false, true, List, length, Option, Some, None, is_some, refl, sym, ap, ◌∙◌, arith, not, not-true, Frame, no_frame, frame_at, is_owned, OwnedBelow, resident_of, StoreView}
-use Rattle.std.proofs.Common.{add-one}
-use Rattle.std.specs.Prelude.{position, unwrap_or, set, map, if◌then◌else◌}
+use Rattle.shm_fault.proofs.Names.{◌≡◌, ℕ, ◌<◌, ◌≤◌, ◌+◌, Bool, ◌∷◌, PageRef, is_none, false, true, List, length, Option, Some, None, is_some, refl, sym, ap, ◌∙◌, arith, Frame, no_frame, frame_at, is_owned, OwnedBelow, resident_of, StoreView}
+use Rattle.std.specs.Prelude.{position, unwrap_or, set, if◌then◌else◌}
 use Rattle.shm_frames.specs.Frame.{is_free}
 use Rattle.shm_clock.specs.Clock.{candidates, victim_of}
 use Rattle.shm_fault.specs.Goes.{unlocked}

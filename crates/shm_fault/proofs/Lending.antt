@@ -1,5 +1,5 @@
 -- A page on loan stays in its frame, unless a visit is made that was barred.
-use Rattle.shm_fault.proofs.Names.{◌≡◌, ◌∷◌, [], ℕ, Bool, true, false, true≢false, not, List, Option, Some, None, is_some, refl, sym, ap, ◌∙◌, arith, common_steps, nat_tests, get_or, PageRef, Slot, Span, Frame, no_frame, frame_at, rec_by, ref_of, Transfers}
+use Rattle.shm_fault.proofs.Names.{◌≡◌, ◌∷◌, [], ℕ, Bool, true, false, true≢false, not, List, Option, Some, None, is_some, refl, sym, ◌∙◌, PageRef, Slot, Frame, no_frame, frame_at, rec_by, Transfers}
 use Rattle.std.proofs.Common.{◌≢◌, ◌⊎◌, inl, inr}
 use Rattle.std.specs.Prelude.{position, unwrap_or, set, if◌then◌else◌}
 use Rattle.std.proofs.lemmas.List.Quantifiers.{position-Some}
@@ -7,7 +7,7 @@ use Rattle.shm_clock.specs.Clock.{candidates, passed_by, unset, unset_all}
 use Rattle.shm_fault.specs.Goes.{unlocked}
 use Rattle.shm_frames.specs.Frame.{is_free}
 use Rattle.shm_fault.specs.Loans.{LoansStay, frame_or_leaver, is_barred, leaver_in, lent_at}
-use Rattle.shm_fault.specs.Placing.{Places, Stops, StopsAt, StopsAtRead, StopsAtWrite, after_access, after_clean, after_eviction, after_page_out, after_room, after_turn, after_visit, frame_for, free_slot, keeps_or_takes, referenced, settled, slotted, slotted_for, takes, vacated, vacated_for, victim_in, visited_in, with_bit}
+use Rattle.shm_fault.specs.Placing.{Places, StopsAt, after_clean, after_eviction, after_page_out, after_room, after_turn, after_visit, frame_for, free_slot, keeps_or_takes, referenced, settled, slotted, slotted_for, takes, vacated, vacated_for, victim_in, visited_in}
 use Rattle.shm_fault.proofs.Slots.{set-cases}
 
 -- the same owner, and on loan or not as before

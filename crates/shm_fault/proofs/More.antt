@@ -1,5 +1,5 @@
 -- One more swap area: the slots that were there stay, and no page owns a new one.
-use Rattle.shm_fault.proofs.Names.{◌≡◌, ℕ, zero, suc, ◌<◌, ◌≤◌, ◌+◌, List, [], ◌∷◌, length, get_or, sum_by, Option, Some, None, refl, sym, ap, ◌∙◌, arith, sum_by-cons, PageRef, Slot, SwapView, no_area, area_at, HasSlot, IsSwap, owner_of, page_in, size_of, swap_slots, slots_in, StoreView, held, Tied, IsStoreSound, common_steps}
+use Rattle.shm_fault.proofs.Names.{◌≡◌, ℕ, zero, suc, ◌<◌, ◌≤◌, ◌+◌, List, [], ◌∷◌, length, get_or, sum_by, Option, Some, None, refl, sym, ◌∙◌, arith, sum_by-cons, PageRef, Slot, SwapView, no_area, HasSlot, IsSwap, size_of, slots_in, StoreView, held, Tied, IsStoreSound}
 use Rattle.std.proofs.Common.{map, replicate, ◌++◌, length-append}
 use Rattle.std.proofs.lemmas.List.{get_or_past, get_or-replicate, length-replicate}
 use Rattle.std.specs.Prelude.{Result, Ok, Err, OnErr, OnOk}

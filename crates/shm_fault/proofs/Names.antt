@@ -3,12 +3,12 @@ pub use Rattle.std.proofs.Common.{true≢false, Bool, Err, List, None, Ok, OnErr
 pub use Rattle.std.proofs.lemmas.Bool.{and_parts, cases_Bool, cases_eq, cases_lt, eq-eqb, eqb-true, false_from_ne_true, false≢true, le-leb, lt-leb, ne_eqb, not-false, not-true}
 pub use Rattle.std.proofs.lemmas.Bool.Decides.{nat_tests}
 pub use Rattle.std.proofs.lemmas.Grind.{common_steps}
-pub use Rattle.std.proofs.lemmas.List.{drop-append-le, get_or-replicate, get_or_past, length-map, length-replicate, length-take, map-append, replicate-append-replicate, set-get_or, set_past, take-append-le, take_all}
+pub use Rattle.std.proofs.lemmas.List.{drop-append-le, get_or-replicate, get_or_past, length-map, length-replicate, length-take, replicate-append-replicate, set-get_or, set_past, take-append-le, take_all}
 pub use Rattle.std.proofs.lemmas.List.Elements.{All-head, All-push, All-tail, All-weaker, Contains-append_left, Contains-push, filter-append}
 pub use Rattle.std.proofs.lemmas.List.Filters.{sum_by-filter_both}
-pub use Rattle.std.proofs.lemmas.List.Sums.{count_by-le-length, sum_by-append, sum_by-cons, sum_by-le-sum_by, sum_by-set, sum_by_push}
+pub use Rattle.std.proofs.lemmas.List.Sums.{count_by-le-length, sum_by-cons, sum_by-le-sum_by, sum_by-set, sum_by_push}
 pub use Rattle.std.specs.List.{flat_map, list_any, range_with_len}
-pub use Rattle.std.specs.Prelude.{All, Contains, IsSome, MatchOption, count_by, nat_eq, option_map}
+pub use Rattle.std.specs.Prelude.{All, Contains, IsSome, MatchOption, count_by, option_map}
 pub use Rattle.shm_base.specs.declared.paging.PageRef.{PageRef}
 pub use Rattle.shm_base.specs.declared.paging.Slot.{Slot}
 pub use Rattle.shm_base.specs.declared.paging.Span.{Span}

@@ -1,17 +1,7 @@
 -- Pages that are nowhere.
-use Rattle.shm_fault.proofs.Names.{◌≡◌, ℕ, zero, suc, ◌-◌, ◌+◌, ◌<◌, ◌≤◌, ◌&&◌, Bool, true, false, eqb, Option, None, Some, refl, Slot, List, length, take, cond, ap, arith, count_by, PageRec, no_page, rec_at, is_swapped}
+use Rattle.shm_fault.proofs.Names.{◌≡◌, ℕ, zero, suc, ◌-◌, ◌+◌, ◌<◌, ◌≤◌, ◌&&◌, Bool, true, eqb, Option, None, Some, refl, Slot, List, length, take, cond, ap, arith, count_by, PageRec, no_page, rec_at, is_swapped}
 use Rattle.std.proofs.lemmas.List.Sums.{sum_by_more}
 use Rattle.std.specs.Option.{option_eq}
-use Rattle.shm_fault.specs.Segs.{is_placed}
-
--- a page that is in no frame and no slot
-pub not-placed : (p : PageRec) → is_placed p ≡ false → p ≡ no_page
-not-placed p e = by p.frame p.slot e
-  where
-    by : (f : Option ℕ) (k : Option Slot) → is_placed (record { frame = f; slot = k }) ≡ false → record { frame = f; slot = k } ≡ no_page
-    by None None e = refl
-    by None (Some k) e = cc
-    by (Some f) k e = cc
 
 -- 1 for a page that is in a slot and in no frame
 abbrev pub one_if_swapped : PageRec → ℕ

@@ -1,5 +1,5 @@
 -- Visits to pages, resident or not.
-use Rattle.shm_fault.proofs.Names.{◌≡◌, ℕ, ◌≤◌, ◌+◌, ◌&&◌, Bool, true, false, length, Option, Some, None, is_some, refl, sym, ap, arith, false≢true, PageRef, had_cause, Touched, rec_by, StoreView, is_swapped, Visits, MovesOn, frame_by, one_if, CountsOn, Visited, CountsFailure, counted, total, common_steps, nat_tests}
+use Rattle.shm_fault.proofs.Names.{◌≡◌, ℕ, ◌≤◌, ◌+◌, ◌&&◌, Bool, true, false, length, Option, Some, None, is_some, refl, sym, ap, arith, false≢true, PageRef, had_cause, Touched, rec_by, StoreView, is_swapped, Visits, MovesOn, frame_by, one_if, CountsOn, Visited, CountsFailure, counted, total, common_steps}
 use Rattle.shm_fault.proofs.Counting.{counts-still}
 use Rattle.shm_fault.specs.Placing.{places, visit_counted}
 use Rattle.shm_fault.proofs.Pages.{by-still}

@@ -3,7 +3,6 @@ use Rattle.std.proofs.Common.{◌≡◌, ◌≢◌, ℕ, zero, suc, ◌+◌, ◌
 use Rattle.std.proofs.lemmas.Grind.{common_steps}
 use Rattle.std.specs.Prelude.{count_by}
 use Rattle.std.specs.Int.{from_bool}
-use Rattle.std.proofs.lemmas.List.{get_or-set_other}
 use Rattle.std.proofs.lemmas.List.Sums.{sum_by-cons, sum_by-set, count_by-le-length}
 use Rattle.shm_base.specs.declared.paging.PageRef.{PageRef}
 use Rattle.shm_base.specs.Stored.{padded}
@@ -106,14 +105,6 @@ module _ {table : List FrameState} {first owned changed i : ℕ} {was : FrameSta
   pub kept-fill : (r : PageRef) (later : ℕ) → was.owner ≡ None → later ≤ length table → ((j : ℕ) → j < later → j ≢ i → has_no_owner (state_at table j) ≡ false) → IsFrameTable (set table i (record was { owner = Some r })) later (owned + 1) changed
   kept-fill r later free bound used = grind (arith, common_steps, owned-set, length-set, used-set, changed-set, clear-set)
 
-  -- a frame is made free
-  pub kept-empty : (later : ℕ) → later ≤ first → later ≤ i → IsFrameTable (set table i free_entry) later (owned - from_bool (has_owner was)) (changed - from_bool was.dirty)
-  kept-empty later below past = grind (arith, common_steps, length-set, get_or-set_other, owned-set, changed-set, clear-set)
-
--- before any frame was used
-pub kept-new : IsFrameTable [] 0 0 0
-kept-new = record { bound = omega arith; used = λ i l. absurd (omega arith); resident = refl; dirty = refl; clear = λ i free. refl }
-
 -- more frames are used, and are free
 pub kept-reach : (table : List FrameState) (first owned changed n : ℕ) → IsFrameTable table first owned changed → IsFrameTable (padded table n free_entry) first owned changed
 kept-reach table first owned changed n k =
@@ -144,7 +135,3 @@ all-counted p d (x ∷ xs) e i l =
 -- if as many are owned as were used, none of these is free
 pub none-free : (table : List FrameState) (owned : ℕ) → owned ≡ count_by has_owner table → owned ≡ length table → UsedBelow table (length table)
 none-free table owned resident e i l = rw (all-counted has_owner free_entry table (sym resident ∙ e) i l) refl
-
--- where the next search begins
-pub kept-later : (table : List FrameState) (first owned changed later : ℕ) → IsFrameTable table first owned changed → later ≤ length table → UsedBelow table later → IsFrameTable table later owned changed
-kept-later table first owned changed later k bound used = record { bound = bound; used = used; resident = k.resident; dirty = k.dirty; clear = k.clear }

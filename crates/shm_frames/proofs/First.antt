@@ -24,14 +24,6 @@ module _ {X : Type 0} (p : X → Bool) (xs : List X) (d : X) where
   before-position None e k l = grind (arith, fails_before_first)
   before-position (Some i) e k l = (position-Some p xs i d e).2 k l
 
-  pub position-le : (o : Option ℕ) → position p xs ≡ o → unwrap_or o (length xs) ≤ length xs
-  position-le None e = omega arith
-  position-le (Some i) e = let s = position-Some p xs i d e in omega (arith, s.0)
-
--- a frame that is free has no owner
-none_if_free : (f : Frame) → is_free f ≡ true → f.owner ≡ None
-none_if_free f e = grind arith
-
 -- the first free frame is the least
 pub least_is : (frames : List Frame) (o : Option ℕ) → position is_free frames ≡ o → MatchOption o (OwnedBelow frames (length frames)) (IsLeastFree frames)
 least_is frames None e = before-position is_free frames no_frame None e

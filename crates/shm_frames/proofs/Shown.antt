@@ -111,10 +111,6 @@ module _ {table : List FrameState} {pages : List (List ℕ)} {count : ℕ} {fram
       ∙ ap (λ fs. set fs i (frame_shown (f x) (get_or bytes i []))) s.is
       ∙ ap (λ y. set frames i y) (same x (get_or bytes i []) ∙ ap g (ap (λ y. frame_shown y (get_or bytes i [])) at ∙ sym (frame-shown i)))
 
-  -- a field that is read of an entry
-  pub entry-read : (i : ℕ) (x : FrameState) → x ≡ state_at table i → frame_at frames i ≡ frame_shown x (frame_at frames i).bytes
-  entry-read i x at = rw (at, frame-shown i) refl
-
   -- a frame with an owner has an entry
   pub owned-there : (i : ℕ) → is_some (frame_at frames i).owner ≡ true → i < length table
   owned-there i owned = entry-there table i (sym (ap (λ (f : Frame). is_some f.owner) (frame-shown i)) ∙ owned)

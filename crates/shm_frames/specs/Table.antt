@@ -1,5 +1,5 @@
 -- The entries of the table and the bytes of the frames, which contracts see as frames; and the table's invariant.
-use Rattle.std.specs.Prelude.{◌≡◌, ℕ, ◌<◌, ◌≤◌, ◌^◌, Bool, true, false, Option, None, Some, is_none, is_some, List, [], ◌∷◌, length, get_or, count_by}
+use Rattle.std.specs.Prelude.{◌≡◌, ℕ, ◌<◌, ◌≤◌, ◌^◌, Bool, false, Option, None, Some, is_none, is_some, List, [], ◌∷◌, length, get_or, count_by}
 use Rattle.shm_frames.specs.declared.frames.FrameState.{FrameState}
 use Rattle.shm_base.specs.Stored.{padded}
 use Rattle.shm_base.specs.Page.{zero_page}

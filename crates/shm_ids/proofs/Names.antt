@@ -1,5 +1,5 @@
 -- The names that the proofs use: those of the crates below, and of the specs of this crate.
-pub use Rattle.std.proofs.Common.{Bool, nat_lt, true, false, ◌≡◌, ℕ, ◌+◌, ◌<◌, ◌≤◌, List, length, map, option_map, Some, None, is_some, arith, ◌≢◌, [], ◌∷◌, ◌++◌, set, zero, suc, ◌%◌, ℤ, pos, negsuc, slice_get, slice_set, Option, IsOk, refl, sym, ap, ◌∙◌, inl, inr, eq-eqb, ne_eqb, ◌⊎◌, drop, if◌then◌else◌, rules, nat_eq, not, ◌&&◌, subst, ◌/◌, Ok, true≢false, length-set, to_z, of_z, w32}
+pub use Rattle.std.proofs.Common.{nat_lt, true, false, ◌≡◌, ℕ, ◌+◌, ◌<◌, ◌≤◌, List, length, map, option_map, Some, None, is_some, arith, ◌≢◌, [], ◌∷◌, ◌++◌, set, zero, suc, ◌%◌, ℤ, pos, negsuc, slice_get, slice_set, Option, IsOk, refl, sym, ap, ◌∙◌, inl, inr, eq-eqb, ne_eqb, ◌⊎◌, drop, if◌then◌else◌, rules, nat_eq, not, ◌&&◌, subst, ◌/◌, Ok, true≢false, length-set, to_z, of_z, w32}
 pub use Rattle.std.proofs.lemmas.Grind.{common_steps}
 pub use Rattle.std.proofs.lemmas.List.Sums.{count_by-le-length, sum_by-cons}
 pub use Rattle.shm_ids.specs.declared.table.Entry.{Entry}

@@ -1,11 +1,11 @@
 -- By how much each move changes how many pieces there are.
-use Rattle.shm_laws.proofs.Names.{ChangesItsOwn, Cred, Mprotect, Munmap, ◌≤◌, occupied-cut, protects_pieces, rounded, stops_midway, ◌≡◌, ◌≢◌, ◌⊎◌, ℕ, ◌+◌, ◌*◌, ◌%◌, ◌<◌, ◌==◌, ℤ, pos, Bool, true, false, not, if◌then◌else◌, List, [], ◌∷◌, Option, Some, slice_set, refl, sym, ap, ◌∙◌, inl, inr, arith, common_steps, filter, subst, flat_map-cons, none-some, ShmidDs, ProcessCall, Shmat, Shmdt, Fork, Exec, Exit, Addr, Done, Event, AtFlags, Segment, Piece, Live, Runner, Machine, Look, look, occupied, cut, origin_of, is_named, without_named, pieces_of, attach_count, Caller, Outcome, caller_of, acts, step_by, is_remap, stat, gives, is_refusal, IsMove, one_more, pieces_of-inserted, pieces_of-filter, sum-set, piece_count, hands_pieces, CountsPieces, IsFreeFor, Stands, pages_in, Found, pieces_of_caller}
+use Rattle.shm_laws.proofs.Names.{ChangesItsOwn, Cred, Mprotect, Munmap, ◌≤◌, occupied-cut, protects_pieces, rounded, stops_midway, ◌≡◌, ◌≢◌, ◌⊎◌, ℕ, ◌+◌, ◌*◌, ◌<◌, ◌==◌, ℤ, pos, Bool, true, false, not, if◌then◌else◌, List, [], ◌∷◌, Option, Some, slice_set, refl, sym, ap, ◌∙◌, inl, inr, arith, common_steps, filter, subst, flat_map-cons, none-some, ShmidDs, ProcessCall, Shmat, Shmdt, Fork, Exec, Exit, Addr, Done, Event, AtFlags, Piece, Live, Runner, Machine, Look, look, occupied, cut, origin_of, is_named, without_named, pieces_of, attach_count, Caller, Outcome, caller_of, acts, step_by, is_remap, stat, is_refusal, IsMove, one_more, pieces_of-inserted, pieces_of-filter, sum-set, piece_count, hands_pieces, CountsPieces, IsFreeFor, Stands, pieces_of_caller}
 use Rattle.shm_base.specs.declared.call.Call.TheVariants as calls
 use Rattle.shm_base.specs.declared.call.Reply.TheVariants as replies
 use Rattle.shm_laws.proofs.Callers.{caller-at, caller-set, caller-there, kept-set}
 use Rattle.shm_laws.proofs.Protecting.{protected-keeps}
-use Rattle.shm_laws.proofs.Handing.{Takes, Rests, Attaches, Leaves, Forks, Unmaps, Protects, Credits, Hands, none-stay, hands-acts}
-use Rattle.shm_laws.proofs.Looks.{found-own}
+use Rattle.shm_laws.proofs.Handing.{Takes, Attaches, Leaves, Unmaps, Protects, Hands, none-stay, hands-acts}
+use Rattle.shm_laws.proofs.Looks.{found-own, one-segment}
 use Rattle.shm_laws.proofs.Refusing.{by-move}
 use Rattle.shm_laws.proofs.Stepping.{Bare, unborn-bare}
 
@@ -33,39 +33,6 @@ named-fewer addr (q ∷ qs) p found =
 
 -- ONE CALL
 
--- a call that did one of the four things did none of the others
-no-rest : (s : Machine) (call : ProcessCall) (o : Outcome) → Rests s call o → hands_pieces call ≡ true → is_refusal o.reply ≡ false → ⊥
-no-rest s call o k gives clear = grind arith
-
-no-fork : (c : Caller) (call : ProcessCall) (stays : Piece → Bool) (child : ℕ) → Takes c call stays → call ≡ Fork child → ⊥
-no-fork c call stays child taken asked = grind arith
-
-no-attach : (c : Caller) (call : ProcessCall) (stays : Piece → Bool) (id addr : ℕ) (flags : AtFlags) → Takes c call stays → call ≡ Shmat (pos id) addr flags → ⊥
-no-attach c call stays id addr flags taken asked = grind arith
-
-all-hands : (call : ProcessCall) → (call ≡ Exec) ⊎ (call ≡ Exit) → hands_pieces call ≡ true
-all-hands call which = grind arith
-
-no-quiet : (s : Machine) (c : Caller) (call : ProcessCall) (o : Outcome) → Attaches s c call o ⊎ (Leaves s c call o ⊎ (Forks s c call o ⊎ (Unmaps s c call o ⊎ Protects s c call o)))
-    → (hands_pieces call ≡ false) ⊎ ((is_refusal o.reply ≡ true) × (stops_midway call ≡ false)) → ⊥
-no-quiet s c call o k why = grind arith
-
--- an mprotect is no other call
-no-protect : (s : Machine) (c : Caller) (call : ProcessCall) (o : Outcome) (addr len : ℕ) (w : Bool) → call ≡ Mprotect addr len w
-    → Rests s call o ⊎ (Attaches s c call o ⊎ (Leaves s c call o ⊎ (Forks s c call o ⊎ (Unmaps s c call o ⊎ Credits s c call o)))) → ⊥
-no-protect s c call o addr len w asked k = grind arith
-
-no-unmap : (s : Machine) (c : Caller) (call : ProcessCall) (o : Outcome) (addr len : ℕ) → call ≡ Munmap addr len → o.reply ≡ Done
-    → Rests s call o ⊎ (Attaches s c call o ⊎ (Leaves s c call o ⊎ (Forks s c call o ⊎ (Protects s c call o ⊎ Credits s c call o)))) → ⊥
-no-unmap s c call o addr len asked answer k = grind arith
-
-no-attached : (s : Machine) (c : Caller) (call : ProcessCall) (o : Outcome) (id addr : ℕ) (flags : AtFlags) → call ≡ Shmat (pos id) addr flags
-    → Forks s c call o ⊎ (Unmaps s c call o ⊎ (Protects s c call o ⊎ Credits s c call o)) → ⊥
-no-attached s c call o id addr flags asked k = grind arith
-
-no-detached : (s : Machine) (c : Caller) (call : ProcessCall) (o : Outcome) (addr : ℕ) → call ≡ Shmdt addr → Forks s c call o ⊎ (Unmaps s c call o ⊎ (Protects s c call o ⊎ Credits s c call o)) → ⊥
-no-detached s c call o addr asked k = grind arith
-
 module _ (s : Machine) (pid : ℕ) (c : Caller) (live : caller_of s pid ≡ Some c) (bare : Bare s.runners) (call : ProcessCall) (o : Outcome) where
   -- the caller's pieces go and others come
   swap : (r : Runner) (j : ℕ) → attach_count (slice_set s.runners c.index r) j + pieces_of j c.pieces ≡ attach_count s.runners j + pieces_of j r.pieces
@@ -77,118 +44,70 @@ module _ (s : Machine) (pid : ℕ) (c : Caller) (live : caller_of s pid ≡ Some
   mine : (j : ℕ) → piece_count s pid j ≡ pieces_of j c.pieces
   mine j = ap (λ h. pieces_of j (pieces_of_caller h)) live
 
-  -- the segment that a look-up finds is one
-  same-segment : (l : Look) (i : ℕ) (x y : Segment) → l ≡ Found i x → l ≡ Found i y → x ≡ y
-  same-segment l i x y first second = cc
-
   -- nothing lies in the range, because the call asked for that, or because it was so
   range-free : (k : Attaches s c call o) (id addr base : ℕ) (flags : AtFlags) → call ≡ Shmat (pos id) addr flags → o.reply ≡ Addr base
       → (is_remap flags ≡ false) ⊎ IsFreeFor s pid id base → occupied c.pieces k.place.base (k.place.base + 4096 * k.place.pages) ≡ false
   range-free k id addr base flags asked answer (inl plain) = let same : flags ≡ k.flags = cc (asked, k.asked) in k.there.lies.free (subst (λ f. is_remap f ≡ false) same plain)
   range-free k id addr base flags asked answer (inr f) =
       let named : id ≡ k.place.seg = cc (asked, k.asked) in
-      let there : base ≡ k.place.base = cc (answer, k.answer) in
-      let one : f.segment ≡ k.there.segment = same-segment (look s.table (pos k.place.seg)) (k.place.seg % 32768) f.segment k.there.segment (subst (λ n. Stands s n f.segment) named f.stands) k.there.stands in
-      let whose : pieces_of_caller (caller_of s pid) ≡ c.pieces = ap pieces_of_caller live in
-      let whole : pages_in f.segment ≡ k.place.pages = ap pages_in one ∙ sym k.there.whole in
-      subst (λ n. occupied c.pieces k.place.base (k.place.base + 4096 * n) ≡ false) whole
-      (subst (λ b. occupied c.pieces b (b + 4096 * pages_in f.segment) ≡ false) there (subst (λ ps. occupied ps base (base + 4096 * pages_in f.segment) ≡ false) whose f.free))
+      let one : f.segment ≡ k.there.segment = one-segment s k.place.seg f.segment k.there.segment (subst (λ n. Stands s n f.segment) named f.stands) k.there.stands in
+      cc (f.free, answer, k.answer, one, k.there.whole, ap pieces_of_caller live)
 
   attached-counts : (k : Attaches s c call o) → occupied c.pieces k.place.base (k.place.base + 4096 * k.place.pages) ≡ false → (j : ℕ) → attach_count o.state.runners j ≡ attach_count s.runners j + (if k.place.seg == j then 1 else 0)
   attached-counts k free j = grind (arith, cut-free, pieces_of-inserted, swap)
 
   attach-counts : Hands s c call o → (id addr base : ℕ) (flags : AtFlags) → call ≡ Shmat (pos id) addr flags → o.reply ≡ Addr base
       → (is_remap flags ≡ false) ⊎ IsFreeFor s pid id base → (j : ℕ) → attach_count o.state.runners j ≡ attach_count s.runners j + (if id == j then 1 else 0)
-  attach-counts (inr (inl k)) id addr base flags asked answer free j =
+  attach-counts h id addr base flags asked answer free j =
+      let k : Attaches s c call o = grind arith in
       let named : id ≡ k.place.seg = cc (asked, k.asked) in
       rw named (attached-counts k (range-free k id addr base flags asked answer free) j)
-  attach-counts (inl k) id addr base flags asked answer free j = absurd (no-rest s call o k (ap hands_pieces asked) (ap is_refusal answer))
-  attach-counts (inr (inr (inl k))) id addr base flags asked answer free j = absurd (no-attach c call k.stays id addr flags k.taken asked)
-  attach-counts (inr (inr (inr k))) id addr base flags asked answer free j = absurd (no-attached s c call o id addr flags asked k)
 
   fork-counts : Hands s c call o → (child : ℕ) → call ≡ Fork child → o.reply ≡ Done → (j : ℕ) → attach_count o.state.runners j ≡ attach_count s.runners j + piece_count s pid j
-  fork-counts h1 child asked answer j = grind (arith, common_steps, unborn-bare, sum-set, mine, no-rest, no-fork)
+  fork-counts h child asked answer j = grind (arith, common_steps, unborn-bare, sum-set, mine)
 
   left-counts : Hands s c call o → (call ≡ Exec) ⊎ (call ≡ Exit) → o.reply ≡ Done → (j : ℕ) → attach_count o.state.runners j + piece_count s pid j ≡ attach_count s.runners j
-  left-counts h1 which answer j = grind (arith, common_steps, none-stay, swap, mine, no-rest, all-hands)
+  left-counts h which answer j = grind (arith, common_steps, none-stay, swap, mine)
 
   abbrev Loses : Type 0
   Loses = (id : ℕ) × (attach_count o.state.runners id < attach_count s.runners id) × ((j : ℕ) → j ≢ id → attach_count o.state.runners j ≡ attach_count s.runners j)
 
   detach-counts : Hands s c call o → (addr : ℕ) → call ≡ Shmdt addr → o.reply ≡ Done → Loses
-  detach-counts (inr (inr (inl k))) addr asked answer = by k.taken
+  detach-counts h addr asked answer = let k : Leaves s c call o = grind arith in by k k.taken
     where
-      by : Takes c call k.stays → Loses
-      by (inr t) = absurd (grind arith)
-      by (inl (a, p, e, found, stays)) =
-          let rest = λ (j : ℕ). ap (λ f. pieces_of j (filter f c.pieces)) stays in
+      by : (k : Leaves s c call o) → Takes c call k.stays → Loses
+      by k (inr t) = absurd (grind arith)
+      by k (inl (a, p, e, found, stays)) =
           let all = λ (j : ℕ). swap (record { pid = c.pid; life = k.life; pieces = filter k.stays c.pieces }) j in
-          let less = named-fewer a c.pieces p found in (
-            p.seg,
-            rw k.runners (omega (arith, all p.seg, less, rest p.seg)),
-            λ j apart. let same = named-other a p.seg j c.pieces apart in rw k.runners (omega (arith, all j, same, rest j)),
-          )
-  detach-counts (inl k) addr asked answer = absurd (no-rest s call o k (ap hands_pieces asked) (ap is_refusal answer))
-  detach-counts (inr (inl k)) addr asked answer = absurd (cc)
-  detach-counts (inr (inr (inr k))) addr asked answer = absurd (no-detached s c call o addr asked k)
+          (p.seg, rw k.runners (grind (arith, stays, all p.seg, named-fewer a c.pieces p found)), λ j apart. rw k.runners (grind (arith, stays, all j, named-other a p.seg j c.pieces apart)))
 
   -- only the caller's pieces change, and it has these
   own-change : (cred : Cred) (ps : List Piece) → o.state.runners ≡ slice_set s.runners c.index (record { pid = c.pid; life = Live cred; pieces = ps })
       → ChangesItsOwn s pid o.state × (pieces_of_caller (caller_of o.state pid) ≡ ps)
   own-change cred ps is =
       let after : caller_of o.state pid ≡ Some (record { index = c.index; pid = c.pid; cred = cred; pieces = ps }) = rw is (caller-set 0 pid s.runners c c.index cred ps live (omega arith)) in
-      let pieces : pieces_of_caller (caller_of o.state pid) ≡ ps = ap pieces_of_caller after in (
-        λ j.
-            let all = swap (record { pid = c.pid; life = Live cred; pieces = ps }) j in
-            let before = mine j in
-            let now : piece_count o.state pid j ≡ pieces_of j ps = ap (pieces_of j) pieces in
-            let there : attach_count o.state.runners j ≡ attach_count (slice_set s.runners c.index (record { pid = c.pid; life = Live cred; pieces = ps })) j = ap (λ rs. attach_count rs j) is in
-            omega (arith, all, before, now, there),
-        pieces,
-      )
+      (λ j. grind (arith, swap (record { pid = c.pid; life = Live cred; pieces = ps }) j, mine j, after, is), ap pieces_of_caller after)
 
   unmap-counts : Hands s c call o → (addr len : ℕ) → call ≡ Munmap addr len → o.reply ≡ Done
       → ChangesItsOwn s pid o.state × (occupied (pieces_of_caller (caller_of o.state pid)) addr (addr + rounded len) ≡ false)
-  unmap-counts (inr (inr (inr (inr (inl k))))) addr len asked answer =
+  unmap-counts h addr len asked answer =
+      let k : Unmaps s c call o = grind arith in
       let change = own-change c.cred (cut k.addr (k.addr + rounded k.len) c.pieces) k.runners in
-      let from : k.addr ≡ addr = cc (k.asked, asked) in
-      let long : k.len ≡ len = cc (k.asked, asked) in (
-        change.0,
-        subst (λ a. occupied (pieces_of_caller (caller_of o.state pid)) a (a + rounded len) ≡ false) from
-            (subst (λ b. occupied (pieces_of_caller (caller_of o.state pid)) k.addr (k.addr + rounded b) ≡ false) long (rw change.1 (occupied-cut k.addr (k.addr + rounded k.len) c.pieces))),
-      )
-  unmap-counts (inl k) addr len asked answer = absurd (no-unmap s c call o addr len asked answer (inl k))
-  unmap-counts (inr (inl k)) addr len asked answer = absurd (no-unmap s c call o addr len asked answer (inr (inl k)))
-  unmap-counts (inr (inr (inl k))) addr len asked answer = absurd (no-unmap s c call o addr len asked answer (inr (inr (inl k))))
-  unmap-counts (inr (inr (inr (inl k)))) addr len asked answer = absurd (no-unmap s c call o addr len asked answer (inr (inr (inr (inl k)))))
-  unmap-counts (inr (inr (inr (inr (inr k))))) addr len asked answer = absurd (no-unmap s c call o addr len asked answer (inr (inr (inr (inr k)))))
+      let free : occupied (pieces_of_caller (caller_of o.state pid)) k.addr (k.addr + rounded k.len) ≡ false = rw change.1 (occupied-cut k.addr (k.addr + rounded k.len) c.pieces) in
+      (change.0, cc (free, k.asked, asked))
 
   protect-counts : Hands s c call o → (addr len : ℕ) (w : Bool) → call ≡ Mprotect addr len w
       → ChangesItsOwn s pid o.state × ((j : ℕ) → 1 ≤ attach_count s.runners j → 1 ≤ attach_count o.state.runners j)
-  protect-counts (inr (inr (inr (inr (inr (inl k)))))) addr len w asked =
+  protect-counts h addr len w asked =
+      let k : Protects s c call o = grind arith in
       let ps = (protects_pieces s.limits.most_pieces k.writable k.addr k.len c.pieces).pieces in (
         (own-change c.cred ps k.runners).0,
         λ j some. rw k.runners (kept-set s.runners c.index (record { pid = c.pid; life = Live c.cred; pieces = c.pieces }) (record { pid = c.pid; life = Live c.cred; pieces = ps }) (caller-there s pid c live)
             (λ id had. protected-keeps s.limits.most_pieces k.writable k.addr k.len id c.pieces had) j some),
       )
-  protect-counts (inl k) addr len w asked = absurd (no-protect s c call o addr len w asked (inl k))
-  protect-counts (inr (inl k)) addr len w asked = absurd (no-protect s c call o addr len w asked (inr (inl k)))
-  protect-counts (inr (inr (inl k))) addr len w asked = absurd (no-protect s c call o addr len w asked (inr (inr (inl k))))
-  protect-counts (inr (inr (inr (inl k)))) addr len w asked = absurd (no-protect s c call o addr len w asked (inr (inr (inr (inl k)))))
-  protect-counts (inr (inr (inr (inr (inl k))))) addr len w asked = absurd (no-protect s c call o addr len w asked (inr (inr (inr (inr (inl k))))))
-  protect-counts (inr (inr (inr (inr (inr (inr k)))))) addr len w asked = absurd (no-protect s c call o addr len w asked (inr (inr (inr (inr (inr k))))))
 
   quiet-counts : Hands s c call o → (hands_pieces call ≡ false) ⊎ ((is_refusal o.reply ≡ true) × (stops_midway call ≡ false)) → (j : ℕ) → attach_count o.state.runners j ≡ attach_count s.runners j
-  quiet-counts (inl k) why j = ap (λ rs. attach_count rs j) k.runners
-  quiet-counts (inr (inr (inr (inr (inr (inr k)))))) why j =
-      let all = swap (record { pid = c.pid; life = Live k.cred; pieces = c.pieces }) j in
-      let there = ap (λ rs. attach_count rs j) k.runners in
-      omega (arith, all, there)
-  quiet-counts (inr (inl k)) why j = absurd (no-quiet s c call o (inl k) why)
-  quiet-counts (inr (inr (inl k))) why j = absurd (no-quiet s c call o (inr (inl k)) why)
-  quiet-counts (inr (inr (inr (inl k)))) why j = absurd (no-quiet s c call o (inr (inr (inl k))) why)
-  quiet-counts (inr (inr (inr (inr (inl k))))) why j = absurd (no-quiet s c call o (inr (inr (inr (inl k)))) why)
-  quiet-counts (inr (inr (inr (inr (inr (inl k)))))) why j = absurd (no-quiet s c call o (inr (inr (inr (inr k)))) why)
+  quiet-counts h why j = grind (arith, common_steps, swap)
 
 -- WHAT STAT SHOWS
 

@@ -1,7 +1,7 @@
 -- No move gives a process other credentials than it asked for.
-use Rattle.shm_laws.proofs.Names.{IsAskedFor, Setuid, cut, protects_pieces, rounded, subst, ◌+◌, ◌≡◌, ◌≢◌, ◌⊎◌, ℕ, List, get_or, Some, slice_get, slice_set, refl, sym, ap, ◌∙◌, inl, inr, arith, cases_eq, slice_get-get_or, Fork, Event, Unborn, Live, Ended, Runner, Machine, Cred, Caller, Outcome, caller_of, acts, pieces_with, filter, IsMove, child_at, first_runner, life_in, get-set_other, IsBornWith, KeepsCredentials}
+use Rattle.shm_laws.proofs.Names.{IsAskedFor, Setuid, subst, ◌≡◌, ◌≢◌, ◌⊎◌, ℕ, List, get_or, Some, slice_get, slice_set, refl, sym, ap, ◌∙◌, inl, inr, arith, cases_eq, slice_get-get_or, Fork, Event, Live, Ended, Runner, Machine, Cred, Caller, Outcome, caller_of, acts, IsMove, child_at, first_runner, life_in, get-set_other, IsBornWith, KeepsCredentials, Life}
 use Rattle.shm_laws.proofs.Callers.{CallerAt, caller-at, caller-there}
-use Rattle.shm_laws.proofs.Handing.{Hands, hands-acts}
+use Rattle.shm_laws.proofs.Handing.{Credits, Forks, Hands, by-hands, hands-acts}
 use Rattle.shm_laws.proofs.Refusing.{by-move}
 use Rattle.shm_laws.proofs.Turning.{set-got}
 
@@ -37,62 +37,45 @@ module _ (s : Machine) (pid : ℕ) (c : Caller) (live : caller_of s pid ≡ Some
       let place : at.place ≡ c.index = omega (arith, at.at) in
       (record { pid = pid; life = Live c.cred; pieces = c.pieces }, ap (slice_get s.runners) (sym place) ∙ at.there, sym at.own, inl same)
 
-  had-hands : (o : Outcome) → Hands s c e.call o → (e.reply ≡ o.reply) → KeepsIn s e o.state.runners
-  had-hands o (inl k) told = rw k.runners (had-same s e)
-  had-hands o (inr (inl k)) told = rw k.runners (had-set s e c.index (record { pid = c.pid; life = Live c.cred; pieces = pieces_with c k.flags k.place }) mine)
-  had-hands o (inr (inr (inl k))) told = rw k.runners (had-set s e c.index (record { pid = c.pid; life = k.life; pieces = filter k.stays c.pieces }) (λ cred lives. left cred lives k.who))
-    where
-      left : (cred : Cred) → k.life ≡ Live cred → (k.life ≡ Live c.cred) ⊎ (k.life ≡ Ended) → Had s e c.index c.pid cred
-      left cred lives (inl h) = mine cred (sym h ∙ lives)
-      left cred lives (inr h) = absurd (cc (sym h ∙ lives))
-  had-hands o (inr (inr (inr (inr (inl k))))) told = rw k.runners (had-set s e c.index (record { pid = c.pid; life = Live c.cred; pieces = cut k.addr (k.addr + rounded k.len) c.pieces }) mine)
-  had-hands o (inr (inr (inr (inr (inr (inl k)))))) told =
-      rw k.runners (had-set s e c.index (record { pid = c.pid; life = Live c.cred; pieces = (protects_pieces s.limits.most_pieces k.writable k.addr k.len c.pieces).pieces }) mine)
-  had-hands o (inr (inr (inr (inr (inr (inr k)))))) told = rw k.runners (had-set s e c.index (record { pid = c.pid; life = Live k.cred; pieces = c.pieces }) asks)
-    where
-      asks : (cred : Cred) → Live k.cred ≡ Live cred → Had s e c.index c.pid cred
-      asks cred same =
-          let same : k.cred ≡ cred = cc same in (
-            record { pid = c.pid; life = Live c.cred; pieces = c.pieces },
-            caller-there s pid c live,
-            refl,
-            inr (inl (record {
-              own = own ∙ sym at.own;
-              call = subst (λ (x : Cred). e.call ≡ Setuid x.uid x.gid) same k.asked;
-              reply = told ∙ k.answer;
-            })),
-          )
-  had-hands o (inr (inr (inr (inl k)))) told = rw k.runners (had-set s e k.index (record { pid = k.child; life = Live c.cred; pieces = c.pieces }) born)
-    where
-      old : Runner
-      old = get_or s.runners k.index first_runner
+  module _ (o : Outcome) (told : e.reply ≡ o.reply) where
+    left : (life : Life) (cred : Cred) → (life ≡ Live c.cred) ⊎ (life ≡ Ended) → life ≡ Live cred → Had s e c.index c.pid cred
+    left life cred (inl h) lives = mine cred (sym h ∙ lives)
+    left life cred (inr h) lives = absurd (cc (sym h ∙ lives))
 
-      there : slice_get s.runners k.index ≡ Some (get_or s.runners k.index first_runner)
-      there = slice_get-get_or s.runners k.index first_runner (child_at k.child k.index s.runners k.unborn).within
+    asks : (k : Credits s c e.call o) (cred : Cred) → Live k.cred ≡ Live cred → Had s e c.index c.pid cred
+    asks k cred same =
+        let same : k.cred ≡ cred = cc same in (
+          record { pid = c.pid; life = Live c.cred; pieces = c.pieces },
+          caller-there s pid c live,
+          refl,
+          inr (inl (record { own = own ∙ sym at.own; call = subst (λ (x : Cred). e.call ≡ Setuid x.uid x.gid) same k.asked; reply = told ∙ k.answer })),
+        )
 
-      named : (get_or s.runners k.index first_runner).pid ≡ k.child
-      named = (child_at k.child k.index s.runners k.unborn).named
+    born : (k : Forks s c e.call o) (cred : Cred) → Live c.cred ≡ Live cred → Had s e k.index k.child cred
+    born k cred same =
+        let old : Runner = get_or s.runners k.index first_runner in
+        let child = child_at k.child k.index s.runners k.unborn in
+        let there : slice_get s.runners k.index ≡ Some old = slice_get-get_or s.runners k.index first_runner child.within in (
+          old,
+          there,
+          child.named,
+          inr (inr (record {
+            life = sym (ap life_in there) ∙ child.unborn;
+            call = k.asked ∙ ap Fork (sym child.named);
+            reply = told ∙ k.answer;
+            parent = c;
+            live = ap (caller_of s) own ∙ live;
+            inherits = cc (sym same);
+          })),
+        )
 
-      life : (get_or s.runners k.index first_runner).life ≡ Unborn
-      life = sym (ap life_in there) ∙ (child_at k.child k.index s.runners k.unborn).unborn
-
-      born : (cred : Cred) → Live c.cred ≡ Live cred → Had s e k.index k.child cred
-      born cred same = (
-        get_or s.runners k.index first_runner,
-        there,
-        named,
-        inr (inr (record {
-          life = life;
-          call = k.asked ∙ ap Fork (sym named);
-          reply = told ∙ k.answer;
-          parent = c;
-          live = ap (caller_of s) own ∙ live;
-          inherits = cc (sym same);
-        })),
-      )
+    had-hands : Hands s c e.call o → KeepsIn s e o.state.runners
+    had-hands =
+        by-hands s c e.call o (KeepsIn s e) (λ i r. (cred : Cred) → r.life ≡ Live cred → Had s e i r.pid cred) (had-same s e) (had-set s e)
+        (λ k. mine) (λ k cred. left k.life cred k.who) born (λ k. mine) (λ k. mine) asks
 
 pub keeps-credentials : (s : Machine) (n : ℕ) (e : Event) (t : Machine) → IsMove s n e t → KeepsCredentials s e t
 keeps-credentials s n e t =
     by-move s n e t (λ r u. KeepsCredentials s (record { pid = e.pid; call = e.call; reply = r }) u)
-    (λ c is. had-hands s e.pid c is (record { pid = e.pid; call = e.call; reply = (acts s n c e.call).reply }) refl (acts s n c e.call) (hands-acts s n c e.call) refl)
+    (λ c is. had-hands s e.pid c is (record { pid = e.pid; call = e.call; reply = (acts s n c e.call).reply }) refl (acts s n c e.call) refl (hands-acts s n c e.call))
     (λ r no. had-same s (record { pid = e.pid; call = e.call; reply = r }))

@@ -1,19 +1,15 @@
 -- Each piece is within a segment that exists.
-use Rattle.shm_laws.proofs.Names.{subst, sym, inr, ◌≡◌, ℕ, ◌+◌, ◌*◌, ◌%◌, ◌≤◌, true, length, get_or, Option, Some, None, refl, arith, common_steps, none-some, All-contains, Contains-get_or, Event, Segment, Piece, Runner, Machine, Opening, start_of, Place, covers, place_by, place, attach_count, Caller, caller_of, IsMove, Stands, HasPiece, EachPiece, pieces_of_caller}
-use Rattle.shm_laws.proofs.Fates.{kind-move}
+use Rattle.shm_laws.proofs.Names.{PiecesNameWhatStands, subst, sym, inr, ◌≡◌, ℕ, ◌+◌, ◌*◌, ◌%◌, ◌≤◌, true, length, get_or, Option, Some, None, refl, arith, common_steps, none-some, All-contains, Contains-get_or, Event, Segment, Piece, Runner, Machine, Place, covers, place_by, place, attach_count, Caller, caller_of, IsMove, Stands, HasPiece, EachPiece, pieces_of_caller}
+use Rattle.shm_laws.proofs.Fates.{IsMachineSound}
+use Rattle.shm_laws.proofs.Stepping.{Moved}
 use Rattle.shm_laws.proofs.Accessing.{lies-in}
-use Rattle.shm_laws.proofs.Granting.{IsPieceGiven, Aligned, each-has, has-own, mine, each-start, given-move, aligned-move}
-use Rattle.shm_laws.proofs.Parting.{IsAligned}
+use Rattle.shm_laws.proofs.Looks.{one-segment}
+use Rattle.shm_laws.proofs.Granting.{IsPieceGiven, Aligned, each-has, has-own, mine, given-move}
 use Rattle.shm_laws.proofs.Naming.{Before, came-from}
-use Rattle.shm_laws.proofs.Piecing.{IsWhole, whole-move, whole-start}
 use Rattle.shm_laws.proofs.Putting.{over-length}
 
--- ONE SEGMENT UNDER ONE IDENTIFIER
+-- TWO SEGMENTS AT ONE INDEX ARE ONE
 
-pub one-segment : (s : Machine) (id : ℕ) (x y : Segment) → Stands s id x → Stands s id y → x ≡ y
-one-segment s id x y a b = cc
-
--- two segments at one index are one
 pub one-index : (s : Machine) (a b : ℕ) (x y : Segment) → Stands s a x → Stands s b y → a % 32768 ≡ b % 32768 → a ≡ b
 one-index s a b x y h k same = grind (arith, common_steps)
 
@@ -43,33 +39,15 @@ fits-given s e pid p all h2 = grind (arith, each-has)
 fits-on : (s : Machine) (e : Event) (t : Machine) (p : Piece) (y : Segment) → Fits s p → Stands t p.seg y → Before s e p.seg y → Fits t p
 fits-on s e t p y old stands h3 = grind (arith, common_steps, one-segment, over-length)
 
--- WHAT HOLDS OF A MACHINE AT ALL TIMES
+-- ONE MOVE
 
-pub record IsFit (s : Machine) : Type 0 where
-  pub whole : IsWhole s
-  pub aligned : Aligned s
-  pub fits : AllFit s
-
-pub fit-start : (o : Opening) → IsFit (start_of o)
-fit-start o = record { whole = whole-start o; aligned = each-start (λ pid p. IsAligned p) o; fits = each-start (λ pid p. Fits (start_of o) p) o }
-
-pub fit-move : (s : Machine) (n : ℕ) (e : Event) (t : Machine) → IsFit s → IsMove s n e t → IsFit t
-fit-move s n e t now m = record { whole = whole; aligned = aligned-move s n e t now.aligned m; fits = fits }
-  where
-    whole : IsWhole t
-    whole = (whole-move s n e t now.whole m).0
-
-    given : EachPiece (IsPieceGiven s e) t
-    given = given-move s n e t now.aligned m
-
-    fits : AllFit t
-    fits k d lt j q le =
-        let r : Runner = get_or t.runners k d in
-        let p : Piece = get_or r.pieces j q in
-        let has : HasPiece t r.pid p = has-own t r (Contains-get_or t.runners k d lt) j q le in
-        let there = whole.pieces p.seg (has-count t r.pid p has) in
-        let from = came-from s t e now.whole.sound (kind-move s n e t now.whole.sound.bare m) p.seg there.0 there.1 in
-        fits-on s e t p there.0 (fits-given s e r.pid p now.fits (given k d lt j q le)) there.1 from
+pub fits-move : (s : Machine) (n : ℕ) (e : Event) (t : Machine) → IsMachineSound s → Moved s e t → Aligned s → PiecesNameWhatStands t → AllFit s → IsMove s n e t → AllFit t
+fits-move s n e t sound k aligned pieces fits m i d lt j q le =
+    let r : Runner = get_or t.runners i d in
+    let p : Piece = get_or r.pieces j q in
+    let has : HasPiece t r.pid p = has-own t r (Contains-get_or t.runners i d lt) j q le in
+    let there = pieces p.seg (has-count t r.pid p has) in
+    fits-on s e t p there.0 (fits-given s e r.pid p fits (given-move s n e t aligned m i d lt j q le)) there.1 (came-from s t e sound k p.seg there.0 there.1)
 
 -- THE PLACES OF A PROCESS
 

@@ -1,10 +1,9 @@
 -- The reply of a shmget: the segment that has its key, with the permission that it asks for; or a new one if none has the key.
-use Rattle.shm_laws.proofs.Names.{◌≡◌, ◌≢◌, ◌⊎◌, ℕ, zero, suc, ◌+◌, ◌/◌, ◌%◌, ◌<◌, ◌==◌, ℤ, pos, true, false, not, nat_lt, nat_le, within, List, [], ◌∷◌, Option, Some, None, slice_get, refl, sym, ap, subst, ◌∙◌, inl, inr, arith, common_steps, true≢false, not-false, none-some, cases_Bool, cases_lt, Errno, GetFlags, ProcessCall, Shmget, Reply, Id, Event, Segment, Entry, Machine, Look, Found, Removed, Invalid, grants, wish_of, pages_of, identifier, destroyed_in, destroyed_at, free_index, with_segment, look_segment, has_key, key_from, find_key, reserved, segment_count, slots, Caller, Outcome, caller_of, acts, gives, refuses, new_segment, creates, creates_at, shmget, wants_creation, wants_no_other, is_refusal, IsMove, Stands, HasKey, IsCreated, creates_small, huge_errno}
-use Rattle.shm_base.specs.Step.{gets}
+use Rattle.shm_laws.proofs.Names.{◌≡◌, ◌≢◌, ◌⊎◌, ℕ, zero, suc, ◌+◌, ◌/◌, ◌%◌, ◌<◌, ℤ, pos, true, List, [], ◌∷◌, Option, Some, None, slice_get, refl, sym, ap, subst, ◌∙◌, inl, inr, arith, common_steps, true≢false, none-some, cases_Bool, cases_lt, Errno, GetFlags, ProcessCall, Shmget, Reply, Id, Event, Segment, Entry, Machine, Found, grants, wish_of, identifier, destroyed_in, destroyed_at, free_index, with_segment, look_segment, has_key, key_from, find_key, Caller, Outcome, caller_of, acts, gives, refuses, new_segment, shmget, is_refusal, IsMove, Stands, HasKey, IsCreated}
 use Rattle.shm_laws.proofs.Fresh.{made-at, never}
 use Rattle.shm_laws.proofs.Looks.{holds, stands-at, at-stands}
 use Rattle.shm_laws.proofs.Refusing.{by-move}
-use Rattle.shm_laws.proofs.Stepping.{pick, pick_by, is-zero}
+use Rattle.shm_life.proofs.Asking.{IsFree, by-shmget}
 use Rattle.shm_laws.proofs.Fates.{IsShort, new-small}
 
 -- THE SEARCH FOR A KEY
@@ -135,36 +134,14 @@ module _ (s : Machine) (n : ℕ) (c : Caller) (short : IsShort s.table) (mode : 
         }),
       )
 
-  makes : (key size : ℕ) (o : Option ℕ) → (key ≡ 0) ⊎ ((other : ℕ) → HasKey s other key → ⊥) → free_index s.table ≡ o → G key (creates_at s n c key size mode o)
-  makes key size None free is = none key _
-  makes key size (Some i) free is = pick (G key) (nat_lt (slots s.areas) (reserved s.table + pages_of size)) _ _ (none key _) (made key size i free is)
-
-  small-gets : (key size : ℕ) (o : Option Errno) → (key ≡ 0) ⊎ ((other : ℕ) → HasKey s other key → ⊥) → G key (creates_small s n c key size mode o)
-  small-gets key size (Some e) free = none key _
-  small-gets key size None free = pick (G key) (nat_le s.limits.shmmni (segment_count s.table)) _ _ (none key _) (makes key size (free_index s.table) free refl)
-
-  creates-gets : (key size : ℕ) (flags : GetFlags) → (key ≡ 0) ⊎ ((other : ℕ) → HasKey s other key → ⊥) → G key (creates s n c key size mode flags)
-  creates-gets key size flags free =
-      pick (G key) (not (within 1 s.limits.shmmax size)) _ _ (none key _)
-      (pick (G key) (nat_lt s.limits.shmall (reserved s.table + pages_of size)) _ _ (none key _) (small-gets key size (huge_errno s c flags) free))
-
-  gets-gets : (key size : ℕ) (flags : GetFlags) (l : Look) → key ≢ 0 → find_key s.table key ≡ l → G key (gets s n c key size mode flags l)
-  gets-gets key size flags (Found i x) named is =
-      pick (G key) (wants_no_other flags) _ _ (none key _)
-      (pick (G key) (nat_lt x.size size) _ _ (none key _)
-      (pick_by (G key) (not (grants c.cred x.perm (wish_of s.limits.rules mode))) _ _ (λ h. none key _) (λ h. got key i x named is (not-false (grants c.cred x.perm (wish_of s.limits.rules mode)) h))))
-  gets-gets key size flags Removed named is =
-      pick (G key) (wants_creation flags) _ _ (creates-gets key size flags (inr (λ other has. let f = has-found s other key has in cc (sym is ∙ f.2)))) (none key _)
-  gets-gets key size flags Invalid named is =
-      pick (G key) (wants_creation flags) _ _ (creates-gets key size flags (inr (λ other has. let f = has-found s other key has in cc (sym is ∙ f.2)))) (none key _)
-
-  not-zero : (key : ℕ) → (key == 0) ≡ false → key ≢ 0
-  not-zero key h same = grind (arith, common_steps)
+  -- a free key is one that no segment has
+  free-key : (key : ℕ) → (key ≡ 0) ⊎ IsFree s.table key → (key ≡ 0) ⊎ ((other : ℕ) → HasKey s other key → ⊥)
+  free-key key (inl none) = inl none
+  free-key key (inr free) = inr (λ other has. let f = has-found s other key has in free f.0 f.1 f.2)
 
   shmget-gets : (key size : ℕ) (flags : GetFlags) → G key (shmget s n c key size mode flags)
   shmget-gets key size flags =
-      pick_by (G key) (key == 0) _ _ (λ h. subst (λ k. G k (creates s n c 0 size mode flags)) (sym (is-zero key h)) (creates-gets 0 size flags (inl refl)))
-      (λ h. gets-gets key size flags (find_key s.table key) (not-zero key h) refl)
+      by-shmget s n c size mode G (λ k e other. none k e) got (λ k i free some is. made k size i (free-key k free) is) key flags
 
   acts-gets : (call : ProcessCall) (key size : ℕ) (flags : GetFlags) → call ≡ Shmget key size mode flags → G key (acts s n c call)
   acts-gets call key size flags asked = subst (λ a. G key (acts s n c a)) (sym asked) (shmget-gets key size flags)

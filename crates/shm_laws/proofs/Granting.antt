@@ -1,18 +1,15 @@
 -- Each piece descends from a shmat that had permission, and each move refuses processes without it.
-use Rattle.shm_laws.proofs.Names.{IsProtected, Protected, ShareTheirPages, protects_pieces, rounded, ◌≤◌, ◌≡◌, ◌⊎◌, ℕ, ◌+◌, ◌*◌, ◌%◌, ◌<◌, ℤ, Bool, true, false, not, List, [], ◌∷◌, ◌++◌, length, get_or, Option, Some, None, slice_get, slice_set, refl, sym, ap, subst, ◌∙◌, inl, inr, arith, true≢false, All, Contains, none-some, slice_get_within, get_or_from_slice_get, All-nil, All-filter, All-map, All-weaker, All-contains, Contains-get_or, common_steps, ProcessCall, Load, Store, Xadd, Done, Event, Place, covers, places, writable_places, Segment, Piece, Live, Runner, Machine, Opening, start_of, runner_at_start, look, parts, cut, Caller, Outcome, caller_of, acts, pieces_with, controls, load, store, xadd, is_refusal, IsMove, IsHistory, all-slice_set, HasPiece, EachPiece, IsPart, IsGranted, IsInherited, GoesBack, Granted, Kept, Inherited, Reach, StaysInside, controlled, OwnerAsks, KeepsOut, KeepsCredentials, MayAsk, NoWayIn, ShmidDs, pos, negsuc, stat, wish_of, grants, not-false, Look, Found, Removed, Invalid, Stands, IsCreated, Swapoff, swapoff, IsUserZero, ◌==◌, Set, Rmid, Lock, Unlock, sets, removes, locks, unlocks, Exchange, CompareExchange, exchange, compare_exchange, piece_for, pieces_beside}
-use Rattle.shm_laws.proofs.Accessing.{lies-in, place-of, writable-at, writable-parts}
+use Rattle.shm_laws.proofs.Names.{IsProtected, Protected, ShareTheirPages, protects_pieces, rounded, ◌≤◌, ◌≡◌, ◌⊎◌, ℕ, ◌+◌, ◌*◌, ◌%◌, ◌<◌, ℤ, true, false, not, List, [], ◌∷◌, ◌++◌, length, get_or, Some, slice_set, refl, sym, ap, subst, ◌∙◌, inl, inr, arith, true≢false, All, Contains, none-some, slice_get_within, get_or_from_slice_get, All-nil, All-filter, All-map, All-weaker, All-contains, Contains-get_or, common_steps, ProcessCall, Done, Event, Place, covers, Segment, Piece, Live, Runner, Machine, Opening, start_of, runner_at_start, look, parts, cut, Caller, Outcome, caller_of, acts, pieces_with, controls, is_refusal, IsMove, IsHistory, all-slice_set, HasPiece, EachPiece, IsPart, IsGranted, IsInherited, GoesBack, Granted, Kept, Inherited, Reach, StaysInside, controlled, OwnerAsks, KeepsOut, MayAsk, ShmidDs, pos, negsuc, stat, wish_of, grants, not-false, Look, Found, Removed, Invalid, Stands, IsCreated, Swapoff, swapoff, IsUserZero, ◌==◌, Set, Rmid, Lock, Unlock, sets, removes, locks, unlocks, piece_for}
+use Rattle.shm_laws.proofs.Accessing.{lies-in, place-of, writable-at, Finds, accesses}
 use Rattle.shm_laws.proofs.Callers.{CallerAt, caller-at}
 use Rattle.shm_laws.proofs.Handing.{Attaches, Leaves, Forks, Unmaps, Protects, Credits, Hands, hands-acts}
 use Rattle.shm_laws.proofs.Protecting.{Comes, protected-comes}
 use Rattle.shm_laws.proofs.Parting.{IsAligned, part_refl, all-parts, all-cut, all-inserted}
-use Rattle.shm_laws.proofs.Inducting.{each_move, at_all_times}
 use Rattle.shm_laws.proofs.Looks.{found-own}
 use Rattle.shm_laws.proofs.Refusing.{by-move}
-use Rattle.shm_laws.proofs.Stepping.{pick_by, is-zero}
+use Rattle.shm_life.proofs.Asking.{pick_by, is-zero}
 use Rattle.shm_laws.proofs.Fates.{IsMachineSound}
-use Rattle.shm_laws.proofs.Marking.{each_sound}
 use Rattle.shm_laws.proofs.Getting.{IsGot, GetsBy, gets-move}
-use Rattle.shm_laws.proofs.Crediting.{keeps-credentials}
 use Rattle.shm_base.specs.declared.call.Call.TheVariants as calls
 use Rattle.shm_base.specs.declared.call.Reply.TheVariants as replies
 
@@ -71,6 +68,12 @@ module _ (s : Machine) (pid : ℕ) (c : Caller) (is : caller_of s pid ≡ Some c
     given-set : (i : ℕ) (r : Runner) → All (IsPieceGiven s e r.pid) r.pieces → AllGiven s e (slice_set s.runners i r)
     given-set i r own = all-slice_set (λ (q : Runner). All (IsPieceGiven s e q.pid) q.pieces) s.runners i r (kept-all s e) own
 
+    given-cut : (from to : ℕ) → from % 4096 ≡ 0 → to % 4096 ≡ 0 → All (IsPieceGiven s e pid) (cut from to c.pieces)
+    given-cut from to page-from page-to =
+        all-cut (λ p. HasPiece s pid p × IsAligned p) (IsPieceGiven s e pid) from to
+        (λ p h. All-weaker (λ q. IsPart q p) (IsPieceGiven s e pid) (λ q part. inl (p, h.0, part)) (parts from to p) (all-parts from to page-from page-to p h.1))
+        c.pieces (λ j d lt. (mine j d lt, pages j d lt))
+
     given-attaches : Attaches s c call o → AllGiven s e o.state.runners
     given-attaches k = rw k.runners (given-set c.index (record { pid = c.pid; life = Live c.cred; pieces = pieces_with c k.flags k.place }) own)
       where
@@ -93,21 +96,8 @@ module _ (s : Machine) (pid : ℕ) (c : Caller) (is : caller_of s pid ≡ Some c
               whole = (refl, k.there.whole);
             })))
 
-        to : ℕ
-        to = k.place.base + 4096 * k.place.pages
-
-        page_to : (k.place.base + 4096 * k.place.pages) % 4096 ≡ 0
-        page_to = let page = k.there.lies.page pages in omega (arith, page)
-
-        left : All (IsPieceGiven s e pid) (pieces_beside c k.place)
-        left =
-            all-cut (λ p. HasPiece s pid p × IsAligned p) (IsPieceGiven s e pid) k.place.base to
-            (λ p h. All-weaker (λ q. IsPart q p) (IsPieceGiven s e pid) (λ q part. inl (p, h.0, part)) (parts k.place.base to p)
-            (all-parts k.place.base to (k.there.lies.page pages) page_to p h.1))
-            c.pieces (λ j d lt. (mine j d lt, pages j d lt))
-
         own : All (IsPieceGiven s e c.pid) (pieces_with c k.flags k.place)
-        own = rw there.own (all-inserted (IsPieceGiven s e pid) _ _ new left)
+        own = let page = k.there.lies.page pages in rw there.own (all-inserted (IsPieceGiven s e pid) _ _ new (given-cut k.place.base (k.place.base + 4096 * k.place.pages) page (omega (arith, page))))
 
     given-leaves : Leaves s c call o → AllGiven s e o.state.runners
     given-leaves k =
@@ -119,14 +109,7 @@ module _ (s : Machine) (pid : ℕ) (c : Caller) (is : caller_of s pid ≡ Some c
     given-forks k = grind (arith, common_steps, given-set, mine)
 
     given-unmaps : Unmaps s c call o → AllGiven s e o.state.runners
-    given-unmaps k = rw k.runners (given-set c.index (record { pid = c.pid; life = Live c.cred; pieces = _ }) (rw there.own left))
-      where
-        left : All (IsPieceGiven s e pid) (cut k.addr (k.addr + rounded k.len) c.pieces)
-        left =
-            all-cut (λ p. HasPiece s pid p × IsAligned p) (IsPieceGiven s e pid) k.addr (k.addr + rounded k.len)
-            (λ p h. All-weaker (λ q. IsPart q p) (IsPieceGiven s e pid) (λ q part. inl (p, h.0, part)) (parts k.addr (k.addr + rounded k.len) p)
-            (all-parts k.addr (k.addr + rounded k.len) k.page (omega (arith, k.page)) p h.1))
-            c.pieces (λ j d lt. (mine j d lt, pages j d lt))
+    given-unmaps k = rw k.runners (given-set c.index (record { pid = c.pid; life = Live c.cred; pieces = _ }) (rw there.own (given-cut k.addr (k.addr + rounded k.len) k.page (omega (arith, k.page)))))
 
     given-protects : Protects s c call o → AllGiven s e o.state.runners
     given-protects k = rw k.runners (given-set c.index (record { pid = c.pid; life = Live c.cred; pieces = _ }) (rw there.own all))
@@ -181,40 +164,20 @@ each-given : (law next : ℕ → Piece → Type 0) (s : Machine) (e : Event) (t 
     → ((pid : ℕ) (p : Piece) → IsPieceGiven s e pid p → next pid p) → EachPiece (IsPieceGiven s e) t → EachPiece next t
 each-given law next s e t each given = grind (arith, common_steps)
 
-part-page : (p q : Piece) → IsPart p q → IsAligned q → IsAligned p
-part-page p q part page = omega arith
-
-pub aligned-move : (s : Machine) (n : ℕ) (e : Event) (t : Machine) → Aligned s → IsMove s n e t → Aligned t
-aligned-move s n e t aligned m = each-given (λ pid p. IsAligned p) (λ pid p. IsAligned p) s e t page (given-move s n e t aligned m)
-  where
-    page : (pid : ℕ) (p : Piece) → IsPieceGiven s e pid p → IsAligned p
-    page pid p (inl h) = part-page p h.0 h.2 (each-has (λ pid q. IsAligned q) s pid h.0 aligned h.1)
-    page pid p (inr (inl h)) = each-has (λ pid q. IsAligned q) s e.pid p aligned h.parent
-    page pid p (inr (inr (inl h))) = h.page
-    page pid p (inr (inr (inr h))) = let own = each-has (λ pid q. IsAligned q) s pid h.of aligned h.has in let same = h.protected.attach.pages in omega (arith, own, same)
-
 -- WHOLE HISTORIES
 
 pub each-start : (law : ℕ → Piece → Type 0) (o : Opening) → EachPiece law (start_of o)
 each-start law o =
     All-map (λ (r : Runner). All (law r.pid) r.pieces) runner_at_start o.processes (λ k d lt. All-nil (law (get_or o.processes k d).pid))
 
-record GoesBackAll (o : Opening) (before : List Event) (s : Machine) : Type 0 where
-  aligned : Aligned s
-  back : EachPiece (GoesBack o before) s
-
-goes_on : (o : Opening) (before : List Event) (s : Machine) (e : Event) (t : Machine) → IsHistory o before s → GoesBackAll o before s → IsMove s (length before + 1) e t → GoesBackAll o (before ++ e ∷ []) t
-goes_on o before s e t h now m =
-    record {
-      aligned = aligned-move s (length before + 1) e t now.aligned m;
-      back = each-given (GoesBack o before) (GoesBack o (before ++ e ∷ [])) s e t back (given-move s (length before + 1) e t now.aligned m);
-    }
+pub goes-on : (o : Opening) (before : List Event) (s : Machine) (e : Event) (t : Machine) → IsHistory o before s → Aligned s → EachPiece (GoesBack o before) s → IsMove s (length before + 1) e t → EachPiece (GoesBack o (before ++ e ∷ [])) t
+goes-on o before s e t h aligned now m = each-given (GoesBack o before) (GoesBack o (before ++ e ∷ [])) s e t back (given-move s (length before + 1) e t aligned m)
   where
     back : (pid : ℕ) (p : Piece) → IsPieceGiven s e pid p → GoesBack o (before ++ e ∷ []) pid p
-    back pid p (inl k) = Kept before s e pid p k.0 h k.1 k.2 (each-has (GoesBack o before) s pid k.0 now.back k.1)
-    back pid p (inr (inl k)) = Inherited before s e pid p h k (each-has (GoesBack o before) s e.pid p now.back k.parent)
+    back pid p (inl k) = Kept before s e pid p k.0 h k.1 k.2 (each-has (GoesBack o before) s pid k.0 now k.1)
+    back pid p (inr (inl k)) = Inherited before s e pid p h k (each-has (GoesBack o before) s e.pid p now k.parent)
     back pid p (inr (inr (inl k))) = Granted before s e pid p h k
-    back pid p (inr (inr (inr k))) = Protected before s e pid p k.of h k.has k.protected (each-has (GoesBack o before) s pid k.of now.back k.has)
+    back pid p (inr (inr (inr k))) = Protected before s e pid p k.of h k.has k.protected (each-has (GoesBack o before) s pid k.of now k.has)
 
 -- WHO IS KEPT OUT
 
@@ -226,55 +189,19 @@ module _ (s : Machine) (n pid : ℕ) (c : Caller) (live : caller_of s pid ≡ So
   abbrev At : Reach → Type 0
   At r = (k : ℕ) → k < r.len → (p : Piece) × HasPiece s pid p × (covers p (r.from + k) ≡ true) × (r.writes ≡ true → p.writable ≡ true)
 
-  -- the addresses of an access
-  lies : (a len : ℕ) (w : Bool) (qs : List Place) → places c.pieces a len ≡ Some qs → ((k : ℕ) (q : Place) → slice_get qs k ≡ Some q → w ≡ true → q.writable ≡ true)
-      → (r : Reach) → Some (record { from = a; len = len; writes = w }) ≡ Some r → At r
-  lies a len w qs found may r is = subst At (cc is) at
-    where
-      at : At (record { from = a; len = len; writes = w })
-      at k lt =
-          let spot = place-of c.pieces a len qs found k lt in
-          let l = lies-in c.pieces (a + k) spot.spot spot.is in
-          let has : HasPiece s pid l.piece = All-contains (HasPiece s pid) c.pieces l.piece (mine s pid c live) l.is in
-          (l.piece, has, l.covered, λ h. ap (λ (q : Place). q.writable) (sym l.spot) ∙ may k spot.spot spot.at h)
-
-  -- of one that writes
-  lies-written : (a len : ℕ) (qs : List Place) → writable_places c.pieces a len ≡ Some qs → (r : Reach) → Some (record { from = a; len = len; writes = true }) ≡ Some r → At r
-  lies-written a len qs is =
-      let both = writable-parts (places c.pieces a len) qs is in lies a len true qs both.0 (λ j q at w. writable-at qs j q both.1 at)
-
   abbrev Inside : ProcessCall → Outcome → Type 0
   Inside call o = StaysInside s (record { pid = pid; call = call; reply = o.reply })
 
-  inside-load : (a len : ℕ) (o : Option (List Place)) → places c.pieces a len ≡ o → Inside (Load a len) (load s o)
-  inside-load a len None is clear = absurd (true≢false clear)
-  inside-load a len (Some qs) is clear = lies a len false qs is (λ k q at w. absurd (true≢false (sym w)))
-
-  inside-store : (a : ℕ) (bytes : List ℕ) (o : Option (List Place)) → writable_places c.pieces a (length bytes) ≡ o → Inside (Store bytes a) (store s bytes o)
-  inside-store a bytes None is clear = absurd (true≢false clear)
-  inside-store a bytes (Some qs) is clear = lies-written a (length bytes) qs is
-
-  inside-xadd : (a add : ℕ) (o : Option (List Place)) → writable_places c.pieces a 8 ≡ o → Inside (Xadd a add) (xadd s add o)
-  inside-xadd a add None is clear = absurd (true≢false clear)
-  inside-xadd a add (Some qs) is clear = lies-written a 8 qs is
-
-  inside-exchange : (a : ℕ) (bytes : List ℕ) (o : Option (List Place)) → writable_places c.pieces a (length bytes) ≡ o → Inside (Exchange bytes a) (exchange s bytes o)
-  inside-exchange a bytes None is clear = absurd (true≢false clear)
-  inside-exchange a bytes (Some qs) is clear = lies-written a (length bytes) qs is
-
-  inside-compare : (a : ℕ) (expected desired : List ℕ) (o : Option (List Place)) → writable_places c.pieces a (length desired) ≡ o
-      → Inside (CompareExchange expected desired a) (compare_exchange s expected desired o)
-  inside-compare a expected desired None is clear = absurd (true≢false clear)
-  inside-compare a expected desired (Some qs) is clear = lies-written a (length desired) qs is
-
   inside-acts : (call : ProcessCall) → Inside call (acts s n c call)
-  inside-acts (Load a len) clear r reached = inside-load a len (places c.pieces a len) refl clear r reached
-  inside-acts (Store bytes a) clear r reached = inside-store a bytes (writable_places c.pieces a (length bytes)) refl clear r reached
-  inside-acts (Xadd a add) clear r reached = inside-xadd a add (writable_places c.pieces a 8) refl clear r reached
-  inside-acts (Exchange bytes a) clear r reached = inside-exchange a bytes (writable_places c.pieces a (length bytes)) refl clear r reached
-  inside-acts (CompareExchange expected desired a) clear r reached =
-      inside-compare a expected desired (writable_places c.pieces a (length desired)) refl clear r reached
-  inside-acts call clear r reached = absurd (none-some r reached)
+  inside-acts call clear r reached = by (accesses s n c call r reached).finds
+    where
+      by : (is_refusal (acts s n c call).reply ≡ true) ⊎ Finds s c r (acts s n c call).reply → At r
+      by (inl refused) k lt = absurd (true≢false (sym refused ∙ clear))
+      by (inr f) k lt =
+          let spot = place-of c.pieces r.from r.len f.spots f.found k lt in
+          let l = lies-in c.pieces (r.from + k) spot.spot spot.is in
+          let has : HasPiece s pid l.piece = All-contains (HasPiece s pid) c.pieces l.piece (mine s pid c live) l.is in
+          (l.piece, has, l.covered, λ w. ap (λ (q : Place). q.writable) (sym l.spot) ∙ writable-at f.spots k spot.spot (f.writable w) spot.at)
 
   asks : (id : ℤ) (act : ℕ → Segment → Outcome) → (controls s c act (look s.table id)).reply ≡ Done → OwnerAsks s pid id
   asks id act done = grind (arith, common_steps, found-own)
@@ -355,7 +282,7 @@ got-granted s pid key mode id t x stood g = by g.either
     by (inl h) = record { caller = g.caller; live = g.live; segment = h.segment; stands = subst (λ n. Stands s n h.segment) same h.stands; permitted = h.permitted }
     by (inr h) = let gone : look s.table (pos id) ≡ Invalid = subst (λ n. look s.table (pos n) ≡ Invalid) same h.never in absurd (cc (sym gone ∙ stood))
 
-keeps-out : (s : Machine) (n : ℕ) (e : Event) (t : Machine) → IsMachineSound s → IsMove s n e t → KeepsOut s e t
+pub keeps-out : (s : Machine) (n : ℕ) (e : Event) (t : Machine) → IsMachineSound s → IsMove s n e t → KeepsOut s e t
 keeps-out s n e t sound m =
     let k = keeps s n e t m in
     record {
@@ -364,15 +291,4 @@ keeps-out s n e t sound m =
       stat = k.stat;
       swapoff = k.swapoff;
       get = λ key size mode id flags x asked told stood. got-granted s e.pid key mode id t x stood (gets-move s n e t sound.short m key size mode flags (pos id) asked told);
-    }
-
--- of every legal history
-pub no_way_in : (o : Opening) (events : List Event) (end : Machine) → IsHistory o events end → NoWayIn o events end
-no_way_in o events end h =
-    let first : GoesBackAll o [] (start_of o) = record { aligned = each-start (λ pid p. IsAligned p) o; back = each-start (GoesBack o []) o } in
-    let credentials = each_move (λ s. Unit {0}) KeepsCredentials (λ s n e t now m. (tt, keeps-credentials s n e t m)) 1 (start_of o) events end tt h in
-    record {
-      pieces = λ before s m. (at_all_times o (GoesBackAll o) (goes_on o) first events before s m).back;
-      moves = each_sound KeepsOut keeps-out o events end h;
-      credentials = credentials.1;
     }

@@ -1,10 +1,9 @@
 -- What each call does to processes: nothing; or the caller attaches a segment, loses pieces, has a child, unmaps or protects a
 -- range, or gets other credentials.
-use Rattle.shm_laws.proofs.Names.{subst, cut, Cred, Munmap, Mprotect, Setuid, Outcome, stops_midway, unmaps, unmapped_to, rounded, protects_pieces, with_cred, ◌≡◌, ◌⊎◌, ℕ, ◌+◌, ◌-◌, ◌%◌, ◌≤◌, ℤ, pos, Bool, true, false, not, nat_lt, List, [], ◌∷◌, length, Option, Some, None, slice_set, refl, ap, ◌∙◌, inl, inr, arith, common_steps, filter, Errno, ProcessCall, Shmget, Shmat, Shmdt, Load, Fork, Exec, Exit, Addr, Done, AtFlags, Piece, Life, Live, Ended, Machine, origin_of, is_named, is_refusal, refuses, Caller, acts, pieces_with, with_pieces, detaches, forks, unborn_from, hands_pieces, creates_at, slots, reserved, pages_of, attaches_if, Placed, placed}
+use Rattle.shm_laws.proofs.Names.{subst, cut, Cred, Munmap, Mprotect, Setuid, Outcome, stops_midway, unmaps, unmapped_to, rounded, protects_pieces, with_cred, ◌≡◌, ◌⊎◌, ℕ, ◌+◌, ◌%◌, ◌≤◌, ℤ, pos, Bool, true, false, not, nat_lt, List, [], ◌∷◌, length, Option, Some, None, slice_set, refl, ap, ◌∙◌, inl, inr, arith, common_steps, filter, Errno, ProcessCall, Shmget, Shmat, Shmdt, Fork, Exec, Exit, Addr, Done, AtFlags, Piece, Life, Live, Ended, Machine, origin_of, is_named, is_refusal, refuses, Caller, acts, pieces_with, with_pieces, detaches, forks, unborn_from, hands_pieces, attaches_if, Placed, placed, Runner}
 use Rattle.std.specs.Prelude.{Result, Ok, Err}
-use Rattle.shm_laws.proofs.Asking.{by-shmget}
 use Rattle.shm_laws.proofs.Placing.{IsPlaced, few-enough, is-placed}
-use Rattle.shm_laws.proofs.Stepping.{pick, pick_by}
+use Rattle.shm_life.proofs.Asking.{by-shmget, pick_by}
 
 -- SEVEN THINGS
 
@@ -72,6 +71,23 @@ abbrev pub Hands : Machine → Caller → ProcessCall → Outcome → Type 0
 Hands s c call o =
     Rests s call o ⊎ (Attaches s c call o ⊎ (Leaves s c call o ⊎ (Forks s c call o ⊎ (Unmaps s c call o ⊎ (Protects s c call o ⊎ Credits s c call o)))))
 
+-- what holds of the processes before a call holds after it if each kind of change to one of them keeps it
+module _ (s : Machine) (c : Caller) (call : ProcessCall) (o : Outcome) (P : List Runner → Type 0) (Q : ℕ → Runner → Type 0) (same : P s.runners) (set : (i : ℕ) (r : Runner) → Q i r → P (slice_set s.runners i r))
+    (attaches : (k : Attaches s c call o) → Q c.index (record { pid = c.pid; life = Live c.cred; pieces = pieces_with c k.flags k.place }))
+    (leaves : (k : Leaves s c call o) → Q c.index (record { pid = c.pid; life = k.life; pieces = filter k.stays c.pieces }))
+    (forks : (k : Forks s c call o) → Q k.index (record { pid = k.child; life = Live c.cred; pieces = c.pieces }))
+    (unmaps : (k : Unmaps s c call o) → Q c.index (record { pid = c.pid; life = Live c.cred; pieces = cut k.addr (k.addr + rounded k.len) c.pieces }))
+    (protects : (k : Protects s c call o) → Q c.index (record { pid = c.pid; life = Live c.cred; pieces = (protects_pieces s.limits.most_pieces k.writable k.addr k.len c.pieces).pieces }))
+    (credits : (k : Credits s c call o) → Q c.index (record { pid = c.pid; life = Live k.cred; pieces = c.pieces })) where
+  pub by-hands : Hands s c call o → P o.state.runners
+  by-hands (inl k) = rw k.runners same
+  by-hands (inr (inl k)) = rw k.runners (set _ _ (attaches k))
+  by-hands (inr (inr (inl k))) = rw k.runners (set _ _ (leaves k))
+  by-hands (inr (inr (inr (inl k)))) = rw k.runners (set _ _ (forks k))
+  by-hands (inr (inr (inr (inr (inl k))))) = rw k.runners (set _ _ (unmaps k))
+  by-hands (inr (inr (inr (inr (inr (inl k)))))) = rw k.runners (set _ _ (protects k))
+  by-hands (inr (inr (inr (inr (inr (inr k)))))) = rw k.runners (set _ _ (credits k))
+
 -- EACH CALL
 
 pub none-stay : (ps : List Piece) → [] ≡ filter (λ (p : Piece). false) ps
@@ -133,12 +149,8 @@ module _ (s : Machine) (n : ℕ) (c : Caller) where
   abbrev Leave : Outcome → Type 0
   Leave o = o.state.runners ≡ s.runners
 
-  same-at : (key size mode : ℕ) (o : Option ℕ) → Leave (creates_at s n c key size mode o)
-  same-at key size mode None = refl
-  same-at key size mode (Some i) = pick Leave (nat_lt (slots s.areas) (reserved s.table + pages_of size)) _ _ refl refl
-
   pub hands-acts : (call : ProcessCall) → Hands s c call (acts s n c call)
-  hands-acts (Shmget key size mode flags) = rests _ _ refl refl (by-shmget s n c Leave (λ r. refl) same-at key size mode flags)
+  hands-acts (Shmget key size mode flags) = rests _ _ refl refl (by-shmget s n c size mode (λ k. Leave) (λ k e other. refl) (λ k i x named found permitted. refl) (λ k i free some is. refl) key flags)
   hands-acts (Shmat id addr flags) = hands-attaches id addr flags (placed s c id addr flags) refl
   hands-acts (Shmdt addr) = hands-detaches addr (origin_of addr c.pieces) refl
   hands-acts (Fork child) = hands-forks child (unborn_from 0 child s.runners) refl
@@ -147,5 +159,4 @@ module _ (s : Machine) (n : ℕ) (c : Caller) where
   hands-acts (Munmap addr len) = hands-unmaps addr len (unmapped_to addr len) refl
   hands-acts (Mprotect addr len w) = inr (inr (inr (inr (inr (inl (record { addr = addr; len = len; writable = w; asked = refl; runners = refl }))))))
   hands-acts (Setuid uid gid) = inr (inr (inr (inr (inr (inr (record { cred = record { uid = uid; gid = gid }; asked = refl; answer = refl; runners = refl }))))))
-  hands-acts (Load a len) = rests _ _ refl refl (grind arith)
   hands-acts call = rests _ _ refl refl (grind arith)

@@ -1,5 +1,5 @@
 -- What each move keeps holds at all times, and of each move.
-use Rattle.shm_laws.proofs.Names.{◌≡◌, ℕ, ◌+◌, List, [], ◌∷◌, ◌++◌, length, refl, sym, subst, arith, append_assoc, length-append, append-nil, Event, Machine, Opening, start_of, IsMove, LeadsFrom, IsHistory, history_more, MovesBy, MomentsBy, IsMoment, Always, Since, Began, Lasted}
+use Rattle.shm_laws.proofs.Names.{◌≡◌, ℕ, ◌+◌, List, [], ◌∷◌, ◌++◌, length, refl, sym, subst, arith, append_assoc, length-append, append-nil, Event, Machine, Opening, start_of, IsMove, LeadsFrom, IsHistory, history_more, MovesBy, MomentsBy, Since, Began, Lasted}
 
 -- what holds of a machine is kept by each move, and with it a law holds of the move
 abbrev pub Keeps : (Machine → Type 0) → (Machine → Event → Machine → Type 0) → Type 0
@@ -39,14 +39,6 @@ module _ (o : Opening) (holds : List Event → Machine → Type 0) (step : GoesO
 
   pub always : holds [] (start_of o) → (events : List Event) (end : Machine) → IsHistory o events end → holds events end
   always first events end h = on [] (start_of o) events end refl first h
-
-  -- at each moment of a history
-  pub at_all_times : holds [] (start_of o) → (events : List Event) → Always holds o events
-  at_all_times first events before s m = always first before s m.leads
-
--- what each move keeps holds at each moment
-pub held_always : (holds : Machine → Type 0) (law : Machine → Event → Machine → Type 0) → Keeps holds law → (o : Opening) → holds (start_of o) → (events before : List Event) (s : Machine) → IsMoment o events before s → holds s
-held_always holds law step o first events before s m = at_all_times o (λ _ u. holds u) (λ before s e t h now m. (step s (length before + 1) e t now m).0) first events before s m
 
 -- weaker conditions follow from stronger ones
 pub since-map : (o : Opening) (a b : Machine → Event → Type 0) (f g : Machine → Event → Type 0) → ((s : Machine) (e : Event) → a s e → b s e) → ((s : Machine) (e : Event) → f s e → g s e)

@@ -1,11 +1,10 @@
 -- A key leads to one segment.
-use Rattle.shm_laws.proofs.Names.{◌≡◌, ◌≢◌, ◌⊎◌, ℕ, pos, Bool, true, false, ◌||◌, List, Option, Some, None, refl, sym, ap, ◌∙◌, inl, inr, Id, Event, Segment, Machine, Opening, start_of, find_key, Caller, caller_of, IsMove, IsHistory, IsMarked, HasKey, KeysAreApart, FindsByKey, KeepsKeys, KeysLeadToOne}
-use Rattle.shm_laws.proofs.Inducting.{Keeps, held_always}
-use Rattle.shm_laws.proofs.Stepping.{IsFree, made_by, Moved, removed}
-use Rattle.shm_laws.proofs.Fates.{IsMachineSound, names, key_after, sound-after, kind-move}
-use Rattle.shm_laws.proofs.Removing.{sound-start, key-stays}
+use Rattle.shm_laws.proofs.Names.{◌≡◌, ◌≢◌, ◌⊎◌, ℕ, pos, Bool, true, false, ◌||◌, Option, Some, None, refl, sym, ap, ◌∙◌, inl, inr, Id, Event, Segment, Machine, find_key, Caller, caller_of, IsMove, IsMarked, HasKey, KeysAreApart, FindsByKey, KeepsKeys}
+use Rattle.shm_life.proofs.Asking.{IsFree}
+use Rattle.shm_laws.proofs.Stepping.{made_by, Moved, removed}
+use Rattle.shm_laws.proofs.Fates.{IsMachineSound, names, key_after}
+use Rattle.shm_laws.proofs.Removing.{key-stays}
 use Rattle.shm_laws.proofs.Naming.{Before, came-from}
-use Rattle.shm_laws.proofs.Marking.{each_sound}
 use Rattle.shm_laws.proofs.Getting.{has-found, gets-move}
 
 -- ONE MOVE
@@ -52,7 +51,7 @@ one-key s e key a b apart named (inl h) (inr k) = absurd (let f = has-found s a 
 one-key s e key a b apart named (inr h) (inl k) = absurd (let f = has-found s b key k in h.0 f.0 f.1 f.2)
 one-key s e key a b apart named (inr h) (inr k) = cc (sym h.1 ∙ k.1)
 
-apart-after : (s : Machine) (e : Event) (t : Machine) → IsMachineSound s → Moved s e t → KeysAreApart s → KeysAreApart t
+pub apart-after : (s : Machine) (e : Event) (t : Machine) → IsMachineSound s → Moved s e t → KeysAreApart s → KeysAreApart t
 apart-after s e t sound k apart =
     record {
       one = λ key a b named h j.
@@ -62,10 +61,10 @@ apart-after s e t sound k apart =
       marked = λ id mark. record { segment = mark.segment; stands = mark.stands; keyed = unkeyed s e id mark.segment apart mark.dest (came-from s t e sound k id mark.segment mark.stands) };
     }
 
-keeps-keys : (s : Machine) (n : ℕ) (e : Event) (t : Machine) → IsMachineSound s → IsMove s n e t → KeepsKeys s e t
-keeps-keys s n e t sound m id key has = key-stays s t e sound (kind-move s n e t sound.bare m) id has.segment has.stands key has.keyed
+pub keeps-keys : (s : Machine) (e : Event) (t : Machine) → IsMachineSound s → Moved s e t → KeepsKeys s e t
+keeps-keys s e t sound k id key has = key-stays s t e sound k id has.segment has.stands key has.keyed
 
-finds-by-key : (s : Machine) (n : ℕ) (e : Event) (t : Machine) → IsMachineSound s → IsMove s n e t → FindsByKey s e t
+pub finds-by-key : (s : Machine) (n : ℕ) (e : Event) (t : Machine) → IsMachineSound s → IsMove s n e t → FindsByKey s e t
 finds-by-key s n e t sound m key size mode flags answer asked told =
     let g = gets-move s n e t sound.short m key size mode flags answer asked told in (
       g.id,
@@ -75,31 +74,3 @@ finds-by-key s n e t sound m key size mode flags answer asked told =
         | inr h ↦ inr h
       ],
     )
-
--- WHOLE HISTORIES
-
-record IsKeyed (s : Machine) : Type 0 where
-  sound : IsMachineSound s
-  apart : KeysAreApart s
-
-keyed-move : Keeps IsKeyed (λ s e t. KeysAreApart t)
-keyed-move s n e t now m =
-    let k = kind-move s n e t now.sound.bare m in
-    let next = apart-after s e t now.sound k now.apart in
-    (record { sound = sound-after s e t k now.sound; apart = next }, next)
-
-keyed-start : (o : Opening) → IsKeyed (start_of o)
-keyed-start o =
-    record {
-      sound = sound-start o;
-      apart = record { one = λ key a b named h k. absurd (cc h.stands); marked = λ id mark. absurd (cc mark.stands) };
-    }
-
--- of every legal history
-pub keys_lead_to_one : (o : Opening) (events : List Event) (end : Machine) → IsHistory o events end → KeysLeadToOne o events end
-keys_lead_to_one o events end h =
-    record {
-      apart = λ before s m. (held_always IsKeyed (λ s e t. KeysAreApart t) keyed-move o (keyed-start o) events before s m).apart;
-      found = each_sound FindsByKey finds-by-key o events end h;
-      kept = each_sound KeepsKeys keeps-keys o events end h;
-    }

@@ -5,7 +5,6 @@ pub mod Turning
 pub mod Fresh
 pub mod Looks
 pub mod Stepping
-pub mod Asking
 pub mod Fates
 pub mod Removing
 pub mod Naming
@@ -28,8 +27,8 @@ pub mod Granting
 pub mod Refusing
 pub mod Putting
 pub mod Fitting
+pub mod Holding
 pub mod Remembering
-pub mod Veiling
 pub mod Isolating
 pub mod Counting
 pub mod Keeping

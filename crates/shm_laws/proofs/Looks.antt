@@ -1,5 +1,5 @@
 -- What a lookup finds, and the entry at the index.
-use Rattle.shm_laws.proofs.Names.{◌≡◌, ℕ, ◌/◌, ◌%◌, ◌<◌, pos, List, Option, Some, None, slice_get, refl, arith, common_steps, Segment, Entry, Look, Found, Removed, look_entry, look, identifier, destroyed_at}
+use Rattle.shm_laws.proofs.Names.{Machine, Stands, ◌≡◌, ℕ, ◌/◌, ◌%◌, ◌<◌, pos, List, Option, Some, None, slice_get, refl, arith, common_steps, Segment, Entry, Look, Found, Removed, look_entry, look, identifier, destroyed_at}
 
 abbrev pub holds : ℕ → Segment → Option Entry
 holds d x = Some (record { destroyed = d; segment = Some x })
@@ -24,6 +24,10 @@ at-stands t id x is = grind (arith, common_steps)
 -- and a destroyed one
 pub at-gone : (t : List Entry) (id d : ℕ) (o : Option Segment) → slice_get t (id % 32768) ≡ Some (record { destroyed = d; segment = o }) → id / 32768 < d → look t (pos id) ≡ Removed
 at-gone t id d o is lt = grind (arith, common_steps)
+
+-- one segment at most exists under an identifier
+pub one-segment : (s : Machine) (id : ℕ) (x y : Segment) → Stands s id x → Stands s id y → x ≡ y
+one-segment s id x y a b = cc
 
 pub not-both : (l : Look) (i : ℕ) (x : Segment) → l ≡ Removed → l ≡ Found i x → ⊥
 not-both l i x gone found = cc

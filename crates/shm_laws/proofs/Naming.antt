@@ -1,14 +1,14 @@
 -- An identifier names one segment.
-use Rattle.shm_laws.proofs.Names.{◌≡◌, ◌⊎◌, ℕ, ◌+◌, ◌/◌, ◌%◌, ◌<◌, ◌||◌, pos, false, List, [], ◌∷◌, ◌++◌, length, replicate, Option, Some, None, slice_get, refl, sym, ap, subst, ◌∙◌, inl, inr, arith, common_steps, Id, Event, Segment, Entry, Runner, Machine, Opening, start_of, Invalid, identifier, destroyed_in, look, swept_at, Caller, caller_of, IsMove, IsHistory, segment_in, Stands, IsGone, Since, Began, Lasted, IsSame, KeepsNames, NamesAnew, IsMadeBy, StandsAs, AreNamesKept, NamesOneSegment, Makes}
+use Rattle.shm_laws.proofs.Names.{◌≡◌, ◌⊎◌, ℕ, ◌/◌, ◌%◌, ◌<◌, ◌||◌, pos, false, List, [], ◌∷◌, ◌++◌, replicate, Option, Some, None, slice_get, refl, sym, ap, subst, ◌∙◌, inl, inr, arith, common_steps, Id, Event, Segment, Entry, Runner, Machine, Opening, start_of, Invalid, identifier, destroyed_in, look, swept_at, Caller, caller_of, IsHistory, segment_in, Stands, IsGone, Since, Began, Lasted, IsSame, KeepsNames, NamesAnew, IsMadeBy, StandsAs, Makes}
 use Rattle.shm_laws.specs.Identity.{AreMade}
 use Rattle.shm_laws.proofs.Fresh.{IsEmpty, never}
 use Rattle.shm_laws.proofs.Turning.{same_refl, same_trans}
 use Rattle.shm_laws.proofs.Callers.{caller-at}
-use Rattle.shm_laws.proofs.Inducting.{GoesOn, each_move, each_moment, at_all_times, since-map}
+use Rattle.shm_laws.proofs.Inducting.{since-map}
 use Rattle.shm_laws.proofs.Looks.{holds, bare_entry, stands-at, at-stands, at-gone, entry-gone}
 use Rattle.shm_laws.proofs.Stepping.{overlay, made_by, Moved, removed}
-use Rattle.shm_laws.proofs.Fates.{IsMachineSound, IsNew, Stays, names, key_after, stays, comes, sound-after, kind-move, holds-empty}
-use Rattle.shm_laws.proofs.Removing.{sound-start, stands-or-gone}
+use Rattle.shm_laws.proofs.Fates.{IsMachineSound, IsNew, Stays, names, key_after, stays, comes, holds-empty}
+use Rattle.shm_laws.proofs.Removing.{stands-or-gone}
 
 -- ONE MOVE
 
@@ -120,21 +120,13 @@ keeps-refl s = record { stands = λ id x h. inl (x, h, same_refl x); gone = λ i
 pub keeps-trans : (s u t : Machine) → KeepsNames s u → KeepsNames u t → KeepsNames s t
 keeps-trans s u t a b = grind (arith, common_steps)
 
--- WHOLE HISTORIES
+-- ONE MOVE FOR ALL SEGMENTS
 
-pub record OneMove (s : Machine) (e : Event) (t : Machine) : Type 0 where
-  pub sound : IsMachineSound t
-  pub kept : KeepsNames s t
-  pub new : NamesAnew s e t
+pub keeps-names : (s : Machine) (e : Event) (t : Machine) → IsMachineSound s → Moved s e t → KeepsNames s t
+keeps-names s e t sound k = record { stands = λ id x stood. stands-or-gone s t e sound k id x stood; gone = λ id h. gone-on s t e sound k id h }
 
-pub one_move : (s : Machine) (n : ℕ) (e : Event) (t : Machine) → IsMachineSound s → IsMove s n e t → OneMove s e t
-one_move s n e t sound m =
-    let k = kind-move s n e t sound.bare m in
-    record {
-      sound = sound-after s e t k sound;
-      kept = record { stands = λ id x stood. stands-or-gone s t e sound k id x stood; gone = λ id h. gone-on s t e sound k id h };
-      new = record { new = λ id y stands. named s t e sound k id y stands };
-    }
+pub names-anew : (s : Machine) (e : Event) (t : Machine) → IsMachineSound s → Moved s e t → NamesAnew s e t
+names-anew s e t sound k = record { new = λ id y stands. named s t e sound k id y stands }
 
 -- WHO MADE IT
 
@@ -162,34 +154,15 @@ made-now s e id y m = by (caller_of s e.pid) refl m.made
 since-same : (o : Opening) (before : List Event) (id : ℕ) (x y : Segment) → IsSame x y → Since o (λ u e. IsMadeBy u e id x) (λ u e. StandsAs u id x) before → Since o (λ u e. IsMadeBy u e id y) (λ u e. StandsAs u id y) before
 since-same o before id x y same since = grind (arith, common_steps, since-map, same_trans)
 
-record Known (o : Opening) (before : List Event) (s : Machine) : Type 0 where
-  sound : IsMachineSound s
-  made : AreMade o before s
-
-known-on : (o : Opening) → GoesOn o (Known o)
+-- at all times
+pub made-on : (o : Opening) (before : List Event) (s : Machine) (e : Event) (t : Machine) → IsHistory o before s → IsMachineSound s → Moved s e t → AreMade o before s → AreMade o (before ++ e ∷ []) t
 unfolding AreMade
-known-on o before s e t h now m =
-    record { sound = (one_move s (length before + 1) e t now.sound m).sound; made = λ id y stands. from id y (came-from s t e now.sound (kind-move s (length before + 1) e t now.sound.bare m) id y stands) }
+made-on o before s e t h sound k made id y stands = from (came-from s t e sound k id y stands)
   where
-    from : (id : ℕ) (y : Segment) → Before s e id y → Since o (λ u e. IsMadeBy u e id y) (λ u e. StandsAs u id y) (before ++ e ∷ [])
-    from id y (inr new) = Began before s e h (made-now s e id y new)
-    from id y (inl old) =
-        Lasted before s e h (old.segment, old.stood, old.same) (since-same o before id old.segment y old.same (now.made id old.segment old.stood))
+    from : Before s e id y → Since o (λ u e. IsMadeBy u e id y) (λ u e. StandsAs u id y) (before ++ e ∷ [])
+    from (inr new) = Began before s e h (made-now s e id y new)
+    from (inl old) = Lasted before s e h (old.segment, old.stood, old.same) (since-same o before id old.segment y old.same (made id old.segment old.stood))
 
-start-made : (o : Opening) → AreMade o [] (start_of o)
+pub made-start : (o : Opening) → AreMade o [] (start_of o)
 unfolding AreMade
-start-made o id y stands = absurd (cc stands)
-
-names-kept : (o : Opening) (before : List Event) (s : Machine) → IsHistory o before s → AreNamesKept o before s
-names-kept o before s h =
-    (each_moment IsMachineSound KeepsNames keeps-refl keeps-trans (λ s n e t sound m. let one = one_move s n e t sound m in (one.sound, one.kept)) 1 (start_of o) before s (sound-start o) h).1
-
--- of every legal history
-pub names_one_segment : (o : Opening) (events : List Event) (end : Machine) → IsHistory o events end → NamesOneSegment o events end
-names_one_segment o events end h =
-    let new = each_move IsMachineSound NamesAnew (λ s n e t sound m. let one = one_move s n e t sound m in (one.sound, one.new)) 1 (start_of o) events end (sound-start o) h in
-    record {
-      kept = λ before s m. names-kept o before s m.leads;
-      new = new.1;
-      made = λ before s m. (at_all_times o (Known o) (known-on o) (record { sound = sound-start o; made = start-made o }) events before s m).made;
-    }
+made-start o id y stands = absurd (cc stands)

@@ -1,8 +1,7 @@
 -- What it means that shmat has a place.
-use Rattle.shm_laws.proofs.Names.{◌≡◌, ℕ, ◌+◌, ◌-◌, ◌*◌, ◌%◌, ◌≤◌, ◌==◌, ℤ, pos, negsuc, Bool, true, false, not, nat_lt, if◌then◌else◌, List, [], ◌∷◌, length, map, get_or, Option, Some, None, refl, sym, ap, subst, ◌∙◌, arith, common_steps, All, find, not-false, none-some, All-map, Errno, Eacces, Einval, Enomem, AtFlags, end_of, grants, Segment, Piece, Machine, pages_in, Look, Found, Removed, Invalid, identifier, destroyed_at, look, inside, occupied, choose, is_gap, first_chosen, lowest_address, end_address, Caller, at_wish, is_remap, is_taken, is_full, is_misplaced, pieces_errno, pieces_beside, pieces_with, piece_for, Placed, placed, placed_at, placed_found, base_for, chosen_base, fixed_base, all-cons, all-head, all-tail, Stands, length-inserted}
-use Rattle.std.specs.Prelude.{Result, Ok, Err}
+use Rattle.shm_laws.proofs.Names.{◌≡◌, ℕ, ◌+◌, ◌-◌, ◌*◌, ◌%◌, ◌≤◌, ◌==◌, ℤ, pos, negsuc, Bool, true, false, not, nat_lt, if◌then◌else◌, List, [], ◌∷◌, length, map, Option, Some, None, refl, sym, ap, subst, ◌∙◌, arith, common_steps, All, not-false, none-some, Errno, Eacces, Einval, Enomem, AtFlags, end_of, grants, Segment, Piece, Machine, pages_in, Look, Found, Removed, Invalid, identifier, destroyed_at, look, inside, occupied, first_chosen, lowest_address, end_address, Caller, at_wish, is_remap, is_taken, is_full, is_misplaced, pieces_errno, pieces_beside, pieces_with, piece_for, Placed, placed, placed_at, placed_found, base_for, chosen_base, fixed_base, Stands, length-inserted}
+use Rattle.std.specs.Prelude.{Result, Ok, Err, min, ◌++◌}
 use Rattle.std.specs.Option.{ok_or}
-use Rattle.std.specs.Prelude.{min, ◌++◌}
 use Rattle.std.proofs.Common.{inl, inr}
 use Rattle.std.proofs.lemmas.Bool.{cases_lt}
 use Rattle.shm_base.specs.Space.{choose_beside, is_free_gap, least_where, lesser}

@@ -1,26 +1,14 @@
 -- What an mprotect makes of the pieces of a process: each lies where pieces of its attach lay, and each segment keeps a piece.
-use Rattle.shm_laws.proofs.Names.{◌≡◌, ◌≢◌, ◌⊎◌, ℕ, zero, suc, ◌+◌, ◌-◌, ◌*◌, ◌/◌, ◌%◌, ◌^◌, ◌≤◌, ◌<◌, ◌==◌, ◌&&◌, Bool, true, false, not, nat_le, nat_lt, if◌then◌else◌, List, [], ◌∷◌, length, Option, Some, None, refl, sym, ap, subst, ◌∙◌, inl, inr, arith, common_steps, cases_Bool, cases_eq, cases_lt, none-some, All, All-nil, All-append, All-weaker, All-contains, Contains, Contains-get_or, get_or, flat_map-cons, Piece, end_of, covers, parts, pieces_of, one_more, pieces_of-inserted, all-cons, all-head, all-tail, ShareTheirPages, IsPart, pages_of, rounded}
+use Rattle.shm_laws.proofs.Names.{◌≡◌, ◌≢◌, ◌⊎◌, ℕ, zero, suc, ◌+◌, ◌-◌, ◌*◌, ◌/◌, ◌%◌, ◌^◌, ◌≤◌, ◌<◌, ◌==◌, ◌&&◌, Bool, true, false, not, nat_le, nat_lt, if◌then◌else◌, List, [], ◌∷◌, length, Option, Some, None, refl, sym, ap, subst, ◌∙◌, inl, inr, arith, common_steps, cases_Bool, cases_eq, cases_lt, All, All-nil, All-append, All-weaker, All-contains, Contains, Contains-get_or, get_or, flat_map-cons, Piece, end_of, covers, parts, pieces_of, one_more, pieces_of-inserted, all-cons, all-head, all-tail, ShareTheirPages, IsPart, pages_of, rounded}
 use Rattle.shm_attach.proofs.Processes.{pieces_of-append}
+use Rattle.shm_attach.proofs.Keeping.{pieces_of-there}
 use Rattle.shm_attach.proofs.Renewed.{covers-found}
+use Rattle.shm_life.proofs.Settled.{found-all}
+use Rattle.std.proofs.lemmas.Bool.{cond_both}
 use Rattle.shm_base.specs.Space.{covering}
 use Rattle.shm_base.specs.Mapping.{Protected, stopped, ended, with_split, has_protection, low_end, high_end, part_between, own_cut, turned, protects_piece, protects_from, protects_pieces}
 use Rattle.shm_base.specs.declared.errno.Errno.TheVariants.{Einval, Enomem, Eacces}
 use Rattle.shm_laws.proofs.Parting.{IsAligned, part_refl, all-parts, all-inserted}
-
--- THE PIECE OF AN ADDRESS
-
-pub found-in : (a : ℕ) (ps : List Piece) (p : Piece) → covering a ps ≡ Some p → Contains ps p × (covers p a ≡ true)
-found-in a [] p is = absurd (none-some p is)
-found-in a (q ∷ ps) p is = elim (cases_Bool (covers q a)) [
-  | inl h ↦ let same : q ≡ p = cc (rw h at is) in (contains-head q ps p same, subst (λ (x : Piece). covers x a ≡ true) same h)
-  | inr h ↦ let rest = found-in a ps p (rw h at is) in (contains-tail q ps p rest.0, rest.1)
-]
-  where
-    contains-head : (q : Piece) (ps : List Piece) (p : Piece) → q ≡ p → Contains (q ∷ ps) p
-    contains-head q ps p same = (0, omega arith, same)
-
-    contains-tail : (q : Piece) (ps : List Piece) (p : Piece) → Contains ps p → Contains (q ∷ ps) p
-    contains-tail q ps p h = (suc h.0, omega (arith, h.1), h.2)
 
 -- WHERE A PIECE COMES FROM
 
@@ -34,20 +22,22 @@ pub record Comes (ps : List Piece) (x : Piece) : Type 0 where
   pub there : (a : ℕ) → covers x a ≡ true → (r : Piece) × Contains ps r × (covers r a ≡ true) × ShareTheirPages x r
   pub reach : (r : Piece) × Contains ps r × ShareTheirPages x r × (x.first_page + x.pages ≤ r.first_page + r.pages)
 
-share_refl : (p : Piece) → ShareTheirPages p p
-share_refl p = record { seg = refl; pages = refl }
-
 share_trans : (p q r : Piece) → ShareTheirPages p q → ShareTheirPages q r → ShareTheirPages p r
 share_trans p q r a b = record { seg = a.seg ∙ b.seg; pages = omega (arith, a.pages, b.pages) }
 
-covers-from : (p : Piece) (a : ℕ) → covers p a ≡ true → p.base ≤ a
+pub covers-from : (p : Piece) (a : ℕ) → covers p a ≡ true → p.base ≤ a
 covers-from p a h = grind (arith, common_steps)
 
-covers-to : (p : Piece) (a : ℕ) → covers p a ≡ true → a < end_of p
+pub covers-to : (p : Piece) (a : ℕ) → covers p a ≡ true → a < end_of p
 covers-to p a h = grind (arith, common_steps)
 
-covered : (p : Piece) (a : ℕ) → p.base ≤ a → a < end_of p → covers p a ≡ true
-covered p a from to = grind (arith, common_steps)
+pub covers-at : (p : Piece) (a : ℕ) → p.base ≤ a → a < end_of p → covers p a ≡ true
+covers-at p a from to = grind (arith, common_steps)
+
+pub found-in : (a : ℕ) (ps : List Piece) (p : Piece) → covering a ps ≡ Some p → Contains ps p × (covers p a ≡ true)
+found-in a ps p is =
+    let at = covers-found a ps p is in
+    (found-all (Contains ps) (λ (q : Piece). covers q a) ps p (λ k d lt. Contains-get_or ps k d lt) is, covers-at p a at.0 at.1)
 
 comes-part : (ps : List Piece) (x p : Piece) → Contains ps p → IsPart x p → Comes ps x
 comes-part ps x p is part =
@@ -57,7 +47,7 @@ comes-part ps x p is part =
       attach = record { seg = part.seg; pages = part.pages };
       may_write = part.may_write;
       limited = λ w. inr (sym part.writable ∙ w);
-      there = λ a h. (p, is, covered p a (let from = covers-from x a h in omega (arith, from, part.from)) (let to = covers-to x a h in omega (arith, to, part.to)), record { seg = part.seg; pages = part.pages });
+      there = λ a h. (p, is, covers-at p a (let from = covers-from x a h in omega (arith, from, part.from)) (let to = covers-to x a h in omega (arith, to, part.to)), record { seg = part.seg; pages = part.pages });
       reach = (p, is, record { seg = part.seg; pages = part.pages }, omega (arith, part.to, part.pages));
     }
 
@@ -112,19 +102,28 @@ module _ (w : Bool) (at to : ℕ) (p : Piece) (ps : List Piece) (aligned : All I
     ends : end_of piece ≡ p.base
     share : ShareTheirPages piece p
 
-  low-case : (p.base ≤ low) ⊎ Below
-  low-case = by (covering (at - 1) ps) refl
+  -- where the part begins
+  low-is : (low % 4096 ≡ 0) × (low ≤ at) × ((p.base ≤ low) ⊎ Below)
+  low-is = by (covering (at - 1) ps) refl
     where
-      by : (o : Option Piece) → covering (at - 1) ps ≡ o → (p.base ≤ low) ⊎ Below
-      by None e = inl (let from = covers-from p at here.1 in grind (arith, common_steps, e, from))
-      by (Some q) e =
-          let from = covers-from p at here.1 in
-          let joined : (p.base ≤ low) ⊎ ((low ≡ q.base) × ((end_of q ≡ p.base) × ((q.seg ≡ p.seg) × (q.base + 4096 * p.first_page ≡ p.base + 4096 * q.first_page)))) = grind (arith, common_steps, e, from) in
-          elim joined [
-            | inl h ↦ inl h
-            | inr h ↦ inr (record { piece = q; is = (found-in (at - 1) ps q e).0; low-is = h.0; ends = h.1.0; share = record { seg = h.1.1.0; pages = h.1.1.1 } })
-          ]
+      from : p.base ≤ at
+      from = covers-from p at here.1
 
+      by : (o : Option Piece) → covering (at - 1) ps ≡ o → (low % 4096 ≡ 0) × (low ≤ at) × ((p.base ≤ low) ⊎ Below)
+      by None e = (grind (arith, common_steps, e, page, own-page), grind (arith, common_steps, e, from), inl (grind (arith, common_steps, e, from)))
+      by (Some q) e =
+          let below = covers-found (at - 1) ps q e in
+          let below-page : IsAligned q = All-contains IsAligned ps q aligned (found-in (at - 1) ps q e).0 in
+          let joined : (p.base ≤ low) ⊎ ((low ≡ q.base) × ((end_of q ≡ p.base) × ((q.seg ≡ p.seg) × (q.base + 4096 * p.first_page ≡ p.base + 4096 * q.first_page)))) = grind (arith, common_steps, e, from) in (
+            grind (arith, common_steps, e, page, own-page, below-page),
+            grind (arith, common_steps, e, from, below),
+            elim joined [
+              | inl h ↦ inl h
+              | inr h ↦ inr (record { piece = q; is = (found-in (at - 1) ps q e).0; low-is = h.0; ends = h.1.0; share = record { seg = h.1.1.0; pages = h.1.1.1 } })
+            ],
+          )
+
+  -- it ends within the piece, or where the piece above ends
   record Above : Type 0 where
     piece : Piece
     is : Contains ps piece
@@ -132,54 +131,47 @@ module _ (w : Bool) (at to : ℕ) (p : Piece) (ps : List Piece) (aligned : All I
     begins : end_of p ≡ piece.base
     share : ShareTheirPages p piece
 
-  high-case : (high ≤ end_of p) ⊎ Above
-  high-case = by (covering (end_of p) ps) refl
+  -- and where it ends
+  high-is : (high % 4096 ≡ 0) × (at < high) × ((high ≤ end_of p) ⊎ Above)
+  high-is = by (covering (end_of p) ps) refl
     where
-      by : (o : Option Piece) → covering (end_of p) ps ≡ o → (high ≤ end_of p) ⊎ Above
-      by None e = inl (grind (arith, common_steps, e))
-      by (Some q) e =
-          let joined : (high ≤ end_of p) ⊎ ((high ≡ end_of q) × ((end_of p ≡ q.base) × ((p.seg ≡ q.seg) × (p.base + 4096 * q.first_page ≡ q.base + 4096 * p.first_page)))) = grind (arith, common_steps, e) in
-          elim joined [
-            | inl h ↦ inl h
-            | inr h ↦ inr (record { piece = q; is = (found-in (end_of p) ps q e).0; high-is = h.0; begins = h.1.0; share = record { seg = h.1.1.0; pages = h.1.1.1 } })
-          ]
+      to-end : at < end_of p
+      to-end = covers-to p at here.1
 
-  pub low-page : low % 4096 ≡ 0
-  low-page = by (covering (at - 1) ps) refl
-    where
-      by : (o : Option Piece) → covering (at - 1) ps ≡ o → low % 4096 ≡ 0
-      by None e = grind (arith, common_steps, e, page, own-page)
-      by (Some q) e = let below : IsAligned q = All-contains IsAligned ps q aligned (found-in (at - 1) ps q e).0 in grind (arith, common_steps, e, page, own-page, below)
-
-  pub high-page : high % 4096 ≡ 0
-  high-page = by (covering (end_of p) ps) refl
-    where
       end-page : (q : Piece) → IsAligned q → end_of q % 4096 ≡ 0
       end-page q h = omega (arith, h)
 
-      by : (o : Option Piece) → covering (end_of p) ps ≡ o → high % 4096 ≡ 0
-      by None e = grind (arith, common_steps, e, to-page, end-page p own-page)
-      by (Some q) e = let above : IsAligned q = All-contains IsAligned ps q aligned (found-in (end_of p) ps q e).0 in grind (arith, common_steps, e, to-page, end-page p own-page, end-page q above)
+      by : (o : Option Piece) → covering (end_of p) ps ≡ o → (high % 4096 ≡ 0) × (at < high) × ((high ≤ end_of p) ⊎ Above)
+      by None e = (grind (arith, common_steps, e, to-page, end-page p own-page), grind (arith, common_steps, e, to-end, order), inl (grind (arith, common_steps, e)))
+      by (Some q) e =
+          let above = covers-found (end_of p) ps q e in
+          let above-page : IsAligned q = All-contains IsAligned ps q aligned (found-in (end_of p) ps q e).0 in
+          let joined : (high ≤ end_of p) ⊎ ((high ≡ end_of q) × ((end_of p ≡ q.base) × ((p.seg ≡ q.seg) × (p.base + 4096 * q.first_page ≡ q.base + 4096 * p.first_page)))) = grind (arith, common_steps, e) in (
+            grind (arith, common_steps, e, to-page, end-page p own-page, end-page q above-page),
+            grind (arith, common_steps, e, to-end, order, above),
+            elim joined [
+              | inl h ↦ inl h
+              | inr h ↦ inr (record { piece = q; is = (found-in (end_of p) ps q e).0; high-is = h.0; begins = h.1.0; share = record { seg = h.1.1.0; pages = h.1.1.1 } })
+            ],
+          )
+
+  pub low-page : low % 4096 ≡ 0
+  low-page = low-is.0
+
+  pub high-page : high % 4096 ≡ 0
+  high-page = high-is.0
 
   pub low-under : low ≤ at
-  low-under = by (covering (at - 1) ps) refl
-    where
-      by : (o : Option Piece) → covering (at - 1) ps ≡ o → low ≤ at
-      by None e = let from = covers-from p at here.1 in grind (arith, common_steps, e, from)
-      by (Some q) e = let from = covers-from p at here.1 in let below = covers-found (at - 1) ps q e in grind (arith, common_steps, e, from, below)
+  low-under = low-is.1
 
   pub high-over : at < high
-  high-over = by (covering (end_of p) ps) refl
-    where
-      by : (o : Option Piece) → covering (end_of p) ps ≡ o → at < high
-      by None e = let to-end = covers-to p at here.1 in grind (arith, common_steps, e, to-end, order)
-      by (Some q) e = let to-end = covers-to p at here.1 in let above = covers-found (end_of p) ps q e in grind (arith, common_steps, e, to-end, order, above)
+  high-over = high-is.1
 
   abbrev part : Piece
   part = part_between w low high p
 
   part-shares : ShareTheirPages part p
-  part-shares = record { seg = refl; pages = by low-case }
+  part-shares = record { seg = refl; pages = by low-is.2 }
     where
       by : (p.base ≤ low) ⊎ Below → low + 4096 * p.first_page ≡ p.base + 4096 * ((4096 * p.first_page + low - p.base) / 4096)
       by (inl h) = let a = low-page in let b = own-page in omega (arith, h, a, b)
@@ -193,27 +185,27 @@ module _ (w : Bool) (at to : ℕ) (p : Piece) (ps : List Piece) (aligned : All I
       let from : low ≤ a = covers-from part a h in
       let to : a < high = (let e = covers-to part a h in omega (arith, e, from)) in
       elim (cases_lt a p.base) [
-        | inl under ↦ elim low-case [
+        | inl under ↦ elim low-is.2 [
           | inl past ↦ absurd (omega (arith, under, past, from))
           | inr b ↦ (
             b.piece,
             b.is,
-            covered b.piece a (let is = b.low-is in omega (arith, is, from)) (let e = b.ends in omega (arith, e, under)),
+            covers-at b.piece a (let is = b.low-is in omega (arith, is, from)) (let e = b.ends in omega (arith, e, under)),
             share_trans part p b.piece part-shares (record { seg = sym b.share.seg; pages = sym b.share.pages }),
           )
         ]
         | inr over ↦ elim (cases_lt a (end_of p)) [
-          | inl within ↦ (p, here.0, covered p a (omega (arith, over)) within, part-shares)
-          | inr beyond ↦ elim high-case [
+          | inl within ↦ (p, here.0, covers-at p a (omega (arith, over)) within, part-shares)
+          | inr beyond ↦ elim high-is.2 [
             | inl before ↦ absurd (omega (arith, beyond, before, to))
             | inr b ↦
-                (b.piece, b.is, covered b.piece a (let e = b.begins in omega (arith, e, beyond)) (let is = b.high-is in omega (arith, is, to)), share_trans part p b.piece part-shares b.share)
+                (b.piece, b.is, covers-at b.piece a (let e = b.begins in omega (arith, e, beyond)) (let is = b.high-is in omega (arith, is, to)), share_trans part p b.piece part-shares b.share)
           ]
         ]
       ]
 
   part-reach : (r : Piece) × Contains ps r × ShareTheirPages part r × (part.first_page + part.pages ≤ r.first_page + r.pages)
-  part-reach = elim high-case [
+  part-reach = elim high-is.2 [
     | inl before ↦ (p, here.0, part-shares, ends p part-shares before)
     | inr b ↦ (let shares = share_trans part p b.piece part-shares b.share in (b.piece, b.is, shares, ends b.piece shares (let is = b.high-is in omega (arith, is))))
   ]
@@ -271,13 +263,7 @@ turned-keeps w at to p ps id some =
 
 -- and gets no first one
 found-some : (a : ℕ) (ps : List Piece) (p : Piece) → covering a ps ≡ Some p → 1 ≤ pieces_of p.seg ps
-found-some a [] p is = absurd (none-some p is)
-found-some a (q ∷ ps) p is =
-    let more = one_more p.seg q ps in
-    elim (cases_Bool (covers q a)) [
-      | inl h ↦ let same : q ≡ p = cc (rw h at is) in grind (arith, common_steps, more, same)
-      | inr h ↦ let rest = found-some a ps p (rw h at is) in omega (arith, rest, more)
-    ]
+found-some a ps p is = found-all (λ (q : Piece). 1 ≤ pieces_of q.seg ps) (λ (q : Piece). covers q a) ps p (λ k d lt. pieces_of-there k ps d lt) is
 
 turned-none : (w : Bool) (at to : ℕ) (p : Piece) (ps : List Piece) (id : ℕ) → covering at ps ≡ Some p → pieces_of id ps ≡ 0 → pieces_of id (turned w at to p ps) ≡ 0
 turned-none w at to p ps id found none =
@@ -297,9 +283,6 @@ with-pieces id before after x = elim (cases_Bool (nat_lt (length before) (length
 may-write : (w : Bool) (p : Piece) → (w && not p.may_write) ≡ false → w ≡ true → p.may_write ≡ true
 may-write w p h is = grind (arith, common_steps)
 
-pick-left : (P : List Piece → Type 0) (b : Bool) (x y : Protected) → (b ≡ true → P x.pieces) → (b ≡ false → P y.pieces) → P (if b then x else y).pieces
-pick-left P b x y h k = grind (arith, common_steps)
-
 -- the part of a piece may get the protection, and there is room for it
 pub record CanTurn (most : ℕ) (w : Bool) (to at : ℕ) (ps : List Piece) (p : Piece) : Type 0 where
   pub found : covering at ps ≡ Some p
@@ -313,19 +296,22 @@ pub record GoesUp (P : ℕ → List Piece → Type 0) (most : ℕ) (w : Bool) (t
   pub turns : (at : ℕ) (ps : List Piece) (p : Piece) → CanTurn most w to at ps p → P at ps → P (end_of p) (turned w at to p ps)
 
 module _ (P : ℕ → List Piece → Type 0) (R : List Piece → Type 0) (left : (at : ℕ) (ps : List Piece) → P at ps → R ps) (most : ℕ) (w : Bool) where
+  abbrev Left : Protected → Type 0
+  Left x = R x.pieces
+
   holds-from : (to : ℕ) → GoesUp P most w to → (k at : ℕ) (ps : List Piece) → P at ps → R (protects_from k most w to at ps).pieces
   holds-from to up zero at ps h = left at ps h
   holds-from to up (suc k) at ps h =
-      pick-left R (nat_le to at) (ended ps) _ (λ e. left at ps h)
+      cond_both (nat_le to at) (ended ps) _ Left (λ e. left at ps h)
       (λ e. by (λ a qs. holds-from to up k a qs) (grind (arith, common_steps, e)) (covering at ps) refl)
     where
       by : ((a : ℕ) (qs : List Piece) → P a qs → R (protects_from k most w to a qs).pieces)
           → at < to → (o : Option Piece) → covering at ps ≡ o → R (protects_piece most w at to ps (protects_from k most w to) o).pieces
       by goes order None is = left at ps h
       by goes order (Some p) is =
-          pick-left R (w && not p.may_write) (stopped ps Eacces) _ (λ e. left at ps h)
-          (λ may. pick-left R (has_protection w p) _ _ (λ e. goes (end_of p) ps (up.passes at ps p is h))
-          (λ lacks. pick-left R (nat_lt most (length (turned w at to p ps))) (stopped ps Enomem) _ (λ e. left at ps h)
+          cond_both (w && not p.may_write) (stopped ps Eacces) _ Left (λ e. left at ps h)
+          (λ may. cond_both (has_protection w p) _ _ Left (λ e. goes (end_of p) ps (up.passes at ps p is h))
+          (λ lacks. cond_both (nat_lt most (length (turned w at to p ps))) (stopped ps Enomem) _ Left (λ e. left at ps h)
           (λ few.
           let can : CanTurn most w to at ps p = record { found = is; order = order; may = may-write w p may; few = grind (arith, common_steps, few) } in
           subst R (sym (with-pieces p.seg ps (turned w at to p ps) (protects_from k most w to (end_of p) (turned w at to p ps)))) (goes (end_of p) (turned w at to p ps) (up.turns at ps p can h)))))
@@ -333,9 +319,9 @@ module _ (P : ℕ → List Piece → Type 0) (R : List Piece → Type 0) (left :
   -- of a whole mprotect
   pub holds-protected : (addr len : ℕ) (ps : List Piece) → (addr % 4096 ≡ 0 → GoesUp P most w (addr + rounded len)) → (addr % 4096 ≡ 0 → P addr ps) → R ps → R (protects_pieces most w addr len ps).pieces
   holds-protected addr len ps up first h =
-      pick-left R (not (addr % 4096 == 0)) (stopped ps Einval) _ (λ e. h)
-      (λ page. pick-left R (len == 0) (ended ps) _ (λ e. h)
-      (λ some. pick-left R (nat_le (2 ^ 64) (addr + rounded len)) (stopped ps Enomem) _ (λ e. h)
+      cond_both (not (addr % 4096 == 0)) (stopped ps Einval) _ Left (λ e. h)
+      (λ page. cond_both (len == 0) (ended ps) _ Left (λ e. h)
+      (λ some. cond_both (nat_le (2 ^ 64) (addr + rounded len)) (stopped ps Enomem) _ Left (λ e. h)
       (λ fits. let aligned : addr % 4096 ≡ 0 = grind (arith, common_steps, page) in holds-from (addr + rounded len) (up aligned) (pages_of len) addr ps (first aligned))))
 
 pub protected-keeps : (most : ℕ) (w : Bool) (addr len id : ℕ) (ps : List Piece) → 1 ≤ pieces_of id ps → 1 ≤ pieces_of id (protects_pieces most w addr len ps).pieces
@@ -354,7 +340,7 @@ record Made (ps : List Piece) (at : ℕ) (qs : List Piece) : Type 0 where
   aligned : All IsAligned qs
   comes : All (Comes ps) qs
 
-next-page : (a : ℕ) (ps : List Piece) (p : Piece) → All IsAligned ps → covering a ps ≡ Some p → end_of p % 4096 ≡ 0
+pub next-page : (a : ℕ) (ps : List Piece) (p : Piece) → All IsAligned ps → covering a ps ≡ Some p → end_of p % 4096 ≡ 0
 next-page a ps p all is = let own : IsAligned p = All-contains IsAligned ps p all (found-in a ps p is).0 in omega (arith, own)
 
 pub protected-comes : (most : ℕ) (w : Bool) (addr len : ℕ) (ps : List Piece) → All IsAligned ps → All (Comes ps) (protects_pieces most w addr len ps).pieces

@@ -1,14 +1,13 @@
 -- Each byte is that of its last writer, and so is each byte that an event returns.
-use Rattle.shm_laws.proofs.Names.{◌≡◌, ◌⊎◌, ℕ, ◌+◌, ◌-◌, ◌*◌, ◌%◌, ◌<◌, true, false, List, [], ◌∷◌, ◌++◌, length, Option, Some, None, slice_get, refl, sym, ap, subst, ◌∙◌, inl, inr, arith, w64, from_le_bytes, option_map, length-map, common_steps, none-some, slice_get-map, slice_get-get_or, slice_get_within, ProcessCall, Load, Store, Xadd, Reply, Bytes, Number, Event, Segment, Piece, Machine, Opening, start_of, Place, covers, place_by, place, places, writable_places, byte_at, loaded, Caller, Outcome, caller_of, acts, step_by, step, load, store, xadd, number_at, is_refusal, IsMove, IsHistory, Stands, Began, Lasted, Put, put, pieces_of_caller, IsByte, Writes, Spares, IsLast, Remembers, AreLast, Recalls, HasLastWriters, Exchange, CompareExchange, exchange, compare_exchange, same_bytes, if◌then◌else◌, gives, Bool, stored}
-use Rattle.shm_laws.proofs.Accessing.{place-of, places-length, writable-parts}
-use Rattle.shm_laws.proofs.Fates.{kind-move}
-use Rattle.shm_laws.proofs.Fitting.{one-index, Fits, AllFit, IsFit, fit-start, fit-move, spot-fits}
-use Rattle.shm_laws.proofs.Inducting.{always}
+use Rattle.shm_laws.proofs.Names.{◌≡◌, ◌⊎◌, ℕ, ◌+◌, ◌-◌, ◌*◌, ◌%◌, ◌<◌, true, List, [], ◌∷◌, ◌++◌, length, Option, Some, None, slice_get, refl, sym, ap, subst, ◌∙◌, inl, inr, arith, w64, from_le_bytes, option_map, length-map, common_steps, none-some, slice_get-map, slice_get-get_or, slice_get_within, ProcessCall, Reply, Bytes, Number, Event, Segment, Piece, Machine, Opening, Place, covers, place_by, place, places, byte_at, loaded, Caller, Outcome, caller_of, acts, is_refusal, IsMove, IsHistory, Stands, Began, Lasted, Put, put, pieces_of_caller, IsByte, Writes, Spares, IsLast, Remembers, AreLast, Recalls, HasLastWriters, Reach, reach, Done}
+use Rattle.shm_laws.proofs.Accessing.{place-of, places-length, Finds, accesses, AccessBy, access-by}
+use Rattle.shm_laws.proofs.Fitting.{one-index, Fits, AllFit, spot-fits}
+use Rattle.shm_laws.proofs.Holding.{IsGood, good-at, kept_good}
 use Rattle.shm_laws.proofs.Looks.{stands-at}
 use Rattle.shm_laws.proofs.Naming.{Before, came-from}
 use Rattle.shm_laws.proofs.Putting.{IsSpot, Hit, Miss, byte-after, zero-byte}
-use Rattle.shm_laws.proofs.Refusing.{failure-refusal, by-move, refused-put}
-use Rattle.shm_laws.proofs.Stepping.{over_put, overlay}
+use Rattle.shm_laws.proofs.Refusing.{by-move, refused-put}
+use Rattle.shm_laws.proofs.Stepping.{Moved, over_put, overlay}
 
 -- WHAT PUTS HAS PLACES
 
@@ -16,33 +15,16 @@ module _ (s : Machine) (n : ℕ) (c : Caller) where
   abbrev Placed : ProcessCall → Outcome → Type 0
   Placed call o = (p : Put) → put call o.reply ≡ Some p → (qs : List Place) × (places c.pieces p.from (length p.bytes) ≡ Some qs)
 
-  placed-store : (a : ℕ) (bytes : List ℕ) (o : Option (List Place)) → writable_places c.pieces a (length bytes) ≡ o → Placed (Store bytes a) (store s bytes o)
-  placed-store a bytes None is p puts = absurd (none-some p puts)
-  placed-store a bytes (Some qs) is p puts = (qs, grind arith)
-
-  placed-xadd : (a add : ℕ) (o : Option (List Place)) → writable_places c.pieces a 8 ≡ o → Placed (Xadd a add) (xadd s add o)
-  placed-xadd a add None is p puts = absurd (none-some p puts)
-  placed-xadd a add (Some qs) is p puts = (qs, grind arith)
-
-  placed-exchange : (a : ℕ) (bytes : List ℕ) (o : Option (List Place)) → writable_places c.pieces a (length bytes) ≡ o → Placed (Exchange bytes a) (exchange s bytes o)
-  placed-exchange a bytes None is p puts = absurd (none-some p puts)
-  placed-exchange a bytes (Some qs) is p puts = (qs, grind arith)
-
-  placed-compare : (a : ℕ) (expected desired : List ℕ) (o : Option (List Place)) → writable_places c.pieces a (length desired) ≡ o
-      → Placed (CompareExchange expected desired a) (compare_exchange s expected desired o)
-  placed-compare a expected desired None is p puts = absurd (none-some p puts)
-  placed-compare a expected desired (Some qs) is p puts = by (same_bytes (loaded s.table qs) expected) puts
-    where
-      old : Reply
-      old = Bytes (loaded s.table qs)
-
-      by : (b : Bool) → put (CompareExchange expected desired a) (if b then gives (record s { table = stored s.table qs desired }) old else gives s old).reply ≡ Some p
-          → (rs : List Place) × (places c.pieces p.from (length p.bytes) ≡ Some rs)
-      by true had = (qs, grind (arith, writable-parts))
-      by false had = (qs, grind (arith, writable-parts))
-
   placed-acts : (call : ProcessCall) → Placed call (acts s n c call)
-  placed-acts call p puts = grind (arith, placed-store, placed-xadd, placed-exchange, placed-compare, none-some)
+  placed-acts call p puts = by (reach call) (access-by s n c call)
+    where
+      by : (r : Option Reach) → AccessBy s n c call (acts s n c call) r → (qs : List Place) × (places c.pieces p.from (length p.bytes) ≡ Some qs)
+      by None none = absurd (none-some p (sym none ∙ puts))
+      by (Some r) k =
+          elim k.changes [
+            | inl none ↦ absurd (none-some p (sym none.0 ∙ puts))
+            | inr h ↦ (h.spots, subst (λ (x : Put). places c.pieces x.from (length x.bytes) ≡ Some h.spots) (cc (sym h.puts ∙ puts)) h.found)
+          ]
 
 abbrev PlacedBy : Option Caller → ProcessCall → Reply → Type 0
 PlacedBy o call reply = (p : Put) → put call reply ≡ Some p → (qs : List Place) × (places (pieces_of_caller o) p.from (length p.bytes) ≡ Some qs)
@@ -120,17 +102,16 @@ module _ (s : Machine) (n : ℕ) (e : Event) (t : Machine) (fits : AllFit s) (m 
 -- AT ALL TIMES
 
 pub record Recollects (o : Opening) (before : List Event) (s : Machine) : Type 0 where
-  pub fit : IsFit s
+  pub fit : IsGood s
   pub bytes : Remembers o before s
 
-remembers-on : (o : Opening) (before : List Event) (s : Machine) (e : Event) (t : Machine) → IsHistory o before s → Recollects o before s → IsMove s (length before + 1) e t → Remembers o (before ++ e ∷ []) t
-remembers-on o before s e t h now m id at b y stands is =
-    from (came-from s t e now.fit.whole.sound (kind-move s (length before + 1) e t now.fit.whole.sound.bare m) id y stands)
+remembers-on : (o : Opening) (before : List Event) (s : Machine) (e : Event) (t : Machine) → IsHistory o before s → IsGood s → Moved s e t → Remembers o before s → IsMove s (length before + 1) e t → Remembers o (before ++ e ∷ []) t
+remembers-on o before s e t h good k now m id at b y stands is = from (came-from s t e good.sound k id y stands)
   where
     from : Before s e id y → IsLast o (before ++ e ∷ []) id at b
     from (inr new) =
         inr (zero-byte new.zeros.0 at b (ap (λ bs. slice_get bs at) (sym new.zeros.1) ∙ is), Began before s e h new.makes)
-    from (inl old) = what (touched s (length before + 1) e t now.fit.fits m id at b old.segment old.stood (ap (λ bs. slice_get bs at) (sym old.bytes) ∙ is))
+    from (inl old) = what (touched s (length before + 1) e t good.fits m id at b old.segment old.stood (ap (λ bs. slice_get bs at) (sym old.bytes) ∙ is))
       where
         kept : Spares s e id at → IsLast o before id at b → IsLast o (before ++ e ∷ []) id at b
         kept spares (inl since) = inl (Lasted before s e h spares since)
@@ -138,17 +119,11 @@ remembers-on o before s e t h now m id at b y stands is =
 
         what : Writes s e id at b ⊎ (Spares s e id at × (slice_get old.segment.bytes at ≡ Some b)) → IsLast o (before ++ e ∷ []) id at b
         what (inl writes) = inl (Began before s e h writes)
-        what (inr spared) = kept spared.0 (now.bytes id at b old.segment old.stood spared.1)
-
-recollects-on : (o : Opening) (before : List Event) (s : Machine) (e : Event) (t : Machine) → IsHistory o before s → Recollects o before s → IsMove s (length before + 1) e t → Recollects o (before ++ e ∷ []) t
-recollects-on o before s e t h now m = record { fit = fit-move s (length before + 1) e t now.fit m; bytes = remembers-on o before s e t h now m }
-
-start-found : (o : Opening) (id : ℕ) (x : Segment) → Stands (start_of o) id x → ⊥
-start-found o id x stands = cc stands
+        what (inr spared) = kept spared.0 (now id at b old.segment old.stood spared.1)
 
 recollects : (o : Opening) (before : List Event) (s : Machine) → IsHistory o before s → Recollects o before s
 recollects o before s h =
-    always o (Recollects o) (recollects-on o) (record { fit = fit-start o; bytes = λ id at b x stands is. absurd (start-found o id x stands) }) before s h
+    record { fit = good-at o before s h; bytes = kept_good o (Remembers o) (remembers-on o) (λ id at b x stands is. absurd (cc stands)) before s h }
 
 -- WHAT IS ANSWERED
 
@@ -177,77 +152,34 @@ recall-places o before s pid a len qs now found =
         let value : slice_get f.fits.segment.bytes at ≡ Some b = there ∙ read in
         (p.seg, at, (p.writable, spot.is ∙ ap (λ (q : Place). Some q) f.spot), now.bytes p.seg at b f.fits.segment f.fits.stands value)
 
-module _ (o : Opening) (before : List Event) (s : Machine) (n pid : ℕ) (now : Recollects o before s) where
-  load-recalls : (a len : ℕ) (bytes : List ℕ) (c : Option Caller) → caller_of s pid ≡ c → (step_by s n (Load a len) c).reply ≡ Bytes bytes → AreLast o before s pid a len bytes
-  load-recalls a len bytes None is answer = absurd (cc answer)
-  load-recalls a len bytes (Some c) is answer = by (places c.pieces a len) refl answer
+module _ (o : Opening) (before : List Event) (s : Machine) (n : ℕ) (e : Event) (t : Machine) (now : Recollects o before s) (m : IsMove s n e t) where
+  -- what an access replies
+  abbrev Told : Reach → Reply → Type 0
+  Told r reply =
+      (bytes : List ℕ) × AreLast o before s e.pid r.from r.len bytes × ((reply ≡ Done) ⊎ ((reply ≡ Number (from_le_bytes w64 bytes)) ⊎ (reply ≡ Bytes bytes)))
+
+  told-by : (r : Reach) → reach e.call ≡ Some r → (is_refusal e.reply ≡ true) ⊎ Told r e.reply
+  told-by r is = by-move s n e t (λ reply u. (is_refusal reply ≡ true) ⊎ Told r reply) (λ c live. by c live (accesses s n c e.call r is).finds) (λ reply no. inl no) m
     where
-      by : (r : Option (List Place)) → places c.pieces a len ≡ r → (load s r).reply ≡ Bytes bytes → AreLast o before s pid a len bytes
-      by None found refused = absurd (cc refused)
-      by (Some qs) found told =
-          let same : loaded s.table qs ≡ bytes = cc told in
-          subst (AreLast o before s pid a len) same (recall-places o before s pid a len qs now (ap (λ h. places (pieces_of_caller h) a len) is ∙ found))
+      by : (c : Caller) → caller_of s e.pid ≡ Some c → let reply = (acts s n c e.call).reply in (is_refusal reply ≡ true) ⊎ Finds s c r reply → (is_refusal reply ≡ true) ⊎ Told r reply
+      by c live (inl refused) = inl refused
+      by c live (inr f) =
+          inr (loaded s.table f.spots, recall-places o before s e.pid r.from r.len f.spots now (ap (λ h. places (pieces_of_caller h) r.from r.len) live ∙ f.found), f.told)
 
-  -- what a write found at its places
-  told-recalls : (a len : ℕ) (bytes : List ℕ) (c : Caller) (qs : List Place) → caller_of s pid ≡ Some c → writable_places c.pieces a len ≡ Some qs
-      → loaded s.table qs ≡ bytes → AreLast o before s pid a len bytes
-  told-recalls a len bytes c qs is found same =
-      let there = (writable-parts (places c.pieces a len) qs found).0 in
-      subst (AreLast o before s pid a len) same (recall-places o before s pid a len qs now (ap (λ h. places (pieces_of_caller h) a len) is ∙ there))
+  bytes-last : (r : Reach) (bytes : List ℕ) → reach e.call ≡ Some r → e.reply ≡ Bytes bytes → AreLast o before s e.pid r.from r.len bytes
+  bytes-last r bytes is told = grind (arith, told-by r is)
 
-  xadd-recalls : (a add old : ℕ) (c : Option Caller) → caller_of s pid ≡ c → (step_by s n (Xadd a add) c).reply ≡ Number old
-      → (bytes : List ℕ) × (old ≡ from_le_bytes w64 bytes) × AreLast o before s pid a 8 bytes
-  xadd-recalls a add old None is answer = absurd (cc answer)
-  xadd-recalls a add old (Some c) is answer = by (writable_places c.pieces a 8) refl answer
-    where
-      by : (r : Option (List Place)) → writable_places c.pieces a 8 ≡ r → (xadd s add r).reply ≡ Number old → (bytes : List ℕ) × (old ≡ from_le_bytes w64 bytes) × AreLast o before s pid a 8 bytes
-      by None found refused = absurd (cc refused)
-      by (Some qs) found told =
-          let same : number_at s qs ≡ old = cc told in
-          let there = (writable-parts (places c.pieces a 8) qs found).0 in
-          (loaded s.table qs, sym same, recall-places o before s pid a 8 qs now (ap (λ h. places (pieces_of_caller h) a 8) is ∙ there))
+  number-last : (r : Reach) (old : ℕ) → reach e.call ≡ Some r → e.reply ≡ Number old → (bytes : List ℕ) × (old ≡ from_le_bytes w64 bytes) × AreLast o before s e.pid r.from r.len bytes
+  number-last r old is told = grind (arith, told-by r is)
 
-  exchange-recalls : (a : ℕ) (new bytes : List ℕ) (c : Option Caller) → caller_of s pid ≡ c → (step_by s n (Exchange new a) c).reply ≡ Bytes bytes → AreLast o before s pid a (length new) bytes
-  exchange-recalls a new bytes None is answer = absurd (cc answer)
-  exchange-recalls a new bytes (Some c) is answer = by (writable_places c.pieces a (length new)) refl answer
-    where
-      by : (r : Option (List Place)) → writable_places c.pieces a (length new) ≡ r → (exchange s new r).reply ≡ Bytes bytes → AreLast o before s pid a (length new) bytes
-      by None found refused = absurd (cc refused)
-      by (Some qs) found told = told-recalls a (length new) bytes c qs is found (cc told)
-
-  compare-recalls : (a : ℕ) (expected desired bytes : List ℕ) (c : Option Caller) → caller_of s pid ≡ c → (step_by s n (CompareExchange expected desired a) c).reply ≡ Bytes bytes
-      → AreLast o before s pid a (length desired) bytes
-  compare-recalls a expected desired bytes None is answer = absurd (cc answer)
-  compare-recalls a expected desired bytes (Some c) is answer = by (writable_places c.pieces a (length desired)) refl answer
-    where
-      by : (r : Option (List Place)) → writable_places c.pieces a (length desired) ≡ r → (compare_exchange s expected desired r).reply ≡ Bytes bytes → AreLast o before s pid a (length desired) bytes
-      by None found refused = absurd (cc refused)
-      by (Some qs) found told = told-recalls a (length desired) bytes c qs is found (cc (sym (either (same_bytes (loaded s.table qs) expected)) ∙ told))
-        where
-          either : (b : Bool) → (if b then gives (record s { table = stored s.table qs desired }) (Bytes (loaded s.table qs)) else gives s (Bytes (loaded s.table qs))).reply ≡ Bytes (loaded s.table qs)
-          either true = refl
-          either false = refl
-
--- the reply of a move that is not a failure
-reply-of : (s : Machine) (n : ℕ) (e : Event) (t : Machine) → is_refusal e.reply ≡ false → IsMove s n e t → (step s n e.pid e.call).reply ≡ e.reply
-reply-of s n e t clear h2 = grind (arith, common_steps, failure-refusal)
-
-recalls : (o : Opening) (before : List Event) (s : Machine) (n : ℕ) (e : Event) (t : Machine) → Recollects o before s → IsMove s n e t → Recalls o before s e t
-recalls o before s n e t now m =
-    record {
-      load = λ a len bytes asked told.
-          load-recalls o before s n e.pid now a len bytes (caller_of s e.pid) refl
-          (ap (λ call. (step s n e.pid call).reply) (sym asked) ∙ reply-of s n e t (ap is_refusal told) m ∙ told);
-      xadd = λ a add old asked told.
-          xadd-recalls o before s n e.pid now a add old (caller_of s e.pid) refl
-          (ap (λ call. (step s n e.pid call).reply) (sym asked) ∙ reply-of s n e t (ap is_refusal told) m ∙ told);
-      exchange = λ a new bytes asked told.
-          exchange-recalls o before s n e.pid now a new bytes (caller_of s e.pid) refl
-          (ap (λ call. (step s n e.pid call).reply) (sym asked) ∙ reply-of s n e t (ap is_refusal told) m ∙ told);
-      compare_exchange = λ a expected desired bytes asked told.
-          compare-recalls o before s n e.pid now a expected desired bytes (caller_of s e.pid) refl
-          (ap (λ call. (step s n e.pid call).reply) (sym asked) ∙ reply-of s n e t (ap is_refusal told) m ∙ told);
-    }
+  recalls : Recalls o before s e t
+  recalls =
+      record {
+        load = λ a len bytes asked. bytes-last _ bytes (ap reach asked);
+        xadd = λ a add old asked. number-last _ old (ap reach asked);
+        exchange = λ a new bytes asked. bytes-last _ bytes (ap reach asked);
+        compare_exchange = λ a expected desired bytes asked. bytes-last _ bytes (ap reach asked);
+      }
 
 -- of every legal history
 pub has_last_writers : (o : Opening) (events : List Event) (end : Machine) → IsHistory o events end → HasLastWriters o events end

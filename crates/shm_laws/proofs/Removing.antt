@@ -1,8 +1,8 @@
 -- Each move destroys exactly what is due, and a marked segment has a piece.
-use Rattle.shm_laws.proofs.Names.{◌≡◌, ◌≤◌, ◌⊎◌, ℕ, suc, zero, ◌+◌, ◌/◌, ◌%◌, ◌==◌, ◌&&◌, ◌||◌, ◌≢◌, pos, Bool, true, false, List, [], ◌∷◌, map, Some, None, slice_get, refl, sym, ap, ◌∙◌, inl, inr, arith, eq-eqb, ne_eqb, cases_eq, common_steps, or_right, none-some, Process, Event, Segment, Runner, Machine, Opening, start_of, runner_at_start, identifier, attach_count, caller_of, IsMove, Stands, IsGone, IsSame, MarkedHavePieces, IsDue, DestroysWhatIsDue, IsMarked, IsRemoval, HasKey}
+use Rattle.shm_laws.proofs.Names.{◌≡◌, ◌≤◌, ◌⊎◌, ℕ, suc, zero, ◌+◌, ◌/◌, ◌%◌, ◌==◌, ◌&&◌, ◌||◌, ◌≢◌, pos, Bool, true, false, List, [], ◌∷◌, map, Some, None, slice_get, refl, sym, ap, ◌∙◌, inl, inr, arith, eq-eqb, ne_eqb, cases_eq, common_steps, or_right, none-some, Process, Event, Segment, Runner, Machine, Opening, start_of, runner_at_start, identifier, attach_count, caller_of, Stands, IsGone, IsSame, MarkedHavePieces, IsDue, DestroysWhatIsDue, IsMarked, IsRemoval, HasKey}
 use Rattle.shm_laws.proofs.Looks.{stands-at, at-stands, at-gone, not-both}
 use Rattle.shm_laws.proofs.Stepping.{Bare, overlay, made_by, Moved, removed}
-use Rattle.shm_laws.proofs.Fates.{IsMachineSound, names, key_after, Stays, stays, sound-after, kind-move}
+use Rattle.shm_laws.proofs.Fates.{IsMachineSound, names, key_after, Stays, stays}
 
 -- WHERE A MACHINE STARTS
 
@@ -98,14 +98,10 @@ removal-finds s t e id k r = grind (arith, common_steps)
 
 -- ONE MOVE
 
-pub destroys-move : (s : Machine) (n : ℕ) (e : Event) (t : Machine) → IsMachineSound s → IsMove s n e t → IsMachineSound t × DestroysWhatIsDue s e t
-destroys-move s n e t sound m =
-    let k = kind-move s n e t sound.bare m in
-    let next = sound-after s e t k sound in (
-      next,
-      record {
-        just = λ id x stood gone. just s t e sound k id x stood gone;
-        must = λ id x stood due. must s t e sound k id x stood due;
-        marked = marked-pieces t next;
-      },
-    )
+pub destroys : (s : Machine) (e : Event) (t : Machine) → IsMachineSound s → IsMachineSound t → Moved s e t → DestroysWhatIsDue s e t
+destroys s e t sound next k =
+    record {
+      just = λ id x stood gone. just s t e sound k id x stood gone;
+      must = λ id x stood due. must s t e sound k id x stood due;
+      marked = marked-pieces t next;
+    }

@@ -1,10 +1,8 @@
 -- Each segment fills its pages, and keeps its size.
-use Rattle.shm_laws.proofs.Names.{◌≡◌, ℕ, ◌*◌, ◌%◌, ◌≤◌, List, length, Option, Some, None, sym, ap, ◌∙◌, inl, inr, arith, Event, Segment, Machine, Opening, start_of, pages_of, Caller, caller_of, IsHistory, Stands, put, pieces_of_caller, FillsPages, AllFillPages, KeepsSizes, HaveTheirPages}
-use Rattle.shm_laws.proofs.Inducting.{Keeps, each_move, held_always}
+use Rattle.shm_laws.proofs.Names.{◌≡◌, ℕ, ◌*◌, ◌%◌, ◌≤◌, length, Option, Some, None, sym, ap, ◌∙◌, inl, inr, arith, Event, Segment, Machine, pages_of, Caller, caller_of, Stands, put, pieces_of_caller, FillsPages, AllFillPages, KeepsSizes}
 use Rattle.shm_laws.proofs.Putting.{over-length}
 use Rattle.shm_laws.proofs.Stepping.{made_by, Moved}
-use Rattle.shm_laws.proofs.Fates.{IsMachineSound, sound-after, kind-move}
-use Rattle.shm_laws.proofs.Removing.{sound-start}
+use Rattle.shm_laws.proofs.Fates.{IsMachineSound}
 use Rattle.shm_laws.proofs.Naming.{Before, came-from}
 
 -- the bytes of this many pages
@@ -40,31 +38,11 @@ size-before : (s : Machine) (e : Event) (id : ℕ) (x y : Segment) → Stands s 
 size-before s e id x y stood (inl old) = let one : old.segment ≡ x = cc in old.same.size ∙ ap (λ (w : Segment). w.size) one
 size-before s e id x y stood (inr new) = absurd (cc (sym new.makes.0 ∙ stood))
 
--- WHOLE HISTORIES
+-- ONE MOVE
 
-pub record IsFilled (s : Machine) : Type 0 where
-  pub sound : IsMachineSound s
-  pub filled : AllFillPages s
+pub filled-after : (s : Machine) (e : Event) (t : Machine) → IsMachineSound s → Moved s e t → AllFillPages s → AllFillPages t
+filled-after s e t sound k all id y stands = fills-before s e id y all (came-from s t e sound k id y stands)
 
-pub filled-move : Keeps IsFilled KeepsSizes
-filled-move s n e t now m = (record { sound = sound-after s e t k now.sound; filled = next }, kept)
-  where
-    k : Moved s e t
-    k = kind-move s n e t now.sound.bare m
-
-    next : AllFillPages t
-    next id y stands = fills-before s e id y now.filled (came-from s t e now.sound k id y stands)
-
-    kept : KeepsSizes s e t
-    kept id x y stood stands =
-        let size = size-before s e id x y stood (came-from s t e now.sound k id y stands) in
-        (size, one-length x y (now.filled id x stood) (next id y stands) size)
-
-pub filled-start : (o : Opening) → IsFilled (start_of o)
-filled-start o = record { sound = sound-start o; filled = λ id x stands. absurd (cc stands) }
-
--- of every legal history
-pub have_their_pages : (o : Opening) (events : List Event) (end : Machine) → IsHistory o events end → HaveTheirPages o events end
-have_their_pages o events end h =
-    let moves = each_move IsFilled KeepsSizes filled-move 1 (start_of o) events end (filled-start o) h in
-    record { pages = λ before s m. (held_always IsFilled KeepsSizes filled-move o (filled-start o) events before s m).filled; kept = moves.1 }
+pub keeps-sizes : (s : Machine) (e : Event) (t : Machine) → IsMachineSound s → Moved s e t → AllFillPages s → AllFillPages t → KeepsSizes s e t
+keeps-sizes s e t sound k all next id x y stood stands =
+    let size = size-before s e id x y stood (came-from s t e sound k id y stands) in (size, one-length x y (all id x stood) (next id y stands) size)

@@ -1,18 +1,15 @@
 -- The pieces of a process lie apart, inside the addresses, and are few.
-use Rattle.shm_laws.proofs.Names.{Contains, Contains-get_or, get_or, protects_pieces, rounded, slice_get-get_or, ◌≡◌, ◌⊎◌, ℕ, zero, suc, ◌+◌, ◌-◌, ◌*◌, ◌/◌, ◌%◌, ◌≤◌, ◌<◌, Bool, true, false, List, [], ◌∷◌, ◌++◌, length, Some, slice_get, slice_set, refl, ap, subst, inl, inr, arith, common_steps, All, All-contains, All-map, All-nil, All-weaker, filter, none-some, or_parts, both_ways, ⊤, ProcessCall, Event, Segment, Piece, Live, Runner, Machine, Opening, start_of, runner_at_start, pages_in, end_of, covers, meets, occupied, parts, cut, inserted, lowest_address, end_address, occupied-cut, shorter_filter, all-cons, all-slice_set, Caller, Outcome, caller_of, acts, pieces_with, IsMove, IsHistory, FillsPages, LieApart, LiesInside, AreLaidOut, SpacesAreLaidOut, sym, ◌∙◌, piece_for, pieces_beside}
+use Rattle.shm_laws.proofs.Names.{AllFillPages, Contains, Contains-get_or, get_or, protects_pieces, rounded, slice_get-get_or, ◌≡◌, ◌⊎◌, ℕ, zero, suc, ◌+◌, ◌-◌, ◌*◌, ◌/◌, ◌%◌, ◌≤◌, ◌<◌, Bool, true, false, List, [], ◌∷◌, ◌++◌, length, Some, slice_get, slice_set, refl, ap, subst, arith, common_steps, All, All-contains, All-map, All-nil, All-weaker, filter, none-some, or_parts, both_ways, ⊤, ProcessCall, Event, Segment, Piece, Live, Runner, Machine, Opening, start_of, runner_at_start, pages_in, end_of, covers, meets, occupied, parts, cut, inserted, lowest_address, end_address, occupied-cut, shorter_filter, all-cons, all-slice_set, Caller, Outcome, caller_of, acts, pieces_with, IsMove, FillsPages, LieApart, LiesInside, AreLaidOut, sym, ◌∙◌, piece_for, pieces_beside}
 use Rattle.shm_base.specs.Bounds.{Bounds}
 use Rattle.std.specs.Prelude.{max}
 use Rattle.shm_attach.proofs.Renewed.{own_cut-is}
-use Rattle.shm_base.specs.Space.{covering}
 use Rattle.shm_base.specs.Mapping.{low_end, high_end, part_between, turned}
-use Rattle.shm_laws.proofs.Protecting.{CanTurn, found-in, holds-protected, low-page, high-page, low-under, high-over, part-end, part-there}
+use Rattle.shm_laws.proofs.Protecting.{CanTurn, covers-at, covers-from, covers-to, next-page, holds-protected, low-page, high-page, low-under, high-over, part-end, part-there}
 use Rattle.shm_laws.proofs.Limiting.{limits-stay}
-use Rattle.shm_laws.proofs.Inducting.{Keeps, held_always}
-use Rattle.shm_laws.proofs.Handing.{Attaches, Hands, hands-acts}
+use Rattle.shm_laws.proofs.Handing.{Attaches, Hands, hands-acts, by-hands}
 use Rattle.shm_laws.proofs.Parting.{IsAligned}
-use Rattle.shm_laws.proofs.Granting.{me-is}
+use Rattle.shm_laws.proofs.Granting.{Aligned, me-is}
 use Rattle.shm_laws.proofs.Refusing.{by-move}
-use Rattle.shm_laws.proofs.Sizing.{IsFilled, filled-move, filled-start}
 
 -- PIECES IN ORDER
 
@@ -83,18 +80,12 @@ laid-low low j [] p laid is = absurd (none-some p is)
 laid-low low zero (q ∷ qs) p laid is = let same : q ≡ p = cc is in subst (λ (r : Piece). low ≤ r.base) same laid.0
 laid-low low (suc j) (q ∷ qs) p laid is = let rest = laid-low (end_of q) j qs p laid.1.1 is in omega (arith, laid.0, rest)
 
-covered-from : (p : Piece) (a : ℕ) → covers p a ≡ true → p.base ≤ a
-covered-from p a h = grind (arith, common_steps)
-
-covered-to : (p : Piece) (a : ℕ) → covers p a ≡ true → a < end_of p
-covered-to p a h = grind (arith, common_steps)
-
 -- the first piece and one after it
 not-both : (low a k : ℕ) (p : Piece) (ps : List Piece) (q : Piece) → Laid low (p ∷ ps) → slice_get ps k ≡ Some q → covers p a ≡ true → covers q a ≡ true → ⊥
 not-both low a k p ps q laid is h j =
     let behind = laid-low (end_of p) k ps q laid.1.1 is in
-    let to = covered-to p a h in
-    let from = covered-from q a j in
+    let to = covers-to p a h in
+    let from = covers-from q a j in
     omega (arith, behind, to, from)
 
 laid-apart : (low : ℕ) (ps : List Piece) → Laid low ps → LieApart ps
@@ -113,9 +104,12 @@ laid-inside low (p ∷ ps) le laid =
 
 -- WHAT EACH CALL LEAVES
 
-record IsSpace (most : ℕ) (ps : List Piece) : Type 0 where
+pub record IsSpace (most : ℕ) (ps : List Piece) : Type 0 where
   laid : Laid lowest_address ps
   few : length ps ≤ most
+
+space-aligned : (most : ℕ) (ps : List Piece) → IsSpace most ps → All IsAligned ps
+space-aligned most ps s = All-weaker LiesInside IsAligned (λ p h. h.page) ps (laid-inside lowest_address ps (omega arith) s.laid)
 
 abbrev Spaces : ℕ → List Runner → Type 0
 Spaces most rs = All (λ (r : Runner). IsSpace most r.pieces) rs
@@ -149,15 +143,9 @@ pages-some p h = omega (arith, h.some)
 met-here : (low high : ℕ) (q : Piece) → meets low high q ≡ true → (q.base < high) × (low < end_of q)
 met-here low high q h = grind (arith, common_steps)
 
-covers-at : (p : Piece) (a : ℕ) → p.base ≤ a → a < end_of p → covers p a ≡ true
-covers-at p a from to = grind (arith, common_steps)
-
 module _ (most : ℕ) (w : Bool) (to at : ℕ) (ps : List Piece) (p : Piece) (page : at % 4096 ≡ 0) (last : to % 4096 ≡ 0) (space : IsSpace most ps) (can : CanTurn most w to at ps p) where
-  all-inside : All LiesInside ps
-  all-inside = laid-inside lowest_address ps (omega arith) space.laid
-
   aligned : All IsAligned ps
-  aligned = All-weaker LiesInside IsAligned (λ q h. h.page) ps all-inside
+  aligned = space-aligned most ps space
 
   abbrev low : ℕ
   low = low_end w at to p ps
@@ -204,7 +192,7 @@ module _ (most : ℕ) (w : Bool) (to at : ℕ) (ps : List Piece) (p : Piece) (pa
       let end = end_of part - 1 in
       let r = part-there w at to p ps aligned can.found page last can.order end (covers-at part end (omega (arith, some)) (omega (arith, some))) in
       let inside = inside-low lowest_address ps r.0 (omega arith) space.laid r.1 in
-      let past = covered-to r.0 end r.2 in
+      let past = covers-to r.0 end r.2 in
       let to-page = inside.page in
       let to-end = inside.to in
       record { page = a; some = some; to = omega (arith, past, to-page, to-end, some, a) }
@@ -216,7 +204,7 @@ module _ (most : ℕ) (w : Bool) (to at : ℕ) (ps : List Piece) (p : Piece) (pa
       let o = over in
       let r = part-there w at to p ps aligned can.found page last can.order low (covers-at part low (omega arith) (omega (arith, e, u, o))) in
       let inside = inside-low lowest_address ps r.0 (omega arith) space.laid r.1 in
-      let from = covered-from r.0 low r.2 in
+      let from = covers-from r.0 low r.2 in
       let first = inside.from in
       omega (arith, from, first)
 
@@ -235,27 +223,21 @@ record Turning (most at : ℕ) (ps : List Piece) : Type 0 where
   page : at % 4096 ≡ 0
   space : IsSpace most ps
 
-piece-end : (most at : ℕ) (ps : List Piece) (p : Piece) → IsSpace most ps → covering at ps ≡ Some p → end_of p % 4096 ≡ 0
-piece-end most at ps p space found =
-    let inside = inside-low lowest_address ps p (omega arith) space.laid (found-in at ps p found).0 in
-    let page = inside.page in
-    omega (arith, page)
-
 protected-space : (most : ℕ) (w : Bool) (addr len : ℕ) (ps : List Piece) → IsSpace most ps → IsSpace most (protects_pieces most w addr len ps).pieces
 protected-space most w addr len ps space =
     holds-protected (Turning most) (IsSpace most) (λ at qs h. h.space) most w addr len ps
     (λ page.
     record {
-      passes = λ at qs p is h. record { page = piece-end most at qs p h.space is; space = h.space };
+      passes = λ at qs p is h. record { page = next-page at qs p (space-aligned most qs h.space) is; space = h.space };
       turns = λ at qs p can h.
           record {
-            page = piece-end most at qs p h.space can.found;
+            page = next-page at qs p (space-aligned most qs h.space) can.found;
             space = turned-space most w (addr + rounded len) at qs p h.page (omega (arith, page)) h.space can;
           };
     })
     (λ page. record { page = page; space = space }) space
 
-module _ (s : Machine) (pid : ℕ) (c : Caller) (is : caller_of s pid ≡ Some c) (filled : IsFilled s) (spaces : Spaces s.limits.most_pieces s.runners) where
+module _ (s : Machine) (pid : ℕ) (c : Caller) (is : caller_of s pid ≡ Some c) (filled : AllFillPages s) (spaces : Spaces s.limits.most_pieces s.runners) where
   own : IsSpace s.limits.most_pieces c.pieces
   own = All-contains (λ (r : Runner). IsSpace s.limits.most_pieces r.pieces) s.runners (record { pid = pid; life = Live c.cred; pieces = c.pieces }) spaces (me-is s pid c is)
 
@@ -269,14 +251,11 @@ module _ (s : Machine) (pid : ℕ) (c : Caller) (is : caller_of s pid ≡ Some c
     abbrev to : ℕ
     to = k.place.base + 4096 * k.place.pages
 
-    inside : All LiesInside c.pieces
-    inside = laid-inside lowest_address c.pieces (omega arith) own.laid
-
     page : k.place.base % 4096 ≡ 0
-    page = k.there.lies.page (All-weaker LiesInside IsAligned (λ p h. h.page) c.pieces inside)
+    page = k.there.lies.page (space-aligned s.limits.most_pieces c.pieces own)
 
     set : IsSet new
-    set = record { page = page; some = rw k.there.whole (some-pages k.there.segment (filled.filled k.place.seg k.there.segment k.there.stands)); to = k.there.lies.to }
+    set = record { page = page; some = rw k.there.whole (some-pages k.there.segment (filled k.place.seg k.there.segment k.there.stands)); to = k.there.lies.to }
 
     attaches-space : IsSpace s.limits.most_pieces (pieces_with c k.flags k.place)
     attaches-space =
@@ -288,56 +267,28 @@ module _ (s : Machine) (pid : ℕ) (c : Caller) (is : caller_of s pid ≡ Some c
         }
 
   hands-spaces : (call : ProcessCall) (o : Outcome) → Hands s c call o → Spaces s.limits.most_pieces o.state.runners
-  hands-spaces call o (inl k) = rw k.runners spaces
-  hands-spaces call o (inr (inl k)) =
-      rw k.runners (set-one c.index (record { pid = c.pid; life = Live c.cred; pieces = pieces_with c k.flags k.place }) (attaches-space call o k))
-  hands-spaces call o (inr (inr (inl k))) =
-      rw k.runners
-      (set-one c.index (record { pid = c.pid; life = k.life; pieces = filter k.stays c.pieces })
-      (record { laid = laid-filter k.stays lowest_address c.pieces own.laid; few = let le = shorter_filter k.stays c.pieces in omega (arith, le, own.few) }))
-  hands-spaces call o (inr (inr (inr (inr (inl k))))) =
-      rw k.runners
-      (set-one c.index (record { pid = c.pid; life = Live c.cred; pieces = cut k.addr (k.addr + rounded k.len) c.pieces })
-      (record { laid = laid-cut lowest_address k.addr (k.addr + rounded k.len) c.pieces own.laid k.page (omega (arith, k.page)) (omega arith); few = k.few }))
-  hands-spaces call o (inr (inr (inr (inr (inr (inl k)))))) =
-      rw k.runners
-      (set-one c.index (record { pid = c.pid; life = Live c.cred; pieces = (protects_pieces s.limits.most_pieces k.writable k.addr k.len c.pieces).pieces })
-      (protected-space s.limits.most_pieces k.writable k.addr k.len c.pieces own))
-  hands-spaces call o (inr (inr (inr (inr (inr (inr k)))))) = rw k.runners (set-one c.index (record { pid = c.pid; life = Live k.cred; pieces = c.pieces }) own)
-  hands-spaces call o (inr (inr (inr (inl k)))) = rw k.runners (set-one k.index (record { pid = k.child; life = Live c.cred; pieces = c.pieces }) own)
+  hands-spaces call o =
+      by-hands s c call o (Spaces s.limits.most_pieces) (λ i r. IsSpace s.limits.most_pieces r.pieces) spaces set-one (attaches-space call o)
+      (λ k. record { laid = laid-filter k.stays lowest_address c.pieces own.laid; few = let le = shorter_filter k.stays c.pieces in omega (arith, le, own.few) })
+      (λ k. own)
+      (λ k. record { laid = laid-cut lowest_address k.addr (k.addr + rounded k.len) c.pieces own.laid k.page (omega (arith, k.page)) (omega arith); few = k.few })
+      (λ k. protected-space s.limits.most_pieces k.writable k.addr k.len c.pieces own) (λ k. own)
 
-spaces-move : (s : Machine) (n : ℕ) (e : Event) (t : Machine) → IsFilled s → Spaces s.limits.most_pieces s.runners → IsMove s n e t → Spaces s.limits.most_pieces t.runners
-spaces-move s n e t filled spaces =
-    by-move s n e t (λ r u. Spaces s.limits.most_pieces u.runners) (λ c is. hands-spaces s e.pid c is filled spaces e.call (acts s n c e.call) (hands-acts s n c e.call)) (λ r no. spaces)
+-- the pieces of each process of a machine
+abbrev pub AreInOrder : Machine → Type 0
+AreInOrder s = Spaces s.limits.most_pieces s.runners
 
--- WHOLE HISTORIES
+pub in-order-move : (s : Machine) (n : ℕ) (e : Event) (t : Machine) → AllFillPages s → AreInOrder s → IsMove s n e t → AreInOrder t
+in-order-move s n e t filled spaces m =
+    rw (limits-stay s n e t m)
+    (by-move s n e t (λ r u. Spaces s.limits.most_pieces u.runners) (λ c is. hands-spaces s e.pid c is filled spaces e.call (acts s n c e.call) (hands-acts s n c e.call)) (λ r no. spaces) m)
 
-record AreInOrder (limits : Bounds) (s : Machine) : Type 0 where
-  filled : IsFilled s
-  same : s.limits ≡ limits
-  spaces : Spaces limits.most_pieces s.runners
+pub in-order-start : (o : Opening) → AreInOrder (start_of o)
+in-order-start o = All-map (λ (r : Runner). IsSpace o.limits.most_pieces r.pieces) runner_at_start o.processes (λ k d lt. record { laid = tt; few = omega arith })
 
-in-order-move : (limits : Bounds) → Keeps (AreInOrder limits) (λ s e t. Spaces limits.most_pieces t.runners)
-in-order-move limits s n e t now m =
-    let before : Spaces s.limits.most_pieces s.runners = subst (λ (b : Bounds). Spaces b.most_pieces s.runners) (sym now.same) now.spaces in
-    let after = spaces-move s n e t now.filled before m in
-    let next : Spaces limits.most_pieces t.runners = subst (λ (b : Bounds). Spaces b.most_pieces t.runners) now.same after in
-    (record { filled = (filled-move s n e t now.filled m).0; same = limits-stay s n e t m ∙ now.same; spaces = next }, next)
+pub all-aligned : (s : Machine) → AreInOrder s → Aligned s
+all-aligned s spaces = All-weaker (λ (r : Runner). IsSpace s.limits.most_pieces r.pieces) (λ (r : Runner). All IsAligned r.pieces) (λ r h. space-aligned s.limits.most_pieces r.pieces h) s.runners spaces
 
-in-order-start : (o : Opening) → AreInOrder o.limits (start_of o)
-in-order-start o =
-    record {
-      filled = filled-start o;
-      same = refl;
-      spaces = All-map (λ (r : Runner). IsSpace o.limits.most_pieces r.pieces) runner_at_start o.processes (λ k d lt. record { laid = tt; few = omega arith });
-    }
-
--- of every legal history
-pub spaces_are_laid_out : (o : Opening) (events : List Event) (end : Machine) → IsHistory o events end → SpacesAreLaidOut o events end
-spaces_are_laid_out o events end h =
-    let most = o.limits.most_pieces in
-    record {
-      spaces = λ before s m.
-          All-weaker (λ (r : Runner). IsSpace most r.pieces) (λ (r : Runner). AreLaidOut most r.pieces) (λ r space. laid-out most r.pieces space) s.runners
-          (held_always (AreInOrder o.limits) (λ s e t. Spaces most t.runners) (in-order-move o.limits) o (in-order-start o) events before s m).spaces;
-    }
+pub all-laid-out : (limits : Bounds) (s : Machine) → s.limits ≡ limits → AreInOrder s → All (λ (r : Runner). AreLaidOut limits.most_pieces r.pieces) s.runners
+all-laid-out limits s same spaces =
+    rw (sym same) (All-weaker (λ (r : Runner). IsSpace s.limits.most_pieces r.pieces) (λ (r : Runner). AreLaidOut s.limits.most_pieces r.pieces) (λ r h. laid-out s.limits.most_pieces r.pieces h) s.runners spaces)

@@ -1,10 +1,11 @@
 -- The four kinds of step on the segments: still, a sweep after a detach, a creation, a removal.
-use Rattle.shm_laws.proofs.Names.{pieces_of, Cred, Mprotect, Munmap, Setuid, cut, mprotect, protects_pieces, rest_is_attached, unmapped_to, unmaps, with_cred, ◌≡◌, ◌⊎◌, ℕ, ◌+◌, ◌*◌, ◌%◌, ◌^◌, ◌≤◌, ◌==◌, ℤ, pos, negsuc, Bool, true, false, not, nat_lt, nat_le, within, if◌then◌else◌, List, [], ◌∷◌, length, replicate, get_or, Option, Some, None, slice_get, slice_set, refl, sym, ap, subst, ◌∙◌, inl, inr, arith, common_steps, get-set_other, w64, to_le_bytes, slice_get-get_or, GetFlags, AtFlags, ProcessCall, Shmget, Shmat, Shmdt, Stat, Set, Rmid, Lock, Unlock, Load, Store, Xadd, Exchange, CompareExchange, Fork, Exec, Exit, Swapoff, Reply, Id, Done, Addr, Event, grants, owns, wish_of, Place, places, writable_places, stored, Segment, Entry, Piece, Unborn, Live, Ended, Runner, Machine, pages_of, Look, Found, Removed, Invalid, identifier, destroyed_at, free_index, with_segment, look, find_key, cut_segments, origin_of, attach_count, reserved, segment_count, change, attached, marked, detach_all, swept, Outcome, gives, segments_of, Caller, caller_of, acts, new_segment, creates, creates_at, shmget, wants_creation, wants_no_other, pieces_with, with_pieces, detaches, forks, unborn_from, stat, controls, sets, removes, locks, unlocks, load, store, xadd, number_at, takes_away, swapoff, first_runner, child_at, life_in, IsSame, Put, put, pieces_of_caller, Errno, creates_small, huge_errno, rests, attach_all, inherited, fork_marks, locks_as, unlocked, is_no_owner, exchange, compare_exchange, same_bytes, loaded, Bytes, attaches_if, Placed, placed, lock_refusal, locks_unless}
+use Rattle.shm_laws.proofs.Names.{pieces_of, Cred, Mprotect, Munmap, Setuid, cut, mprotect, protects_pieces, rest_is_attached, unmapped_to, unmaps, with_cred, ◌≡◌, ◌⊎◌, ℕ, ◌+◌, ◌*◌, ◌%◌, ◌≤◌, ◌==◌, ℤ, pos, negsuc, Bool, false, not, nat_lt, List, [], ◌∷◌, length, replicate, get_or, Option, Some, None, slice_get, slice_set, refl, sym, ap, subst, ◌∙◌, inl, inr, arith, common_steps, get-set_other, slice_get-get_or, GetFlags, AtFlags, ProcessCall, Shmget, Shmat, Shmdt, Stat, Set, Rmid, Lock, Unlock, Fork, Exec, Exit, Swapoff, Reply, Id, Done, Addr, Event, owns, Place, places, stored, Segment, Entry, Piece, Unborn, Live, Ended, Runner, Machine, pages_of, Look, Found, Removed, Invalid, identifier, destroyed_at, free_index, with_segment, look, cut_segments, origin_of, attach_count, change, attached, marked, detach_all, swept, Outcome, gives, segments_of, Caller, caller_of, acts, new_segment, shmget, pieces_with, with_pieces, detaches, forks, unborn_from, stat, controls, sets, removes, locks, unlocks, takes_away, swapoff, first_runner, child_at, life_in, IsSame, Put, put, pieces_of_caller, Errno, rests, attach_all, inherited, fork_marks, locks_as, unlocked, is_no_owner, attaches_if, Placed, placed, lock_refusal, locks_unless, Reach, reach}
 use Rattle.std.specs.Prelude.{Result, Ok, Err}
-use Rattle.shm_base.specs.Step.{gets}
+use Rattle.std.proofs.lemmas.Bool.{cond_both}
+use Rattle.shm_life.proofs.Asking.{IsFree, by-shmget, pick}
 use Rattle.shm_laws.proofs.Callers.{kept-set}
 use Rattle.shm_laws.proofs.Protecting.{protected-keeps}
-use Rattle.shm_laws.proofs.Accessing.{writable-parts}
+use Rattle.shm_laws.proofs.Accessing.{Changes, accesses}
 use Rattle.shm_laws.proofs.Turning.{IsAlike, Turned, unchanged, puts_in, turned-refl, turned-trans, turned-change, turned-attach, turned-detach, turned-stored, set-got}
 use Rattle.shm_laws.proofs.Looks.{entry-found}
 
@@ -95,10 +96,6 @@ over_put ps (Some p) i bytes = over_places (places ps p.from (length p.bytes)) p
 abbrev pub overlay : Machine → Event → ℕ → List ℕ → List ℕ
 overlay s e = over_put (pieces_of_caller (caller_of s e.pid)) (put e.call e.reply)
 
--- a key that no segment has
-abbrev pub IsFree : List Entry → ℕ → Type 0
-IsFree t key = (i : ℕ) (x : Segment) → find_key t key ≡ Found i x → ⊥
-
 -- the segment that a call makes: with the key of the call, which no segment had, and the bytes of its pages
 pub record MadeBy (t : List Entry) (c : Caller) (call : ProcessCall) (y : Segment) : Type 0 where
   pub mode : ℕ
@@ -132,16 +129,6 @@ sweeps : (like : Segment → Type 0) (s : Machine) (reply : Reply) (t : Machine)
     → (Bare s.runners → Bare t.runners) → Kind idle like s None reply t
 sweeps like s reply t middle turned table bare = inl (refl, inr (λ i bytes. refl, inl (record { middle = middle; turned = turned; table = table; bare = bare })))
 
-pub pick : (P : Outcome → Type 0) (b : Bool) (o p : Outcome) → P o → P p → P (if b then o else p)
-pick P b o p h k = grind (arith, common_steps)
-
-pub pick_by : (P : Outcome → Type 0) (b : Bool) (o p : Outcome) → (b ≡ true → P o) → (b ≡ false → P p) → P (if b then o else p)
-pick_by P b o p h k = grind (arith, common_steps)
-
--- a table or another, as `pick` for outcomes
-pick_table : (P : List Entry → Type 0) (b : Bool) (t u : List Entry) → P t → P u → P (if b then t else u)
-pick_table P b t u h k = grind (arith, common_steps)
-
 locked-head : (uid : ℕ) (y : Segment) → IsSame y (locks_as uid y)
 locked-head uid y = grind (arith, common_steps)
 
@@ -154,51 +141,26 @@ locked-bytes uid y = grind (arith, common_steps)
 same_head : (x y : Segment) → y.size ≡ x.size → y.cpid ≡ x.cpid → y.perm.cuid ≡ x.perm.cuid → y.perm.cgid ≡ x.perm.cgid → IsSame x y
 same_head x y a b c d = record { size = a; cpid = b; cuid = c; cgid = d }
 
-alike_head : (x y : Segment) → y.key ≡ x.key → y.dest ≡ x.dest → IsAlike x y
-alike_head x y a b = record { key = a; dest = b }
-
 living : (c : Caller) (ps : List Piece) (rs : List Runner) → Bare rs → Bare (with_pieces rs c ps)
 living c ps rs h = bare-set rs c.index (record { pid = c.pid; life = Live c.cred; pieces = ps }) h (λ (e : Live c.cred ≡ Unborn). cc e)
-
-pub is-zero : (key : ℕ) → (key == 0) ≡ true → key ≡ 0
-is-zero key h = grind (arith, common_steps)
-
-within-low : (size most : ℕ) → not (within 1 most size) ≡ false → 1 ≤ size
-within-low size most h = grind (arith, common_steps)
 
 module _ (like : Segment → Type 0) (s : Machine) (n : ℕ) (c : Caller) where
   abbrev Plain : Machine → Outcome → Type 0
   Plain u o = Kind idle like u None o.reply o.state
 
-  kind-makes : (key size mode : ℕ) (o : Option ℕ) → free_index s.table ≡ o → like (new_segment n c key size mode) → Plain s (creates_at s n c key size mode o)
-  kind-makes key size mode o is made = grind (arith, common_steps, pick, still)
+  kind-made : (key size mode i : ℕ) → free_index s.table ≡ Some i → like (new_segment n c key size mode)
+      → Plain s (gives (record s { table = with_segment s.table i (new_segment n c key size mode) }) (Id (pos (identifier i (destroyed_at s.table i)))))
+  kind-made key size mode i is made = grind (arith, common_steps)
 
   -- what is asked for has a size
   abbrev Likes : ℕ → ℕ → ℕ → Type 0
   Likes key size mode = 1 ≤ size → like (new_segment n c key size mode)
 
-  kind-small : (key size mode : ℕ) (o : Option Errno) → like (new_segment n c key size mode) → Plain s (creates_small s n c key size mode o)
-  kind-small key size mode (Some e) made = still like s _
-  kind-small key size mode None made = pick (Plain s) (nat_le s.limits.shmmni (segment_count s.table)) _ _ (still like s _) (kind-makes key size mode (free_index s.table) refl made)
-
-  kind-creates : (key size mode : ℕ) (flags : GetFlags) → Likes key size mode → Plain s (creates s n c key size mode flags)
-  kind-creates key size mode flags made =
-      pick_by (Plain s) (not (within 1 s.limits.shmmax size)) _ _ (λ h. still like s _)
-      (λ h. pick (Plain s) (nat_lt s.limits.shmall (reserved s.table + pages_of size)) _ _ (still like s _)
-      (kind-small key size mode (huge_errno s c flags) (made (within-low size s.limits.shmmax h))))
-
-  kind-gets : (key size mode : ℕ) (flags : GetFlags) (l : Look) → (((i : ℕ) (x : Segment) → l ≡ Found i x → ⊥) → Likes key size mode) → Plain s (gets s n c key size mode flags l)
-  kind-gets key size mode flags (Found i x) made = pick (Plain s) (wants_no_other flags) _ _ (still like s _) (pick (Plain s) (nat_lt x.size size) _ _ (still like s _) (pick (Plain s) (not (grants c.cred x.perm (wish_of s.limits.rules mode))) _ _ (still like s _) (still like s _)))
-  kind-gets key size mode flags Removed made = pick (Plain s) (wants_creation flags) _ _ (kind-creates key size mode flags (made (λ i x h. cc h))) (still like s _)
-  kind-gets key size mode flags Invalid made = pick (Plain s) (wants_creation flags) _ _ (kind-creates key size mode flags (made (λ i x h. cc h))) (still like s _)
-
   kind-shmget : (key size mode : ℕ) (flags : GetFlags) → ((key ≡ 0) ⊎ IsFree s.table key → Likes key size mode) → Plain s (shmget s n c key size mode flags)
   kind-shmget key size mode flags made =
-      pick_by (Plain s) (key == 0) _ _ (λ h. kind-creates 0 size mode flags (private h))
-      (λ h. kind-gets key size mode flags (find_key s.table key) (λ free. made (inr free)))
-    where
-      private : (key == 0) ≡ true → Likes 0 size mode
-      private h = let none = is-zero key h in subst (λ k. Likes k size mode) none (made (inl none))
+      by-shmget s n c size mode (λ k o. ((k ≡ 0) ⊎ IsFree s.table k → Likes k size mode) → Plain s o)
+      (λ k e other likes. still like s _) (λ k i x named found permitted likes. still like s _)
+      (λ k i free some is likes. kind-made k size mode i is (likes free some)) key flags made
 
   kind-attaches : (flags : AtFlags) (r : Result Placed Errno) → Plain s (attaches_if s n c flags r)
   kind-attaches flags (Err e) = still like s _
@@ -219,7 +181,7 @@ module _ (like : Segment → Type 0) (s : Machine) (n : ℕ) (c : Caller) where
   kind-detaches addr (Some p) = sweeps like s _ _ _ (turned-detach n c.pid (p.seg ∷ []) s.table) refl (living c _ s.runners)
 
   turned-inherited : (i : ℕ) → Turned unchanged s.table (inherited s n c) i
-  turned-inherited i = pick_table (λ t. Turned unchanged s.table t i) (fork_marks s.limits.rules) _ _ (turned-attach n c.pid (segments_of c) s.table i) (turned-refl s.table i)
+  turned-inherited i = cond_both (fork_marks s.limits.rules) _ _ (λ t. Turned unchanged s.table t i) (λ h. turned-attach n c.pid (segments_of c) s.table i) (λ h. turned-refl s.table i)
 
   kind-forks : (child : ℕ) (o : Option ℕ) → Bare s.runners → unborn_from 0 child s.runners ≡ o → Plain s (forks s n c child o)
   kind-forks child None bare is = still like s _
@@ -256,51 +218,20 @@ module _ (like : Segment → Type 0) (s : Machine) (n : ℕ) (c : Caller) where
   kind-unlocks : (i : ℕ) (x : Segment) → Plain s (unlocks s i x)
   kind-unlocks i x = quiet idle like s _ _ (turned-change unlocked (λ y. same_head y _ refl refl refl refl) (λ y. record { key = refl; dest = refl }) (λ y. refl) s.table i) refl
 
-  kind-load : (o : Option (List Place)) → Plain s (load s o)
-  kind-load o = grind (arith, common_steps, still)
-
   abbrev Puts : ProcessCall → Outcome → Type 0
   Puts call o = Kind (over_put c.pieces (put call o.reply)) like s None o.reply o.state
 
-  turned-put : (a : ℕ) (vs : List ℕ) (qs : List Place) → places c.pieces a (length vs) ≡ Some qs
-      → (i : ℕ) → Turned (over_put c.pieces (Some (record { from = a; bytes = vs })) i) s.table (stored s.table qs vs) i
-  turned-put a vs qs is i = subst (λ o. Turned (over_places o vs i) s.table (stored s.table qs vs) i) (sym is) (turned-stored qs vs s.table i)
-
-  kind-store : (a : ℕ) (bytes : List ℕ) (o : Option (List Place)) → writable_places c.pieces a (length bytes) ≡ o → Puts (Store bytes a) (store s bytes o)
-  kind-store a bytes None is = still like s _
-  kind-store a bytes (Some qs) is = quiet _ like s _ _ (turned-put a bytes qs (writable-parts (places c.pieces a (length bytes)) qs is).0) refl
-
-  kind-xadd : (a add : ℕ) (o : Option (List Place)) → writable_places c.pieces a 8 ≡ o → Puts (Xadd a add) (xadd s add o)
-  kind-xadd a add None is = still like s _
-  kind-xadd a add (Some qs) is =
-      quiet _ like s _ _ (turned-put a (to_le_bytes w64 ((number_at s qs + add) % 2 ^ 64)) qs (writable-parts (places c.pieces a 8) qs is).0) refl
-
-  kind-exchange : (a : ℕ) (bytes : List ℕ) (o : Option (List Place)) → writable_places c.pieces a (length bytes) ≡ o → Puts (Exchange bytes a) (exchange s bytes o)
-  kind-exchange a bytes None is = still like s _
-  kind-exchange a bytes (Some qs) is = quiet _ like s _ _ (turned-put a bytes qs (writable-parts (places c.pieces a (length bytes)) qs is).0) refl
-
-  kind-compare : (a : ℕ) (expected desired : List ℕ) (o : Option (List Place)) → writable_places c.pieces a (length desired) ≡ o
-      → Puts (CompareExchange expected desired a) (compare_exchange s expected desired o)
-  kind-compare a expected desired None is = still like s _
-  kind-compare a expected desired (Some qs) is =
-      subst (λ p. Kind (over_put c.pieces p) like s None (told met).reply (told met).state) (sym (ap (put (CompareExchange expected desired a)) (same-told met))) (by met)
+  kind-access : (call : ProcessCall) (r : Reach) → reach call ≡ Some r → Puts call (acts s n c call)
+  kind-access call r is = by (accesses s n c call r is).changes
     where
-      met : Bool
-      met = same_bytes (loaded s.table qs) expected
+      o : Outcome
+      o = acts s n c call
 
-      old : Reply
-      old = Bytes (loaded s.table qs)
-
-      told : Bool → Outcome
-      told b = if b then gives (record s { table = stored s.table qs desired }) old else gives s old
-
-      same-told : (b : Bool) → (told b).reply ≡ old
-      same-told true = refl
-      same-told false = refl
-
-      by : (b : Bool) → Kind (over_put c.pieces (if b then Some (record { from = a; bytes = desired }) else None)) like s None (told b).reply (told b).state
-      by true = quiet _ like s _ _ (turned-put a desired qs (writable-parts (places c.pieces a (length desired)) qs is).0) refl
-      by false = still like s _
+      by : Changes s c (put call o.reply) o.state → Puts call o
+      by (inl k) = rw (k.0, k.1) (still like s _)
+      by (inr k) =
+          rw (k.puts, k.state)
+          (quiet _ like s _ _ (λ i. subst (λ o. Turned (over_places o k.what.bytes i) s.table (stored s.table k.spots k.what.bytes) i) (sym k.found) (turned-stored k.spots k.what.bytes s.table i)) refl)
 
   kind-takes : (area : ℕ) (o : Option (Option ℕ)) → Plain s (takes_away s area o)
   kind-takes area o = grind (arith, common_steps, still, pick, quiet, turned-refl)
@@ -331,7 +262,7 @@ module _ (like : Segment → Type 0) (s : Machine) (n : ℕ) (c : Caller) where
       inl (
         refl,
         inl (record {
-          turned = λ i. pick_table (λ t. Turned unchanged s.table t i) (rest_is_attached s.limits.rules) _ _ (turned-attach n c.pid x.split s.table i) (turned-refl s.table i);
+          turned = λ i. cond_both (rest_is_attached s.limits.rules) _ _ (λ t. Turned unchanged s.table t i) (λ h. turned-attach n c.pid x.split s.table i) (λ h. turned-refl s.table i);
           kept = kept-set s.runners c.index _ new there (λ id some. protected-keeps s.limits.most_pieces w addr len id c.pieces some);
           bare = living c x.pieces s.runners;
         }),
@@ -365,11 +296,6 @@ module _ (like : Segment → Type 0) (s : Machine) (n : ℕ) (c : Caller) where
   kind-acts there (Rmid (negsuc id)) bare made = still like s _
   kind-acts there (Lock id) bare made = kind-controls (locks s c) (λ i x. kind-locks i (lock_refusal s.limits c.cred s.table x)) (look s.table id)
   kind-acts there (Unlock id) bare made = kind-controls (unlocks s) kind-unlocks (look s.table id)
-  kind-acts there (Load a len) bare made = kind-load (places c.pieces a len)
-  kind-acts there (Store bytes a) bare made = kind-store a bytes (writable_places c.pieces a (length bytes)) refl
-  kind-acts there (Xadd a add) bare made = kind-xadd a add (writable_places c.pieces a 8) refl
-  kind-acts there (Exchange bytes a) bare made = kind-exchange a bytes (writable_places c.pieces a (length bytes)) refl
-  kind-acts there (CompareExchange expected desired a) bare made = kind-compare a expected desired (writable_places c.pieces a (length desired)) refl
   kind-acts there (Fork child) bare made = kind-forks child (unborn_from 0 child s.runners) bare refl
   kind-acts there Exec bare made = sweeps like s _ _ _ (turned-detach n c.pid (segments_of c) s.table) refl (living c [] s.runners)
   kind-acts there Exit bare made = sweeps like s _ _ _ (turned-detach n c.pid (segments_of c) s.table) refl (λ h. bare-set s.runners c.index (record { pid = c.pid; life = Ended; pieces = [] }) h (λ (e : Ended ≡ Unborn). cc e))
@@ -377,3 +303,4 @@ module _ (like : Segment → Type 0) (s : Machine) (n : ℕ) (c : Caller) where
   kind-acts there (Munmap addr len) bare made = kind-unmaps addr (unmapped_to addr len)
   kind-acts there (Mprotect addr len w) bare made = kind-protects there w addr len
   kind-acts there (Setuid uid gid) bare made = kind-setuid there (record { uid = uid; gid = gid })
+  kind-acts there call bare made = kind-access call _ refl

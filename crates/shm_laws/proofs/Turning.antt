@@ -97,7 +97,7 @@ puts_in i [] vs bytes = bytes
 puts_in i (p ∷ ps) [] bytes = bytes
 puts_in i (p ∷ ps) (v ∷ vs) bytes = puts_in i ps vs (byte_in i p v bytes)
 
-pub turned-byte : (p : Place) (v : ℕ) (t : List Entry) (i : ℕ) → Turned (byte_in i p v) t (with_byte t p v) i
+turned-byte : (p : Place) (v : ℕ) (t : List Entry) (i : ℕ) → Turned (byte_in i p v) t (with_byte t p v) i
 turned-byte p v t i = by (cases_eq (p.seg % 32768) i)
   where
     same : (x : Segment) → IsSame x (byte_set p.at v x)

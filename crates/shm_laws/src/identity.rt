@@ -5,7 +5,7 @@ use shm_base::Event;
 use shm_history::World;
 use shm_pager::Pager;
 
-#[tactic(auto, using(crate::proofs::Naming::names_one_segment))]
+#[tactic(auto, using(crate::proofs::Keeping::names_one_segment))]
 /// The history of the world. An identifier names the same segment until that is destroyed, and then none. A new segment
 /// gets an identifier that was never issued before.
 pub fn named_once<P: Pager>(world: &World<P>) -> &[Event]

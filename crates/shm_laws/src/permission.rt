@@ -5,7 +5,7 @@ use shm_base::Event;
 use shm_history::World;
 use shm_pager::Pager;
 
-#[tactic(auto, using(crate::proofs::Granting::no_way_in))]
+#[tactic(auto, using(crate::proofs::Keeping::no_way_in))]
 /// The history of the world. Each piece of a process descends, through forks only, from a shmat that had permission. Each
 /// access stays inside the pieces of its process. Only owners are granted set, rmid, lock and unlock, and only user 0 is
 /// granted swapoff. Only processes with permission succeed at stat, or at a shmget of an existing segment. No call

@@ -5,7 +5,7 @@ use shm_base::Event;
 use shm_history::World;
 use shm_pager::Pager;
 
-#[tactic(auto, using(crate::proofs::Piecing::pieces_are_of_segments))]
+#[tactic(auto, using(crate::proofs::Keeping::pieces_are_of_segments))]
 /// The history of the world. A process can only get a piece of a segment that exists, and a segment with a
 /// piece always exists. The attach count of `stat` is the number of the segment's pieces in all processes. A
 /// shmat adds one, a fork adds as many as the parent has, and each piece that is detached subtracts one.

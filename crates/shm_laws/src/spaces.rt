@@ -5,7 +5,7 @@ use shm_base::Event;
 use shm_history::World;
 use shm_pager::Pager;
 
-#[tactic(auto, using(crate::proofs::Spacing::spaces_are_laid_out))]
+#[tactic(auto, using(crate::proofs::Keeping::spaces_are_laid_out))]
 /// The history of the world. The pieces of a process never overlap. Each has whole pages, within the bounds
 /// for addresses. No process has more pieces than the limits allow.
 pub fn laid_out<P: Pager>(world: &World<P>) -> &[Event]

@@ -1,6 +1,6 @@
 -- What is kept where a segment is locked, marked or written, and where a process forks.
 use Rattle.shm_life.proofs.Names.{OrphansAmong, ◌≡◌, ℕ, ◌+◌, ◌/◌, ◌%◌, ◌≤◌, ◌&&◌, not, Bool, true, false, if◌then◌else◌, List, [], ◌∷◌, length, Some, refl, sym, ◌∙◌, arith, All, IsAccess, OnOk, OnErr, Place, Bounds, lockable, Live, Entry, Runner, pages_of, attach_count, change, marked, locked, Span, Translation, IsCaller, caller_seen, pieces_at, PassPages, pieces_by, wanted, wanted_in, Child, born_child, pieces_by-caller, IsFound, SpanFits, page_there, relocked, get-set_same, get-set_other, sum-set, SamePages, SameTable, same-refl, change-pages, change-locked, change-left, PieceFits, PiecesFit, IsTableSound, IsWell, IsWellBut, StoreView, frame_of, cases_eq, nat_tests}
-use Rattle.std.proofs.Common.{slice_set, true≢false}
+use Rattle.std.proofs.Common.{true≢false}
 use Rattle.std.specs.Prelude.{Option, None, Result, Ok, Err, is_some}
 use Rattle.shm_base.specs.declared.owner.Cred.{Cred}
 use Rattle.shm_base.specs.Locking.{lock_refusal, may_not_lock, passes_limit}
@@ -31,9 +31,6 @@ module _ (t : List Entry) (f : Found) (found : IsFound t f) (o : Option ℕ) whe
 
   abbrev y : Entry
   y = record { destroyed = f.seg / 32768; segment = Some (relocked o (table.segment_seen t f)) }
-
-  is-set : change t f.seg (relocked o) ≡ slice_set t (f.seg % 32768) y
-  is-set = rw found.entry refl
 
   -- the sum loses what the segment had in it, and gains what it has
   pub relocked-sum : locked (change t f.seg (relocked o)) + (if f.head.locked then pages_of f.head.size else 0) ≡ locked t + (if is_some o then pages_of f.head.size else 0)

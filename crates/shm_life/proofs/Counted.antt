@@ -1,25 +1,19 @@
 -- A call changes the pieces of no process but the one for which it is counted.
-use Rattle.std.proofs.Common.{◌≡◌, ◌≢◌, ℕ, zero, suc, ◌+◌, ◌==◌, Bool, true, false, not, nat_le, nat_lt, List, [], ◌∷◌, length, Option, Some, None, if◌then◌else◌, slice_get, slice_set, inl, inr, refl, sym, ap, subst, ◌∙◌, arith, eq-eqb, ne_eqb}
+use Rattle.std.proofs.Common.{◌≡◌, ◌≢◌, ℕ, zero, suc, ◌+◌, ◌==◌, Bool, true, false, nat_lt, List, [], ◌∷◌, length, Option, Some, None, if◌then◌else◌, slice_get, slice_set, inl, inr, refl, sym, ap, subst, ◌∙◌, arith, eq-eqb, ne_eqb}
 use Rattle.std.proofs.lemmas.Bool.{cases_eq}
 use Rattle.std.proofs.lemmas.Option.{none-some, same_Some}
 use Rattle.std.proofs.lemmas.Grind.{common_steps}
 use Rattle.std.specs.Prelude.{IfSome, Result, Ok, Err}
 use Rattle.shm_attach.specs.Spans.{pieces_by}
-use Rattle.shm_base.specs.Access.{Place, places, writable_places, loaded, same_bytes}
-use Rattle.shm_base.specs.Bounds.{within}
 use Rattle.shm_base.specs.Callers.{Caller, Outcome, caller_from, caller_of, with_cred}
 use Rattle.shm_base.specs.Calls.{ProcessCall}
 use Rattle.shm_base.specs.History.{IsMove}
-use Rattle.shm_base.specs.Identifier.{Look, Found, Removed, Invalid, find_key, free_index, look}
-use Rattle.shm_base.specs.Locking.{lock_refusal}
 use Rattle.shm_base.specs.Mapping.{unmapped_to, unmaps}
-use Rattle.shm_base.specs.Permission.{grants, owns, wish_of}
 use Rattle.shm_base.specs.Processes.{pieces_of_caller}
-use Rattle.shm_base.specs.Segments.{reserved, segment_count, slots}
 use Rattle.shm_base.specs.Space.{cut, origin_of}
-use Rattle.shm_base.specs.State.{Life, Live, Unborn, Ended, Machine, Piece, Runner, Segment, pages_of}
-use Rattle.shm_base.specs.Step.{acts, attaches_if, compare_exchange, controls, creates, creates_at, creates_small, detaches, exchange, forks, gets, huge_errno, is_no_owner, is_unborn, load, locks_unless, placed, stat, step, step_by, store, takes_away, unborn_from, wants_creation, wants_no_other, xadd}
-use Rattle.shm_base.specs.declared.call.Call.TheVariants.{Shmget, Shmat, Shmdt, Stat, Set, Rmid, Lock, Unlock, Load, Store, Xadd, Exchange, CompareExchange, Fork, Exec, Exit, Swapoff, Munmap, Mprotect, Setuid}
+use Rattle.shm_base.specs.State.{Life, Live, Unborn, Ended, Machine, Piece, Runner}
+use Rattle.shm_base.specs.Step.{acts, attaches_if, detaches, forks, is_unborn, placed, shmget, step, step_by, unborn_from}
+use Rattle.shm_base.specs.declared.call.Call.TheVariants.{Shmget, Shmat, Shmdt, Store, Exchange, Fork, Exec, Exit, Munmap, Mprotect, Setuid}
 use Rattle.shm_base.specs.declared.call.Placed.{Placed}
 use Rattle.shm_base.specs.declared.call.Reply.{Reply}
 use Rattle.shm_base.specs.declared.errno.Errno.{Errno}
@@ -27,6 +21,7 @@ use Rattle.shm_base.specs.declared.flags.GetFlags.{GetFlags}
 use Rattle.shm_base.specs.declared.owner.Cred.{Cred}
 use Rattle.shm_fault.specs.declared.act.Act.{Act}
 use Rattle.shm_fault.specs.declared.act.Act.TheVariants.{Nothing, Put, PutIfEqual, Add}
+use Rattle.shm_life.proofs.Asking.{by-shmget, pick}
 use Rattle.shm_life.specs.Accessing.{call_of}
 use Rattle.shm_life.specs.Changing.{ChangesAreCounted, changed_by, changes_of, counted_after, counted_for}
 
@@ -96,72 +91,13 @@ child-at n child (r ∷ rs) i found =
 
 -- EACH CALL
 
-pick : (P : Outcome → Type 0) (b : Bool) (o p : Outcome) → P o → P p → P (if b then o else p)
-pick P true o p h k = h
-pick P false o p h k = k
-
 module _ (s : Machine) (n : ℕ) (c : Caller) where
   -- no process changes
   abbrev Rests : Outcome → Type 0
   Rests o = o.state.runners ≡ s.runners
 
-  rests-at : (key size mode : ℕ) (o : Option ℕ) → Rests (creates_at s n c key size mode o)
-  rests-at key size mode None = refl
-  rests-at key size mode (Some i) = pick Rests (nat_lt (slots s.areas) (reserved s.table + pages_of size)) _ _ refl refl
-
-  rests-small : (key size mode : ℕ) (o : Option Errno) → Rests (creates_small s n c key size mode o)
-  rests-small key size mode (Some e) = refl
-  rests-small key size mode None = pick Rests (nat_le s.limits.shmmni (segment_count s.table)) _ _ refl (rests-at key size mode (free_index s.table))
-
-  rests-creates : (key size mode : ℕ) (flags : GetFlags) → Rests (creates s n c key size mode flags)
-  rests-creates key size mode flags =
-      pick Rests (not (within 1 s.limits.shmmax size)) _ _ refl
-      (pick Rests (nat_lt s.limits.shmall (reserved s.table + pages_of size)) _ _ refl (rests-small key size mode (huge_errno s c flags)))
-
-  rests-gets : (key size mode : ℕ) (flags : GetFlags) (l : Look) → Rests (gets s n c key size mode flags l)
-  rests-gets key size mode flags (Found i x) =
-      pick Rests (wants_no_other flags) _ _ refl (pick Rests (nat_lt x.size size) _ _ refl (pick Rests (not (grants c.cred x.perm (wish_of s.limits.rules mode))) _ _ refl refl))
-  rests-gets key size mode flags Removed = pick Rests (wants_creation flags) _ _ (rests-creates key size mode flags) refl
-  rests-gets key size mode flags Invalid = pick Rests (wants_creation flags) _ _ (rests-creates key size mode flags) refl
-
-  rests-stat : (l : Look) → Rests (stat s c l)
-  rests-stat (Found i x) = pick Rests (not (grants c.cred x.perm (record { read = true; write = false; execute = false }))) _ _ refl refl
-  rests-stat Removed = refl
-  rests-stat Invalid = refl
-
-  rests-controls : (act : ℕ → Segment → Outcome) → ((i : ℕ) (x : Segment) → Rests (act i x)) → (l : Look) → Rests (controls s c act l)
-  rests-controls act rests (Found i x) = pick Rests (not (owns c.cred x.perm)) _ _ refl (rests i x)
-  rests-controls act rests Removed = refl
-  rests-controls act rests Invalid = refl
-
-  rests-locks : (i : ℕ) (o : Option Errno) → Rests (locks_unless s c i o)
-  rests-locks i (Some e) = refl
-  rests-locks i None = refl
-
-  rests-load : (o : Option (List Place)) → Rests (load s o)
-  rests-load None = refl
-  rests-load (Some ps) = refl
-
-  rests-store : (bytes : List ℕ) (o : Option (List Place)) → Rests (store s bytes o)
-  rests-store bytes None = refl
-  rests-store bytes (Some ps) = refl
-
-  rests-xadd : (more : ℕ) (o : Option (List Place)) → Rests (xadd s more o)
-  rests-xadd more None = refl
-  rests-xadd more (Some ps) = refl
-
-  rests-exchange : (bytes : List ℕ) (o : Option (List Place)) → Rests (exchange s bytes o)
-  rests-exchange bytes None = refl
-  rests-exchange bytes (Some ps) = refl
-
-  rests-compare : (expected desired : List ℕ) (o : Option (List Place)) → Rests (compare_exchange s expected desired o)
-  rests-compare expected desired None = refl
-  rests-compare expected desired (Some ps) = pick Rests (same_bytes (loaded s.table ps) expected) _ _ refl refl
-
-  rests-takes : (area : ℕ) (o : Option (Option ℕ)) → Rests (takes_away s area o)
-  rests-takes area None = refl
-  rests-takes area (Some None) = refl
-  rests-takes area (Some (Some k)) = pick Rests (nat_lt (slots (slice_set s.areas area None)) (reserved s.table)) _ _ refl refl
+  rests-shmget : (key size mode : ℕ) (flags : GetFlags) → Rests (shmget s n c key size mode flags)
+  rests-shmget key size mode flags = by-shmget s n c size mode (λ k. Rests) (λ k e other. refl) (λ k i x named found permitted. refl) (λ k i free some is. refl) key flags
 
   -- the process with this pid is left as it was
   module _ (p : ℕ) (found : caller_of s c.pid ≡ Some c) where
@@ -216,35 +152,16 @@ module _ (s : Machine) (n : ℕ) (c : Caller) where
 
     -- a call that is not counted for it
     leaves-acts : (call : ProcessCall) → (changed_by c.pid call ≡ Some p → ⊥) → Leaves (acts s n c call)
-    leaves-acts (Shmget key size mode flags) never =
-        same (acts s n c (Shmget key size mode flags))
-        (pick Rests (key == 0) _ _ (rests-creates 0 size mode flags) (rests-gets key size mode flags (find_key s.table key)))
+    leaves-acts (Shmget key size mode flags) never = same (acts s n c (Shmget key size mode flags)) (rests-shmget key size mode flags)
     leaves-acts (Shmat id addr flags) never = leaves-attaches flags (placed s c id addr flags) (λ e. never (ap (λ q. Some q) e))
     leaves-acts (Shmdt addr) never = leaves-detaches addr (origin_of addr c.pieces) (λ e. never (ap (λ q. Some q) e))
-    leaves-acts (Stat id) never = same (acts s n c (Stat id)) (rests-stat (look s.table id))
-    leaves-acts (Set id uid gid mode) never =
-        same (acts s n c (Set id uid gid mode)) (rests-controls _ (λ i x. pick Rests (is_no_owner s uid gid) _ _ refl refl) (look s.table id))
-    leaves-acts (Rmid id) never = same (acts s n c (Rmid id)) (rests-controls _ (λ i x. refl) (look s.table id))
-    leaves-acts (Lock id) never =
-        same (acts s n c (Lock id)) (rests-controls _ (λ i x. rests-locks i (lock_refusal s.limits c.cred s.table x)) (look s.table id))
-    leaves-acts (Unlock id) never = same (acts s n c (Unlock id)) (rests-controls _ (λ i x. refl) (look s.table id))
-    leaves-acts (Load addr len) never = same (acts s n c (Load addr len)) (rests-load (places c.pieces addr len))
-    leaves-acts (Store bytes addr) never =
-        same (acts s n c (Store bytes addr)) (rests-store bytes (writable_places c.pieces addr (length bytes)))
-    leaves-acts (Xadd addr more) never = same (acts s n c (Xadd addr more)) (rests-xadd more (writable_places c.pieces addr 8))
-    leaves-acts (Exchange bytes addr) never =
-        same (acts s n c (Exchange bytes addr)) (rests-exchange bytes (writable_places c.pieces addr (length bytes)))
-    leaves-acts (CompareExchange expected desired addr) never =
-        same (acts s n c (CompareExchange expected desired addr))
-        (rests-compare expected desired (writable_places c.pieces addr (length desired)))
     leaves-acts (Fork child) never = leaves-forks child (unborn_from 0 child s.runners) refl (λ e. never (ap (λ q. Some q) e))
     leaves-acts Exec never = elsewhere _ refl (λ e. never (ap (λ q. Some q) e))
     leaves-acts Exit never = elsewhere _ refl (λ e. never (ap (λ q. Some q) e))
-    leaves-acts (Swapoff area) never =
-        same (acts s n c (Swapoff area)) (pick Rests (not (c.cred.uid == 0)) _ _ refl (rests-takes area (slice_get s.areas area)))
     leaves-acts (Munmap addr len) never = leaves-unmaps addr (unmapped_to addr len) (λ e. never (ap (λ q. Some q) e))
     leaves-acts (Mprotect addr len writable) never = elsewhere _ refl (λ e. never (ap (λ q. Some q) e))
     leaves-acts (Setuid uid gid) never = leaves-setuid (record { uid = uid; gid = gid })
+    leaves-acts call never = same (acts s n c call) (grind (arith, common_steps))
 
 -- THE STEP
 

@@ -1,17 +1,9 @@
 -- A machine with one more swap area.
-use Rattle.shm_life.proofs.Names.{◌≡◌, ℕ, List, [], ◌∷◌, length, refl, ap, Bounds, Entry, Runner, sizes, StoreView, Translation, IsWell}
-use Rattle.std.proofs.Common.{map, ◌++◌, Option, Some}
-use Rattle.shm_pager.specs.Pages.{PagerView}
+use Rattle.shm_life.proofs.Names.{◌≡◌, ℕ, List, ◌∷◌, refl, Bounds, Entry, Runner, StoreView, Translation, IsWell}
+use Rattle.std.proofs.Common.{◌++◌}
 use Rattle.shm_fault.specs.Store.{frame_of}
-use Rattle.shm_slots.specs.View.{AreaView, SwapView, fresh, size_of, with_new}
+use Rattle.shm_slots.specs.View.{SwapView}
 use Rattle.shm_life.proofs.Running.{true_still}
-
-sizes-push : (xs : List AreaView) (a : AreaView) → map size_of (xs ++ a ∷ []) ≡ map size_of xs ++ size_of a ∷ []
-sizes-push [] a = refl
-sizes-push (x ∷ xs) a = ap (λ (ns : List (Option ℕ)). size_of x ∷ ns) (sizes-push xs a)
-
-pub sizes-more : (s : SwapView) (p : PagerView) → sizes (with_new s (fresh p)) ≡ sizes s ++ Some (length p.pages) ∷ []
-sizes-more s p = sizes-push s.areas (fresh p)
 
 same-frames : (m : StoreView) (u : SwapView) (seg page : ℕ) → frame_of (record m { swap = u }) seg page ≡ frame_of m seg page
 unfolding frame_of

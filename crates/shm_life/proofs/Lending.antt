@@ -1,6 +1,6 @@
 -- Pages on loan: what a host's load of a page leaves, and what an access leaves while pages are on loan.
 use Rattle.shm_base.specs.declared.guest.HostRange.{HostRange}
-use Rattle.shm_life.proofs.Names.{◌≡◌, ◌<◌, ◌≤◌, ◌*◌, ◌+◌, ◌/◌, ◌∙◌, ◌∷◌, [], ℕ, Bool, true, false, not, Some, None, List, length, if◌then◌else◌, refl, sym, ap, arith, subst, IsAccess, IsCaller, Machine, pieces_at, wanted_in, All-nil, none-some, Bounds, Runner, Translation, IsWell, inl, inr, loaded, ◌⊎◌, OnOk, Entry, Segment, Span, PageRef, InPage, page_of, span_places, StoreView, SpanFits, page_there, live, pages_held, Held, find_held, KeepsMemory, memory-refl, memory-trans, Place, nat_tests}
+use Rattle.shm_life.proofs.Names.{◌≡◌, ◌<◌, ◌≤◌, ◌*◌, ◌+◌, ◌/◌, ◌∙◌, ◌∷◌, [], ℕ, Bool, true, false, not, Some, None, List, length, if◌then◌else◌, refl, sym, ap, arith, subst, IsAccess, IsCaller, Machine, pieces_at, wanted_in, All-nil, none-some, Bounds, Runner, Translation, IsWell, inl, inr, loaded, ◌⊎◌, OnOk, Entry, Segment, Span, PageRef, InPage, page_of, span_places, StoreView, SpanFits, page_there, live, pages_held, Held, find_held, KeepsMemory, memory-trans, Place, nat_tests}
 use Rattle.std.proofs.Common.{true≢false, nat_lt, cond, get_or, suc, zero}
 use Rattle.std.proofs.lemmas.List.Sums.{sum_by-cons}
 use Rattle.std.proofs.lemmas.List.Elements.{All-cons}
@@ -246,9 +246,6 @@ put-fits table r f p is there = subst (SpanFits table) (sym is) (page-fits table
 
 pub put-here : (m : StoreView) (r : PageRef) (f : Option ℕ) (p : Span) → p ≡ span_at r f → IsSome (frame_by m r) → IsSome (frame_by m (ref_of p))
 put-here m r f p is here = subst (λ q. IsSome (frame_by m (ref_of q))) (sym is) (subst (λ q. IsSome (frame_by m q)) (sym (whole-ref r)) here)
-
-pub puts-none : (r : PageRef) (s : MachineView) → PutsBytes r None s s
-puts-none r s = record { flat = refl; placed = refl; rest = refl; count = refl; keeps = memory-refl s.memory }
 
 with-span : (r : PageRef) (f : Option ℕ) (p : Span) (s : Places) → p ≡ span_at r f → with_dirty (p ∷ []) s ≡ with_dirty (whole_page r ∷ []) s
 unfolding with_dirty

@@ -23,6 +23,7 @@ pub mod Touching
 pub mod Accessing
 pub mod Lending
 mod Indexed
+pub mod Asking
 pub mod Noticing
 pub mod Residing
 mod Paged
@@ -30,3 +31,5 @@ pub mod Counted
 mod Enlarged
 pub mod Ranges
 pub mod Sent
+pub mod Seeing
+pub mod SeenSteps

@@ -30,7 +30,6 @@ pub use Rattle.shm_base.specs.Space.{cut, cut_segments, leaves_rest, rest_segmen
 pub use Rattle.shm_base.specs.Spans.{InPage, page_of, span_places}
 pub use Rattle.shm_base.specs.State.{Entry, Life, Live, Machine, Piece, Runner, Segment, pages_of, runner_at_start}
 pub use Rattle.shm_base.specs.Callers.{Outcome, gives, refuses}
-pub use Rattle.shm_base.specs.Mapping.{rests}
 pub use Rattle.shm_base.specs.Step.{at_wish, attaches_if, base_for, if_few, is_misplaced, locks, locks_unless, piece_for, pieces_beside, pieces_with, placed, placed_at, segments_of, shmat, swapoff}
 pub use Rattle.shm_base.specs.declared.call.Placed.{Placed}
 pub use Rattle.shm_base.specs.declared.call.Process.{Process}
@@ -58,7 +57,7 @@ pub use Rattle.shm_segments.proofs.Entries.{get-set_other, get-set_same, length-
 pub use Rattle.shm_segments.proofs.Finding.{live-found}
 pub use Rattle.shm_segments.proofs.Held.{sum-without}
 pub use Rattle.shm_segments.proofs.Remembered.{memory-refl, memory-trans, view_of}
-pub use Rattle.shm_segments.proofs.Same.{SamePages, SameTable, attach_all-same, change-left, change-locked, change-pages, change-same, change_all-same, detach_all-same, same-refl, same-trans, stored-same}
+pub use Rattle.shm_segments.proofs.Same.{SamePages, SameTable, attach_all-same, change-left, change-locked, change-pages, change-same, detach_all-same, same-refl, same-trans, stored-same}
 pub use Rattle.shm_segments.specs.Joined.{segment_of, whole}
 pub use Rattle.shm_segments.specs.Orphan.{identifier_at, id_in, is_orphan, orphan, orphan_in}
 pub use Rattle.shm_segments.specs.Table.{IsFound, IsLive, SpanFits, created, destroyed, live, look_of, made, page_there, pages_at, relocked, reowned, segment_seen}

@@ -1,5 +1,5 @@
 -- Where no start error holds, swap areas and processes are as their crates ask.
-use Rattle.shm_life.proofs.Names.{◌≡◌, ◌≢◌, ℕ, zero, suc, ◌≤◌, ◌&&◌, Bool, true, false, not, if◌then◌else◌, List, [], ◌∷◌, length, get_or, replicate, Some, None, refl, sym, ap, arith, common_steps, All-nil, All-map, length-replicate, get_or-replicate, get_or_past, AllPairs-cons, All, AllPairs, Bounds, within, Runner, runner_at_start, PieceFits, IsTableSound, Process, PageRef, SideCalls, pager_seen, IsAreaSize, owner_of, sizes, new_swap, fresh, are_sizes, has_pid, are_pids, start_error, nat_tests, lockable}
+use Rattle.shm_life.proofs.Names.{◌≡◌, ◌≢◌, ℕ, zero, suc, ◌≤◌, ◌&&◌, Bool, true, false, not, if◌then◌else◌, List, [], ◌∷◌, length, get_or, replicate, Some, None, refl, sym, ap, arith, common_steps, All-nil, All-map, length-replicate, get_or-replicate, get_or_past, AllPairs-cons, All, AllPairs, Bounds, Runner, runner_at_start, PieceFits, IsTableSound, Process, PageRef, SideCalls, pager_seen, IsAreaSize, owner_of, sizes, new_swap, fresh, are_sizes, has_pid, are_pids, start_error, nat_tests, lockable}
 use Rattle.std.proofs.Common.{map, Option, true≢false}
 use Rattle.shm_base.specs.Bounds.{Bounds}
 use Rattle.shm_base.specs.declared.bounds.TheConstants.{MOST_FRAMES, MOST_PROCESSES, MOST_SHMALL, MOST_SLOTS}
@@ -8,9 +8,6 @@ use Rattle.shm_life.proofs.Peopled.{fresh-apart}
 
 both : (a b : Bool) → a && b ≡ true → (a ≡ true) × (b ≡ true)
 both a b e = grind arith
-
-within-range : (low high n : ℕ) → within low high n ≡ true → (low ≤ n) × (n ≤ high)
-within-range low high n is = grind arith
 
 sound : {X : Type 0} (a b c d : Bool) (x y z w : X) → (if not a then Some x else if not b then Some y else if c then Some z else if not d then Some w else None) ≡ None
     → (a ≡ true) × (b ≡ true) × (c ≡ false) × (d ≡ true)

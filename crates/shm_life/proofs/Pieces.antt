@@ -1,5 +1,5 @@
 -- Pieces whose pages are there, through the changes that calls make to them.
-use Rattle.shm_life.proofs.Names.{Bool, false, if◌then◌else◌, refl, ◌≡◌, ℕ, zero, suc, ◌+◌, ◌-◌, ◌/◌, ◌<◌, true, not, nat_lt, List, [], ◌∷◌, length, get_or, Some, ap, ◌∙◌, arith, All-nil, All-filter, common_steps, All, Piece, Entry, Runner, end_of, meets, part_below, part_above, parts, cut, is_named, without_named, live, pages_at, SamePages, PieceFits, PiecesFit}
+use Rattle.shm_life.proofs.Names.{Bool, false, if◌then◌else◌, refl, ◌≡◌, ℕ, zero, suc, ◌+◌, ◌-◌, ◌/◌, ◌<◌, true, not, nat_lt, List, [], ◌∷◌, length, get_or, Some, ap, ◌∙◌, arith, All-nil, All-filter, common_steps, All, Piece, Entry, Runner, end_of, meets, part_above, parts, cut, is_named, without_named, live, pages_at, SamePages, PieceFits, PiecesFit}
 pub use Rattle.std.proofs.lemmas.List.Elements.{All-cons as all-cons, All-head as all-head, All-tail as all-tail}
 use Rattle.std.proofs.Common.{slice_get, slice_set}
 use Rattle.shm_areas.proofs.Passing.{all-cut}
@@ -25,9 +25,6 @@ all-if P true x h = all-cons P x [] (h refl) (All-nil P)
 all-if P false x h = All-nil P
 
 module _ (table : List Entry) where
-  below-passes : (from to : ℕ) (p : Piece) → meets from to p ≡ true → PieceFits table p → All (PieceFits table) (part_below from p)
-  below-passes from to p m h = grind arith
-
   above-passes : (from to : ℕ) (p : Piece) → meets from to p ≡ true → PieceFits table p → All (PieceFits table) (part_above to p)
   above-passes from to p m h =
       let before : p.base < to = grind (arith, common_steps, m) in

@@ -1,8 +1,7 @@
 -- How many pages of a segment are in frames, and how many only in slots.
-use Rattle.shm_life.proofs.Names.{◌≡◌, ◌<◌, ◌≤◌, ◌+◌, ◌∙◌, ℕ, if◌then◌else◌, zero, suc, None, refl, sym, ap, arith, length, List, ◌++◌, replicate, Entry, pages_held, pages_of, pages_at, IsFound, live-found, sum_by-append, StoreView, frame_of, PageRef}
+use Rattle.shm_life.proofs.Names.{◌≡◌, ◌<◌, ◌≤◌, ◌+◌, ◌∙◌, ℕ, if◌then◌else◌, zero, suc, None, refl, sym, ap, arith, length, List, ◌++◌, replicate, sum_by-append, StoreView, frame_of, PageRef}
 use Rattle.std.proofs.Common.{◌-◌, Option, count_by}
 use Rattle.shm_base.specs.Stored.{padded}
-use Rattle.shm_segments.specs.declared.head.Found.{Found}
 use Rattle.shm_life.specs.Residency.{is_away, resident_below}
 
 nothing : (n : ℕ) → 0 + n ≡ n
@@ -38,6 +37,3 @@ away-free s seg xs n =
 
 pub away-padded : (s : StoreView) (seg : ℕ) (owners used : List (Option PageRef)) → owners ≡ padded used (length owners) None → count_by (is_away s seg) owners ≡ count_by (is_away s seg) used
 away-padded s seg owners used is = ap (count_by (is_away s seg)) is ∙ away-free s seg used (length owners - length used)
-
-pub pages-found : (t : List Entry) (f : Found) → IsFound t f → pages_of f.head.size ≡ pages_at t f.seg
-pages-found t f found = sym (ap pages_held (live-found t f found) ∙ (omega (arith, found.long)))

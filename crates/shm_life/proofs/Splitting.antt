@@ -1,5 +1,5 @@
 -- The segments that a protection splits are those of pieces.
-use Rattle.shm_life.proofs.Names.{ℕ, zero, suc, ◌≡◌, Bool, true, false, not, nat_lt, List, [], ◌∷◌, ◌++◌, length, Some, None, refl, All, All-nil, All-append, Piece, end_of, meets, cut, inserted, part_below, part_above, parts, flat_map-cons}
+use Rattle.shm_life.proofs.Names.{ℕ, zero, suc, ◌≡◌, Bool, true, false, not, nat_lt, List, [], ◌∷◌, ◌++◌, length, Some, None, refl, All, All-nil, All-append, Piece, end_of, meets, inserted, part_below, part_above, parts, flat_map-cons}
 use Rattle.std.proofs.Common.{Option, if◌then◌else◌}
 use Rattle.std.specs.Prelude.{nat_le, ◌&&◌, ◌==◌, ◌%◌, ◌^◌, ◌+◌}
 use Rattle.shm_base.specs.Space.{covering}

@@ -32,10 +32,6 @@ run-within seg (suc n) at r rest same low high =
     let page : r.page ≡ at / 4096 = omega (arith, low, high) in
     rw (eq-eqb r.seg seg same, eq-eqb r.page (at / 4096) page) (run-within seg n (at + 1) r rest same (omega (arith, low)) (omega (arith, high)))
 
--- the bytes of a span are in its page
-span-within : (p : Span) (rest : List Place) → InPage p → pages_after (ref_of p) (run p.seg p.at p.len false ++ rest) ≡ pages_after (ref_of p) rest
-span-within p rest fit = run-within p.seg p.len p.at (ref_of p) rest refl (omega arith) (omega (arith, fit.1))
-
 pub span-first : (n : ℕ) (p : Span) (rest : List Place) → n ≡ p.len → InPage p → pages_of_bytes (run p.seg p.at n false ++ rest) ≡ ref_of p ∷ pages_after (ref_of p) rest
 span-first zero p rest is fit = absurd (omega (arith, is, fit.0))
 span-first (suc n) p rest is fit = ap (λ rs. ref_of p ∷ rs) (run-within p.seg n (p.at + 1) (ref_of p) rest refl (omega arith) (omega (arith, is, fit.1)))

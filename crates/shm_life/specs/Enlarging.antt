@@ -1,5 +1,5 @@
 -- A host gives a running machine one more swap area.
-use Rattle.std.specs.Prelude.{ℕ, ◌≡◌, ◌⊎◌, ◌++◌, ◌∷◌, [], not, nat_le, if◌then◌else◌, length, Option, Some, None, Result, Ok, Err, IfErr, OnErr, OnOk}
+use Rattle.std.specs.Prelude.{ℕ, ◌≡◌, ◌⊎◌, ◌++◌, ◌∷◌, [], not, nat_le, if◌then◌else◌, length, Option, Some, None, Result, IfErr, OnErr, OnOk}
 use Rattle.shm_base.specs.Bounds.{within}
 use Rattle.shm_base.specs.State.{Machine}
 use Rattle.shm_base.specs.declared.bounds.TheConstants.{MOST_AREAS}

@@ -46,10 +46,7 @@ impl<P: Pager> Kernel<P> {
         ensures refused { OnErr result (self.new ≡ self.old) }
         ensures memory { self.new.memory ≡ self.old.memory }
     {
-        let limits = match Limits::of(&sizes_with(&self.limits, new)) {
-            Ok(limits) => limits,
-            Err(bad) => return Err(bad),
-        };
+        let limits = Limits::of(&sizes_with(&self.limits, new))?;
         if limits.shmall() < self.segments.reserved() {
             return Err(BadLimits(3));
         }

@@ -81,10 +81,8 @@ impl<P: Pager> System<P> {
     pub fn segment_of(&self, id: ShmId) -> Result<ShmidDs, Errno>
         ensures { result ≡ segment_of self.now.machine id }
     {
-        match self.kernel.segments.look(id) {
-            Ok(found) => Ok(self.kernel.shown(&found)),
-            Err(errno) => Err(errno),
-        }
+        let found = self.kernel.segments.look(id)?;
+        Ok(self.kernel.shown(&found))
     }
 
     /// The first address of a process's access whose page is in no frame, if all addresses below it are in

@@ -1,24 +1,13 @@
 -- An access that was made, and one for which no way could be made.
-use Rattle.std.proofs.Common.{ℕ, Bool, List, ap, inr, subst}
-use Rattle.std.specs.Prelude.{Err}
+use Rattle.std.proofs.Common.{ℕ, Bool, ap, subst}
 use Rattle.shm_base.specs.Calls.{ProcessCall}
 use Rattle.shm_base.specs.State.{Machine as Flat}
 use Rattle.shm_base.specs.declared.call.Reply.{Reply}
-use Rattle.shm_base.specs.declared.paging.PageRef.{PageRef}
 use Rattle.shm_fault.proofs.Lending.{stay-trans}
 use Rattle.shm_fault.specs.Placing.{places}
 use Rattle.shm_life.specs.Lending.{KeepsLoans, pages_asked}
 use Rattle.shm_life.specs.SystemState.{SystemState, Replied}
-use Rattle.shm_machine.specs.Answered.{as_reply}
-use Rattle.shm_machine.specs.Ready.{AccessMade, AccessedBy, IsReady, NotMade}
-use Rattle.shm_machine.specs.declared.refusal.Refusal.{Refusal}
-use Rattle.shm_machine.specs.declared.refusal.Refusal.TheVariants.{Refused, HostMemory, Spent, Lent}
-
-pub not_made : (pid : ℕ) (call : ProcessCall) (T : Type 0) (reply_of : T → Reply) (rs : List PageRef) (before after : SystemState) (refusal : Refusal) → NotMade rs refusal before after → AccessedBy rs before pid call (as_reply {A = T} reply_of (Err refusal)) after
-not_made pid call T reply_of rs before after (Refused e) n = inr n
-not_made pid call T reply_of rs before after HostMemory n = n
-not_made pid call T reply_of rs before after Spent n = n
-not_made pid call T reply_of rs before after Lent n = n
+use Rattle.shm_machine.specs.Ready.{AccessMade, IsReady}
 
 -- making way does not change the flat machine, so the pages are those that were asked for before it
 pub made : (call : ProcessCall) (reply : Reply) (before mid after : SystemState) (pid addr len : ℕ) (puts : Bool) → IsReady (pages_asked before.machine pid addr len puts) before mid

@@ -23,18 +23,15 @@ impl Machine {
         ensures { Answered self.old.system pid (call.Shmget key size mode flags)
             (as_reply (λ i. reply.Id i) result) self.new.system }
     {
-        match self.answer(
-            pid,
-            &Call::Shmget {
-                key,
-                size,
-                mode,
-                flags,
-            },
-        ) {
-            Ok(Reply::Id(id)) => Ok(id),
-            Ok(_) => unreachable!(),
-            Err(refusal) => Err(refusal),
+        let call = Call::Shmget {
+            key,
+            size,
+            mode,
+            flags,
+        };
+        match self.answer(pid, &call)? {
+            Reply::Id(id) => Ok(id),
+            _ => unreachable!(),
         }
     }
 
@@ -43,10 +40,9 @@ impl Machine {
         ensures { Answered self.old.system pid (call.Shmat id addr flags)
             (as_reply (λ a. reply.Addr a) result) self.new.system }
     {
-        match self.answer(pid, &Call::Shmat { id, addr, flags }) {
-            Ok(Reply::Addr(at)) => Ok(at),
-            Ok(_) => unreachable!(),
-            Err(refusal) => Err(refusal),
+        match self.answer(pid, &Call::Shmat { id, addr, flags })? {
+            Reply::Addr(at) => Ok(at),
+            _ => unreachable!(),
         }
     }
 
@@ -58,9 +54,7 @@ impl Machine {
         ensures length { IfOk result (λ b. length b ≡ len) }
     {
         let mut bytes = [0; LONGEST_ACCESS];
-        if let Err(refusal) = self.load_into(pid, addr, &mut bytes[..len.get()]) {
-            return Err(refusal);
-        }
+        self.load_into(pid, addr, &mut bytes[..len.get()])?;
         Ok(Chunk::from_array(bytes, len))
     }
 
@@ -69,10 +63,9 @@ impl Machine {
         ensures { Answered self.old.system pid (call.Stat id)
             (as_reply (λ s. reply.Stat s) result) self.new.system }
     {
-        match self.answer(pid, &Call::Stat { id }) {
-            Ok(Reply::Stat(shown)) => Ok(shown),
-            Ok(_) => unreachable!(),
-            Err(refusal) => Err(refusal),
+        match self.answer(pid, &Call::Stat { id })? {
+            Reply::Stat(shown) => Ok(shown),
+            _ => unreachable!(),
         }
     }
 }

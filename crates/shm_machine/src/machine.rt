@@ -59,10 +59,8 @@ impl Machine {
         let Ok(pagers) = pagers_for(alloc, areas, failures) else {
             return Err(StartError::HostMemory);
         };
-        match System::start(alloc, limits, pagers, processes) {
-            Ok(system) => Ok(Machine { system }),
-            Err(error) => Err(error),
-        }
+        let system = System::start(alloc, limits, pagers, processes)?;
+        Ok(Machine { system })
     }
 
     /// Adds a swap area of zeros with the next number, as swapon(8) does; no process calls this. Each failure is
@@ -120,10 +118,9 @@ impl Machine {
         requires { fits call.now replies.Done ≡ true }
         ensures { Answered self.old.system pid call.now (as_reply done result) self.new.system }
     {
-        match self.answer(pid, call) {
-            Ok(Reply::Done) => Ok(()),
-            Ok(_) => unreachable!(),
-            Err(refusal) => Err(refusal),
+        match self.answer(pid, call)? {
+            Reply::Done => Ok(()),
+            _ => unreachable!(),
         }
     }
 }

@@ -14,7 +14,7 @@ use Rattle.shm_base.specs.State.{Entry, Machine}
 use Rattle.shm_base.specs.Callers.{Caller, Outcome, caller_of}
 use Rattle.shm_base.specs.Step.{acts, compare_exchange, exchange, forks, inherited, number_at, segments_of, step, step_by, store, unborn_from, xadd}
 use Rattle.shm_base.specs.Calls.{ProcessCall}
-use Rattle.shm_base.specs.declared.call.Call.TheVariants.{Shmget, Shmat, Shmdt, Stat, Set, Rmid, Lock, Unlock, Load, Store, Xadd, Exchange, CompareExchange, Fork, Exec, Exit, Swapoff, Munmap, Mprotect, Setuid}
+use Rattle.shm_base.specs.declared.call.Call.TheVariants.{Store, Xadd, Exchange, CompareExchange, Fork}
 use Rattle.shm_base.specs.declared.call.Event.{Event}
 use Rattle.shm_base.specs.declared.call.Reply.{Reply}
 use Rattle.shm_base.specs.declared.call.Reply.TheVariants.{Refused}
@@ -33,8 +33,7 @@ use Rattle.shm_outcomes.specs.declared.effects.Patch.{Patch}
 use Rattle.shm_outcomes.specs.declared.effects.Write.{Write}
 use Rattle.shm_outcomes.proofs.Bytes.{attach-swap, overwritten, put-last, with_write, written}
 use Rattle.shm_schedules.proofs.Going.{event_at, not-first, one-more, still}
-use Rattle.shm_schedules.proofs.Timeless.{times_reach_times}
-use Rattle.shm_schedules.proofs.Timing.{stored-timeless}
+use Rattle.shm_schedules.proofs.Timeless.{stored-timeless, times_reach_times}
 use Rattle.shm_schedules.proofs.Walking.{made-by}
 
 -- THE MACHINE THAT CHANGES LEAD TO
@@ -173,22 +172,7 @@ module _ (s : Machine) (n : ℕ) (c : Caller) where
       subst (λ (q : Patch). Stores s c q (acts s n c (CompareExchange expected desired addr))) (fits-is addr desired p is)
       (compare-stores addr expected desired (places c.pieces addr (length desired)) refl h)
   acts-store (Xadd addr add) p is h = xadd-stores addr add p (places c.pieces addr 8) refl is
-  acts-store (Shmget key size mode flags) p is h = absurd (none-some p is)
-  acts-store (Shmat id addr flags) p is h = absurd (none-some p is)
-  acts-store (Shmdt addr) p is h = absurd (none-some p is)
-  acts-store (Stat id) p is h = absurd (none-some p is)
-  acts-store (Set id uid gid mode) p is h = absurd (none-some p is)
-  acts-store (Rmid id) p is h = absurd (none-some p is)
-  acts-store (Lock id) p is h = absurd (none-some p is)
-  acts-store (Unlock id) p is h = absurd (none-some p is)
-  acts-store (Load addr len) p is h = absurd (none-some p is)
-  acts-store (Fork child) p is h = absurd (none-some p is)
-  acts-store Exec p is h = absurd (none-some p is)
-  acts-store Exit p is h = absurd (none-some p is)
-  acts-store (Swapoff area) p is h = absurd (none-some p is)
-  acts-store (Munmap addr len) p is h = absurd (none-some p is)
-  acts-store (Mprotect addr len w) p is h = absurd (none-some p is)
-  acts-store (Setuid uid gid) p is h = absurd (none-some p is)
+  acts-store call p is h = absurd (none-some p is)
 
 -- the machine that the effects lead to after a call that wrote bytes
 stored-after :
@@ -251,25 +235,7 @@ fork-written s pid child (w ∷ ws) = fork-written (with_write s w) pid child ws
 -- a fork is made before the bytes are written, or after it
 fork-first : (s : Machine) (pid : ℕ) (call : ProcessCall) (ws : List Write) → is_fork call ≡ true → written (step s 1 pid call).state ws ≡ (step (written s ws) 1 pid call).state
 fork-first s pid (Fork child) ws h = sym (fork-written s pid child ws)
-fork-first s pid (Store bytes addr) ws h = absurd (cc)
-fork-first s pid (Xadd addr add) ws h = absurd (cc)
-fork-first s pid (Exchange bytes addr) ws h = absurd (cc)
-fork-first s pid (CompareExchange expected desired addr) ws h = absurd (cc)
-fork-first s pid (Shmget key size mode flags) ws h = absurd (cc)
-fork-first s pid (Shmat id addr flags) ws h = absurd (cc)
-fork-first s pid (Shmdt addr) ws h = absurd (cc)
-fork-first s pid (Stat id) ws h = absurd (cc)
-fork-first s pid (Set id uid gid mode) ws h = absurd (cc)
-fork-first s pid (Rmid id) ws h = absurd (cc)
-fork-first s pid (Lock id) ws h = absurd (cc)
-fork-first s pid (Unlock id) ws h = absurd (cc)
-fork-first s pid (Load addr len) ws h = absurd (cc)
-fork-first s pid Exec ws h = absurd (cc)
-fork-first s pid Exit ws h = absurd (cc)
-fork-first s pid (Swapoff area) ws h = absurd (cc)
-fork-first s pid (Munmap addr len) ws h = absurd (cc)
-fork-first s pid (Mprotect addr len w) ws h = absurd (cc)
-fork-first s pid (Setuid uid gid) ws h = absurd (cc)
+fork-first s pid call ws h = absurd (cc)
 
 -- ONE CALL
 

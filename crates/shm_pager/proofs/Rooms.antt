@@ -33,11 +33,6 @@ pub pages-replicate : (n : ℕ) → map page_behind (replicate n None) ≡ repli
 pages-replicate zero = refl
 pages-replicate (suc n) = ap (λ xs. zero_page ∷ xs) (pages-replicate n)
 
-pub NoZeros-replicate : (n : ℕ) → NoZeros (replicate n None)
-NoZeros-replicate zero slot room found zeros = (cc)
-NoZeros-replicate (suc n) zero room found zeros = (cc)
-NoZeros-replicate (suc n) (suc slot) room found zeros = NoZeros-replicate n slot room found zeros
-
 -- all memory was returned
 pub pages-wiped : (after : List (Option (List ℕ))) (n slots : ℕ) → length after ≡ n → n ≤ slots → take n after ≡ replicate n None
     → padded (map page_behind after) slots zero_page ≡ replicate slots zero_page

@@ -102,16 +102,16 @@ fn answers(space: &mut Space, act: &Act) -> bool {
 }
 
 /// Checks the acts in order. A message counts the rows from 0.
-fn answers_all(rt: &impl Abort, space: &mut Space, acts: &[Act]) {
+fn answers_all(rt: &impl Abort, space: &mut Space, name: &str, acts: &[Act]) {
     for (row, act) in acts.iter().enumerate() {
-        assert!(rt; answers(space, act), "at row {row}");
+        assert!(rt; answers(space, act), "{name}, at row {row}");
     }
 }
 
 /// As `answers_all`, in a space without pieces.
-fn in_a_space(rt: &impl Abort, alloc: Global, acts: &[Act]) -> Result<(), HostMemory> {
+fn in_a_space(rt: &impl Abort, alloc: Global, name: &str, acts: &[Act]) -> Result<(), HostMemory> {
     let mut space = Space::new(alloc, 256)?;
-    answers_all(rt, &mut space, acts);
+    answers_all(rt, &mut space, name, acts);
     Ok(())
 }
 
@@ -135,11 +135,6 @@ const DENOTED: &[Act] = &[
     Act::PieceAt(0x50000000, Some(ONE_PAGE)),
 ];
 
-#[test]
-fn addresses_denote_bytes(rt: HostRuntime) -> Result<(), HostMemory> {
-    in_a_space(&rt, rt.alloc(), DENOTED)
-}
-
 const FULL: &[Act] = &[
     Act::Choose(0x40100000),
     Act::Put(0x40100000, 0, 1, false),
@@ -152,7 +147,7 @@ fn puts_side_by_side(rt: &impl Abort, space: &mut Space) {
         assert!(rt; space.choose(1) == Some(base), "at {base}");
         assert!(rt; put(space, base, 0, 1), "at {base}");
     }
-    answers_all(rt, space, FULL);
+    answers_all(rt, space, "side by side", FULL);
 }
 
 #[test]
@@ -190,11 +185,6 @@ const OCCUPIED: &[Act] = &[
     Act::Occupied(u64::MAX, 0x10000000, false),
 ];
 
-#[test]
-fn ranges_are_occupied(rt: HostRuntime) -> Result<(), HostMemory> {
-    in_a_space(&rt, rt.alloc(), OCCUPIED)
-}
-
 // Three consecutive pieces, and ranges that leave parts of none, of one or of two of them.
 const RESTS: &[Act] = &[
     Act::Put(0x50000000, 7, 2, true),
@@ -209,11 +199,6 @@ const RESTS: &[Act] = &[
     Act::Rests(0x50002000, 0x50003000, &[]),
     Act::Rests(0x50002800, 0x50002900, &[8]),
 ];
-
-#[test]
-fn ranges_leave_parts(rt: HostRuntime) -> Result<(), HostMemory> {
-    in_a_space(&rt, rt.alloc(), RESTS)
-}
 
 // A hole between consecutive pieces is the next choice.
 const HOLES: &[Act] = &[
@@ -232,11 +217,6 @@ const HOLES: &[Act] = &[
     Act::Take(0x40003000, 3),
     Act::Choose(0x40003000),
 ];
-
-#[test]
-fn holes_are_chosen_again(rt: HostRuntime) -> Result<(), HostMemory> {
-    in_a_space(&rt, rt.alloc(), HOLES)
-}
 
 const BELOW: Piece = Piece {
     base: 0x40000000,
@@ -276,9 +256,20 @@ const CUT: &[Act] = &[
     Act::Pieces(&[]),
 ];
 
+const TRIALS: &[(&str, &[Act])] = &[
+    ("addresses denote bytes", DENOTED),
+    ("ranges are occupied", OCCUPIED),
+    ("ranges leave parts", RESTS),
+    ("holes are chosen again", HOLES),
+    ("a cut leaves two parts", CUT),
+];
+
 #[test]
-fn a_cut_leaves_two_parts(rt: HostRuntime) -> Result<(), HostMemory> {
-    in_a_space(&rt, rt.alloc(), CUT)
+fn a_space_answers_as_stated(rt: HostRuntime) -> Result<(), HostMemory> {
+    for (name, acts) in TRIALS {
+        in_a_space(&rt, rt.alloc(), name, acts)?;
+    }
+    Ok(())
 }
 
 // Holes of one page are skipped, and a hole of two that a cut makes among them is found.

@@ -63,9 +63,7 @@ pub(crate) fn family(alloc: Global, most: u32) -> Result<Spaces, HostMemory>
 
 /// A store without segments, over one area of one slot: no page is resident.
 pub(crate) fn bare_store(alloc: Global) -> Result<PageStore<RamPager>, HostMemory> {
-    let mut pagers = Vec::with_capacity(alloc, 1)?;
-    pagers.push(RamPager::new(alloc, 1)?)?;
-    let swap = Swap::new(alloc, pagers)?;
+    let swap = Swap::new(alloc, vec![in alloc; RamPager::new(alloc, 1)?]?)?;
     PageStore::new(alloc, 2, swap)
 }
 
@@ -224,18 +222,24 @@ pub(crate) fn answers_all(
     rt: &impl Abort,
     spaces: &mut Spaces,
     store: &PageStore<RamPager>,
+    name: &str,
     acts: &[Act],
 ) {
     for (row, act) in acts.iter().enumerate() {
-        assert!(rt; answers(spaces, store, act), "at row {row}");
+        assert!(rt; answers(spaces, store, act), "{name}, at row {row}");
     }
 }
 
 /// As `answers_all`, in a family without pieces.
-pub(crate) fn in_a_family(rt: &impl Abort, alloc: Global, acts: &[Act]) -> Result<(), HostMemory> {
+pub(crate) fn in_a_family(
+    rt: &impl Abort,
+    alloc: Global,
+    name: &str,
+    acts: &[Act],
+) -> Result<(), HostMemory> {
     let store = bare_store(alloc)?;
     let mut spaces = family(alloc, 256)?;
-    answers_all(rt, &mut spaces, &store, acts);
+    answers_all(rt, &mut spaces, &store, name, acts);
     Ok(())
 }
 
@@ -264,11 +268,6 @@ const TWO_PIECES: &[Act] = &[
     Act::Count(0, 2),
 ];
 
-#[test]
-fn an_access_over_two_pieces_has_two_spans(rt: HostRuntime) -> Result<(), HostMemory> {
-    in_a_family(&rt, rt.alloc(), TWO_PIECES)
-}
-
 const FULL: &[Act] = &[Act::Full, Act::Count(0, 256)];
 
 // Process 1 attaches 256 pages, each as a piece of its own.
@@ -277,7 +276,7 @@ fn fills(rt: &impl Abort, spaces: &mut Spaces, store: &PageStore<RamPager>) {
         let base = 0x40000000 + 4096 * k;
         assert!(rt; attach(spaces, store, 0, base, 1, true), "at {base}");
     }
-    answers_all(rt, spaces, store, FULL);
+    answers_all(rt, spaces, store, "256 pieces", FULL);
 }
 
 #[test]
@@ -314,11 +313,6 @@ const PARTS: &[Act] = &[
     Act::Detach(0x40001000, None),
 ];
 
-#[test]
-fn parts_of_one_attach_are_detached_together(rt: HostRuntime) -> Result<(), HostMemory> {
-    in_a_family(&rt, rt.alloc(), PARTS)
-}
-
 const SAME_ORIGIN: &[Act] = &[
     Act::Attach(0, 0x40000000, 2, true),
     Act::Attach(1, 0x40000000, 1, true),
@@ -328,11 +322,6 @@ const SAME_ORIGIN: &[Act] = &[
     Act::Detach(0x40000000, Some(0)),
     Act::Count(0, 0),
 ];
-
-#[test]
-fn the_lowest_piece_names_the_segment(rt: HostRuntime) -> Result<(), HostMemory> {
-    in_a_family(&rt, rt.alloc(), SAME_ORIGIN)
-}
 
 // Process 1 forks its child, and both end.
 const FORKS_AND_GOES: &[Act] = &[
@@ -351,11 +340,6 @@ const FORKS_AND_GOES: &[Act] = &[
     Act::User(1, None),
     Act::Detach(0x40000000, None),
 ];
-
-#[test]
-fn a_child_has_its_parents_pieces(rt: HostRuntime) -> Result<(), HostMemory> {
-    in_a_family(&rt, rt.alloc(), FORKS_AND_GOES)
-}
 
 const FIRST: PageRef = PageRef { seg: 0, page: 0 };
 
@@ -377,11 +361,6 @@ const MOVES: &[Act] = &[
     Act::Frames(2, 0x40000000, &[Some(5)]),
 ];
 
-#[test]
-fn moves_reach_each_piece_and_each_process(rt: HostRuntime) -> Result<(), HostMemory> {
-    in_a_family(&rt, rt.alloc(), MOVES)
-}
-
 // The first and the last of three pages are in memory. An address without a piece is not absent.
 const ABSENT: &[Act] = &[
     Act::Attach(0, 0x40000000, 3, true),
@@ -402,11 +381,6 @@ const ABSENT: &[Act] = &[
     Act::Absent(2, 0x40002fff, 1, Some(0x40002fff)),
 ];
 
-#[test]
-fn the_first_absent_page_is_returned(rt: HostRuntime) -> Result<(), HostMemory> {
-    in_a_family(&rt, rt.alloc(), ABSENT)
-}
-
 const GONE: &[Act] = &[
     Act::Attach(0, 0x40000000, 1, true),
     Act::Note(&[PageMove::Came(FIRST, 5)]),
@@ -417,11 +391,6 @@ const GONE: &[Act] = &[
     Act::Attach(0, 0x40000000, 1, true),
     Act::Frames(1, 0x40000000, &[None]),
 ];
-
-#[test]
-fn a_destroyed_segment_has_no_frames(rt: HostRuntime) -> Result<(), HostMemory> {
-    in_a_family(&rt, rt.alloc(), GONE)
-}
 
 // Of four pages in frames 10 to 13, two are replaced, and one is removed.
 const CUT_TWICE: &[Act] = &[
@@ -438,7 +407,21 @@ const CUT_TWICE: &[Act] = &[
     Act::Frames(1, 0x40000000, &[Some(10), None, None, None]),
 ];
 
+const TRIALS: &[(&str, &[Act])] = &[
+    ("an access over two pieces has two spans", TWO_PIECES),
+    ("parts of one attach are detached together", PARTS),
+    ("the lowest piece names the segment", SAME_ORIGIN),
+    ("a child has its parent's pieces", FORKS_AND_GOES),
+    ("moves reach each piece and each process", MOVES),
+    ("the first absent page is returned", ABSENT),
+    ("a destroyed segment has no frames", GONE),
+    ("parts keep their translations", CUT_TWICE),
+];
+
 #[test]
-fn parts_keep_their_translations(rt: HostRuntime) -> Result<(), HostMemory> {
-    in_a_family(&rt, rt.alloc(), CUT_TWICE)
+fn a_family_answers_as_stated(rt: HostRuntime) -> Result<(), HostMemory> {
+    for (name, acts) in TRIALS {
+        in_a_family(&rt, rt.alloc(), name, acts)?;
+    }
+    Ok(())
 }

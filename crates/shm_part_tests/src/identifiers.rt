@@ -101,16 +101,16 @@ fn answers(table: &mut IdTable<u8>, act: &Act) -> bool {
 }
 
 /// Checks the acts in order. A message counts the rows from 0.
-fn answers_all(rt: &impl Abort, table: &mut IdTable<u8>, acts: &[Act]) {
+fn answers_all(rt: &impl Abort, table: &mut IdTable<u8>, name: &str, acts: &[Act]) {
     for (row, act) in acts.iter().enumerate() {
-        assert!(rt; answers(table, act), "at row {row}");
+        assert!(rt; answers(table, act), "{name}, at row {row}");
     }
 }
 
 /// As `answers_all`, in a table without rows.
-fn in_a_table(rt: &impl Abort, alloc: Global, acts: &[Act]) {
+fn in_a_table(rt: &impl Abort, alloc: Global, name: &str, acts: &[Act]) {
     let mut table: IdTable<u8> = IdTable::new(alloc);
-    answers_all(rt, &mut table, acts);
+    answers_all(rt, &mut table, name, acts);
 }
 
 const DESTROYED: &[Act] = &[
@@ -126,11 +126,6 @@ const DESTROYED: &[Act] = &[
     Act::Count(2),
 ];
 
-#[test]
-fn a_destroyed_identifier_never_comes_again(rt: HostRuntime) {
-    in_a_table(&rt, rt.alloc(), DESTROYED);
-}
-
 const WORN_OUT: &[Act] = &[
     Act::Put(0, 2, 1),
     Act::Look(2147450880, Err(LookRefused::Removed)),
@@ -142,7 +137,7 @@ fn wears_out(rt: &impl Abort, table: &mut IdTable<u8>) {
         assert!(rt; put(table, 0, 1) == Some(id), "at {id}");
         assert!(rt; destroy(table, id), "at {id}");
     }
-    answers_all(rt, table, WORN_OUT);
+    answers_all(rt, table, "worn out", WORN_OUT);
 }
 
 #[test]
@@ -157,7 +152,7 @@ fn takes_all(rt: &impl Abort, table: &mut IdTable<u8>) {
     for index in 0..32768i32 {
         assert!(rt; put(table, 0, 3) == Some(index), "at {index}");
     }
-    answers_all(rt, table, FULL);
+    answers_all(rt, table, "full", FULL);
 }
 
 #[test]
@@ -182,11 +177,6 @@ const KEYS: &[Act] = &[
     Act::FindKey(42, None),
 ];
 
-#[test]
-fn keys(rt: HostRuntime) {
-    in_a_table(&rt, rt.alloc(), KEYS);
-}
-
 const ROWS: &[Act] = &[
     Act::Put(42, 5, 0),
     Act::Put(0, 6, 1),
@@ -198,7 +188,15 @@ const ROWS: &[Act] = &[
     Act::RowAt(3, None),
 ];
 
+const TRIALS: &[(&str, &[Act])] = &[
+    ("a destroyed identifier never comes again", DESTROYED),
+    ("keys", KEYS),
+    ("rows by rising index", ROWS),
+];
+
 #[test]
-fn rows_by_rising_index(rt: HostRuntime) {
-    in_a_table(&rt, rt.alloc(), ROWS);
+fn a_table_answers_as_stated(rt: HostRuntime) {
+    for (name, acts) in TRIALS {
+        in_a_table(&rt, rt.alloc(), name, acts);
+    }
 }

@@ -39,11 +39,6 @@ const PROTECTED: &[Act] = &[
     Act::Count(0, 0),
 ];
 
-#[test]
-fn parts_of_an_attach_are_protected(rt: HostRuntime) -> Result<(), HostMemory> {
-    in_a_family(&rt, rt.alloc(), PROTECTED)
-}
-
 // A protect that stops at a hole, or at a piece that may not be written, has changed everything below it.
 const STOPPED: &[Act] = &[
     Act::Attach(0, 0x50000000, 8, true),
@@ -79,16 +74,6 @@ const SPLIT: &[Act] = &[
     Act::Lost(&[]),
 ];
 
-#[test]
-fn split_pieces_are_noted(rt: HostRuntime) -> Result<(), HostMemory> {
-    in_a_family(&rt, rt.alloc(), SPLIT)
-}
-
-#[test]
-fn a_protection_stops_at_the_first_refusal(rt: HostRuntime) -> Result<(), HostMemory> {
-    in_a_family(&rt, rt.alloc(), STOPPED)
-}
-
 const UNMAPPED: &[Act] = &[
     Act::Attach(0, 0x50000000, 8, true),
     Act::Attach(1, 0x50008000, 1, true),
@@ -106,11 +91,6 @@ const UNMAPPED: &[Act] = &[
     Act::Count(0, 0),
     Act::Count(1, 0),
 ];
-
-#[test]
-fn ranges_are_unmapped(rt: HostRuntime) -> Result<(), HostMemory> {
-    in_a_family(&rt, rt.alloc(), UNMAPPED)
-}
 
 // With at most two pieces, the middle of one can be neither protected nor, next to another hole, unmapped.
 const OF_TWO_PIECES: &[Act] = &[
@@ -131,7 +111,7 @@ const OF_TWO_PIECES: &[Act] = &[
 fn too_many_pieces_are_refused(rt: HostRuntime) -> Result<(), HostMemory> {
     let store = bare_store(rt.alloc())?;
     let mut spaces = family(rt.alloc(), 2)?;
-    answers_all(&rt, &mut spaces, &store, OF_TWO_PIECES);
+    answers_all(&rt, &mut spaces, &store, "of two pieces", OF_TWO_PIECES);
     Ok(())
 }
 
@@ -146,9 +126,20 @@ const OUTSIDE: &[Act] = &[
     Act::Fails(3, 5, 0, false, None),
 ];
 
+const TRIALS: &[(&str, &[Act])] = &[
+    ("parts of an attach are protected", PROTECTED),
+    ("split pieces are noted", SPLIT),
+    ("a protection stops at the first refusal", STOPPED),
+    ("ranges are unmapped", UNMAPPED),
+    ("accesses fail outside of pieces", OUTSIDE),
+];
+
 #[test]
-fn accesses_fail_outside_of_pieces(rt: HostRuntime) -> Result<(), HostMemory> {
-    in_a_family(&rt, rt.alloc(), OUTSIDE)
+fn mappings_change_as_stated(rt: HostRuntime) -> Result<(), HostMemory> {
+    for (name, acts) in TRIALS {
+        in_a_family(&rt, rt.alloc(), name, acts)?;
+    }
+    Ok(())
 }
 
 const CRED: Cred = Cred { uid: 100, gid: 100 };
@@ -162,7 +153,7 @@ fn lists(rt: &impl Abort, spaces: &mut Spaces, store: &PageStore<RamPager>) {
     assert!(rt; is_listed(spaces, 0, 1, Life::Live(CRED)));
     assert!(rt; is_listed(spaces, 1, 2, Life::Unborn));
     assert!(rt; spaces.process_at(2).is_none());
-    answers_all(rt, spaces, store, &[Act::Exit(1, &[])]);
+    answers_all(rt, spaces, store, "an exit", &[Act::Exit(1, &[])]);
     assert!(rt; spaces.process_count() == 2);
     assert!(rt; is_listed(spaces, 0, 1, Life::Ended));
 }
@@ -212,20 +203,20 @@ fn change_independently(
     copy: &mut Spaces,
     store: &PageStore<RamPager>,
 ) {
-    answers_all(rt, copy, store, AS_IT_WAS);
-    answers_all(rt, copy, store, CHANGES);
-    answers_all(rt, source, store, AS_IT_WAS);
-    answers_all(rt, source, store, CHANGES);
+    answers_all(rt, copy, store, "the copy", AS_IT_WAS);
+    answers_all(rt, copy, store, "changes of the copy", CHANGES);
+    answers_all(rt, source, store, "the source", AS_IT_WAS);
+    answers_all(rt, source, store, "changes of the source", CHANGES);
 }
 
 #[test]
 fn a_copy_is_independent(rt: HostRuntime) -> Result<(), HostMemory> {
     let store = bare_store(rt.alloc())?;
     let mut source = family(rt.alloc(), 256)?;
-    answers_all(&rt, &mut source, &store, BEFORE);
+    answers_all(&rt, &mut source, &store, "before", BEFORE);
     match source.try_clone() {
         Ok(mut copy) => change_independently(&rt, &mut source, &mut copy, &store),
-        Err(_) => answers_all(&rt, &mut source, &store, AS_IT_WAS),
+        Err(_) => answers_all(&rt, &mut source, &store, "the source", AS_IT_WAS),
     }
     Ok(())
 }

@@ -25,14 +25,16 @@ fn read(alloc: Global, script: &[u8]) -> Outcome {
     }
 }
 
+/// The script with these lines after its head.
+fn script_of(alloc: Global, lines: &[u8]) -> Result<Script, Fail> {
+    let mut script = HEAD.to_vec(alloc)?;
+    script.extend_from_slice(lines)?;
+    Ok(read_script(alloc, &script)?)
+}
+
 /// The call of a script whose last line is this one, if all variables are 0.
 fn call_of(alloc: Global, line: &[u8]) -> Result<Call, Fail> {
-    let mut script = HEAD.to_vec(alloc)?;
-    script.extend_from_slice(line)?;
-    let Ok(script) = read_script(alloc, &script) else {
-        return Err("a script".into());
-    };
-    match script.lines.first() {
+    match script_of(alloc, line)?.lines.first() {
         Some(Line::Command(command)) => Ok(Vars::new().call(command)),
         Some(Line::Flush(_)) | None => Err("a command".into()),
     }
@@ -55,95 +57,85 @@ fn are_in_file_order(rt: &impl Abort, lines: &[Line]) -> Result<(), Fail> {
 
 #[test]
 fn lines_in_file_order(rt: HostRuntime) -> Result<(), Fail> {
-    let alloc = rt.alloc();
-    let mut script = HEAD.to_vec(alloc)?;
-    script.extend_from_slice(b"child 2\n1 s = xadd a 0x10\n2 shmdt s+1")?;
-    let Ok(script) = read_script(alloc, &script) else {
-        return Err("a script".into());
-    };
+    let script = script_of(rt.alloc(), b"child 2\n1 s = xadd a 0x10\n2 shmdt s+1")?;
     assert_eq!(rt; script.processes.len(), 2);
     are_in_file_order(&rt, script.lines.as_slice())?;
     Ok(())
 }
 
-#[test]
-fn each_key_and_flag_of_shmget(rt: HostRuntime) -> Result<(), Fail> {
-    let alloc = rt.alloc();
-    let read: [(&[u8], u32, u64, u16, GetFlags); 5] = [
-        (b"1 shmget private 1 600", 0, 1, 0o600, GetFlags::empty()),
-        (
-            b"1 shmget 0xffffffff 0 007,excl",
-            4294967295,
-            0,
-            7,
-            GetFlags::EXCL,
-        ),
-        (
-            b"1 k = shmget 42 18446744073709551615 777,excl,creat",
-            42,
-            u64::MAX,
-            0o777,
-            GetFlags::CREAT.union(GetFlags::EXCL),
-        ),
-        (
-            b"1 shmget 0x2a 4096 640,creat,excl",
-            42,
-            4096,
-            0o640,
-            GetFlags::CREAT.union(GetFlags::EXCL),
-        ),
-        (
-            b"1 shmget 0 4096 640,creat",
-            0,
-            4096,
-            0o640,
-            GetFlags::CREAT,
-        ),
-    ];
-    for (line, key, size, mode, flags) in read {
-        let call = Call::Shmget {
-            key,
-            size,
-            mode,
-            flags,
-        };
-        assert!(rt; call_of(alloc, line)? == call);
+/// Whether each line is read as its call. A message counts the rows from 0.
+fn are_read(rt: &impl Abort, alloc: Global, rows: &[(&[u8], Call)]) -> Result<(), Fail> {
+    for (row, (line, call)) in rows.iter().enumerate() {
+        assert!(rt; call_of(alloc, line)? == *call, "at row {row}");
     }
     Ok(())
 }
 
+fn shmget(key: u32, size: u64, mode: u16, flags: GetFlags) -> Call {
+    Call::Shmget {
+        key,
+        size,
+        mode,
+        flags,
+    }
+}
+
+fn shmat(id: i32, addr: u64, flags: AtFlags) -> Call {
+    Call::Shmat { id, addr, flags }
+}
+
 #[test]
-fn each_address_and_flag_of_shmat(rt: HostRuntime) -> Result<(), Fail> {
-    let alloc = rt.alloc();
+fn each_key_address_and_flag(rt: HostRuntime) -> Result<(), Fail> {
+    let none = GetFlags::empty();
+    let both = GetFlags::CREAT.union(GetFlags::EXCL);
     let mut two = AtFlags::RDONLY;
     two.insert(AtFlags::REMAP);
     let all = two.union(AtFlags::RND);
-    let read: [(&[u8], i32, u64, AtFlags); 5] = [
+    let rows: [(&[u8], Call); 10] = [
+        (b"1 shmget private 1 600", shmget(0, 1, 0o600, none)),
+        (
+            b"1 shmget 0xffffffff 0 007,excl",
+            shmget(4294967295, 0, 7, GetFlags::EXCL),
+        ),
+        (
+            b"1 k = shmget 42 18446744073709551615 777,excl,creat",
+            shmget(42, u64::MAX, 0o777, both),
+        ),
+        (
+            b"1 shmget 0x2a 4096 640,creat,excl",
+            shmget(42, 4096, 0o640, both),
+        ),
+        (
+            b"1 shmget 0 4096 640,creat",
+            shmget(0, 4096, 0o640, GetFlags::CREAT),
+        ),
         (
             b"1 a = shmat 2147483647 null -",
-            2147483647,
-            0,
-            AtFlags::empty(),
+            shmat(2147483647, 0, AtFlags::empty()),
         ),
-        (b"1 shmat s 0x50000fff rnd", 0, 0x50000fff, AtFlags::RND),
-        (b"1 shmat s a rdonly,remap", 0, 0, two),
-        (b"1 shmat 00 a+0xFfFf rdonly,remap,rnd", 0, 65535, all),
+        (
+            b"1 shmat s 0x50000fff rnd",
+            shmat(0, 0x50000fff, AtFlags::RND),
+        ),
+        (b"1 shmat s a rdonly,remap", shmat(0, 0, two)),
+        (
+            b"1 shmat 00 a+0xFfFf rdonly,remap,rnd",
+            shmat(0, 65535, all),
+        ),
         (
             b"1 shmat 7 18446744073709551615 remap,rnd,rdonly",
-            7,
-            u64::MAX,
-            all,
+            shmat(7, u64::MAX, all),
         ),
     ];
-    for (line, id, addr, flags) in read {
-        assert!(rt; call_of(alloc, line)? == Call::Shmat { id, addr, flags });
-    }
-    Ok(())
+    are_read(&rt, rt.alloc(), &rows)
+}
+
+fn xadd(addr: u64, add: u64) -> Call {
+    Call::Xadd { addr, add }
 }
 
 #[test]
 fn each_other_form(rt: HostRuntime) -> Result<(), Fail> {
-    let alloc = rt.alloc();
     let len = AccessLen::new(64).ok_or("1 to 64")?;
     let chunk = Chunk::new(&[0, 171]).ok_or("1 to 64")?;
     let set = Call::Set {
@@ -152,22 +144,10 @@ fn each_other_form(rt: HostRuntime) -> Result<(), Fail> {
         gid: 0,
         mode: 0o644,
     };
-    let read: [(&[u8], Call); 15] = [
+    let rows: [(&[u8], Call); 15] = [
         (b"1 swapoff 7", Call::Swapoff { area: 7 }),
-        (
-            b"1 x = xadd a+18446744073709551615 1",
-            Call::Xadd {
-                addr: u64::MAX,
-                add: 1,
-            },
-        ),
-        (
-            b"1 xadd 4096 18446744073709551615",
-            Call::Xadd {
-                addr: 4096,
-                add: u64::MAX,
-            },
-        ),
+        (b"1 x = xadd a+18446744073709551615 1", xadd(u64::MAX, 1)),
+        (b"1 xadd 4096 18446744073709551615", xadd(4096, u64::MAX)),
         (b"1 shmdt a", Call::Shmdt { addr: 0 }),
         (b"1 load null 64", Call::Load { addr: 0, len }),
         (b"1 store 0x10 00Ab", Call::Store { addr: 16, chunk }),
@@ -181,105 +161,79 @@ fn each_other_form(rt: HostRuntime) -> Result<(), Fail> {
         (b"\t1  exit ", Call::Exit),
         (b"0x1 exit", Call::Exit),
     ];
-    for (line, call) in &read {
-        assert!(rt; call_of(alloc, line)? == *call);
+    are_read(&rt, rt.alloc(), &rows)
+}
+
+fn exchange(chunk: Chunk, addr: u64) -> Call {
+    Call::Exchange { chunk, addr }
+}
+
+fn compare_exchange(expected: Word, desired: Word, addr: u64) -> Call {
+    Call::CompareExchange {
+        expected,
+        desired,
+        addr,
     }
-    Ok(())
 }
 
 #[test]
 fn each_exchange(rt: HostRuntime) -> Result<(), Fail> {
-    let alloc = rt.alloc();
     let chunk = Chunk::new(&[0, 171]).ok_or("1 to 64")?;
     let longest = Chunk::new(&[17; 64]).ok_or("1 to 64")?;
     let expected = Word::new(&[0, 0, 0, 0, 0, 0, 0, 0]).ok_or("1 to 16")?;
     let desired = Word::new(&[1, 2, 3, 4, 5, 6, 7, 171]).ok_or("1 to 16")?;
     let widest = Word::new(&[17; 16]).ok_or("1 to 16")?;
-    let mut swap_of_the_longest = b"1 swap null ".to_vec(alloc)?;
+    let mut swap_of_the_longest = b"1 swap null ".to_vec(rt.alloc())?;
     for _ in 0..64 {
         swap_of_the_longest.extend_from_slice(b"11")?;
     }
-    let read: [(&[u8], Call); 5] = [
-        (b"1 swap 0x10 00Ab", Call::Exchange { chunk, addr: 16 }),
-        (b"1 x = swap a+1 00ab", Call::Exchange { chunk, addr: 1 }),
-        (
-            &swap_of_the_longest,
-            Call::Exchange {
-                chunk: longest,
-                addr: 0,
-            },
-        ),
+    let rows: [(&[u8], Call); 5] = [
+        (b"1 swap 0x10 00Ab", exchange(chunk, 16)),
+        (b"1 x = swap a+1 00ab", exchange(chunk, 1)),
+        (&swap_of_the_longest, exchange(longest, 0)),
         (
             b"1 x = cas a 0000000000000000 01020304050607aB",
-            Call::CompareExchange {
-                expected,
-                desired,
-                addr: 0,
-            },
+            compare_exchange(expected, desired, 0),
         ),
         (
             b"1 cas 16 11111111111111111111111111111111 11111111111111111111111111111111",
-            Call::CompareExchange {
-                expected: widest,
-                desired: widest,
-                addr: 16,
-            },
+            compare_exchange(widest, widest, 16),
         ),
     ];
-    for (line, call) in &read {
-        assert!(rt; call_of(alloc, line)? == *call);
+    are_read(&rt, rt.alloc(), &rows)
+}
+
+fn munmap(addr: u64, len: u64) -> Call {
+    Call::Munmap { addr, len }
+}
+
+fn mprotect(addr: u64, len: u64, writable: bool) -> Call {
+    Call::Mprotect {
+        addr,
+        len,
+        writable,
     }
-    Ok(())
 }
 
 #[test]
 fn each_mapping_and_user(rt: HostRuntime) -> Result<(), Fail> {
-    let alloc = rt.alloc();
-    let read: [(&[u8], Call); 7] = [
-        (
-            b"1 munmap 0x40000000 4096",
-            Call::Munmap {
-                addr: 0x40000000,
-                len: 4096,
-            },
-        ),
-        (
-            b"1 munmap a+1 18446744073709551615",
-            Call::Munmap {
-                addr: 1,
-                len: u64::MAX,
-            },
-        ),
-        (b"1 munmap null 0", Call::Munmap { addr: 0, len: 0 }),
-        (
-            b"1 mprotect 4096 0x1001 ro",
-            Call::Mprotect {
-                addr: 4096,
-                len: 4097,
-                writable: false,
-            },
-        ),
+    let root = Call::Setuid {
+        uid: 0,
+        gid: 4294967295,
+    };
+    let rows: [(&[u8], Call); 7] = [
+        (b"1 munmap 0x40000000 4096", munmap(0x40000000, 4096)),
+        (b"1 munmap a+1 18446744073709551615", munmap(1, u64::MAX)),
+        (b"1 munmap null 0", munmap(0, 0)),
+        (b"1 mprotect 4096 0x1001 ro", mprotect(4096, 4097, false)),
         (
             b"1 mprotect a 18446744073709551615 rw",
-            Call::Mprotect {
-                addr: 0,
-                len: u64::MAX,
-                writable: true,
-            },
+            mprotect(0, u64::MAX, true),
         ),
         (b"1 setuid 100 200", Call::Setuid { uid: 100, gid: 200 }),
-        (
-            b"1 setuid 0 4294967295",
-            Call::Setuid {
-                uid: 0,
-                gid: 4294967295,
-            },
-        ),
+        (b"1 setuid 0 4294967295", root),
     ];
-    for (line, call) in &read {
-        assert!(rt; call_of(alloc, line)? == *call);
-    }
-    Ok(())
+    are_read(&rt, rt.alloc(), &rows)
 }
 
 fn are_rounds(rt: &impl Abort, lines: &[Line], all: &[u64]) -> Result<(), Fail> {
@@ -293,12 +247,7 @@ fn are_rounds(rt: &impl Abort, lines: &[Line], all: &[u64]) -> Result<(), Fail> 
 
 #[test]
 fn flush_lines(rt: HostRuntime) -> Result<(), Fail> {
-    let alloc = rt.alloc();
-    let mut script = HEAD.to_vec(alloc)?;
-    script.extend_from_slice(b"0 flush 4096\n0 flush 0x1\n")?;
-    let Ok(script) = read_script(alloc, &script) else {
-        return Err("a script".into());
-    };
+    let script = script_of(rt.alloc(), b"0 flush 4096\n0 flush 0x1\n")?;
     are_rounds(&rt, script.lines.as_slice(), &[4096, 1])?;
     Ok(())
 }

@@ -36,5 +36,6 @@ fn refusals_of_the_host_are_reported(rt: HostRuntime) {
     assert!(rt; prints(alloc, &DismissRefusal::NoProcess, "no process has the pid"));
     assert!(rt; prints(alloc, &DismissRefusal::StillLive, "the process is live"));
     assert!(rt; prints(alloc, &BadLimits(4), "bad limits 4"));
+    assert!(rt; prints(alloc, &BadLimits(5), "bad limits 5"));
     assert!(rt; prints(alloc, &HostMemory, "out of memory"));
 }

@@ -14,7 +14,7 @@ use Rattle.shm_program.specs.Ends.{is_reading}
 use Rattle.shm_program.specs.Faults.{refused_as}
 use Rattle.shm_program.specs.Runs.{IsCause, IsCauseIn, IsReadAs, IsSilent, IsStop, IsTextFor, MayBe, is_serial}
 use Rattle.shm_program.specs.declared.fault.RunFault.{RunFault}
-use Rattle.shm_program.specs.declared.fault.RunFault.TheVariants.{Script, StartRefused, ReadFailed, WriteFailed, Gate, Mismatch, ThreadRefused, HostMemory}
+use Rattle.shm_program.specs.declared.fault.RunFault.TheVariants.{StartRefused, WriteFailed, HostMemory}
 
 -- a fault of what was read is the fault of the input
 pub refusals : (refusal : ReadRefused) (old new : Option (List ℕ)) (read : List ℕ) → Consumes old new read → (length read ≤ 1048576 → IsAtEnd new) → IsFaultOf refusal (script_of read) → (areas : List ℕ) → IsCause (refused_as refusal) areas old
@@ -34,14 +34,8 @@ whole_input old new read script taken end reads = record { bytes = read; given =
 
 -- where nothing is written, a fault is silent, unless the writer failed
 pub unwritten : (IsText : List ℕ → Type 0) (fault : RunFault) (kept : Option (List ℕ)) → (fault ≡ WriteFailed → ⊥) → IsSilent IsText fault kept kept
-unwritten IsText (Script fault) kept h = Keeps-refl kept
-unwritten IsText (StartRefused n) kept h = Keeps-refl kept
-unwritten IsText ReadFailed kept h = Keeps-refl kept
 unwritten IsText WriteFailed kept h = absurd (h refl)
-unwritten IsText (Gate pid) kept h = Keeps-refl kept
-unwritten IsText (Mismatch pid) kept h = Keeps-refl kept
-unwritten IsText ThreadRefused kept h = Keeps-refl kept
-unwritten IsText HostMemory kept h = Keeps-refl kept
+unwritten IsText fault kept h = Keeps-refl kept
 
 -- reading writes nothing
 pub read_silent : (IsText : List ℕ → Type 0) (fault : RunFault) (kept : Option (List ℕ)) → is_reading fault ≡ true → IsSilent IsText fault kept kept
@@ -53,14 +47,8 @@ stop_silent IsText fault first kept stop = unwritten IsText fault kept (λ e. su
 
 -- a text of one kind is of another
 pub silent_as : (IsText IsOther : List ℕ → Type 0) (fault : RunFault) (old new : Option (List ℕ)) → ((text : List ℕ) → IsText text → IsOther text) → IsSilent IsText fault old new → IsSilent IsOther fault old new
-silent_as IsText IsOther (Script fault) old new to silent = silent
-silent_as IsText IsOther (StartRefused n) old new to silent = silent
-silent_as IsText IsOther ReadFailed old new to silent = silent
 silent_as IsText IsOther WriteFailed old new to (text, is, part) = (text, to text is, part)
-silent_as IsText IsOther (Gate pid) old new to silent = silent
-silent_as IsText IsOther (Mismatch pid) old new to silent = silent
-silent_as IsText IsOther ThreadRefused old new to silent = silent
-silent_as IsText IsOther HostMemory old new to silent = silent
+silent_as IsText IsOther fault old new to silent = silent
 
 -- the text of the script that was read is one for the input
 pub text_for : (IsText : ScriptView → List ℕ → List ℕ → Type 0) (areas : List ℕ) (input : Option (List ℕ)) (script : ScriptView) → IsReadAs input (Ok script) → (text : List ℕ) → IsText script areas text → IsTextFor IsText areas input text
@@ -77,32 +65,14 @@ silent_for IsText result areas input old new script read silent = silents_as (Is
 pub stop_cause : (fault : RunFault) (areas : List ℕ) (script : ScriptView) → IsStop fault (start_error script.limits areas script.processes) → IsCauseIn fault areas script
 stop_cause (StartRefused n) areas script stop = λ input read. (script, read, stop)
 stop_cause HostMemory areas script stop = λ input read. tt
-stop_cause (Script fault) areas script stop = absurd stop
-stop_cause ReadFailed areas script stop = absurd stop
-stop_cause WriteFailed areas script stop = absurd stop
-stop_cause (Gate pid) areas script stop = absurd stop
-stop_cause (Mismatch pid) areas script stop = absurd stop
-stop_cause ThreadRefused areas script stop = absurd stop
+stop_cause fault areas script stop = absurd stop
 
 -- out of memory and a writer that fails say nothing of the input
 no_cause : (fault : RunFault) (areas : List ℕ) (script : ScriptView) → (fault ≡ HostMemory) ⊎ (fault ≡ WriteFailed) → IsCauseIn fault areas script
 no_cause fault areas script (inl e) = λ input read. subst (λ f. IsCause f areas input) (sym e) tt
 no_cause fault areas script (inr e) = λ input read. subst (λ f. IsCause f areas input) (sym e) tt
 
--- input that was not read says nothing
-pub unread_cause : (fault : RunFault) (input : Option (List ℕ)) → (fault ≡ HostMemory) ⊎ (fault ≡ ReadFailed) → (areas : List ℕ) → IsCause fault areas input
-unread_cause fault input (inl e) = λ areas. subst (λ f. IsCause f areas input) (sym e) tt
-unread_cause fault input (inr e) = λ areas. subst (λ f. IsCause f areas input) (sym e) tt
-
-pub unread_serial : (fault : RunFault) → (fault ≡ HostMemory) ⊎ (fault ≡ ReadFailed) → is_serial fault ≡ true
-unread_serial fault (inl e) = ap is_serial e
-unread_serial fault (inr e) = ap is_serial e
-
 -- reading ends in three ways without a script
-pub unread_reading : (fault : RunFault) → (fault ≡ HostMemory) ⊎ (fault ≡ ReadFailed) → is_reading fault ≡ true
-unread_reading fault (inl e) = ap is_reading e
-unread_reading fault (inr e) = ap is_reading e
-
 pub refused_reading : (refusal : ReadRefused) → is_reading (refused_as refusal) ≡ true
 refused_reading refused.HostMemory = refl
 refused_reading (refused.Fault fault) = refl
@@ -115,12 +85,7 @@ refused_serial (refused.Fault fault) = refl
 pub stop_serial : (fault : RunFault) (first : Option StartError) → IsStop fault first → is_serial fault ≡ true
 stop_serial (StartRefused n) first stop = refl
 stop_serial HostMemory first stop = refl
-stop_serial (Script fault) first stop = absurd stop
-stop_serial ReadFailed first stop = absurd stop
-stop_serial WriteFailed first stop = absurd stop
-stop_serial (Gate pid) first stop = absurd stop
-stop_serial (Mismatch pid) first stop = absurd stop
-stop_serial ThreadRefused first stop = absurd stop
+stop_serial fault first stop = absurd stop
 
 world_serial : (fault : RunFault) → (fault ≡ HostMemory) ⊎ (fault ≡ WriteFailed) → is_serial fault ≡ true
 world_serial fault (inl e) = ap is_serial e

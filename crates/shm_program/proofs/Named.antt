@@ -1,17 +1,14 @@
 -- The swap areas that the command line names.
-use Rattle.std.proofs.Common.{◌≡◌, ◌<◌, ◌≤◌, ℕ, true, List, [], ◌∷◌, map, refl, ap, ◌∙◌, arith}
-use Rattle.std.proofs.lemmas.Grind.{common_steps}
+use Rattle.std.proofs.Common.{◌≡◌, ◌<◌, ◌≤◌, List, [], ◌∷◌, map, refl, ap, ◌∙◌}
 use Rattle.std.specs.List.{AllZip}
-use Rattle.shm_pager.specs.Pages.{last_count, pager_seen}
+use Rattle.shm_pager.specs.Pages.{pager_seen}
 use Rattle.shm_pager.specs.Areas.{area_pages, failed_in, most_in, calls_in}
 use Rattle.shm_pager.specs.declared.area.AreaPager.{AreaPager}
 use Rattle.shm_pager.proofs.Made.{made-seen}
-use Rattle.shm_slots.specs.Cause.{most_total}
-use Rattle.shm_slots.specs.View.{AreaView, are_finite, fresh, new_swap}
-use Rattle.shm_program.specs.Areas.{IsAreaOf, areas_named, blank_of, calls_of, kind_of, most_of, no_calls, size_of}
+use Rattle.shm_slots.specs.View.{AreaView, fresh, new_swap}
+use Rattle.shm_program.specs.Areas.{IsAreaOf, areas_named, blank_of, calls_of, kind_of, no_calls, size_of}
 use Rattle.shm_program.specs.Runs.{handed_in}
 use Rattle.shm_program.specs.declared.options.SwapWord.{SwapWord}
-use Rattle.shm_program.specs.declared.options.SwapWord.TheVariants.{Ram, FuseRead, FuseWrite}
 
 each-named : (swaps : List SwapWord) (ps : List AreaPager) → AllZip IsAreaOf swaps ps
     → map (λ (p : AreaPager). fresh (pager_seen area_pages failed_in most_in calls_in p)) ps ≡ map (λ (swap : SwapWord). fresh (blank_of swap)) swaps
@@ -26,17 +23,3 @@ each-named (w ∷ ws) (p ∷ ps) all =
 -- the areas of these words
 pub named : (swaps : List SwapWord) (ps : List AreaPager) → AllZip IsAreaOf swaps ps → handed_in area_pages failed_in most_in calls_in ps ≡ areas_named swaps
 named swaps ps all = ap new_swap (each-named swaps ps all)
-
--- a ram area counts no failure
-pub none-ram : (n : ℕ) → (are_finite (areas_named (Ram n ∷ [])) ≡ true) × (most_total (areas_named (Ram n ∷ [])) ≡ 0)
-unfolding most_total
-none-ram n = (refl, refl)
-
--- a fuse counts one at most, unless its place is the one at which a count of calls stops
-pub one-read : (n k : ℕ) → 1 ≤ k → k < last_count → (are_finite (areas_named (FuseRead n k ∷ [])) ≡ true) × (most_total (areas_named (FuseRead n k ∷ [])) ≡ 1)
-unfolding most_total
-one-read n k some lt = (grind (arith, common_steps), grind (arith, common_steps))
-
-pub one-write : (n k : ℕ) → 1 ≤ k → k < last_count → (are_finite (areas_named (FuseWrite n k ∷ [])) ≡ true) × (most_total (areas_named (FuseWrite n k ∷ [])) ≡ 1)
-unfolding most_total
-one-write n k some lt = (grind (arith, common_steps), grind (arith, common_steps))

@@ -73,10 +73,7 @@ pub fn whole_script<R: Read>(alloc: Global, reader: &mut R) -> Result<Script, Ru
     ensures serial { IfErr result (λ f. is_serial f ≡ true) }
     ensures which { IfErr result (λ f. is_reading f ≡ true) }
 {
-    let input = match read_input(alloc, reader) {
-        Ok(input) => input,
-        Err(fault) => return Err(fault),
-    };
+    let input = read_input(alloc, reader)?;
     match read_script(alloc, &input) {
         Ok(script) => Ok(script),
         Err(refusal) => Err(refused(refusal)),

@@ -1,5 +1,5 @@
 mod Causes
 mod Flatness
 pub mod Opened
-mod Parts
+mod Started
 mod Texts

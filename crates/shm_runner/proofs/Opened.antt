@@ -13,7 +13,7 @@ use Rattle.shm_program.specs.Running.{IsStart}
 use Rattle.shm_program.specs.Runs.{IsFresh, IsOpening}
 use Rattle.shm_threads.specs.Outcomes.{IsOpened, IsOutcome}
 use Rattle.shm_threads.specs.declared.transcript.Transcript.{Transcript}
-use Rattle.shm_runner.proofs.Parts.{starts-anew}
+use Rattle.shm_runner.proofs.Started.{starts-anew}
 use Rattle.shm_runner.proofs.Texts.{Known}
 
 pub opens : (script : ScriptView) (w : WorldState) → IsOpening script w.opening → w.events ≡ [] → IsOpened script w

@@ -124,16 +124,11 @@ pub fn write_outcome<W: Write, P: Pager>(
         let is = λ (written : List ℕ). written ≡ text in
         IfErr result (λ f. IsAllOrNothing is f (W.contents writer.old) (W.contents writer.new) marked) }
 {
-    match write_world(alloc, writer, &outcome.world) {
-        Ok(()) => {
-            if have_mark(&outcome.transcripts) {
-                Err(RunFault::HostMemory)
-            } else {
-                Ok(())
-            }
-        }
-        Err(fault) => Err(fault),
+    write_world(alloc, writer, &outcome.world)?;
+    if have_mark(&outcome.transcripts) {
+        return Err(RunFault::HostMemory);
     }
+    Ok(())
 }
 
 // Whether a call of the run was out of memory.

@@ -1,15 +1,12 @@
 //! Readers and writers that fail, are interrupted, or transfer single bytes; and the texts and statuses of
 //! faults.
-use shm_base::{BadLimits, HostMemory};
-use shm_history::StartError;
-use shm_pager::{PagerFault, RamPager};
+use shm_pager::RamPager;
 use shm_program::RunFault;
 use shm_runner::run_serial;
 use shm_threads::RunError;
 use std::alloc::Global;
-use std::io::{ErrorKind, Read, Write};
+use std::io::{self, ErrorKind, Read, Write};
 use std::test::Fail;
-use std::{fmt, io};
 
 pub(crate) const SCRIPT: &[u8] = b"\
 limits 65536 16 64 4 1\n\
@@ -208,28 +205,6 @@ fn refused_starts(rt: HostRuntime) -> Result<(), Fail> {
     Ok(())
 }
 
-fn has_text<T: fmt::Display>(alloc: Global, error: &T, text: &str) -> Result<bool, Fail> {
-    Ok(format!(in alloc; "{error}")?.as_str() == text)
-}
-
-#[test]
-fn texts_of_refused_starts(rt: HostRuntime) -> Result<(), Fail> {
-    let alloc = rt.alloc();
-    for (error, text) in [
-        (StartError::Areas, "not 1 to 8 swap areas"),
-        (
-            StartError::AreaSize,
-            "a swap area without slots, or with too many",
-        ),
-        (StartError::Processes, "too many processes"),
-        (StartError::Pid, "a pid out of range, or twice"),
-        (StartError::HostMemory, "out of memory"),
-    ] {
-        assert!(rt; has_text(alloc, &error, text)?, "{text}");
-    }
-    Ok(())
-}
-
 #[test]
 fn texts_of_ended_runs(rt: HostRuntime) -> Result<(), Fail> {
     let alloc = rt.alloc();
@@ -239,16 +214,7 @@ fn texts_of_ended_runs(rt: HostRuntime) -> Result<(), Fail> {
         (RunError::HistoryMismatch { pid: 0 }, "history mismatch 0"),
         (RunError::ThreadRefused, "thread refused"),
     ] {
-        assert!(rt; has_text(alloc, &error, text)?, "{text}");
+        assert!(rt; format!(in alloc; "{error}")?.as_str() == text, "{text}");
     }
-    Ok(())
-}
-
-#[test]
-fn texts_of_lower_errors(rt: HostRuntime) -> Result<(), Fail> {
-    let alloc = rt.alloc();
-    assert!(rt; has_text(alloc, &BadLimits(5), "bad limits 5")?);
-    assert!(rt; has_text(alloc, &HostMemory, "out of memory")?);
-    assert!(rt; has_text(alloc, &PagerFault, "a pager failed")?);
     Ok(())
 }

@@ -331,10 +331,9 @@ fn fuses(alloc: Global, failing: Failing, place: u64) -> Result<Vec<FusePager<Ra
         Failing::SecondReads => ((0, 0), (place, 0)),
         Failing::SecondWrites => ((0, 0), (0, place)),
     };
-    let mut areas = Vec::with_capacity(alloc, 2)?;
-    areas.push(fuse(alloc, FIRST_SLOTS, first.0, first.1)?)?;
-    areas.push(fuse(alloc, SECOND_SLOTS, second.0, second.1)?)?;
-    Ok(areas)
+    let first = fuse(alloc, FIRST_SLOTS, first.0, first.1)?;
+    let second = fuse(alloc, SECOND_SLOTS, second.0, second.1)?;
+    Ok(vec![in alloc; first, second]?)
 }
 
 // Each of these calls fails in turn, until a run has no failure. The first run has one.
@@ -390,10 +389,9 @@ fn mirror(alloc: Global, slots: u32, write: u64, read: u64) -> Result<Mirror, Fa
 
 // Two mirrors, the first of which fails at these calls.
 fn mirrors(alloc: Global, write: u64, read: u64) -> Result<Vec<Mirror>, Fail> {
-    let mut areas = Vec::with_capacity(alloc, 2)?;
-    areas.push(mirror(alloc, FIRST_SLOTS, write, read)?)?;
-    areas.push(mirror(alloc, SECOND_SLOTS, 0, 0)?)?;
-    Ok(areas)
+    let first = mirror(alloc, FIRST_SLOTS, write, read)?;
+    let second = mirror(alloc, SECOND_SLOTS, 0, 0)?;
+    Ok(vec![in alloc; first, second]?)
 }
 
 // A write of the left side fails, and a read of the right side, each at each of the first twenty places.

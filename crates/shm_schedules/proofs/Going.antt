@@ -7,20 +7,19 @@ use Rattle.std.proofs.lemmas.List.{append-nil, map-append}
 use Rattle.std.proofs.lemmas.List.Elements.{filter-append}
 use Rattle.shm_base.specs.History.{is_refusal, own_part}
 use Rattle.shm_base.specs.Access.{Place, writable_places}
-use Rattle.shm_base.specs.Bounds.{within}
-use Rattle.shm_base.specs.Identifier.{Look, Found, Removed, Invalid, find_key, look}
+use Rattle.shm_base.specs.Identifier.{Look, Found, Removed, Invalid, look}
 use Rattle.shm_base.specs.Locking.{lock_refusal}
-use Rattle.shm_base.specs.Permission.{grants, owns, wish_of}
-use Rattle.shm_base.specs.Segments.{reserved}
+use Rattle.shm_base.specs.Permission.{owns}
 use Rattle.shm_base.specs.Space.{cut}
-use Rattle.shm_base.specs.State.{Machine, Segment, pages_of}
+use Rattle.shm_base.specs.State.{Machine, Segment}
 use Rattle.shm_base.specs.Callers.{Caller, Outcome, caller_of}
 use Rattle.shm_base.specs.Mapping.{unmapped_to, unmaps}
-use Rattle.shm_base.specs.Step.{acts, attaches_if, compare_exchange, controls, creates, creates_small, gets, huge_errno, is_no_owner, locks_unless, placed, step, step_by, wants_creation, wants_no_other}
+use Rattle.shm_base.specs.Step.{acts, attaches_if, compare_exchange, controls, is_no_owner, locks_unless, placed, shmget, step, step_by}
 use Rattle.shm_base.specs.Calls.{ProcessCall}
 use Rattle.shm_base.specs.declared.call.Call.TheVariants.{Shmget, Shmat, Shmdt, Stat, Set, Rmid, Lock, Unlock, Load, Store, Xadd, Exchange, CompareExchange, Fork, Exec, Exit, Swapoff, Munmap, Mprotect, Setuid}
 use Rattle.shm_base.specs.declared.errno.Errno.{Errno}
 use Rattle.shm_base.specs.declared.flags.GetFlags.{GetFlags}
+use Rattle.shm_life.proofs.Asking.{by-shmget, pick}
 use Rattle.shm_base.specs.declared.flags.AtFlags.{AtFlags}
 use Rattle.shm_base.specs.declared.call.Event.{Event}
 use Rattle.shm_base.specs.declared.call.Placed.{Placed}
@@ -46,23 +45,9 @@ abbrev Void : Machine → ProcessCall → Outcome → Type 0
 Void s call o = is_void call o.reply ≡ true → o.state ≡ s
 
 module _ (s : Machine) (n : ℕ) (c : Caller) where
-  still-if : (b : Bool) (o p : Outcome) → Still s o → Still s p → Still s (if b then o else p)
-  still-if true o p h k = h
-  still-if false o p h k = k
-
-  still-small : (key size mode : ℕ) (o : Option Errno) → Still s (creates_small s n c key size mode o)
-  still-small key size mode o h = grind (arith, common_steps)
-
-  still-creates : (key size mode : ℕ) (flags : GetFlags) → Still s (creates s n c key size mode flags)
-  still-creates key size mode flags =
-      still-if (not (within 1 s.limits.shmmax size)) _ _ (λ h. refl)
-      (still-if (nat_lt s.limits.shmall (reserved s.table + pages_of size)) _ _ (λ h. refl) (still-small key size mode (huge_errno s c flags)))
-
-  still-gets : (key size mode : ℕ) (flags : GetFlags) (l : Look) → Still s (gets s n c key size mode flags l)
-  still-gets key size mode flags (Found i x) =
-      still-if (wants_no_other flags) _ _ (λ h. refl) (still-if (nat_lt x.size size) _ _ (λ h. refl) (still-if (not (grants c.cred x.perm (wish_of s.limits.rules mode))) _ _ (λ h. refl) (λ h. refl)))
-  still-gets key size mode flags Removed = still-if (wants_creation flags) _ _ (still-creates key size mode flags) (λ h. refl)
-  still-gets key size mode flags Invalid = still-if (wants_creation flags) _ _ (still-creates key size mode flags) (λ h. refl)
+  still-shmget : (key size mode : ℕ) (flags : GetFlags) → Still s (shmget s n c key size mode flags)
+  still-shmget key size mode flags =
+      by-shmget s n c size mode (λ k. Still s) (λ k e other h. refl) (λ k i x named found permitted h. refl) (λ k i free some is h. absurd (cc)) key flags
 
   still-attaches : (flags : AtFlags) (r : Result Placed Errno) → Still s (attaches_if s n c flags r)
   still-attaches flags (Err e) = λ h. refl
@@ -75,18 +60,18 @@ module _ (s : Machine) (n : ℕ) (c : Caller) where
   still-controls : (act : ℕ → Segment → Outcome) → ((i : ℕ) (x : Segment) → Still s (act i x)) → (l : Look) → Still s (controls s c act l)
   still-controls act acts Invalid = λ h. refl
   still-controls act acts Removed = λ h. refl
-  still-controls act acts (Found i x) = still-if (not (owns c.cred x.perm)) _ _ (λ h. refl) (acts i x)
+  still-controls act acts (Found i x) = pick (Still s) (not (owns c.cred x.perm)) _ _ (λ h. refl) (acts i x)
 
   still-unmaps : (from : ℕ) (r : Result ℕ Errno) → Still s (unmaps s n c from r)
   still-unmaps from (Err e) = λ h. refl
-  still-unmaps from (Ok to) = still-if (nat_lt s.limits.most_pieces (length (cut from to c.pieces))) _ _ (λ h. refl) (λ h. absurd (cc))
+  still-unmaps from (Ok to) = pick (Still s) (nat_lt s.limits.most_pieces (length (cut from to c.pieces))) _ _ (λ h. refl) (λ h. absurd (cc))
 
   still-acts : (call : ProcessCall) → Void s call (acts s n c call)
-  still-acts (Shmget key size mode flags) = still-if (key == 0) _ _ (still-creates 0 size mode flags) (still-gets key size mode flags (find_key s.table key))
+  still-acts (Shmget key size mode flags) = still-shmget key size mode flags
   still-acts (Shmat id addr flags) = still-attaches flags (placed s c id addr flags)
   still-acts (Shmdt addr) = λ h. grind (arith, common_steps)
   still-acts (Stat id) = λ h. grind (arith, common_steps)
-  still-acts (Set id uid gid mode) = still-controls _ (λ i x. still-if (is_no_owner s uid gid) _ _ (λ h. refl) (λ h. absurd (cc))) (look s.table id)
+  still-acts (Set id uid gid mode) = still-controls _ (λ i x. pick (Still s) (is_no_owner s uid gid) _ _ (λ h. refl) (λ h. absurd (cc))) (look s.table id)
   still-acts (Rmid id) = still-controls _ (λ i x h. absurd (cc)) (look s.table id)
   still-acts (Lock id) = still-controls _ (λ i x. still-locks i (lock_refusal s.limits c.cred s.table x)) (look s.table id)
   still-acts (Unlock id) = still-controls _ (λ i x h. absurd (cc)) (look s.table id)

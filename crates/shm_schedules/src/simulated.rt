@@ -53,10 +53,8 @@ impl Simulated {
         ensures err { let sizes = map (λ (p : SparseView). length p.pages) areas.items in
             IfErr result (λ e. IsFirstError e (start_error script.now.limits sizes script.now.processes)) }
     {
-        match System::start(alloc, script.limits, areas, &script.processes) {
-            Ok(system) => Ok(Simulated { system }),
-            Err(error) => Err(error),
-        }
+        let system = System::start(alloc, script.limits, areas, &script.processes)?;
+        Ok(Simulated { system })
     }
 }
 

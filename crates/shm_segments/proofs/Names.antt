@@ -1,12 +1,11 @@
 -- The names that the proofs use: those of the crates below, and of the specs of this crate.
-pub use Rattle.std.proofs.Common.{Bool, IsOk, List, None, Option, Some, [], ap, append-nil, append_assoc, arith, drop, eq-eqb, false, get_or, get_or-set_same, if◌then◌else◌, inl, inr, is_none, length, length-set, map, ne_eqb, not, of_z, pos, refl, rules, set, slice_get, subst, suc, sym, take, to_z, true, w32, zero, ℕ, ℤ, ◌%◌, ◌*◌, ◌++◌, ◌+◌, ◌-◌, ◌/◌, ◌<◌, ◌==◌, ◌^◌, ◌∙◌, ◌∷◌, ◌≡◌, ◌≢◌, ◌≤◌, ◌⊎◌, option_map, Ok, is_some, replicate, Err}
+pub use Rattle.std.proofs.Common.{Bool, IsOk, List, None, Option, Some, [], ap, append-nil, append_assoc, arith, drop, false, get_or, get_or-set_same, if◌then◌else◌, inl, inr, length, length-set, map, ne_eqb, not, of_z, pos, refl, rules, set, slice_get, subst, suc, sym, take, to_z, true, w32, zero, ℕ, ℤ, ◌%◌, ◌*◌, ◌++◌, ◌+◌, ◌-◌, ◌/◌, ◌<◌, ◌==◌, ◌∙◌, ◌∷◌, ◌≡◌, ◌≢◌, ◌≤◌, ◌⊎◌, option_map, Ok, is_some, replicate, Err}
 pub use Rattle.std.proofs.lemmas.Bool.{cases_eq, cases_lt, ltb-true}
 pub use Rattle.std.proofs.lemmas.Bool.Decides.{eqb_tells, nat_tests}
 pub use Rattle.std.proofs.lemmas.Grind.{common_steps, take-set_at}
 pub use Rattle.std.proofs.lemmas.List.{drop-set-lt, drop_more, length-replicate, map-append, set-get_or, take-append-drop}
-pub use Rattle.std.proofs.lemmas.List.Elements.{filter-append}
 pub use Rattle.std.proofs.lemmas.List.Filters.{sum_by-filter_both}
-pub use Rattle.std.proofs.lemmas.List.Sums.{get_or-le-sum_by, sum_by-append, sum_by-cons, sum_by-set, sum_by-take-le, sum_by_more, sum_by_push}
+pub use Rattle.std.proofs.lemmas.List.Sums.{get_or-le-sum_by, sum_by-cons, sum_by-set, sum_by-take-le, sum_by_more, sum_by_push}
 pub use Rattle.std.proofs.lemmas.Option.{get_or_from_slice_get, none-some, slice_get-get_or, slice_get_within}
 pub use Rattle.std.specs.Prelude.{All, OnErr, OnOk, Result, slice_index, sum_by, slice_set}
 pub use Rattle.shm_base.specs.Access.{Place, bytes_at, bytes_at_entry, entry_byte_set, loaded, set_in, stored, with_byte}

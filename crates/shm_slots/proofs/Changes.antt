@@ -3,7 +3,7 @@ use Rattle.std.proofs.Common.{◌≡◌, ℕ, zero, suc, ◌<◌, ◌≤◌, Boo
 use Rattle.std.specs.Prelude.{Result, IfErr, OnErr}
 use Rattle.std.specs.List.{list_any}
 use Rattle.std.proofs.lemmas.Result.{IfErr-weaker}
-use Rattle.std.proofs.lemmas.List.{set_past, get_or_default, get_or_read, map-set, set-get_or}
+use Rattle.std.proofs.lemmas.List.{set_past, get_or_default, get_or_read, map-set}
 use Rattle.std.proofs.lemmas.Grind.{common_steps}
 use Rattle.shm_base.specs.declared.paging.PageRef.{PageRef}
 use Rattle.shm_pager.specs.Pages.{SideCalls}
@@ -18,10 +18,6 @@ changed s i a flag = record { areas = set s.areas i a; never_spent = flag }
 -- the area's pager was called: the flag becomes false if the area is spent
 abbrev pub asked_of : SwapView → ℕ → AreaView → SwapView
 asked_of s i a = changed s i a (s.never_spent && not (is_spent a))
-
--- an area that has a slot is active
-pub slot-here : (a : AreaView) → IsArea a → (slot : ℕ) → slot < length a.pages → a.here ≡ true
-slot-here a area slot lt = grind (arith, common_steps)
 
 -- the area is there
 pub area_within : (s t : SwapView) (i : ℕ) → s ≡ t → i < length t.areas → i < length s.areas

@@ -56,19 +56,11 @@ fn store_over<P: Pager>(
 {
     assert!(rt; 1 <= pagers.len() && pagers.len() <= 8);
     assert!(rt; pagers.iter().all(|pager| is_area(pager)));
-    let swap = match Swap::new(alloc, pagers) {
-        Ok(swap) => swap,
-        Err(error) => return Err(error),
-    };
-    let mut store = match PageStore::new(alloc, 2, swap) {
-        Ok(store) => store,
-        Err(error) => return Err(error),
-    };
+    let swap = Swap::new(alloc, pagers)?;
+    let mut store = PageStore::new(alloc, 2, swap)?;
     assert!(rt; store.swap().capacity() >= 3);
-    match add_segment(rt, &mut store, 0, 3) {
-        Ok(()) => Ok(store),
-        Err(error) => Err(error),
-    }
+    add_segment(rt, &mut store, 0, 3)?;
+    Ok(store)
 }
 
 // One byte of segment 0.
@@ -191,14 +183,10 @@ fn tried<P: Pager>(
     pagers: Vec<P>,
     trial: &Trial,
 ) -> Result<(), HostMemory> {
-    match store_over(rt, alloc, pagers) {
-        Ok(mut store) => {
-            ask_all(rt, &mut store, trial.name, trial.asks);
-            assert!(rt; tally_of(&store) == trial.tally, "{}", trial.name);
-            Ok(())
-        }
-        Err(error) => Err(error),
-    }
+    let mut store = store_over(rt, alloc, pagers)?;
+    ask_all(rt, &mut store, trial.name, trial.asks);
+    assert!(rt; tally_of(&store) == trial.tally, "{}", trial.name);
+    Ok(())
 }
 
 fn one_area(
@@ -206,9 +194,7 @@ fn one_area(
     reads: &[u64],
     writes: &[u64],
 ) -> Result<Vec<FusePager<RamPager>>, AllocError> {
-    let mut pagers = Vec::with_capacity(alloc, 1)?;
-    pagers.push(fuse(alloc, 64, reads, writes)?)?;
-    Ok(pagers)
+    Ok(vec![in alloc; fuse(alloc, 64, reads, writes)?]?)
 }
 
 // Two frames are full, and one of 64 slots is used.
@@ -358,15 +344,11 @@ fn ask_both<P: ClonePager>(
 ) -> Result<(), HostMemory>
     requires { HasThree store.old }
 {
-    match copy_of(store) {
-        Ok(mut copy) => {
-            ask_all(rt, store, case.name, case.store);
-            ask_all(rt, &mut copy, case.name, case.copy);
-            assert!(rt; tally_of(&copy) == case.tally, "{}", case.name);
-            Ok(())
-        }
-        Err(error) => Err(error),
-    }
+    let mut copy = copy_of(store)?;
+    ask_all(rt, store, case.name, case.store);
+    ask_all(rt, &mut copy, case.name, case.copy);
+    assert!(rt; tally_of(&copy) == case.tally, "{}", case.name);
+    Ok(())
 }
 
 // Asks a store over these areas, and a copy of it.
@@ -376,13 +358,9 @@ fn tried_with_copy<P: ClonePager>(
     pagers: Vec<P>,
     case: &Copied<'_>,
 ) -> Result<(), HostMemory> {
-    match store_over(rt, alloc, pagers) {
-        Ok(mut store) => {
-            ask_all(rt, &mut store, case.name, case.before);
-            ask_both(rt, &mut store, case)
-        }
-        Err(error) => Err(error),
-    }
+    let mut store = store_over(rt, alloc, pagers)?;
+    ask_all(rt, &mut store, case.name, case.before);
+    ask_both(rt, &mut store, case)
 }
 
 // This holds whatever was done before, and whatever will fail.
@@ -437,11 +415,9 @@ fn a_copy_and_its_store_are_independent(rt: HostRuntime) -> Result<(), Fail> {
     Ok(())
 }
 
-fn two_rams(alloc: Global) -> Result<Vec<RamPager>, AllocError> {
-    let mut pagers = Vec::with_capacity(alloc, 2)?;
-    pagers.push(RamPager::new(alloc, 3)?)?;
-    pagers.push(RamPager::new(alloc, 3)?)?;
-    Ok(pagers)
+// Two areas of these many slots.
+pub(crate) fn two_rams(alloc: Global, first: u32, other: u32) -> Result<Vec<RamPager>, AllocError> {
+    Ok(vec![in alloc; RamPager::new(alloc, first)?, RamPager::new(alloc, other)?]?)
 }
 
 const MOVED: Trial = Trial {
@@ -460,7 +436,7 @@ const MOVED: Trial = Trial {
 #[test]
 fn pages_move_when_their_area_is_turned_off(rt: HostRuntime) -> Result<(), Fail> {
     let alloc = rt.alloc();
-    tried(&rt, alloc, two_rams(alloc)?, &MOVED)?;
+    tried(&rt, alloc, two_rams(alloc, 3, 3)?, &MOVED)?;
     Ok(())
 }
 
@@ -470,10 +446,7 @@ fn two_areas(
     reads: &[u64],
     writes: &[u64],
 ) -> Result<Vec<FusePager<RamPager>>, AllocError> {
-    let mut pagers = Vec::with_capacity(alloc, 2)?;
-    pagers.push(fuse(alloc, 64, reads, &[])?)?;
-    pagers.push(fuse(alloc, 64, &[], writes)?)?;
-    Ok(pagers)
+    Ok(vec![in alloc; fuse(alloc, 64, reads, &[])?, fuse(alloc, 64, &[], writes)?]?)
 }
 
 const STAYED: Trial = Trial {

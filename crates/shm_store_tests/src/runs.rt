@@ -173,14 +173,8 @@ fn add<P: Pager>(
     if is_index_used(&pair.rows, seg) || wanted > pair.paged.swap().capacity() {
         return Ok(());
     }
-    match add_segment(rt, &mut pair.paged, seg, pages) {
-        Ok(()) => {}
-        Err(error) => return Err(error),
-    }
-    match pair.plain.add_segment(seg, pages) {
-        Ok(()) => {}
-        Err(error) => return Err(error),
-    }
+    add_segment(rt, &mut pair.paged, seg, pages)?;
+    pair.plain.add_segment(seg, pages)?;
     let row = Row {
         seg,
         locked: false,
@@ -413,10 +407,7 @@ fn step<P: Pager>(rt: &impl Abort, pair: &mut Pair<P>, dice: &mut Dice) -> Resul
     match below(dice, 64) {
         0 => move_off(rt, pair, below(dice, 2)),
         1..=2 => remove(rt, pair, seg),
-        3..=16 => match add(rt, pair, seg, below(dice, MOST_PAGES + 1)) {
-            Ok(()) => {}
-            Err(error) => return Err(error),
-        },
+        3..=16 => add(rt, pair, seg, below(dice, MOST_PAGES + 1))?,
         17..=21 => lock(rt, pair, seg, below(dice, 2) == 0),
         22..=25 => {
             let outs = moves(&pair.paged).1;
@@ -434,18 +425,13 @@ fn fresh<P: Pager>(rt: &impl Abort, alloc: Global, areas: Vec<P>) -> Result<Pair
 {
     assert!(rt; 1 <= areas.len() && areas.len() <= 8);
     assert!(rt; areas.iter().all(|area| is_area(area)));
-    let swap = match Swap::new(alloc, areas) {
-        Ok(swap) => swap,
-        Err(error) => return Err(error),
-    };
-    match PageStore::new(alloc, FRAMES, swap) {
-        Ok(paged) => Ok(Pair {
-            paged,
-            plain: PlainStore::new(alloc),
-            rows: Vec::new(alloc),
-        }),
-        Err(error) => Err(error),
-    }
+    let swap = Swap::new(alloc, areas)?;
+    let paged = PageStore::new(alloc, FRAMES, swap)?;
+    Ok(Pair {
+        paged,
+        plain: PlainStore::new(alloc),
+        rows: Vec::new(alloc),
+    })
 }
 
 // Random calls; compares every byte at the end, or after each call. Returns how many failures the pagers had
@@ -460,10 +446,7 @@ fn steps<P: Pager>(
 {
     let mut dice = Dice { state: seed };
     for _call in 0..300 {
-        match step(rt, pair, &mut dice) {
-            Ok(()) => {}
-            Err(error) => return Err(error),
-        }
+        step(rt, pair, &mut dice)?;
         compare_pages(rt, pair, if each { MOST_PAGES } else { 0 });
     }
     let failures = pair.paged.tally().failures;
@@ -479,18 +462,15 @@ fn run<P: Pager>(
     seed: u64,
     each: bool,
 ) -> Result<u64, HostMemory> {
-    match fresh(rt, alloc, areas) {
-        Ok(mut pair) => steps(rt, &mut pair, seed, each),
-        Err(error) => Err(error),
-    }
+    let mut pair = fresh(rt, alloc, areas)?;
+    steps(rt, &mut pair, seed, each)
 }
 
 // Two areas whose reads and writes with these numbers fail.
 fn fuses(alloc: Global, reads: &[u64], writes: &[u64]) -> Result<Vec<FusePager<RamPager>>, Fail> {
-    let mut areas = Vec::with_capacity(alloc, 2)?;
-    areas.push(fuse(alloc, 7, reads, writes)?)?;
-    areas.push(fuse(alloc, 9, reads, writes)?)?;
-    Ok(areas)
+    let first = fuse(alloc, 7, reads, writes)?;
+    let other = fuse(alloc, 9, reads, writes)?;
+    Ok(vec![in alloc; first, other]?)
 }
 
 type Mirror = MirrorPager<FusePager<RamPager>, FusePager<RamPager>>;
@@ -503,10 +483,9 @@ fn side_by_side(alloc: Global, slots: u32, reads: &[u64], writes: &[u64]) -> Res
 
 // Two mirrored areas: writes of the left sides fail, and reads of the right ones.
 fn mirrors(alloc: Global, reads: &[u64], writes: &[u64]) -> Result<Vec<Mirror>, Fail> {
-    let mut areas = Vec::with_capacity(alloc, 2)?;
-    areas.push(side_by_side(alloc, 9, reads, writes)?)?;
-    areas.push(side_by_side(alloc, 8, reads, writes)?)?;
-    Ok(areas)
+    let first = side_by_side(alloc, 9, reads, writes)?;
+    let other = side_by_side(alloc, 8, reads, writes)?;
+    Ok(vec![in alloc; first, other]?)
 }
 
 // The numbers of reads and writes that fail: single ones and consecutive ones.

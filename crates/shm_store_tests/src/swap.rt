@@ -3,7 +3,7 @@ ghost use Rattle.std.specs.Prelude.{◌≡◌};
 ghost use Rattle.shm_slots.specs.View.{HasSlot};
 
 use crate::counting::{Counter, CountingPager};
-use crate::paging::is_area;
+use crate::paging::{is_area, two_rams};
 use shm_base::{HostMemory, PageRef, Slot};
 use shm_pager::{AnyPager, FusePager, Pager, RamPager};
 use shm_slots::Swap;
@@ -168,13 +168,6 @@ fn asked<X: Pager>(
     Ok(())
 }
 
-fn two_rams(alloc: Global, first: u32, other: u32) -> Result<Vec<RamPager>, AllocError> {
-    let mut pagers = Vec::with_capacity(alloc, 2)?;
-    pagers.push(RamPager::new(alloc, first)?)?;
-    pagers.push(RamPager::new(alloc, other)?)?;
-    Ok(pagers)
-}
-
 const LEAST_FIRST: &[(Wish, u64)] = &[
     (Wish::Capacity(3), 0),
     (Wish::Take(Some(FIRST)), 1),
@@ -231,10 +224,9 @@ fn two_fuses(
     first: (&[u64], u64),
     other: (&[u64], u64),
 ) -> Result<Vec<FusePager<RamPager>>, AllocError> {
-    let mut pagers = Vec::with_capacity(alloc, 2)?;
-    pagers.push(fuse(alloc, first.0, first.1)?)?;
-    pagers.push(fuse(alloc, other.0, other.1)?)?;
-    Ok(pagers)
+    let first = fuse(alloc, first.0, first.1)?;
+    let other = fuse(alloc, other.0, other.1)?;
+    Ok(vec![in alloc; first, other]?)
 }
 
 const SPENT_ON_THE_WAY: &[(Wish, u64)] = &[
@@ -278,10 +270,7 @@ fn two_counted(
     slots: u32,
     failures: u64,
 ) -> Result<Vec<CountingPager>, AllocError> {
-    let mut pagers = Vec::with_capacity(alloc, 2)?;
-    pagers.push(first.pager(slots, failures)?)?;
-    pagers.push(other.pager(slots, 0)?)?;
-    Ok(pagers)
+    Ok(vec![in alloc; first.pager(slots, failures)?, other.pager(slots, 0)?]?)
 }
 
 // Turns the first area off, and drops the swap.
@@ -338,10 +327,9 @@ fn a_freed_slot_is_discarded(rt: HostRuntime) -> Result<(), Fail> {
 }
 
 fn two_boxes(alloc: Global) -> Result<Vec<AnyPager>, AllocError> {
-    let mut pagers: Vec<AnyPager> = Vec::with_capacity(alloc, 2)?;
-    pagers.push(Box::new(alloc, fuse(alloc, &[], 0)?)?)?;
-    pagers.push(Box::new(alloc, RamPager::new(alloc, 1)?)?)?;
-    Ok(pagers)
+    let fused: AnyPager = Box::new(alloc, fuse(alloc, &[], 0)?)?;
+    let ram: AnyPager = Box::new(alloc, RamPager::new(alloc, 1)?)?;
+    Ok(vec![in alloc; fused, ram]?)
 }
 
 // A page is written to a slot and read again.

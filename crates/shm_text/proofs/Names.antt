@@ -31,7 +31,7 @@ pub use Rattle.shm_text.specs.Script.{ScriptView}
 pub use Rattle.shm_text.specs.Words.{first_line, is_allowed, is_space, line_end, lines_of, with_word, without_rest, word_at, words_of}
 pub use Rattle.shm_text.specs.declared.calls.Verb.{Verb}
 pub use Rattle.shm_text.specs.declared.fault.FaultKind.{FaultKind}
-pub use Rattle.shm_text.specs.declared.fault.FaultKind.TheVariants.{NoLimits, TooMany}
+pub use Rattle.shm_text.specs.declared.fault.FaultKind.TheVariants.{TooMany}
 pub use Rattle.shm_text.specs.declared.fault.ScriptFault.{ScriptFault}
 pub use Rattle.shm_text.specs.declared.number.Number.{Number}
 pub use Rattle.shm_text.specs.declared.number.Number.TheVariants.{Fits}

@@ -3,19 +3,17 @@ use Rattle.std.specs.Prelude.{◌≡◌, ◌≢◌, ◌+◌, ◌-◌, ◌*◌, �
 use Rattle.std.specs.Option.{ok_or}
 use Rattle.std.proofs.Common.{sym, ap, ◌∙◌, refl, arith, inl, inr, true≢false}
 use Rattle.std.proofs.lemmas.Grind.{common_steps}
-use Rattle.shm_base.specs.Bounds.{within}
 use Rattle.shm_base.specs.Calls.{ProcessCall}
 use Rattle.shm_base.specs.History.{IsMove, is_failure}
-use Rattle.shm_base.specs.Identifier.{Found, Invalid, Look, Removed, destroyed_at, find_key, free_index, identifier, look}
-use Rattle.shm_base.specs.Permission.{grants, wish_of}
+use Rattle.shm_base.specs.Identifier.{Found, Invalid, Look, Removed, destroyed_at, identifier, look}
+use Rattle.shm_base.specs.Permission.{grants}
 use Rattle.shm_base.specs.Rules.{pieces_are_enomem, removed_is_invalid}
-use Rattle.shm_base.specs.Segments.{reserved, slots}
 use Rattle.shm_base.specs.Access.{end_of}
 use Rattle.shm_base.specs.Mapping.{Protected, done_or, has_protection, munmap, protects_from, protects_piece, protects_pieces, rounded, turned, unmaps}
 use Rattle.shm_base.specs.Space.{choose_beside, covering, cut, end_address, inside}
 use Rattle.shm_base.specs.State.{Machine, Piece, Segment, pages_in, pages_of}
 use Rattle.shm_base.specs.Callers.{Caller, Outcome, caller_of}
-use Rattle.shm_base.specs.Step.{acts, at_wish, attaches_if, base_for, creates, creates_at, creates_small, fixed_base, gets, host_ranges, huge_errno, if_few, is_full, is_misplaced, is_taken, outside_errno, pieces_beside, placed, placed_at, placed_found, shmat, step_by, wants_creation, wants_no_other}
+use Rattle.shm_base.specs.Step.{acts, at_wish, attaches_if, base_for, fixed_base, host_ranges, if_few, is_full, is_misplaced, is_taken, outside_errno, pieces_beside, placed, placed_at, placed_found, shmat, shmget, step_by}
 use Rattle.shm_base.specs.declared.call.Call.TheVariants.{Mprotect, Munmap, Shmat, Shmget}
 use Rattle.shm_base.specs.declared.call.Event.{Event}
 use Rattle.shm_base.specs.declared.call.Placed.{Placed}
@@ -25,7 +23,7 @@ use Rattle.shm_base.specs.declared.errno.Errno.{Errno}
 use Rattle.shm_base.specs.declared.errno.Errno.TheVariants.{Enomem, Esrch}
 use Rattle.shm_base.specs.declared.flags.AtFlags.{AtFlags}
 use Rattle.shm_base.specs.declared.flags.GetFlags.{GetFlags}
-use Rattle.shm_laws.proofs.Stepping.{pick}
+use Rattle.shm_life.proofs.Asking.{by-shmget, pick}
 
 abbrev is_lost : Reply → Bool
 is_lost (Refused Esrch) = true
@@ -34,6 +32,9 @@ is_lost _ = false
 -- the caller is found
 abbrev IsFound : Outcome → Type 0
 IsFound o = is_lost o.reply ≡ false
+
+other-found : (e : Errno) → e ≢ Esrch → is_lost (Refused e) ≡ false
+other-found e other = grind arith
 
 pick_errno : (s : Machine) (b : Bool) (e f : Errno) → is_lost (Refused e) ≡ false → is_lost (Refused f) ≡ false → is_lost (Refused (if b then e else f)) ≡ false
 pick_errno s true e f p q = p
@@ -80,23 +81,9 @@ answered most w addr len ps =
 -- ANY CALL
 
 module _ (s : Machine) (n : ℕ) (c : Caller) where
-  at-index : (key size mode : ℕ) (o : Option ℕ) → IsFound (creates_at s n c key size mode o)
-  at-index key size mode None = refl
-  at-index key size mode (Some i) = pick IsFound (nat_lt (slots s.areas) (reserved s.table + pages_of size)) _ _ refl refl
-
-  small : (key size mode : ℕ) (flags : GetFlags) → IsFound (creates_small s n c key size mode (huge_errno s c flags))
-  small key size mode flags = grind (arith, common_steps, at-index key size mode (free_index s.table))
-
-  found-creates : (key size mode : ℕ) (flags : GetFlags) → IsFound (creates s n c key size mode flags)
-  found-creates key size mode flags =
-      pick IsFound (not (within 1 s.limits.shmmax size)) _ _ refl
-      (pick IsFound (nat_lt s.limits.shmall (reserved s.table + pages_of size)) _ _ refl (small key size mode flags))
-
-  found-gets : (key size mode : ℕ) (flags : GetFlags) (l : Look) → IsFound (gets s n c key size mode flags l)
-  found-gets key size mode flags (Found i x) =
-      pick IsFound (wants_no_other flags) _ _ refl (pick IsFound (nat_lt x.size size) _ _ refl (pick IsFound (not (grants c.cred x.perm (wish_of s.limits.rules mode))) _ _ refl refl))
-  found-gets key size mode flags Removed = pick IsFound (wants_creation flags) _ _ (found-creates key size mode flags) refl
-  found-gets key size mode flags Invalid = pick IsFound (wants_creation flags) _ _ (found-creates key size mode flags) refl
+  found-shmget : (key size mode : ℕ) (flags : GetFlags) → IsFound (shmget s n c key size mode flags)
+  found-shmget key size mode flags =
+      by-shmget s n c size mode (λ k. IsFound) (λ k e other. other-found e other) (λ k i x named found permitted. refl) (λ k i free some is. refl) key flags
 
   -- THE PLACE OF AN ATTACH
 
@@ -146,7 +133,7 @@ module _ (s : Machine) (n : ℕ) (c : Caller) where
       (found-unmaps addr (nat_lt end_address (addr + len)) _ _ refl (pick IsFound (nat_lt s.limits.most_pieces (length (cut addr (addr + rounded len) c.pieces))) _ _ refl refl)))
 
   found-acts : (call : ProcessCall) → IsFound (acts s n c call)
-  found-acts (Shmget key size mode flags) = pick IsFound (key == 0) _ _ (found-creates 0 size mode flags) (found-gets key size mode flags (find_key s.table key))
+  found-acts (Shmget key size mode flags) = found-shmget key size mode flags
   found-acts (Shmat id addr flags) = found-shmat id addr flags
   found-acts (Munmap addr len) = found-munmap addr len
   found-acts (Mprotect addr len w) = answered s.limits.most_pieces w addr len c.pieces

@@ -4,14 +4,8 @@ use Rattle.shm_history.specs.Gauges.{CellName, Seat, StartsWith, stores}
 use Rattle.shm_history.specs.declared.cell.Reading.{Reading}
 use Rattle.shm_threads.specs.Keepers.{IsKept, cell_of, stored_of}
 
-pub starts-refl : (all : List Reading) → StartsWith all all
-starts-refl all = ([], sym (append-nil all))
-
 pub starts-trans : (all more some : List Reading) → StartsWith all more → StartsWith more some → StartsWith all some
 starts-trans all more some (late, is) (early, was) = (early ++ late, is ∙ ap (λ (rs : List Reading). rs ++ late) was ∙ append_assoc some early late)
-
-pub kept-refl : (keeper : Option Seat) → IsKept (cell_of keeper) (stored_of keeper) keeper
-kept-refl keeper = record { same_cell = refl; grows = starts-refl (stored_of keeper) }
 
 pub kept-trans : (cell : Option CellName) (stored : List Reading) (was now : Option Seat) → IsKept cell stored was → IsKept (cell_of was) (stored_of was) now → IsKept cell stored now
 kept-trans cell stored was now first more =

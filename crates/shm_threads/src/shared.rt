@@ -405,10 +405,7 @@ impl<P: Pager, O: Origin> Shared<P, O> {
     {
         let Shared { state, changed } = self;
         let mut state = state.into_inner();
-        match state.complete(rt, refused, gate, &changed, lines) {
-            Ok(()) => {}
-            Err(error) => return Err(error),
-        }
+        state.complete(rt, refused, gate, &changed, lines)?;
         let RunState {
             world,
             strands,

@@ -1,5 +1,5 @@
 //! Whole runs: whatever the schedule, they end as expected.
-use crate::shared::{Rule, Ruled, fault_with_gate, script, seen_by, seen_over};
+use crate::shared::{Rule, Ruled, run_over, script, seen_by};
 use shm_base::{Chunk, Reply, Tally};
 use shm_text::{FlushLine, Line, Script};
 use shm_threads::RunError;
@@ -300,7 +300,7 @@ fn makes_rounds<R: Threads + Wait + Sync>(
     (most, fault): (u64, Option<RunError>),
 ) -> Result<bool, Fail> {
     let gate = Ruled::by(Rule::Rounds(most));
-    let ended = fault_with_gate(rt, alloc, script, &gate)?;
+    let ended = run_over(rt, alloc, script, 64, &gate)?.err();
     Ok(ended == fault && gate.rounds() == most)
 }
 
@@ -412,8 +412,8 @@ fn wide(alloc: Global) -> Result<Vec<u8>, Fail> {
 #[test]
 fn a_round_of_many_pages(rt: HostRuntime) -> Result<(), Fail> {
     let alloc = rt.alloc();
-    let text = wide(alloc)?;
-    let seen = seen_over(&rt, alloc, &text, 128, Rule::AfterCalls(67))?;
+    let script = script(alloc, &wide(alloc)?)?;
+    let seen = run_over(&rt, alloc, &script, 128, &Ruled::by(Rule::AfterCalls(67)))??;
     assert_eq!(rt; seen.events, 67);
     assert_eq!(rt; (seen.tally.resident, seen.tally.dirty), (65, 0));
     assert_eq!(rt; (seen.tally.used, seen.tally.outs), (65, 65));

@@ -217,10 +217,8 @@ pub(crate) fn opened_over<P: Pager>(
 ) -> Result<World<P>, StartError>
     ensures { IfOk result (IsOpened script.now) }
 {
-    match System::start(alloc, script.limits, pagers, &script.processes) {
-        Ok(system) => Ok(World::new(alloc, system)),
-        Err(error) => Err(error),
-    }
+    let system = System::start(alloc, script.limits, pagers, &script.processes)?;
+    Ok(World::new(alloc, system))
 }
 
 pub(crate) fn world_over<P: Pager>(
@@ -311,18 +309,8 @@ pub(crate) fn ended(run: Result<Outcome<RamPager>, RunError>) -> Result<Noted, R
     Ok(look(&mut world, &transcripts))
 }
 
-/// The observations after a run of a script with this gate, or why it has no outcome.
-pub(crate) fn run_script<R: Threads + Wait + Sync, G: Gate>(
-    rt: &R,
-    alloc: Global,
-    script: &Script,
-    gate: &G,
-) -> Result<Result<Noted, RunError>, Fail> {
-    run_over(rt, alloc, script, 64, gate)
-}
-
-// The observations after a run over an area of this many slots.
-fn run_over<R: Threads + Wait + Sync, G: Gate>(
+/// The observations after a run of a script over an area of this many slots, or why it has no outcome.
+pub(crate) fn run_over<R: Threads + Wait + Sync, G: Gate>(
     rt: &R,
     alloc: Global,
     script: &Script,
@@ -333,17 +321,7 @@ fn run_over<R: Threads + Wait + Sync, G: Gate>(
     Ok(ended(run_threads(rt, alloc, world, script, gate)))
 }
 
-/// Why such a run has no outcome.
-pub(crate) fn fault_with_gate<R: Threads + Wait + Sync, G: Gate>(
-    rt: &R,
-    alloc: Global,
-    script: &Script,
-    gate: &G,
-) -> Result<Option<RunError>, Fail> {
-    Ok(run_script(rt, alloc, script, gate)?.err())
-}
-
-/// The observations after a run of a text, or why it has no outcome.
+/// The observations after a run of a text over 64 slots, or why it has no outcome.
 pub(crate) fn run_with_gate<R: Threads + Wait + Sync, G: Gate>(
     rt: &R,
     alloc: Global,
@@ -351,7 +329,7 @@ pub(crate) fn run_with_gate<R: Threads + Wait + Sync, G: Gate>(
     gate: &G,
 ) -> Result<Result<Noted, RunError>, Fail> {
     let script = script(alloc, text)?;
-    run_script(rt, alloc, &script, gate)
+    run_over(rt, alloc, &script, 64, gate)
 }
 
 /// The observations after a run by this rule.
@@ -362,18 +340,6 @@ pub(crate) fn seen_by<R: Threads + Wait + Sync>(
     rule: Rule,
 ) -> Result<Noted, Fail> {
     Ok(run_with_gate(rt, alloc, text, &Ruled::by(rule))??)
-}
-
-/// The observations after a run by this rule over an area of this many slots.
-pub(crate) fn seen_over<R: Threads + Wait + Sync>(
-    rt: &R,
-    alloc: Global,
-    text: &[u8],
-    slots: u32,
-    rule: Rule,
-) -> Result<Noted, Fail> {
-    let script = script(alloc, text)?;
-    Ok(run_over(rt, alloc, &script, slots, &Ruled::by(rule))??)
 }
 
 /// Why a run by this rule has no outcome.

@@ -173,10 +173,7 @@ fn boxes_of_two(
     first: &mut Counter,
     other: &mut Counter,
 ) -> Result<Vec<AnyPager>, HostMemory> {
-    let mut boxes: Vec<AnyPager> = Vec::with_capacity(alloc, 2)?;
-    boxes.push(first.boxed(8, &[1])?)?;
-    boxes.push(other.boxed(8, &[])?)?;
-    Ok(boxes)
+    Ok(vec![in alloc; first.boxed(8, &[1])?, other.boxed(8, &[])?]?)
 }
 
 // Makes the calls. The first area's box is dropped when its swapoff succeeds, and the other's never.

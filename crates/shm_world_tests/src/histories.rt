@@ -132,9 +132,9 @@ pub(crate) fn answers<P: Pager>(rt: &impl Abort, world: &mut World<P>, row: &Row
 }
 
 // Checks the reply to each call. A message counts the rows from 0.
-fn answers_all<P: Pager>(rt: &impl Abort, world: &mut World<P>, rows: &[Row]) {
+fn answers_all<P: Pager>(rt: &impl Abort, world: &mut World<P>, name: &str, rows: &[Row]) {
     for (at, row) in rows.iter().enumerate() {
-        assert!(rt; answers(rt, world, row), "at row {at}");
+        assert!(rt; answers(rt, world, row), "{name}, at row {at}");
     }
 }
 
@@ -148,17 +148,6 @@ const OVER_A_PAGE: &[Row] = &[
     (Ask::Exit, Want::Refused(Errno::Esrch)),
 ];
 
-fn goes_across(rt: &impl Abort, world: &mut World<RamPager>) {
-    answers_all(rt, world, OVER_A_PAGE);
-    assert_eq!(rt; world.history().len(), 7);
-}
-
-#[test]
-fn across_a_page(rt: HostRuntime) -> Result<(), Fail> {
-    goes_across(&rt, &mut world(rt.alloc(), 65536)?);
-    Ok(())
-}
-
 const SEEN_TWICE: &[Row] = &[
     (Ask::Get(4096), Want::Id(0)),
     (Ask::At(0), Want::Addr(0x40000000)),
@@ -168,35 +157,32 @@ const SEEN_TWICE: &[Row] = &[
     (Ask::Load(0x40001ffe, 2), Want::Bytes(&[1, 2])),
 ];
 
-#[test]
-fn one_page_twice(rt: HostRuntime) -> Result<(), Fail> {
-    answers_all(&rt, &mut world(rt.alloc(), 65536)?, SEEN_TWICE);
-    Ok(())
-}
-
 const SIZES: &[Row] = &[
     (Ask::Get(8193), Want::Refused(Errno::Einval)),
     (Ask::Get(0), Want::Refused(Errno::Einval)),
     (Ask::Get(8192), Want::Id(0)),
 ];
 
-// As `answers`, at the first attempt.
-fn answers_at_once(world: &mut World<RamPager>, row: &Row) -> bool {
-    match made(row) {
-        Some((call, wanted)) => called(world, &call) == Some(wanted),
-        None => false,
-    }
-}
+/// A name, the SHMMAX of a world, its calls, and how many events it has after them.
+type Trial = (&'static str, u64, &'static [Row], usize);
 
-fn creates_sizes(rt: &impl Abort, world: &mut World<RamPager>) {
-    for (at, row) in SIZES.iter().enumerate() {
-        assert!(rt; answers_at_once(world, row), "at row {at}");
-    }
+const TRIALS: &[Trial] = &[
+    ("across a page", 65536, OVER_A_PAGE, 7),
+    ("one page twice", 65536, SEEN_TWICE, 6),
+    ("sizes", 8192, SIZES, 3),
+];
+
+fn has_events(rt: &impl Abort, world: &mut World<RamPager>, trial: &Trial) {
+    let (name, _, rows, events) = *trial;
+    answers_all(rt, world, name, rows);
+    assert!(rt; world.history().len() == events, "{name}");
 }
 
 #[test]
-fn sizes(rt: HostRuntime) -> Result<(), Fail> {
-    creates_sizes(&rt, &mut world(rt.alloc(), 8192)?);
+fn calls_are_answered_as_stated(rt: HostRuntime) -> Result<(), Fail> {
+    for trial in TRIALS {
+        has_events(&rt, &mut world(rt.alloc(), trial.1)?, trial);
+    }
     Ok(())
 }
 
@@ -296,7 +282,7 @@ const SPENT: Tally = Tally {
 };
 
 fn spends<P: Pager>(rt: &impl Abort, world: &mut World<P>) {
-    answers_all(rt, world, UP_TO_THE_LAST_COUNT);
+    answers_all(rt, world, "up to the last count", UP_TO_THE_LAST_COUNT);
     assert!(rt; world.tally() == SPENT);
 }
 
@@ -338,7 +324,7 @@ fn publishes<R: Abort + Wait>(
 )
     requires { seat.old.cell ≡ gauge.now }
 {
-    answers_all(rt, world, TWO_PAGES);
+    answers_all(rt, world, "two pages", TWO_PAGES);
     // nothing is published yet
     assert_eq!(rt; gauge.read(rt, seat), counts(0, 0, 0, 0));
     assert!(rt; is_published(rt, world, keeper));
@@ -381,7 +367,7 @@ fn shows_the_world<R: Abort + Wait>(
     alloc: Global,
     world: &mut World<RamPager>,
 ) -> Result<(), Fail> {
-    answers_all(rt, world, TWO_PAGES);
+    answers_all(rt, world, "two pages", TWO_PAGES);
     let (gauge, _keeper, mut seat) = gauge(rt, alloc, world)?;
     assert_eq!(rt; gauge.read(rt, &mut seat), counts(4, 2, 2, 0));
     Ok(())

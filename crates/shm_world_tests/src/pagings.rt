@@ -232,10 +232,7 @@ fn asks(
 }
 
 fn pagers(alloc: Global, first: &Asked, other: &Asked) -> Result<Vec<AskedPager>, AllocError> {
-    let mut pagers = Vec::with_capacity(alloc, 2)?;
-    pagers.push(first.pager(alloc, 1)?)?;
-    pagers.push(other.pager(alloc, 8)?)?;
-    Ok(pagers)
+    Ok(vec![in alloc; first.pager(alloc, 1)?, other.pager(alloc, 8)?]?)
 }
 
 fn asks_over(

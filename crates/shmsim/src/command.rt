@@ -113,10 +113,8 @@ pub(crate) fn read_words(alloc: Global, words: &[String]) -> Result<Asked, Stop>
     ensures err { let unknown = asked_of (map string_bytes words.now) ≡ None in
         IfErr result (λ s. (s ≡ stops.Fault faults.HostMemory) ⊎ ((s ≡ stops.Usage) × unknown)) }
 {
-    match matched(alloc, words) {
-        Ok(matches) => read_matches(alloc, &matches),
-        Err(stop) => Err(stop),
-    }
+    let matches = matched(alloc, words)?;
+    read_matches(alloc, &matches)
 }
 
 // The words of each argument, if `clap` takes the words.

@@ -27,10 +27,8 @@ pub(crate) fn run_words<T: Threads + Wait + Sync, R: Read, W: Write>(
         let run = done (R.remaining reader.old) (R.remaining reader.new) in
         run (W.contents writer.old) (W.contents writer.new) }
 {
-    match read_words(alloc, words) {
-        Ok(asked) => run_asked(rt, alloc, reader, writer, &asked),
-        Err(stop) => Err(stop),
-    }
+    let asked = read_words(alloc, words)?;
+    run_asked(rt, alloc, reader, writer, &asked)
 }
 
 // Runs the script that the reader gives over the swap areas, and writes the replies.

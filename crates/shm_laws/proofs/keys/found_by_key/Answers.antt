@@ -1,4 +1,4 @@
-use Rattle.shm_laws.proofs.Keying.{keys_lead_to_one}
+use Rattle.shm_laws.proofs.Keeping.{keys_lead_to_one}
 use Rattle.shm_laws.proofs.keys.found_by_key.Goals as goal
 
 pub returns-clause-law : goal.returns-clause-law

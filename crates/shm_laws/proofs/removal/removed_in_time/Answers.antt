@@ -1,4 +1,4 @@
-use Rattle.shm_laws.proofs.Marking.{goes_when_it_must}
+use Rattle.shm_laws.proofs.Keeping.{goes_when_it_must}
 use Rattle.shm_laws.proofs.removal.removed_in_time.Goals as goal
 
 pub returns-clause-law : goal.returns-clause-law

@@ -1,4 +1,4 @@
-use Rattle.shm_laws.proofs.Sizing.{have_their_pages}
+use Rattle.shm_laws.proofs.Keeping.{have_their_pages}
 use Rattle.shm_laws.proofs.sizes.pages_kept.Goals as goal
 
 pub returns-clause-law : goal.returns-clause-law

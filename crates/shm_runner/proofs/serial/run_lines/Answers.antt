@@ -1,5 +1,5 @@
 use Rattle.std.proofs.Common.{rules}
-use Rattle.shm_runner.proofs.Parts.{script-ran}
+use Rattle.shm_runner.proofs.Started.{script-ran}
 use Rattle.shm_runner.proofs.serial.run_lines.Goals as goal
 
 pub returns : goal.returns

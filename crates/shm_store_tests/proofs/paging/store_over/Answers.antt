@@ -3,7 +3,7 @@ use Rattle.shm_store_tests.proofs.Trials.{fresh-free, fresh-held, three_pages-ad
 use Rattle.shm_store_tests.proofs.paging.store_over.Goals as goal
 
 pub new-requires-2-clause-free : goal.new-requires-2-clause-free
-new-requires-2-clause-free g c = λ area slot. rw c.in-Ok.ensures (fresh-free (λ p. pager_seen g.P.Pager.content g.P.Pager.failed g.P.Pager.most g.P.Pager.calls p) c.args.pagers.items area slot)
+new-requires-2-clause-free g c = λ area slot. rw c.in_ok-swap.ensures (fresh-free (λ p. pager_seen g.P.Pager.content g.P.Pager.failed g.P.Pager.most g.P.Pager.calls p) c.args.pagers.items area slot)
 
 pub add_segment-requires-clause-new : goal.add_segment-requires-clause-new
 add_segment-requires-clause-new g c = grind (arith, common_steps, fresh-held)
@@ -11,9 +11,9 @@ add_segment-requires-clause-new g c = grind (arith, common_steps, fresh-held)
 pub add_segment-requires-clause-room : goal.add_segment-requires-clause-room
 add_segment-requires-clause-room g c = grind (arith, common_steps, fresh-held)
 
-pub returns-in-Ok-add_segment : goal.returns-in-Ok-add_segment
-returns-in-Ok-add_segment g c =
-    let s = c.in-Ok-new.store in
-    let made : held s ≡ held (fresh_store s.frames c.in-Ok.swap) = ap held c.in-Ok-new.ensures.fresh in
-    let is : held c.add_segment.new.store ≡ with_zeros (held s) 0 3 = c.in-Ok-add_segment.ensures.held in
-    rw (is, made) (three_pages-added s.frames c.in-Ok.swap)
+pub returns : goal.returns
+returns g c =
+    let s = c.in_ok-store.store in
+    let made : held s ≡ held (fresh_store s.frames c.in_ok-swap.swap) = ap held c.in_ok-store.ensures.fresh in
+    let is : held c.add_segment.new.store ≡ with_zeros (held s) 0 3 = c.in_ok-add_segment.ensures.held in
+    rw (is, made) (three_pages-added s.frames c.in_ok-swap.swap)

@@ -13,9 +13,6 @@ least_gap-requires-clause-arranged c =
     let rest : take (length ps - n) (drop n ps) ≡ drop n ps = take_all (length ps - n) (drop n ps) (omega (arith, length-drop n ps)) in
     rw rest (arranged-drop lowest_address n ps (rw own c.self.invariant.0.arranged))
 
-pub least_gap-requires-clause-from : goal.least_gap-requires-clause-from
-least_gap-requires-clause-from c = omega (arith, c.max-from.ensures, c.self.invariant.3.high, c.requires.from)
-
 -- the search finds what one over all pieces would
 found : (c : After-least_gap) → c.least_gap.result ≡ gap_from c.args.pages (max c.args.from first_chosen) (bare_all c.self.inside.pieces.items)
 found c =

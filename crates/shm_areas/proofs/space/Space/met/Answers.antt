@@ -1,13 +1,9 @@
 use Rattle.shm_areas.proofs.Names.{arith, common_steps}
-use Rattle.std.proofs.lemmas.List.Sums.{length-filter, count_by-le-length}
 use Rattle.shm_areas.proofs.Cuts.{slice-met, occupied-met}
 use Rattle.shm_areas.proofs.space.Space.met.Goals as goal
 
 pub returns-clause-value : goal.returns-clause-value
 returns-clause-value c = grind (arith, common_steps, slice-met)
-
-pub returns-clause-count : goal.returns-clause-count
-returns-clause-count c = grind (arith, common_steps, returns-clause-value, length-filter, count_by-le-length)
 
 pub returns-clause-occupied : goal.returns-clause-occupied
 returns-clause-occupied c = grind (arith, common_steps, returns-clause-value, occupied-met)

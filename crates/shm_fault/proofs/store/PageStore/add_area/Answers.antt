@@ -1,6 +1,4 @@
 use Rattle.shm_pager.specs.Pages.{pager_seen}
-use Rattle.shm_fault.specs.Sound.{IsStoreSound}
-use Rattle.shm_fault.specs.Store.{StoreView, held}
 use Rattle.shm_fault.proofs.More.{added}
 use Rattle.shm_fault.proofs.store.PageStore.add_area.Goals as goal
 

@@ -1,4 +1,4 @@
-use Rattle.shm_fault.proofs.Names.{arith, common_steps}
+use Rattle.shm_fault.proofs.Names.{arith}
 use Rattle.shm_fault.specs.Store.{frame_of}
 use Rattle.shm_fault.proofs.Bringing.{brings-none, none-of, one-of, two-of}
 use Rattle.shm_fault.proofs.Places.{access-none}

@@ -1,6 +1,4 @@
-use Rattle.shm_fault.proofs.Names.{◌≡◌, length, ◌∙◌, ap, sym, None, Some, arith, two_eligible, OwnedBelow, resident_of, unlocked}
-use Rattle.shm_fault.specs.Loans.{leaver_in}
-use Rattle.shm_fault.specs.Placing.{places}
+use Rattle.shm_fault.proofs.Names.{◌≡◌, length, ◌∙◌, ap, Some, arith, two_eligible, OwnedBelow, resident_of, unlocked}
 use Rattle.shm_fault.proofs.Seen.{seen}
 use Rattle.shm_fault.proofs.Clock.{two_unlocked}
 use Rattle.shm_fault.proofs.Leaving.{full-owned, leaver-none, leaver-some}

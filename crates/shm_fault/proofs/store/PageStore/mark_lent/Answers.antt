@@ -1,9 +1,8 @@
-use Rattle.shm_fault.proofs.Names.{◌≡◌, ◌<◌, length, refl, Some, Bool, true, false, arith, frame_at, common_steps, nat_tests, inl, unlocked}
+use Rattle.shm_fault.proofs.Names.{◌≡◌, ◌<◌, length, refl, Some, frame_at, inl, unlocked}
 use Rattle.shm_fault.proofs.Seen.{seen}
 use Rattle.shm_fault.proofs.Skipped.{skipped-set}
 use Rattle.shm_fault.proofs.Sound.{frame-own}
 use Rattle.shm_fault.proofs.Changes.{Keeps}
-use Rattle.shm_fault.proofs.Slots.{set-cases}
 use Rattle.shm_fault.proofs.Leaving.{keeps-loan, loan-set}
 use Rattle.shm_fault.proofs.store.PageStore.mark_lent.Given as given
 use Rattle.shm_fault.proofs.store.PageStore.mark_lent.Goals as goal

@@ -1,4 +1,4 @@
-use Rattle.shm_fault.proofs.Names.{◌≡◌, ◌∙◌, Some, sym, ap, rec_by, ref_of, frame_by, PageRec}
+use Rattle.shm_fault.proofs.Names.{◌≡◌, ◌∙◌, sym, ap, PageRec}
 use Rattle.shm_fault.proofs.Putting.{put-one}
 use Rattle.shm_fault.proofs.store.PageStore.put_back.Goals as goal
 

@@ -1,6 +1,4 @@
 use Rattle.shm_fault.proofs.Names.{◌≡◌, ◌∙◌, Some, sym, ap, frame_by, PageRec}
-use Rattle.shm_fault.specs.Loans.{loaned}
-use Rattle.shm_fault.specs.Placing.{places}
 use Rattle.shm_fault.proofs.store.PageStore.set_lent.Goals as goal
 
 pub returns : goal.returns

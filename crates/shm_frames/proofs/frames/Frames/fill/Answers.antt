@@ -1,4 +1,4 @@
-use Rattle.std.proofs.Common.{◌≡◌, ◌<◌, ◌≤◌, ◌+◌, ℕ, List, length, set, None, Some, refl, sym, ap, ◌∙◌, arith}
+use Rattle.std.proofs.Common.{◌≡◌, ◌<◌, ◌≤◌, ◌+◌, ℕ, List, length, None, Some, refl, ap, ◌∙◌, arith}
 use Rattle.std.specs.Prelude.{count_by}
 use Rattle.shm_base.specs.Stored.{padded}
 use Rattle.shm_base.proofs.Stored.{within-padded}
@@ -40,9 +40,6 @@ module _ (c : After-index_mut-entry) (in_count : c.args.frame < c.self.inside.co
 
   loans : c.self.inside.lent ≡ count_by is_on_loan c.reach.new.table.items
   loans = rw c.reach.ensures.table (loans-reach c.self.inside.table.items c.self.inside.lent (c.args.frame + 1) c.self.invariant.4)
-
-pub index_mut-entry-requires : goal.index_mut-entry-requires
-index_mut-entry-requires c = omega (arith, at_entry c.self.inside.table.items c.reach.new.table.items c.args.frame c.reach.ensures.table)
 
 pub overflow_add-self : goal.overflow_add-self
 overflow_add-self c =

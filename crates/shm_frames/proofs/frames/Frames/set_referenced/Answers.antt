@@ -1,5 +1,4 @@
-use Rattle.std.proofs.Common.{◌<◌, ◌∙◌, length, refl, sym, ap, arith}
-use Rattle.shm_frames.specs.declared.frames.FrameState.{FrameState}
+use Rattle.std.proofs.Common.{◌<◌, ◌∙◌, length, refl, arith}
 use Rattle.shm_frames.proofs.Shown.{shown, edit-shown, entry-is, owned-there, used-set, owned-entry}
 use Rattle.shm_frames.proofs.Counts.{kept-bits, same-loans}
 use Rattle.shm_frames.proofs.frames.Frames.set_referenced.Goals as goal
