@@ -19,6 +19,3 @@ pub use mirror::{MirrorCause, MirrorPager, MirrorRefused};
 pub use pager::{AnyPager, ClonePager, Pager, PagerFault, try_read, try_write};
 pub use ram::RamPager;
 pub use sparse::SparsePager;
-
-#[cfg(test)]
-mod tests;

@@ -7,6 +7,8 @@ mod areas;
 #[cfg(test)]
 mod attaching;
 #[cfg(test)]
+mod calls;
+#[cfg(test)]
 mod clock;
 #[cfg(test)]
 mod frames;

@@ -1,4 +1,7 @@
 //! What no contract says: printing succeeds while there is memory; and the printed words.
+use crate::calls::{
+    compare_exchange, exchange, mprotect, munmap, set, setuid, shmat, shmget, xadd,
+};
 use bitflags::Flags;
 use shm_base::{
     AccessLen, AtFlags, Call, Chunk, Errno, Event, GetFlags, Perm, Reply, ShmidDs, Status, Tally,
@@ -14,99 +17,36 @@ fn printed_calls(rt: HostRuntime) -> Result<(), Fail> {
     let chunk = Chunk::new(&[0, 171]).ok_or("1 to 64")?;
     let expected = Word::new(&[0]).ok_or("1 to 16")?;
     let desired = Word::new(&[171]).ok_or("1 to 16")?;
+    let get_flags = GetFlags::CREAT.union(GetFlags::EXCL);
+    let at_flags = AtFlags::RDONLY.union(AtFlags::RND).union(AtFlags::REMAP);
     let printed = [
         (
-            Call::Shmget {
-                key: 42,
-                size: 4096,
-                mode: 0o640,
-                flags: GetFlags::CREAT,
-            },
+            shmget(42, 4096, 0o640, GetFlags::CREAT),
             "shmget 0x0000002a 4096 640,creat",
         ),
         (
-            Call::Shmget {
-                key: 0,
-                size: 1,
-                mode: 0o1004,
-                flags: GetFlags::CREAT.union(GetFlags::EXCL),
-            },
+            shmget(0, 1, 0o1004, get_flags),
             "shmget 0x00000000 1 004,creat,excl",
         ),
-        (
-            Call::Shmat {
-                id: 0,
-                addr: 0x50000fff,
-                flags: AtFlags::RND,
-            },
-            "shmat 0 0x50000fff rnd",
-        ),
-        (
-            Call::Shmat {
-                id: -1,
-                addr: 0,
-                flags: AtFlags::RDONLY.union(AtFlags::RND).union(AtFlags::REMAP),
-            },
-            "shmat -1 null rnd,remap,rdonly",
-        ),
-        (
-            Call::Set {
-                id: 0,
-                uid: 100,
-                gid: 100,
-                mode: 0o600,
-            },
-            "set 0 100 100 600",
-        ),
+        (shmat(0, 0x50000fff, AtFlags::RND), "shmat 0 0x50000fff rnd"),
+        (shmat(-1, 0, at_flags), "shmat -1 null rnd,remap,rdonly"),
+        (set(100, 100, 0o600), "set 0 100 100 600"),
         (Call::Load { addr: 0, len }, "load null 64"),
         (Call::Store { addr: 16, chunk }, "store 0x10 00ab"),
+        (xadd(0x40000000, 1), "xadd 0x40000000 1"),
+        (exchange(chunk, 16), "swap 0x10 00ab"),
+        (compare_exchange(expected, desired, 16), "cas 0x10 00 ab"),
+        (munmap(0, 0), "munmap null 0"),
         (
-            Call::Xadd {
-                addr: 0x40000000,
-                add: 1,
-            },
-            "xadd 0x40000000 1",
-        ),
-        (Call::Exchange { addr: 16, chunk }, "swap 0x10 00ab"),
-        (
-            Call::CompareExchange {
-                expected,
-                desired,
-                addr: 16,
-            },
-            "cas 0x10 00 ab",
-        ),
-        (Call::Munmap { addr: 0, len: 0 }, "munmap null 0"),
-        (
-            Call::Munmap {
-                addr: 0x40000000,
-                len: u64::MAX,
-            },
+            munmap(0x40000000, u64::MAX),
             "munmap 0x40000000 18446744073709551615",
         ),
         (
-            Call::Mprotect {
-                addr: 0x40000000,
-                len: 4096,
-                writable: false,
-            },
+            mprotect(0x40000000, 4096, false),
             "mprotect 0x40000000 4096 ro",
         ),
-        (
-            Call::Mprotect {
-                addr: 16,
-                len: 1,
-                writable: true,
-            },
-            "mprotect 0x10 1 rw",
-        ),
-        (
-            Call::Setuid {
-                uid: 4294967295,
-                gid: 7,
-            },
-            "setuid 4294967295 7",
-        ),
+        (mprotect(16, 1, true), "mprotect 0x10 1 rw"),
+        (setuid(4294967295, 7), "setuid 4294967295 7"),
         (Call::Fork { child: 2 }, "fork 2"),
         (Call::Swapoff { area: 7 }, "swapoff 7"),
         (Call::Exit, "exit"),

@@ -1,5 +1,12 @@
 //! What no contract says: a script is read while there is memory, also the longest one; and each form and
 //! fault once.
+use crate::calls::{
+    compare_exchange, exchange, mprotect, munmap, set, setuid, shmat, shmget, xadd,
+};
+use FaultKind::{
+    BadByte, BadLine, BadNumber, LengthsDiffer, NoLimits, TooLong, TooMany, TooWide, Twice,
+    UnknownProcess,
+};
 use bitflags::Flags;
 use shm_base::{AccessLen, AtFlags, Call, Chunk, GetFlags, Reply, Word};
 use shm_text::{FaultKind, FlushLine, Line, ReadRefused, Script, Vars, read_script};
@@ -71,19 +78,6 @@ fn are_read(rt: &impl Abort, alloc: Global, rows: &[(&[u8], Call)]) -> Result<()
     Ok(())
 }
 
-fn shmget(key: u32, size: u64, mode: u16, flags: GetFlags) -> Call {
-    Call::Shmget {
-        key,
-        size,
-        mode,
-        flags,
-    }
-}
-
-fn shmat(id: i32, addr: u64, flags: AtFlags) -> Call {
-    Call::Shmat { id, addr, flags }
-}
-
 #[test]
 fn each_key_address_and_flag(rt: HostRuntime) -> Result<(), Fail> {
     let none = GetFlags::empty();
@@ -130,20 +124,10 @@ fn each_key_address_and_flag(rt: HostRuntime) -> Result<(), Fail> {
     are_read(&rt, rt.alloc(), &rows)
 }
 
-fn xadd(addr: u64, add: u64) -> Call {
-    Call::Xadd { addr, add }
-}
-
 #[test]
 fn each_other_form(rt: HostRuntime) -> Result<(), Fail> {
     let len = AccessLen::new(64).ok_or("1 to 64")?;
     let chunk = Chunk::new(&[0, 171]).ok_or("1 to 64")?;
-    let set = Call::Set {
-        id: 0,
-        uid: 4294967295,
-        gid: 0,
-        mode: 0o644,
-    };
     let rows: [(&[u8], Call); 15] = [
         (b"1 swapoff 7", Call::Swapoff { area: 7 }),
         (b"1 x = xadd a+18446744073709551615 1", xadd(u64::MAX, 1)),
@@ -152,7 +136,7 @@ fn each_other_form(rt: HostRuntime) -> Result<(), Fail> {
         (b"1 load null 64", Call::Load { addr: 0, len }),
         (b"1 store 0x10 00Ab", Call::Store { addr: 16, chunk }),
         (b"1 stat 0", Call::Stat { id: 0 }),
-        (b"1 set s 4294967295 0 644", set),
+        (b"1 set s 4294967295 0 644", set(4294967295, 0, 0o644)),
         (b"1 rmid 7", Call::Rmid { id: 7 }),
         (b"1 lock s", Call::Lock { id: 0 }),
         (b"1 unlock 2147483647", Call::Unlock { id: 2147483647 }),
@@ -162,18 +146,6 @@ fn each_other_form(rt: HostRuntime) -> Result<(), Fail> {
         (b"0x1 exit", Call::Exit),
     ];
     are_read(&rt, rt.alloc(), &rows)
-}
-
-fn exchange(chunk: Chunk, addr: u64) -> Call {
-    Call::Exchange { chunk, addr }
-}
-
-fn compare_exchange(expected: Word, desired: Word, addr: u64) -> Call {
-    Call::CompareExchange {
-        expected,
-        desired,
-        addr,
-    }
 }
 
 #[test]
@@ -203,24 +175,8 @@ fn each_exchange(rt: HostRuntime) -> Result<(), Fail> {
     are_read(&rt, rt.alloc(), &rows)
 }
 
-fn munmap(addr: u64, len: u64) -> Call {
-    Call::Munmap { addr, len }
-}
-
-fn mprotect(addr: u64, len: u64, writable: bool) -> Call {
-    Call::Mprotect {
-        addr,
-        len,
-        writable,
-    }
-}
-
 #[test]
 fn each_mapping_and_user(rt: HostRuntime) -> Result<(), Fail> {
-    let root = Call::Setuid {
-        uid: 0,
-        gid: 4294967295,
-    };
     let rows: [(&[u8], Call); 7] = [
         (b"1 munmap 0x40000000 4096", munmap(0x40000000, 4096)),
         (b"1 munmap a+1 18446744073709551615", munmap(1, u64::MAX)),
@@ -230,8 +186,8 @@ fn each_mapping_and_user(rt: HostRuntime) -> Result<(), Fail> {
             b"1 mprotect a 18446744073709551615 rw",
             mprotect(0, u64::MAX, true),
         ),
-        (b"1 setuid 100 200", Call::Setuid { uid: 100, gid: 200 }),
-        (b"1 setuid 0 4294967295", root),
+        (b"1 setuid 100 200", setuid(100, 200)),
+        (b"1 setuid 0 4294967295", setuid(0, 4294967295)),
     ];
     are_read(&rt, rt.alloc(), &rows)
 }
@@ -254,137 +210,119 @@ fn flush_lines(rt: HostRuntime) -> Result<(), Fail> {
 
 /// Third lines of a script, each with its fault.
 const FAULTS: [(&[u8], FaultKind); 110] = [
-    (b"process 1 5 5", FaultKind::Twice),
-    (b"2 exit", FaultKind::UnknownProcess),
-    (b"1 fork 9", FaultKind::UnknownProcess),
-    (b"1 fork 0", FaultKind::BadNumber),
-    (b"1 load 0 0", FaultKind::BadNumber),
-    (b"1 load 0x 1", FaultKind::BadLine),
-    (b"1 store 0 abc", FaultKind::BadLine),
-    (b"1 rmid 2147483648", FaultKind::BadNumber),
-    (b"0 exit", FaultKind::BadLine),
-    (b"00 exit", FaultKind::BadNumber),
-    (b"1 exit\r", FaultKind::BadByte),
-    (b"limits 1 1 1 2 0", FaultKind::BadLine),
-    (b"9 fork 0", FaultKind::BadNumber),
-    (b"00 fork 9", FaultKind::BadNumber),
-    (b"1 fork 2147483648", FaultKind::BadNumber),
-    (b"1 fork null", FaultKind::BadLine),
-    (b"1 fork", FaultKind::BadLine),
-    (b"1 shmget 0x100000000 1 600", FaultKind::BadNumber),
-    (b"1 shmget Private 1 600", FaultKind::BadLine),
-    (b"1 shmget s 1 600", FaultKind::BadLine),
-    (b"1 shmget private 1 600,", FaultKind::BadLine),
-    (b"1 shmget private 1 600,creat,creat", FaultKind::BadLine),
-    (b"1 shmget private 1 60,creat", FaultKind::BadLine),
-    (b"1 shmget private 1 creat", FaultKind::BadLine),
-    (b"1 shmget private null 600", FaultKind::BadLine),
-    (b"1 shmat s null rnd,rnd", FaultKind::BadLine),
-    (b"1 shmat s null -,rnd", FaultKind::BadLine),
-    (b"1 shmat s null rnd,", FaultKind::BadLine),
-    (b"1 shmat s null creat", FaultKind::BadLine),
-    (b"1 shmat s null", FaultKind::BadLine),
-    (b"1 shmat 2147483648 null rnd,rnd", FaultKind::BadLine),
-    (b"1 shmat 2147483648 null rnd", FaultKind::BadNumber),
-    (b"1 shmat s a+18446744073709551616 -", FaultKind::BadNumber),
-    (b"1 shmat s a+ -", FaultKind::BadLine),
-    (b"1 shmat s a +1 -", FaultKind::BadLine),
-    (b"1 set s 4294967296 0 600", FaultKind::BadNumber),
-    (b"1 set s 0 4294967296 600", FaultKind::BadNumber),
-    (b"1 set s 0 4294967296 1600", FaultKind::BadLine),
-    (b"1 set s 0 0 600 0", FaultKind::BadLine),
-    (b"1 xadd a", FaultKind::BadLine),
-    (b"1 xadd a b", FaultKind::BadLine),
-    (b"1 xadd a 18446744073709551616", FaultKind::BadNumber),
-    (b"1 swap a", FaultKind::BadLine),
-    (b"1 swap a abc", FaultKind::BadLine),
-    (b"1 swap a 00 11", FaultKind::BadLine),
-    (b"1 swap a+18446744073709551616 00", FaultKind::BadNumber),
-    (b"1 x = swap a 001122334455667788", FaultKind::TooWide),
-    (b"2 x = swap a 001122334455667788", FaultKind::TooWide),
-    (b"1 cas a 00", FaultKind::BadLine),
-    (b"1 cas a 00 0g", FaultKind::BadLine),
-    (b"1 cas a 0g 00", FaultKind::BadLine),
-    (
-        b"1 cas a 00 1111111111111111111111111111111111",
-        FaultKind::BadLine,
-    ),
-    (
-        b"1 cas a 1111111111111111111111111111111111 00",
-        FaultKind::BadLine,
-    ),
-    (b"1 cas a 00 0011", FaultKind::LengthsDiffer),
-    (b"2 cas a 0011 00", FaultKind::LengthsDiffer),
-    (
-        b"1 cas a+18446744073709551616 00 0011",
-        FaultKind::LengthsDiffer,
-    ),
+    (b"process 1 5 5", Twice),
+    (b"2 exit", UnknownProcess),
+    (b"1 fork 9", UnknownProcess),
+    (b"1 fork 0", BadNumber),
+    (b"1 load 0 0", BadNumber),
+    (b"1 load 0x 1", BadLine),
+    (b"1 store 0 abc", BadLine),
+    (b"1 rmid 2147483648", BadNumber),
+    (b"0 exit", BadLine),
+    (b"00 exit", BadNumber),
+    (b"1 exit\r", BadByte),
+    (b"limits 1 1 1 2 0", BadLine),
+    (b"9 fork 0", BadNumber),
+    (b"00 fork 9", BadNumber),
+    (b"1 fork 2147483648", BadNumber),
+    (b"1 fork null", BadLine),
+    (b"1 fork", BadLine),
+    (b"1 shmget 0x100000000 1 600", BadNumber),
+    (b"1 shmget Private 1 600", BadLine),
+    (b"1 shmget s 1 600", BadLine),
+    (b"1 shmget private 1 600,", BadLine),
+    (b"1 shmget private 1 600,creat,creat", BadLine),
+    (b"1 shmget private 1 60,creat", BadLine),
+    (b"1 shmget private 1 creat", BadLine),
+    (b"1 shmget private null 600", BadLine),
+    (b"1 shmat s null rnd,rnd", BadLine),
+    (b"1 shmat s null -,rnd", BadLine),
+    (b"1 shmat s null rnd,", BadLine),
+    (b"1 shmat s null creat", BadLine),
+    (b"1 shmat s null", BadLine),
+    (b"1 shmat 2147483648 null rnd,rnd", BadLine),
+    (b"1 shmat 2147483648 null rnd", BadNumber),
+    (b"1 shmat s a+18446744073709551616 -", BadNumber),
+    (b"1 shmat s a+ -", BadLine),
+    (b"1 shmat s a +1 -", BadLine),
+    (b"1 set s 4294967296 0 600", BadNumber),
+    (b"1 set s 0 4294967296 600", BadNumber),
+    (b"1 set s 0 4294967296 1600", BadLine),
+    (b"1 set s 0 0 600 0", BadLine),
+    (b"1 xadd a", BadLine),
+    (b"1 xadd a b", BadLine),
+    (b"1 xadd a 18446744073709551616", BadNumber),
+    (b"1 swap a", BadLine),
+    (b"1 swap a abc", BadLine),
+    (b"1 swap a 00 11", BadLine),
+    (b"1 swap a+18446744073709551616 00", BadNumber),
+    (b"1 x = swap a 001122334455667788", TooWide),
+    (b"2 x = swap a 001122334455667788", TooWide),
+    (b"1 cas a 00", BadLine),
+    (b"1 cas a 00 0g", BadLine),
+    (b"1 cas a 0g 00", BadLine),
+    (b"1 cas a 00 1111111111111111111111111111111111", BadLine),
+    (b"1 cas a 1111111111111111111111111111111111 00", BadLine),
+    (b"1 cas a 00 0011", LengthsDiffer),
+    (b"2 cas a 0011 00", LengthsDiffer),
+    (b"1 cas a+18446744073709551616 00 0011", LengthsDiffer),
     (
         b"1 x = cas a 001122334455667788 001122334455667788",
-        FaultKind::TooWide,
+        TooWide,
     ),
-    (
-        b"1 x = cas a 00 001122334455667788",
-        FaultKind::LengthsDiffer,
-    ),
-    (b"1 Cas a 00 00", FaultKind::BadLine),
-    (b"1 v = load a 1", FaultKind::BadLine),
-    (b"1 v = shmdt a", FaultKind::BadLine),
-    (b"1 v = exit", FaultKind::BadLine),
-    (b"1 v =", FaultKind::BadLine),
-    (b"1 v shmget private 1 600", FaultKind::BadLine),
-    (b"1 V = shmget private 1 600", FaultKind::BadLine),
-    (b"1 vv = shmget private 1 600", FaultKind::BadLine),
-    (b"1 shmdt", FaultKind::BadLine),
-    (b"1 stat null", FaultKind::BadLine),
-    (b"1 stat s+1", FaultKind::BadLine),
-    (b"1 lock ss", FaultKind::BadLine),
-    (b"1 unlock 2147483648", FaultKind::BadNumber),
-    (b"1 exec 1", FaultKind::BadLine),
-    (b"1 Exit", FaultKind::BadLine),
-    (b"1", FaultKind::BadLine),
-    (b"1 swapoff 8", FaultKind::BadNumber),
-    (b"1 swapoff", FaultKind::BadLine),
-    (b"1 s = swapoff 0", FaultKind::BadLine),
-    (b"1 munmap 4096", FaultKind::BadLine),
-    (b"1 munmap 4096 4096 ro", FaultKind::BadLine),
-    (b"1 munmap a b", FaultKind::BadLine),
-    (b"1 munmap a -1", FaultKind::BadLine),
-    (b"1 munmap a 18446744073709551616", FaultKind::BadNumber),
-    (b"1 munmap a+18446744073709551616 1", FaultKind::BadNumber),
-    (b"2 munmap a 18446744073709551616", FaultKind::BadNumber),
-    (b"1 a = munmap a 4096", FaultKind::BadLine),
-    (b"1 Munmap a 4096", FaultKind::BadLine),
-    (b"1 mprotect 4096 4096", FaultKind::BadLine),
-    (b"1 mprotect 4096 4096 x", FaultKind::BadLine),
-    (b"1 mprotect 4096 4096 r", FaultKind::BadLine),
-    (b"1 mprotect 4096 4096 RO", FaultKind::BadLine),
-    (b"1 mprotect 4096 4096 rw rw", FaultKind::BadLine),
-    (b"1 mprotect 4096 ro 4096", FaultKind::BadLine),
-    (
-        b"1 mprotect a 18446744073709551616 ro",
-        FaultKind::BadNumber,
-    ),
-    (b"1 mprotect a 18446744073709551616 x", FaultKind::BadLine),
-    (
-        b"1 mprotect 18446744073709551616 1 rw",
-        FaultKind::BadNumber,
-    ),
-    (b"1 a = mprotect a 4096 rw", FaultKind::BadLine),
-    (b"1 setuid 100", FaultKind::BadLine),
-    (b"1 setuid 100 100 100", FaultKind::BadLine),
-    (b"1 setuid a 100", FaultKind::BadLine),
-    (b"1 setuid 4294967296 0", FaultKind::BadNumber),
-    (b"1 setuid 0 4294967296", FaultKind::BadNumber),
-    (b"1 setuid 4294967296 a", FaultKind::BadLine),
-    (b"2 setuid 0 0", FaultKind::UnknownProcess),
-    (b"1 a = setuid 0 0", FaultKind::BadLine),
-    (b"0 flush 0", FaultKind::BadNumber),
-    (b"0 flush 4097", FaultKind::BadNumber),
-    (b"00 flush 1", FaultKind::BadLine),
-    (b"1 flush 1", FaultKind::BadLine),
-    (b"0 flush", FaultKind::BadLine),
-    (b"0 flush 1 1", FaultKind::BadLine),
+    (b"1 x = cas a 00 001122334455667788", LengthsDiffer),
+    (b"1 Cas a 00 00", BadLine),
+    (b"1 v = load a 1", BadLine),
+    (b"1 v = shmdt a", BadLine),
+    (b"1 v = exit", BadLine),
+    (b"1 v =", BadLine),
+    (b"1 v shmget private 1 600", BadLine),
+    (b"1 V = shmget private 1 600", BadLine),
+    (b"1 vv = shmget private 1 600", BadLine),
+    (b"1 shmdt", BadLine),
+    (b"1 stat null", BadLine),
+    (b"1 stat s+1", BadLine),
+    (b"1 lock ss", BadLine),
+    (b"1 unlock 2147483648", BadNumber),
+    (b"1 exec 1", BadLine),
+    (b"1 Exit", BadLine),
+    (b"1", BadLine),
+    (b"1 swapoff 8", BadNumber),
+    (b"1 swapoff", BadLine),
+    (b"1 s = swapoff 0", BadLine),
+    (b"1 munmap 4096", BadLine),
+    (b"1 munmap 4096 4096 ro", BadLine),
+    (b"1 munmap a b", BadLine),
+    (b"1 munmap a -1", BadLine),
+    (b"1 munmap a 18446744073709551616", BadNumber),
+    (b"1 munmap a+18446744073709551616 1", BadNumber),
+    (b"2 munmap a 18446744073709551616", BadNumber),
+    (b"1 a = munmap a 4096", BadLine),
+    (b"1 Munmap a 4096", BadLine),
+    (b"1 mprotect 4096 4096", BadLine),
+    (b"1 mprotect 4096 4096 x", BadLine),
+    (b"1 mprotect 4096 4096 r", BadLine),
+    (b"1 mprotect 4096 4096 RO", BadLine),
+    (b"1 mprotect 4096 4096 rw rw", BadLine),
+    (b"1 mprotect 4096 ro 4096", BadLine),
+    (b"1 mprotect a 18446744073709551616 ro", BadNumber),
+    (b"1 mprotect a 18446744073709551616 x", BadLine),
+    (b"1 mprotect 18446744073709551616 1 rw", BadNumber),
+    (b"1 a = mprotect a 4096 rw", BadLine),
+    (b"1 setuid 100", BadLine),
+    (b"1 setuid 100 100 100", BadLine),
+    (b"1 setuid a 100", BadLine),
+    (b"1 setuid 4294967296 0", BadNumber),
+    (b"1 setuid 0 4294967296", BadNumber),
+    (b"1 setuid 4294967296 a", BadLine),
+    (b"2 setuid 0 0", UnknownProcess),
+    (b"1 a = setuid 0 0", BadLine),
+    (b"0 flush 0", BadNumber),
+    (b"0 flush 4097", BadNumber),
+    (b"00 flush 1", BadLine),
+    (b"1 flush 1", BadLine),
+    (b"0 flush", BadLine),
+    (b"0 flush 1 1", BadLine),
 ];
 
 /// Whether this third line has this fault, with a line end and without.
@@ -430,42 +368,42 @@ fn each_beginning_of_a_script(rt: HostRuntime) -> Result<(), Fail> {
     let alloc = rt.alloc();
     // From the first of these lengths up to the second.
     let runs = [
-        (0, 6, Outcome::Fault(1, FaultKind::NoLimits)),
-        (6, 22, Outcome::Fault(1, FaultKind::BadLine)),
+        (0, 6, Outcome::Fault(1, NoLimits)),
+        (6, 22, Outcome::Fault(1, BadLine)),
         (22, 24, Outcome::Script(0, 0)),
-        (24, 38, Outcome::Fault(2, FaultKind::BadLine)),
+        (24, 38, Outcome::Fault(2, BadLine)),
         (38, 42, Outcome::Script(1, 0)),
-        (42, 56, Outcome::Fault(3, FaultKind::BadLine)),
+        (42, 56, Outcome::Fault(3, BadLine)),
         (56, 60, Outcome::Script(2, 0)),
-        (60, 74, Outcome::Fault(4, FaultKind::BadLine)),
+        (60, 74, Outcome::Fault(4, BadLine)),
         (74, 78, Outcome::Script(3, 0)),
-        (78, 103, Outcome::Fault(5, FaultKind::BadLine)),
+        (78, 103, Outcome::Fault(5, BadLine)),
         (103, 104, Outcome::Script(3, 1)),
-        (104, 109, Outcome::Fault(5, FaultKind::BadLine)),
+        (104, 109, Outcome::Fault(5, BadLine)),
         (109, 111, Outcome::Script(3, 1)),
-        (111, 126, Outcome::Fault(6, FaultKind::BadLine)),
+        (111, 126, Outcome::Fault(6, BadLine)),
         (126, 128, Outcome::Script(3, 2)),
-        (128, 147, Outcome::Fault(7, FaultKind::BadLine)),
+        (128, 147, Outcome::Fault(7, BadLine)),
         (147, 149, Outcome::Script(3, 3)),
-        (149, 160, Outcome::Fault(8, FaultKind::BadLine)),
+        (149, 160, Outcome::Fault(8, BadLine)),
         (160, 162, Outcome::Script(3, 4)),
-        (162, 169, Outcome::Fault(9, FaultKind::BadLine)),
+        (162, 169, Outcome::Fault(9, BadLine)),
         (169, 171, Outcome::Script(3, 5)),
-        (171, 178, Outcome::Fault(10, FaultKind::BadLine)),
+        (171, 178, Outcome::Fault(10, BadLine)),
         (178, 180, Outcome::Script(3, 6)),
-        (180, 201, Outcome::Fault(11, FaultKind::BadLine)),
+        (180, 201, Outcome::Fault(11, BadLine)),
         (201, 203, Outcome::Script(3, 7)),
-        (203, 223, Outcome::Fault(12, FaultKind::BadLine)),
+        (203, 223, Outcome::Fault(12, BadLine)),
         (223, 225, Outcome::Script(3, 8)),
-        (225, 230, Outcome::Fault(13, FaultKind::BadLine)),
+        (225, 230, Outcome::Fault(13, BadLine)),
         (230, 232, Outcome::Script(3, 9)),
-        (232, 241, Outcome::Fault(14, FaultKind::BadLine)),
+        (232, 241, Outcome::Fault(14, BadLine)),
         (241, 243, Outcome::Script(3, 10)),
-        (243, 248, Outcome::Fault(15, FaultKind::BadLine)),
+        (243, 248, Outcome::Fault(15, BadLine)),
         (248, 250, Outcome::Script(3, 11)),
-        (250, 257, Outcome::Fault(16, FaultKind::BadLine)),
+        (250, 257, Outcome::Fault(16, BadLine)),
         (257, 259, Outcome::Script(3, 12)),
-        (259, 266, Outcome::Fault(17, FaultKind::BadLine)),
+        (259, 266, Outcome::Fault(17, BadLine)),
         (266, 268, Outcome::Script(3, 13)),
     ];
     for (first, end, outcome) in runs {
@@ -481,14 +419,14 @@ fn each_beginning_of_a_script(rt: HostRuntime) -> Result<(), Fail> {
 fn longest_scripts(rt: HostRuntime) -> Result<(), Fail> {
     let alloc = rt.alloc();
     let empty = vec![in alloc; b'\n'; 1048577]?;
-    assert!(rt; read(alloc, &empty) == Outcome::Fault(0, FaultKind::TooLong));
-    assert!(rt; read(alloc, &empty[1..]) == Outcome::Fault(1, FaultKind::NoLimits));
+    assert!(rt; read(alloc, &empty) == Outcome::Fault(0, TooLong));
+    assert!(rt; read(alloc, &empty[1..]) == Outcome::Fault(1, NoLimits));
     let mut script = HEAD.to_vec(alloc)?;
     for _ in 0..100000 {
         script.extend_from_slice(b"1 exit\n")?;
     }
     assert!(rt; read(alloc, &script) == Outcome::Script(1, 100000));
     script.extend_from_slice(b"1 exit")?;
-    assert!(rt; read(alloc, &script) == Outcome::Fault(100003, FaultKind::TooMany));
+    assert!(rt; read(alloc, &script) == Outcome::Fault(100003, TooMany));
     Ok(())
 }

@@ -7,7 +7,6 @@
 //! - `monitor [gauged|plain]` runs with threads, while a monitor reads the gauge.
 #![tactic(auto)]
 
-mod counting;
 #[cfg(test)]
 mod ends;
 #[cfg(test)]

@@ -48,15 +48,9 @@ pub(crate) enum NoRun {
     #[error("out of memory")]
     HostMemory,
     #[error("{0}")]
-    Gauge(GaugeRefused),
+    Gauge(#[from] GaugeRefused),
     #[error("{0}")]
-    Run(RunError),
-}
-
-impl From<GaugeRefused> for NoRun {
-    fn from(refused: GaugeRefused) -> NoRun {
-        NoRun::Gauge(refused)
-    }
+    Run(#[from] RunError),
 }
 
 impl From<HostMemory> for NoRun {
@@ -74,12 +68,6 @@ impl From<AllocError> for NoRun {
 impl<T: Drop> From<AllocFailed<T>> for NoRun {
     fn from(_refused: AllocFailed<T>) -> NoRun {
         NoRun::HostMemory
-    }
-}
-
-impl From<RunError> for NoRun {
-    fn from(error: RunError) -> NoRun {
-        NoRun::Run(error)
     }
 }
 

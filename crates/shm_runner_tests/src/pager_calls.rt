@@ -1,54 +1,43 @@
 //! How often the lines of a script call each area's pager, in file order.
-use crate::counting::{AskedPager, Asks};
 use crate::stop::Stop;
 use shm_history::World;
-use shm_pager::Pager;
-use shm_program::{SwapWord, Values, areas_of, open_world};
-use shm_text::{Line, Script};
+use shm_pager::{AreaPager, Pager};
+use shm_pager_tests::{CountedPager, Counter};
+use shm_program::{SwapWord, Values, areas_of, open_world, run_line};
+use shm_text::Script;
 use std::alloc::{AllocError, Global};
 
 // Counts for this many areas.
-fn all_asks(alloc: Global, areas: usize) -> Result<Vec<Asks>, AllocError> {
+fn all_asks(alloc: Global, areas: usize) -> Result<Vec<Counter>, AllocError> {
     let mut asks = Vec::new(alloc);
     for _ in 0..areas {
-        asks.push(Asks::new(alloc)?)?;
+        asks.push(Counter::new(alloc)?)?;
     }
     Ok(asks)
 }
 
 // The areas that the words name, each with its counts.
-fn counted(alloc: Global, swaps: &[SwapWord], asks: &[Asks]) -> Result<Vec<AskedPager>, Stop> {
+fn counted(
+    alloc: Global,
+    swaps: &[SwapWord],
+    asks: &[Counter],
+) -> Result<Vec<CountedPager<AreaPager>>, Stop> {
     let areas = areas_of(alloc, swaps)?;
     let mut pagers = Vec::new(alloc);
     for (area, its) in areas.into_iter().zip(asks) {
-        pagers.push(its.count(area)?)?;
+        pagers.push(its.pager(area)?)?;
     }
     Ok(pagers)
 }
 
 // Appends a line to a text, with three numbers for each area.
-fn push_asks(text: &mut String, asks: &[Asks]) -> Result<(), AllocError> {
+fn push_asks(text: &mut String, asks: &[Counter]) -> Result<(), AllocError> {
     text.push_str("asked")?;
     for its in asks {
-        let (reads, writes, discards) = its.counts();
+        let (reads, writes, discards) = its.asks();
         write!(text, " {reads} {writes} {discards}")?;
     }
     text.push_str("\n")
-}
-
-// Runs a line.
-fn run_line<P: Pager>(world: &mut World<P>, values: &mut Values, line: &Line) -> Result<(), Stop> {
-    match line {
-        Line::Command(command) => {
-            let call = values.call(command);
-            let reply = world.call(command.pid(), &call)?;
-            values.took(command, &reply);
-        }
-        Line::Flush(round) => {
-            let _report = world.flush(u64::from(round.pages()));
-        }
-    }
-    Ok(())
 }
 
 // The counts after each line.
@@ -56,12 +45,12 @@ fn run_lines<P: Pager>(
     alloc: Global,
     world: &mut World<P>,
     script: &Script,
-    asks: &[Asks],
+    asks: &[Counter],
 ) -> Result<String, Stop> {
     let mut values = Values::new(alloc, &script.processes)?;
     let mut text = String::new(alloc);
     for line in &script.lines {
-        run_line(world, &mut values, line)?;
+        let _action = run_line(world, &mut values, line)?;
         push_asks(&mut text, asks)?;
     }
     Ok(text)
@@ -70,8 +59,8 @@ fn run_lines<P: Pager>(
 fn run_over(
     alloc: Global,
     script: &Script,
-    pagers: Vec<AskedPager>,
-    asks: &[Asks],
+    pagers: Vec<CountedPager<AreaPager>>,
+    asks: &[Counter],
 ) -> Result<String, Stop> {
     let mut world = open_world(alloc, script, pagers)?;
     run_lines(alloc, &mut world, script, asks)

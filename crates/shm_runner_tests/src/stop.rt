@@ -36,7 +36,7 @@ pub(crate) enum Stop {
     #[error("the {0} differ")]
     Differs(Part),
     #[error("{0}")]
-    Threads(NoRun),
+    Threads(#[from] NoRun),
 }
 
 impl Stop {
@@ -74,12 +74,6 @@ impl From<io::Error> for Stop {
             io::ErrorKind::OutOfMemory => Stop::HostMemory,
             _ => Stop::Run,
         }
-    }
-}
-
-impl From<NoRun> for Stop {
-    fn from(refused: NoRun) -> Stop {
-        Stop::Threads(refused)
     }
 }
 

@@ -8,8 +8,9 @@ use crate::flat::Flat;
 use shm_base::{AccessLen, AtFlags, Call, Chunk, Errno, Event, Reply, ShmId};
 use shm_history::World;
 use shm_pager::{FusePager, MirrorPager, Pager, RamPager};
-use shm_program::{Values, open_world};
-use shm_text::{Line, Script, read_script};
+use shm_pager_tests::fuse;
+use shm_program::{Values, open_world, run_line};
+use shm_text::{Script, read_script};
 use shm_threads::{OpenGate, run_threads};
 use std::alloc::Global;
 use std::sync::Wait;
@@ -104,21 +105,6 @@ fn script(alloc: Global, swapoff: bool) -> Result<Script, Fail> {
     Ok(read_script(alloc, &text).ok().ok_or("a script")?)
 }
 
-// A list with only this place; an empty list for 0.
-fn at(alloc: Global, place: u64) -> Result<Vec<u64>, Fail> {
-    let mut places = Vec::new(alloc);
-    if place > 0 {
-        places.push(place)?;
-    }
-    Ok(places)
-}
-
-// An area of this many slots whose read and whose write at these places fail; 0 means none.
-fn fuse(alloc: Global, slots: u32, read: u64, write: u64) -> Result<FusePager<RamPager>, Fail> {
-    let ram = RamPager::new(alloc, slots)?;
-    Ok(FusePager::new(ram, at(alloc, read)?, at(alloc, write)?))
-}
-
 fn with_threads<R: Threads + Wait + Sync, P: Pager + Send>(
     rt: &R,
     alloc: Global,
@@ -135,16 +121,7 @@ fn with_threads<R: Threads + Wait + Sync, P: Pager + Send>(
 fn run_lines<P: Pager>(alloc: Global, world: &mut World<P>, script: &Script) -> Result<(), Fail> {
     let mut values = Values::new(alloc, &script.processes)?;
     for line in &script.lines {
-        match line {
-            Line::Command(command) => {
-                let call = values.call(command);
-                let reply = called(world, command.pid(), &call)?;
-                values.took(command, &reply);
-            }
-            Line::Flush(round) => {
-                let _report = world.flush(u64::from(round.pages()));
-            }
-        }
+        let _action = run_line(world, &mut values, line)?;
     }
     Ok(())
 }
@@ -197,10 +174,6 @@ fn is_failure(call: &Call, reply: &Reply) -> bool {
     }
 }
 
-fn called<P: Pager>(world: &mut World<P>, pid: u32, call: &Call) -> Result<Reply, Fail> {
-    Ok(world.call(pid, call).ok().ok_or("memory")?)
-}
-
 // Makes the calls of a history on lists of bytes, and checks each reply. Returns how many of them were
 // refused because a pager failed.
 fn replay(flat: &mut Flat, history: &[Event]) -> Result<u64, Fail> {
@@ -221,9 +194,9 @@ fn replay(flat: &mut Flat, history: &[Event]) -> Result<u64, Fail> {
 fn loaded<P: Pager>(world: &mut World<P>, addr: u64, bytes: &[u8]) -> Result<(bool, u64), Fail> {
     let load = load(addr, 64)?;
     let wanted = Reply::Bytes(Chunk::new(bytes).ok_or("1 to 64 bytes")?);
-    let reply = called(world, 1, &load)?;
+    let reply = world.call(1, &load)?;
     if is_failure(&load, &reply) {
-        return Ok((called(world, 1, &load)? == wanted, 1));
+        return Ok((world.call(1, &load)? == wanted, 1));
     }
     Ok((reply == wanted, 0))
 }
@@ -235,7 +208,7 @@ fn attached<P: Pager>(world: &mut World<P>, id: ShmId) -> Result<u64, Fail> {
         addr: 0,
         flags: AtFlags::RDONLY,
     };
-    match called(world, 1, &shmat)? {
+    match world.call(1, &shmat)? {
         Reply::Addr(base) => Ok(base),
         _ => Err("not attached".into()),
     }
@@ -323,17 +296,33 @@ enum Failing {
     SecondWrites,
 }
 
-// Two areas, one of which fails at this place.
-fn fuses(alloc: Global, failing: Failing, place: u64) -> Result<Vec<FusePager<RamPager>>, Fail> {
-    let (first, second) = match failing {
-        Failing::FirstReads => ((place, 0), (0, 0)),
-        Failing::FirstWrites => ((0, place), (0, 0)),
-        Failing::SecondReads => ((0, 0), (place, 0)),
-        Failing::SecondWrites => ((0, 0), (0, place)),
-    };
+/// The reads and writes of an area that fail.
+type Calls<'a> = (&'a [u64], &'a [u64]);
+
+// Two areas that fail these calls.
+fn fuses(
+    alloc: Global,
+    first: Calls<'_>,
+    second: Calls<'_>,
+) -> Result<Vec<FusePager<RamPager>>, Fail> {
     let first = fuse(alloc, FIRST_SLOTS, first.0, first.1)?;
     let second = fuse(alloc, SECOND_SLOTS, second.0, second.1)?;
     Ok(vec![in alloc; first, second]?)
+}
+
+// Two areas, one of which fails at this place.
+fn fuses_failing(
+    alloc: Global,
+    failing: Failing,
+    place: u64,
+) -> Result<Vec<FusePager<RamPager>>, Fail> {
+    let (none, place): (&[u64], &[u64]) = (&[], &[place]);
+    match failing {
+        Failing::FirstReads => fuses(alloc, (place, none), (none, none)),
+        Failing::FirstWrites => fuses(alloc, (none, place), (none, none)),
+        Failing::SecondReads => fuses(alloc, (none, none), (place, none)),
+        Failing::SecondWrites => fuses(alloc, (none, none), (none, place)),
+    }
 }
 
 // Each of these calls fails in turn, until a run has no failure. The first run has one.
@@ -345,7 +334,7 @@ fn each_fails<R: Threads + Wait + Sync>(
     failing: Failing,
 ) -> Result<(), Fail> {
     for place in 1..MOST_PLACES {
-        let areas = fuses(alloc, failing, place)?;
+        let areas = fuses_failing(alloc, failing, place)?;
         if failures(rt, alloc, script, areas, threaded)? == 0 {
             return past(place);
         }
@@ -376,10 +365,10 @@ fn each_call_fails<R: Threads + Wait + Sync>(
 
 type Mirror = MirrorPager<FusePager<RamPager>, FusePager<RamPager>>;
 
-// A mirror of this many slots whose left side fails at this write, and whose right side fails at this read.
-fn mirror(alloc: Global, slots: u32, write: u64, read: u64) -> Result<Mirror, Fail> {
-    let left = fuse(alloc, slots, 0, write)?;
-    let right = fuse(alloc, slots, read, 0)?;
+// A mirror of this many slots whose left side fails these writes, and whose right side fails these reads.
+fn mirror(alloc: Global, slots: u32, writes: &[u64], reads: &[u64]) -> Result<Mirror, Fail> {
+    let left = fuse(alloc, slots, &[], writes)?;
+    let right = fuse(alloc, slots, reads, &[])?;
     Ok(
         MirrorPager::new(alloc, left, right)
             .ok()
@@ -389,8 +378,8 @@ fn mirror(alloc: Global, slots: u32, write: u64, read: u64) -> Result<Mirror, Fa
 
 // Two mirrors, the first of which fails at these calls.
 fn mirrors(alloc: Global, write: u64, read: u64) -> Result<Vec<Mirror>, Fail> {
-    let first = mirror(alloc, FIRST_SLOTS, write, read)?;
-    let second = mirror(alloc, SECOND_SLOTS, 0, 0)?;
+    let first = mirror(alloc, FIRST_SLOTS, &[write], &[read])?;
+    let second = mirror(alloc, SECOND_SLOTS, &[], &[])?;
     Ok(vec![in alloc; first, second]?)
 }
 
@@ -448,4 +437,18 @@ fn each_side_fails_with_threads(rt: HostRuntime) -> Result<(), Fail> {
 #[test]
 fn each_side_fails_with_threads_around_a_swapoff(rt: HostRuntime) -> Result<(), Fail> {
     each_side_fails(&rt, rt.alloc(), true, true)
+}
+
+// The reads and writes of both areas that fail: single ones and consecutive ones.
+const MANY: Calls<'_> = (&[1, 4, 5, 6, 20], &[2, 3, 7, 12, 20, 21, 33]);
+
+#[test]
+fn many_calls_fail(rt: HostRuntime) -> Result<(), Fail> {
+    let script = script(rt.alloc(), true)?;
+    for threaded in [false, true] {
+        let areas = fuses(rt.alloc(), MANY, MANY)?;
+        let failures = failures(&rt, rt.alloc(), &script, areas, threaded)?;
+        assert!(rt; failures > 10, "with threads: {threaded}");
+    }
+    Ok(())
 }

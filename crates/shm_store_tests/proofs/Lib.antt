@@ -1,4 +1,1 @@
-pub mod Names
-pub mod Inserting
-pub mod Rows
 pub mod Trials

@@ -1,7 +1,16 @@
 -- What the tests know of the stores that they make.
-use Rattle.shm_store_tests.proofs.Names.{◌≡◌, ℕ, zero, suc, ◌<◌, true, List, [], ◌∷◌, length, get_or, map, replicate, Option, Some, None, refl, sym, ap, ◌∙◌, arith, All, common_steps, PageRef, Span, PagerView, Held, FitsPage, find_held, pages_in_store, written, with_zeros, AreHeldApart, AreaView, SwapView, fresh, new_swap, owner_of, size_of, Frame, fresh_store, row_of, row_pages, pages_all, three_pages}
-use Rattle.shm_fault.specs.Store.{held}
-use Rattle.shm_store_tests.proofs.Rows.{row_pages-is, told-some, all-is, rows-zeros, rows-written}
+use Rattle.std.proofs.Common.{◌≡◌, ℕ, zero, suc, ◌<◌, true, List, [], ◌∷◌, length, get_or, map, replicate, Option, Some, None, refl, arith, ◌*◌}
+use Rattle.std.proofs.lemmas.Bool.Decides.{eqb_tells}
+use Rattle.shm_fault.proofs.Pasted.{length-paste}
+use Rattle.std.proofs.lemmas.List.{length-replicate}
+use Rattle.std.proofs.lemmas.Grind.{common_steps}
+use Rattle.shm_base.specs.declared.paging.PageRef.{PageRef}
+use Rattle.shm_base.specs.declared.paging.Span.{Span}
+use Rattle.shm_pager.specs.Pages.{PagerView}
+use Rattle.shm_fault.specs.Held.{Held, held_id, FitsPage, pages_in_store, written, with_zeros}
+use Rattle.shm_slots.specs.View.{AreaView, SwapView, fresh, new_swap, owner_of, size_of}
+use Rattle.shm_frames.specs.Frame.{Frame}
+use Rattle.shm_fault.specs.Store.{fresh_store, held}
 
 -- areas that were just passed in have no owned slot
 none-owned : (n slot : ℕ) → get_or {A = Option PageRef} (replicate n None) slot None ≡ None
@@ -18,30 +27,19 @@ pub fresh-held : (frames : List Frame) (swap : SwapView) → held (fresh_store f
 unfolding held
 fresh-held frames swap = refl
 
--- one span
-pub all-one : (P : Span → Type 0) (p : Span) → P p → All P (p ∷ [])
-all-one P p is zero d lt = is
-all-one P p is (suc k) d lt = absurd (omega arith)
-
-pub three_pages-added : (frames : List Frame) (swap : SwapView) → map row_of (with_zeros (held (fresh_store frames swap)) 0 3) ≡ three_pages
-three_pages-added frames swap = rw (fresh-held frames swap) (rows-zeros [] 0 3)
-
 -- what is known of three pages
-one-apart : (hs : List Held) → map row_of hs ≡ three_pages → AreHeldApart hs
-one-apart [] e = cc
-one-apart (g ∷ []) e = (refl, tt)
-one-apart (g ∷ h ∷ hs) e = let more : length (map row_of (g ∷ h ∷ hs)) ≡ 1 = ap length e in absurd (omega (arith, more))
+pub added : (n : ℕ) → (map held_id (with_zeros [] 0 n) ≡ 0 ∷ []) × (pages_in_store (with_zeros [] 0 n) ≡ n)
+added n = let size : length {A = ℕ} (replicate (4096 * n) 0) ≡ 4096 * n = length-replicate (4096 * n) 0 in (refl, omega (arith, size))
 
-pub three_pages-written : (hs : List Held) (p : Span) (new : List ℕ) → map row_of hs ≡ three_pages → FitsPage hs p → map row_of (written hs (p ∷ []) new) ≡ three_pages
-three_pages-written hs p new e fit = (rows-written (p ∷ []) hs new (one-apart hs e) (all-one (FitsPage hs) p fit)).0 ∙ e
+pub three-fit : (hs : List Held) (p : Span) → map held_id hs ≡ 0 ∷ [] → pages_in_store hs ≡ 3 → p.seg ≡ 0 → p.at < 12288 → p.len ≡ 1 → FitsPage hs p
+three-fit [] p ids pages seg at len = cc
+three-fit (g ∷ []) p ids pages seg at len = grind (arith, common_steps, eqb_tells)
+three-fit (g ∷ h ∷ hs) p ids pages seg at len = cc
 
-pub three_pages-held : (hs : List Held) → map row_of hs ≡ three_pages → pages_in_store hs ≡ 3
-three_pages-held hs e = sym (all-is hs) ∙ ap pages_all e
-
-pub three_pages-fit : (hs : List Held) (p : Span) → map row_of hs ≡ three_pages → p.seg ≡ 0 → p.at < 12288 → p.len ≡ 1 → FitsPage hs p
-three_pages-fit hs p e seg at len =
-    let told = told-some (find_held hs 0) 3 (sym (row_pages-is hs 0) ∙ ap (λ rs. row_pages rs 0) e) in
-    rw seg (told.0, omega (arith, told.1, at, len), (omega (arith, len), omega (arith, len)))
+pub three-written : (hs : List Held) (p : Span) (new : List ℕ) → map held_id hs ≡ 0 ∷ [] → pages_in_store hs ≡ 3 → FitsPage hs p → (map held_id (written hs (p ∷ []) new) ≡ 0 ∷ []) × (pages_in_store (written hs (p ∷ []) new) ≡ 3)
+three-written [] p new ids pages fit = cc
+three-written (g ∷ []) p new ids pages fit = grind (arith, common_steps, eqb_tells, length-paste)
+three-written (g ∷ h ∷ hs) p new ids pages fit = cc
 
 -- an area that has a size is there
 pub sized : (a : AreaView) (n : ℕ) → size_of a ≡ Some n → (a.here ≡ true) × (length a.pages ≡ n)

@@ -6,10 +6,10 @@ ghost use Rattle.shm_slots.specs.View.{IsAreaSize, swap_slots};
 ghost use Rattle.shm_fault.specs.Store.{held, frame_of, page_of};
 ghost use Rattle.shm_store_tests.specs.Trial.{HasThree};
 
-use crate::pagers::fuse;
 use shm_base::{FlushReport, HostMemory, Span};
 use shm_fault::{PageStore, PageTally};
 use shm_pager::{ClonePager, FusePager, Pager, RamPager};
+use shm_pager_tests::fuse;
 use shm_slots::Swap;
 use std::alloc::{AllocError, Global};
 use std::process::Abort;

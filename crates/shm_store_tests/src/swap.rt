@@ -2,10 +2,10 @@
 ghost use Rattle.std.specs.Prelude.{◌≡◌};
 ghost use Rattle.shm_slots.specs.View.{HasSlot};
 
-use crate::counting::{Counter, CountingPager};
 use crate::paging::{is_area, two_rams};
 use shm_base::{HostMemory, PageRef, Slot};
 use shm_pager::{AnyPager, FusePager, Pager, RamPager};
+use shm_pager_tests::{CountedRam, Counter, fuse, fuse_at};
 use shm_slots::Swap;
 use std::alloc::{AllocError, Global};
 use std::process::Abort;
@@ -208,24 +208,14 @@ fn numbers_stay_when_an_area_is_turned_off(rt: HostRuntime) -> Result<(), Fail> 
     Ok(())
 }
 
-fn fuse(
-    alloc: Global,
-    bad_writes: &[u64],
-    failures: u64,
-) -> Result<FusePager<RamPager>, AllocError> {
-    let ram = RamPager::new(alloc, 1)?;
-    let bad_writes = bad_writes.to_vec(alloc)?;
-    Ok(FusePager::new_at(ram, Vec::new(alloc), bad_writes, failures))
-}
-
 // Two areas of one slot each: their writes with these numbers fail, and they have counted this many failures.
 fn two_fuses(
     alloc: Global,
     first: (&[u64], u64),
     other: (&[u64], u64),
 ) -> Result<Vec<FusePager<RamPager>>, AllocError> {
-    let first = fuse(alloc, first.0, first.1)?;
-    let other = fuse(alloc, other.0, other.1)?;
+    let first = fuse_at(alloc, 1, &[], first.0, first.1)?;
+    let other = fuse_at(alloc, 1, &[], other.0, other.1)?;
     Ok(vec![in alloc; first, other]?)
 }
 
@@ -269,8 +259,11 @@ fn two_counted(
     (first, other): (&Counter, &Counter),
     slots: u32,
     failures: u64,
-) -> Result<Vec<CountingPager>, AllocError> {
-    Ok(vec![in alloc; first.pager(slots, failures)?, other.pager(slots, 0)?]?)
+) -> Result<Vec<CountedRam>, AllocError> {
+    Ok(vec![in alloc;
+        first.ram(alloc, slots, failures)?,
+        other.ram(alloc, slots, 0)?,
+    ]?)
 }
 
 // Turns the first area off, and drops the swap.
@@ -282,7 +275,7 @@ fn turned_off<X: Pager>(
 ) -> Result<(), HostMemory> {
     let mut swap = swap_of(rt, alloc, pagers)?;
     turn_off(rt, &mut swap, 0);
-    assert!(rt; counter.counts() == (0, 1));
+    assert!(rt; counter.wipes() == 0 && counter.drops() == 1);
     Ok(())
 }
 
@@ -292,8 +285,13 @@ fn pagers_are_dropped_once(rt: HostRuntime) -> Result<(), Fail> {
     let counter = Counter::new(alloc)?;
     let pagers = two_counted(alloc, (&counter, &counter), 1, 0)?;
     turned_off(&rt, alloc, pagers, &counter)?;
-    assert!(rt; counter.counts() == (0, 2));
+    assert!(rt; counter.wipes() == 0 && counter.drops() == 2);
     Ok(())
+}
+
+// How many slots were discarded, and which was the last.
+fn discards(counter: &Counter) -> (u64, u64) {
+    (counter.asks().2, counter.last_discarded())
 }
 
 // Takes the four slots of two areas, and returns the second of each.
@@ -309,9 +307,9 @@ fn give_second_slots<X: Pager>(
         assert!(rt; swap.take_slot(page(number)).is_some());
     }
     give(rt, &mut swap, LAST);
-    assert!(rt; first.discards() == (0, 0) && other.discards() == (1, 1));
+    assert!(rt; discards(first) == (0, 0) && discards(other) == (1, 1));
     give(rt, &mut swap, SECOND);
-    assert!(rt; first.discards() == (1, 1) && other.discards() == (1, 1));
+    assert!(rt; discards(first) == (1, 1) && discards(other) == (1, 1));
     Ok(())
 }
 
@@ -327,7 +325,7 @@ fn a_freed_slot_is_discarded(rt: HostRuntime) -> Result<(), Fail> {
 }
 
 fn two_boxes(alloc: Global) -> Result<Vec<AnyPager>, AllocError> {
-    let fused: AnyPager = Box::new(alloc, fuse(alloc, &[], 0)?)?;
+    let fused: AnyPager = Box::new(alloc, fuse(alloc, 1, &[], &[])?)?;
     let ram: AnyPager = Box::new(alloc, RamPager::new(alloc, 1)?)?;
     Ok(vec![in alloc; fused, ram]?)
 }

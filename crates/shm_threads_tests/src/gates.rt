@@ -1,6 +1,7 @@
 //! When a run calls its gate, and how a run ends if its gate ends a worker.
 use crate::runs::{FAMILY, TURNED, TWO};
 use crate::shared::{Rule, Ruled, fault_by, run_with_gate, seen_by};
+use Rule::{Below, OnceWithout, Without};
 use shm_base::Reply;
 use shm_threads::RunError;
 use std::test::Fail;
@@ -43,64 +44,31 @@ fn a_gate_is_called_after_the_answer(rt: HostRuntime) -> Result<(), Fail> {
     Ok(())
 }
 
-/// How runs end if the gate ends workers: all of them, those of the processes, one, or none. What a gate says
-/// is noted when it says it, so a gate that would answer otherwise if it were asked again changes nothing.
-const ENDED: &[(&str, &[u8], Rule, Option<RunError>)] = &[
-    (
-        "the flusher before a process",
-        ROUNDS,
-        Rule::Below(0),
-        Some(RunError::GateExpired { pid: 0 }),
-    ),
-    (
-        "the processes",
-        ROUNDS,
-        Rule::Below(1),
-        Some(RunError::GateExpired { pid: 1 }),
-    ),
+/// The worker that a run names if the gate ends workers: all of them, those of the processes, one, or none. What
+/// a gate says is noted when it says it, so a gate that would answer otherwise if it were asked again changes
+/// nothing.
+const ENDED: &[(&str, &[u8], Rule, Option<u32>)] = &[
+    ("the flusher before a process", ROUNDS, Below(0), Some(0)),
+    ("the processes", ROUNDS, Below(1), Some(1)),
     ("none", ROUNDS, Rule::Open, None),
+    ("both of two", TWO, Below(1), Some(1)),
+    ("both, the second declared first", TURNED, Below(1), Some(1)),
+    ("the second of two", TWO, Below(2), Some(2)),
+    ("one that might pass later", TWO, OnceWithout(1), Some(1)),
     (
-        "both of two",
-        TWO,
-        Rule::Below(1),
-        Some(RunError::GateExpired { pid: 1 }),
-    ),
-    (
-        "both of two, the second declared first",
-        TURNED,
-        Rule::Below(1),
-        Some(RunError::GateExpired { pid: 1 }),
-    ),
-    (
-        "the second of two",
-        TWO,
-        Rule::Below(2),
-        Some(RunError::GateExpired { pid: 2 }),
-    ),
-    (
-        "one that might pass later",
-        TWO,
-        Rule::OnceWithout(1),
-        Some(RunError::GateExpired { pid: 1 }),
-    ),
-    (
-        "the flusher, which might pass later",
+        "the flusher that might pass later",
         ROUNDS,
-        Rule::OnceWithout(0),
-        Some(RunError::GateExpired { pid: 0 }),
+        OnceWithout(0),
+        Some(0),
     ),
-    (
-        "a parent, whose run ends",
-        FAMILY,
-        Rule::Without(1),
-        Some(RunError::GateExpired { pid: 1 }),
-    ),
+    ("a parent, whose run ends", FAMILY, Without(1), Some(1)),
 ];
 
 #[test]
 fn a_gate_ends_workers(rt: HostRuntime) -> Result<(), Fail> {
     for &(name, text, rule, ended) in ENDED {
-        assert!(rt; fault_by(&rt, rt.alloc(), text, rule)? == ended, "{name}");
+        let fault = ended.map(|pid| RunError::GateExpired { pid });
+        assert!(rt; fault_by(&rt, rt.alloc(), text, rule)? == fault, "{name}");
     }
     Ok(())
 }

@@ -15,6 +15,7 @@ use std::test::Fail;
 use std::thread::{Threads, join};
 
 /// What a reader and the other threads report to each other.
+#[derive(Drop)]
 struct Readings {
     /// How many readings have ended.
     ended: AtomicU64,
@@ -55,18 +56,6 @@ impl Readings {
         if !comes_to(count, least) {
             self.late.fetch_add(1, Ordering::SeqCst);
         }
-    }
-}
-
-impl Drop for Readings {
-    fn drop(self) {
-        let Readings {
-            ended: _,
-            wrong: _,
-            flushed: _,
-            done: _,
-            late: _,
-        } = self;
     }
 }
 
@@ -186,20 +175,11 @@ fn readings_while_four_count(rt: HostRuntime) -> Result<(), Fail> {
 
 /// Starts the flusher's rounds after process 1's fourth call, and holds the flusher after each round until a
 /// reading shows the pages that it wrote.
+#[derive(Drop)]
 struct UntilRead<'a> {
     behind: Ruled,
     readings: &'a Readings,
     pages: u64,
-}
-
-impl Drop for UntilRead<'_> {
-    fn drop(self) {
-        let UntilRead {
-            behind: _,
-            readings: _,
-            pages: _,
-        } = self;
-    }
 }
 
 impl Gate for UntilRead<'_> {
@@ -248,6 +228,7 @@ fn each_round_is_published(rt: HostRuntime) -> Result<(), Fail> {
 
 /// Pages in memory. The first write, which holds the world's lock, ends only after a reading has begun and
 /// ended since.
+#[derive(Drop)]
 struct WaitingPager<'a> {
     inner: RamPager,
     readings: &'a Readings,
@@ -292,16 +273,6 @@ impl Pager for WaitingPager<'_> {
 
     fn wipe(&mut self) {
         self.inner.wipe();
-    }
-}
-
-impl Drop for WaitingPager<'_> {
-    fn drop(self) {
-        let WaitingPager {
-            inner: _,
-            readings: _,
-            has_waited: _,
-        } = self;
     }
 }
 

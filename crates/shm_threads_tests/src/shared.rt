@@ -64,6 +64,7 @@ pub(crate) enum Rule {
 }
 
 /// The number of the call of a worker's last `before`, and that of its last `after`.
+#[derive(Drop)]
 struct Turn {
     asked: AtomicU64,
     told: AtomicU64,
@@ -90,14 +91,9 @@ impl Turn {
     }
 }
 
-impl Drop for Turn {
-    fn drop(self) {
-        let Turn { asked: _, told: _ } = self;
-    }
-}
-
 /// Keeps a rule. Counts its calls for the flusher, for process 1 and for process 2, and those out of order.
 /// Any other process counts as process 2.
+#[derive(Drop)]
 pub(crate) struct Ruled {
     rule: Rule,
     flusher: Turn,
@@ -160,18 +156,6 @@ impl Ruled {
         if !is_in_turn {
             self.wrong.fetch_add(1, Ordering::SeqCst);
         }
-    }
-}
-
-impl Drop for Ruled {
-    fn drop(self) {
-        let Ruled {
-            rule: _,
-            flusher: _,
-            first: _,
-            second: _,
-            wrong: _,
-        } = self;
     }
 }
 

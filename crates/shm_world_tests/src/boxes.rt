@@ -1,118 +1,33 @@
 //! Boxes that count their drops: those of a start that is refused, and those of areas that a swapoff takes
 //! away. Each is dropped once, and none early. The test of starts also passes if the host refuses memory: `rt
 //! try --test --fail-alloc N -- boxes::a_refused_start` makes the N-th allocation fail.
-ghost use Rattle.std.specs.Prelude.{[]};
-ghost use Rattle.shm_pager.specs.Pages.{last_count};
-
 use crate::histories::{Ask, Row, Want, answers, opened_by};
 use crate::starts::ROWS;
 use shm_base::{Errno, HostMemory, Limits, Process};
 use shm_history::{System, World};
-use shm_pager::{AnyPager, FusePager, Pager, PagerFault, SparsePager};
+use shm_pager::{AnyPager, FusePager, Pager, SparsePager};
+use shm_pager_tests::Counter;
 use std::alloc::{AllocError, Global};
 use std::process::Abort;
-use std::sync::Arc;
-use std::sync::atomic::{AtomicU64, Ordering};
 use std::test::Fail;
 
-/// Pages in memory whose drop is counted.
-struct CountedPager {
-    inner: SparsePager,
-    drops: Arc<AtomicU64>,
-}
-
-impl Pager for CountedPager {
-    ghost content = { λ p. p.inner.pages };
-
-    ghost failed = { λ p. p.inner.failed };
-
-    ghost most = { λ _. last_count };
-
-    ghost calls = { λ _. [] };
-
-    fn slots(&self) -> u32 {
-        self.inner.slots()
-    }
-
-    fn failures(&self) -> u64 {
-        self.inner.failures()
-    }
-
-    fn write(&mut self, slot: u32, page: &[u8; 4096]) -> Result<(), PagerFault> {
-        self.inner.write(slot, page)
-    }
-
-    fn read(&mut self, slot: u32, page: &mut [u8; 4096]) -> Result<(), PagerFault> {
-        self.inner.read(slot, page)
-    }
-
-    fn discard(&mut self, slot: u32) {
-        self.inner.discard(slot);
-    }
-
-    fn wipe(&mut self) {
-        self.inner.wipe();
-    }
-}
-
-impl Drop for CountedPager {
-    fn drop(self) {
-        self.drops.fetch_add(1, Ordering::SeqCst);
-        let CountedPager { inner: _, drops: _ } = self;
-    }
-}
-
-/// Makes such pagers, and counts those that were made and those that were dropped.
-struct Counter {
+// A box of a pager; these reads of it fail.
+fn boxed(
     alloc: Global,
-    made: u64,
-    drops: Arc<AtomicU64>,
+    counter: &Counter,
+    slots: u32,
+    reads: &[u64],
+) -> Result<AnyPager, AllocError> {
+    let pager = counter.pager(SparsePager::new(alloc, slots)?)?;
+    let fuse = FusePager::new(pager, reads.to_vec(alloc)?, Vec::new(alloc));
+    let boxed: AnyPager = Box::new(alloc, fuse)?;
+    Ok(boxed)
 }
 
-impl Drop for Counter {
-    fn drop(self) {
-        let Counter {
-            alloc: _,
-            made: _,
-            drops: _,
-        } = self;
-    }
-}
-
-impl Counter {
-    fn new(alloc: Global) -> Result<Counter, AllocError> {
-        Ok(Counter {
-            alloc,
-            made: 0,
-            drops: Arc::new(alloc, AtomicU64::new(0))?,
-        })
-    }
-
-    fn pager(&mut self, slots: u32) -> Result<CountedPager, AllocError> {
-        let inner = SparsePager::new(self.alloc, slots)?;
-        let drops = Arc::try_clone(&self.drops)?;
-        self.made = self.made.wrapping_add(1);
-        Ok(CountedPager { inner, drops })
-    }
-
-    /// A box of a pager; these reads of it fail.
-    fn boxed(&mut self, slots: u32, reads: &[u64]) -> Result<AnyPager, AllocError> {
-        let reads = reads.to_vec(self.alloc)?;
-        let pager = self.pager(slots)?;
-        let fuse = FusePager::new(pager, reads, Vec::new(self.alloc));
-        let boxed: AnyPager = Box::new(self.alloc, fuse)?;
-        Ok(boxed)
-    }
-
-    fn drops(&self) -> u64 {
-        self.drops.load(Ordering::SeqCst)
-    }
-}
-
-fn boxes(alloc: Global, counter: &mut Counter, areas: &[u32]) -> Result<Vec<AnyPager>, HostMemory> {
+fn boxes(alloc: Global, counter: &Counter, areas: &[u32]) -> Result<Vec<AnyPager>, HostMemory> {
     let mut boxes: Vec<AnyPager> = Vec::new(alloc);
     for slots in areas {
-        boxes.push(counter.boxed(*slots, &[])?)?;
+        boxes.push(boxed(alloc, counter, *slots, &[])?)?;
     }
     Ok(boxes)
 }
@@ -133,12 +48,12 @@ fn dropped<P: Pager>(
 
 // Starts over counted boxes. Returns whether a refused start has dropped each once, and drops no more later.
 fn drops_each(alloc: Global, areas: &[u32], processes: &[Process]) -> Result<bool, HostMemory> {
-    let mut counter = Counter::new(alloc)?;
-    let Ok(boxes) = boxes(alloc, &mut counter, areas) else {
-        return Ok(counter.drops() == counter.made);
+    let counter = Counter::new(alloc)?;
+    let Ok(boxes) = boxes(alloc, &counter, areas) else {
+        return Ok(counter.drops() == counter.made());
     };
     let refused = dropped(alloc, boxes, processes, &counter);
-    let made = counter.made;
+    let made = counter.made();
     Ok(refused.unwrap_or(made) == made && counter.drops() == made && made == areas.len() as u64)
 }
 
@@ -170,10 +85,10 @@ const SWAPOFFS: &[(Row, u64)] = &[
 
 fn boxes_of_two(
     alloc: Global,
-    first: &mut Counter,
-    other: &mut Counter,
+    first: &Counter,
+    other: &Counter,
 ) -> Result<Vec<AnyPager>, HostMemory> {
-    Ok(vec![in alloc; first.boxed(8, &[1])?, other.boxed(8, &[])?]?)
+    Ok(vec![in alloc; boxed(alloc, first, 8, &[1])?, boxed(alloc, other, 8, &[])?]?)
 }
 
 // Makes the calls. The first area's box is dropped when its swapoff succeeds, and the other's never.
@@ -206,8 +121,8 @@ fn turns_off<P: Pager>(
 #[test]
 fn a_swapoff_drops_the_box_once(rt: HostRuntime) -> Result<(), Fail> {
     let alloc = rt.alloc();
-    let (mut first, mut other) = (Counter::new(alloc)?, Counter::new(alloc)?);
-    let boxes = boxes_of_two(alloc, &mut first, &mut other)?;
+    let (first, other) = (Counter::new(alloc)?, Counter::new(alloc)?);
+    let boxes = boxes_of_two(alloc, &first, &other)?;
     turns_off(&rt, alloc, boxes, &first, &other)?;
     assert_eq!(rt; (first.drops(), other.drops()), (1, 1));
     Ok(())

@@ -1,5 +1,9 @@
-use Rattle.shm_store_tests.proofs.Names.{common_steps, ◌≡◌, ap, arith, pager_seen, with_zeros, held, fresh_store}
-use Rattle.shm_store_tests.proofs.Trials.{fresh-free, fresh-held, three_pages-added}
+use Rattle.std.proofs.lemmas.Grind.{common_steps}
+use Rattle.std.proofs.Common.{◌≡◌, ap, arith}
+use Rattle.shm_pager.specs.Pages.{pager_seen}
+use Rattle.shm_fault.specs.Held.{with_zeros}
+use Rattle.shm_fault.specs.Store.{held, fresh_store}
+use Rattle.shm_store_tests.proofs.Trials.{fresh-free, fresh-held, added}
 use Rattle.shm_store_tests.proofs.paging.store_over.Goals as goal
 
 pub new-requires-2-clause-free : goal.new-requires-2-clause-free
@@ -16,4 +20,4 @@ returns g c =
     let s = c.in_ok-store.store in
     let made : held s ≡ held (fresh_store s.frames c.in_ok-swap.swap) = ap held c.in_ok-store.ensures.fresh in
     let is : held c.add_segment.new.store ≡ with_zeros (held s) 0 3 = c.in_ok-add_segment.ensures.held in
-    rw (is, made) (three_pages-added s.frames c.in_ok-swap.swap)
+    rw (is, made, fresh-held s.frames c.in_ok-swap.swap) (added 3)

@@ -1,4 +1,5 @@
-use Rattle.shm_store_tests.proofs.Names.{◌≡◌, ℕ, ◌<◌, None, owner_of}
+use Rattle.std.proofs.Common.{◌≡◌, ℕ, ◌<◌, None}
+use Rattle.shm_slots.specs.View.{owner_of}
 use Rattle.shm_store_tests.proofs.swap.turn_off.Given as goal
 
 abbrev pub invariant-loop-slot : goal.invariant-loop-slot

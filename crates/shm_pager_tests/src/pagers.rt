@@ -1,10 +1,11 @@
 //! Worked rows for the kinds of pagers, with their expected results. Also tests that each pager is dropped
 //! once, and wiped.
-use crate::counting::{Counter, CountingPager};
-use shm_base::{HostMemory, zeros};
+use crate::counting::{CountedRam, Counter};
+use crate::failing::{fuse, fuse_at};
+use shm_base::zeros;
 use shm_pager::{
-    AnyPager, AreaKind, AreaPager, ClonePager, Failing, FusePager, MirrorCause, MirrorPager, Pager,
-    RamPager, SparsePager, try_read, try_write,
+    AnyPager, FusePager, MirrorCause, MirrorPager, Pager, RamPager, SparsePager, try_read,
+    try_write,
 };
 use std::alloc::{AllocError, Global};
 use std::process::Abort;
@@ -32,14 +33,10 @@ fn discard<X: Pager>(rt: &impl Abort, pager: &mut X, slot: u32) {
     pager.discard(slot);
 }
 
-fn places(alloc: Global, listed: &[u64]) -> Result<Vec<u64>, AllocError> {
-    listed.to_vec(alloc)
-}
-
 /// A write of a page of one byte to a slot, and whether it succeeds; a read of a slot, and the byte of its
 /// page, none if it fails; a discard of a slot; or a wipe.
 #[derive(Clone, Copy)]
-enum Access {
+pub(crate) enum Access {
     Write(u32, u8, bool),
     Read(u32, Option<u8>),
     Discard(u32),
@@ -49,7 +46,7 @@ enum Access {
 use Access::{Discard, Read, Wipe, Write};
 
 // Makes an access, and returns whether its result is the expected one.
-fn answers<X: Pager>(rt: &impl Abort, pager: &mut X, access: Access) -> bool {
+pub(crate) fn answers<X: Pager>(rt: &impl Abort, pager: &mut X, access: Access) -> bool {
     match access {
         Write(slot, byte, is_taken) => write(rt, pager, slot, byte) == is_taken,
         Read(slot, byte) => reads(rt, pager, slot, byte),
@@ -65,7 +62,12 @@ fn answers<X: Pager>(rt: &impl Abort, pager: &mut X, access: Access) -> bool {
 }
 
 // Makes these accesses in order. Afterwards the pager has counted this many failures.
-fn accessed<X: Pager>(rt: &impl Abort, pager: &mut X, accesses: &[Access], failures: u64) {
+pub(crate) fn accessed<X: Pager>(
+    rt: &impl Abort,
+    pager: &mut X,
+    accesses: &[Access],
+    failures: u64,
+) {
     for (number, &access) in accesses.iter().enumerate() {
         assert!(rt; answers(rt, pager, access), "access {number}");
     }
@@ -73,28 +75,16 @@ fn accessed<X: Pager>(rt: &impl Abort, pager: &mut X, accesses: &[Access], failu
 }
 
 // The same with a pager that is dropped afterwards.
-fn accessed_once<X: Pager>(rt: &impl Abort, mut pager: X, accesses: &[Access], failures: u64) {
+pub(crate) fn accessed_once<X: Pager>(
+    rt: &impl Abort,
+    mut pager: X,
+    accesses: &[Access],
+    failures: u64,
+) {
     accessed(rt, &mut pager, accesses, failures);
 }
 
-// A pager in memory inside a fuse that fails these reads and writes.
-pub(crate) fn fuse(
-    alloc: Global,
-    slots: u32,
-    reads: &[u64],
-    writes: &[u64],
-) -> Result<FusePager<RamPager>, AllocError> {
-    let ram = RamPager::new(alloc, slots)?;
-    let reads = places(alloc, reads)?;
-    let writes = places(alloc, writes)?;
-    Ok(FusePager::new(ram, reads, writes))
-}
-
-pub(crate) fn mirror<X: Pager, Y: Pager>(
-    alloc: Global,
-    left: X,
-    right: Y,
-) -> Result<MirrorPager<X, Y>, Fail> {
+fn mirror<X: Pager, Y: Pager>(alloc: Global, left: X, right: Y) -> Result<MirrorPager<X, Y>, Fail> {
     Ok(MirrorPager::new(alloc, left, right).map_err(|e| e.cause)?)
 }
 
@@ -180,10 +170,8 @@ fn a_mirror_of_unequal_sides_is_refused(rt: HostRuntime) -> Result<(), Fail> {
 
 // A fuse whose first write fails, over a pager that can count no further failure.
 fn over_a_spent_pager(alloc: Global) -> Result<FusePager<FusePager<RamPager>>, AllocError> {
-    let ram = RamPager::new(alloc, 1)?;
-    let writes = places(alloc, &[1])?;
-    let spent = FusePager::new_at(ram, Vec::new(alloc), Vec::new(alloc), u64::MAX);
-    Ok(FusePager::new(spent, Vec::new(alloc), writes))
+    let spent = fuse_at(alloc, 1, &[], &[], u64::MAX)?;
+    Ok(FusePager::new(spent, Vec::new(alloc), [1].to_vec(alloc)?))
 }
 
 const NOT_CALLED: &[Access] = &[Write(0, 0x50, false), Read(0, None)];
@@ -230,10 +218,8 @@ fn runs<X: Pager>(rt: &impl Abort, pager: X) {
     accessed_once(rt, pager, RUN, 0);
 }
 
-fn runs_in_a_fuse<X: Pager>(rt: &impl Abort, alloc: Global, inner: X) -> Result<(), AllocError> {
-    let (reads, writes) = (places(alloc, &[])?, places(alloc, &[])?);
-    runs(rt, FusePager::new(inner, reads, writes));
-    Ok(())
+fn in_a_fuse<X: Pager>(alloc: Global, inner: X) -> FusePager<X> {
+    FusePager::new(inner, Vec::new(alloc), Vec::new(alloc))
 }
 
 #[test]
@@ -241,7 +227,7 @@ fn each_kind_runs(rt: HostRuntime) -> Result<(), Fail> {
     let alloc = rt.alloc();
     runs(&rt, RamPager::new(alloc, 2)?);
     runs(&rt, SparsePager::new(alloc, 2)?);
-    runs_in_a_fuse(&rt, alloc, SparsePager::new(alloc, 2)?)?;
+    runs(&rt, in_a_fuse(alloc, SparsePager::new(alloc, 2)?));
     let (left, right) = (RamPager::new(alloc, 2)?, SparsePager::new(alloc, 2)?);
     runs(&rt, mirror(alloc, left, right)?);
     let boxed: AnyPager = Box::new(alloc, RamPager::new(alloc, 2)?)?;
@@ -249,25 +235,22 @@ fn each_kind_runs(rt: HostRuntime) -> Result<(), Fail> {
     Ok(())
 }
 
-/// What contains the pagers that count: a fuse, a box, or a mirror whose right side has this many slots and
-/// failures.
+/// What contains the pagers that count: a fuse whose pager has this many failures, a box, or a mirror whose
+/// right side has this many slots and failures.
 #[derive(Clone, Copy)]
 enum Behind {
-    Fuse,
+    Fuse(u64),
     Boxed,
     Mirror(u32, u64),
 }
 
-fn drop_in_a_fuse<X: Pager>(alloc: Global, inner: X) -> Result<(), AllocError> {
-    let (reads, writes) = (places(alloc, &[])?, places(alloc, &[])?);
-    drop(FusePager::new(inner, reads, writes));
-    Ok(())
+fn boxed(alloc: Global, inner: CountedRam) -> Result<AnyPager, AllocError> {
+    let boxed: AnyPager = Box::new(alloc, inner)?;
+    Ok(boxed)
 }
 
-// A box, and a box in a fuse.
-fn drop_in_a_box(alloc: Global, inner: CountingPager) -> Result<(), AllocError> {
-    let boxed: AnyPager = Box::new(alloc, inner)?;
-    drop_in_a_fuse(alloc, boxed)
+fn drop_in_a_fuse<X: Pager>(alloc: Global, inner: X) {
+    drop(in_a_fuse(alloc, inner));
 }
 
 // Returns whether there was a mirror.
@@ -278,12 +261,12 @@ fn drop_in_a_mirror<X: Pager>(alloc: Global, left: X, right: X) -> bool {
 
 // Drops pagers of one slot inside this. Returns whether it was made.
 fn is_made(alloc: Global, counter: &Counter, behind: Behind) -> Result<bool, AllocError> {
-    let inner = counter.pager(1, 0)?;
+    let inner = counter.ram(alloc, 1, 0)?;
     match behind {
-        Behind::Fuse => drop_in_a_fuse(alloc, inner)?,
-        Behind::Boxed => drop_in_a_box(alloc, inner)?,
+        Behind::Fuse(_) => drop_in_a_fuse(alloc, inner),
+        Behind::Boxed => drop_in_a_fuse(alloc, boxed(alloc, inner)?),
         Behind::Mirror(slots, failures) => {
-            return Ok(drop_in_a_mirror(alloc, inner, counter.pager(slots, failures)?));
+            return Ok(drop_in_a_mirror(alloc, inner, counter.ram(alloc, slots, failures)?));
         }
     }
     Ok(true)
@@ -291,7 +274,7 @@ fn is_made(alloc: Global, counter: &Counter, behind: Behind) -> Result<bool, All
 
 // A mirror that gets no memory returns both sides, so each is dropped once all the same.
 const DROPS: &[(&str, Behind, u64, u64)] = &[
-    ("a fuse", Behind::Fuse, 1, 1),
+    ("a fuse", Behind::Fuse(0), 1, 1),
     ("a box in a fuse", Behind::Boxed, 1, 1),
     ("a mirror", Behind::Mirror(1, 0), 2, 2),
     ("the sides of a refused mirror", Behind::Mirror(2, 0), 0, 2),
@@ -306,24 +289,16 @@ fn each_drop_runs_once_and_wipes(rt: HostRuntime) -> Result<(), Fail> {
         } else {
             0
         };
-        assert!(rt; counter.counts() == (wipes, drops), "{name}");
+        assert!(rt;
+            (counter.wipes(), counter.drops()) == (wipes, drops),
+            "{name}"
+        );
     }
     Ok(())
 }
 
 fn discard_once<X: Pager>(rt: &impl Abort, mut pager: X, slot: u32) {
     discard(rt, &mut pager, slot);
-}
-
-fn discard_in_a_box(
-    rt: &impl Abort,
-    alloc: Global,
-    inner: CountingPager,
-    slot: u32,
-) -> Result<(), AllocError> {
-    let boxed: AnyPager = Box::new(alloc, inner)?;
-    discard_once(rt, boxed, slot);
-    Ok(())
 }
 
 // Discards the last slot of this, which has as many slots as the pager inside.
@@ -334,16 +309,17 @@ fn discard_through(
     behind: Behind,
     slot: u32,
 ) -> Result<(), Fail> {
-    let inner = counter.pager(slot.wrapping_add(1), 0)?;
+    let slots = slot.wrapping_add(1);
     match behind {
-        Behind::Fuse => {
-            let fuse = FusePager::new(inner, Vec::new(alloc), Vec::new(alloc));
-            discard_once(rt, fuse, slot);
+        Behind::Fuse(failures) => {
+            let inner = counter.ram(alloc, slots, failures)?;
+            discard_once(rt, in_a_fuse(alloc, inner), slot);
         }
-        Behind::Boxed => discard_in_a_box(rt, alloc, inner, slot)?,
-        Behind::Mirror(slots, failures) => {
-            let right = counter.pager(slots, failures)?;
-            discard_once(rt, mirror(alloc, inner, right)?, slot);
+        Behind::Boxed => discard_once(rt, boxed(alloc, counter.ram(alloc, slots, 0)?)?, slot),
+        Behind::Mirror(others, failures) => {
+            let left = counter.ram(alloc, slots, 0)?;
+            let right = counter.ram(alloc, others, failures)?;
+            discard_once(rt, mirror(alloc, left, right)?, slot);
         }
     }
     Ok(())
@@ -351,7 +327,8 @@ fn discard_through(
 
 // How often a slot is discarded, and which was the last. One of the mirror's sides is spent.
 const DISCARDS: &[(&str, Behind, u32, (u64, u64))] = &[
-    ("a fuse", Behind::Fuse, 1, (1, 1)),
+    ("a fuse", Behind::Fuse(0), 1, (1, 1)),
+    ("a spent pager in a fuse", Behind::Fuse(u64::MAX), 1, (1, 1)),
     ("a box", Behind::Boxed, 2, (1, 2)),
     (
         "both sides of a mirror",
@@ -367,106 +344,10 @@ fn a_discard_reaches_the_inner_pagers(rt: HostRuntime) -> Result<(), Fail> {
     for &(name, behind, slot, discards) in DISCARDS {
         let counter = Counter::new(rt.alloc())?;
         discard_through(&rt, rt.alloc(), &counter, behind, slot)?;
-        assert!(rt; counter.discards() == discards, "{name}");
-    }
-    Ok(())
-}
-
-/// The reads and writes of a side that fail.
-type Calls = (&'static [u64], &'static [u64]);
-
-/// An area of two slots; the accesses to it before it is copied; and those to both afterwards, after which
-/// each has counted this many failures.
-struct Copied {
-    kind: AreaKind,
-    left: Calls,
-    right: Calls,
-    before: &'static [Access],
-    area: &'static [Access],
-    copy: &'static [Access],
-    failures: u64,
-}
-
-// What will fail in the area fails in the copy. The last side of the mirror that is good for a slot stays the
-// last.
-const COPIES: &[Copied] = &[
-    Copied {
-        kind: AreaKind::Ram,
-        left: (&[2], &[2]),
-        right: (&[], &[]),
-        before: &[Write(0, 0x50, true), Read(0, Some(0x50))],
-        area: &[Read(0, None), Write(0, 0x51, false), Read(0, Some(0xa5))],
-        copy: &[
-            Write(1, 0x52, false),
-            Read(0, None),
-            Read(0, Some(0x50)),
-            Read(1, Some(0xa5)),
-        ],
-        failures: 2,
-    },
-    Copied {
-        kind: AreaKind::Sparse,
-        left: (&[], &[]),
-        right: (&[], &[]),
-        before: &[Write(1, 0x50, true)],
-        area: &[Write(1, 0x51, true), Wipe, Read(1, Some(0))],
-        copy: &[
-            Read(0, Some(0)),
-            Read(1, Some(0x50)),
-            Write(0, 0x52, true),
-            Read(0, Some(0x52)),
-        ],
-        failures: 0,
-    },
-    Copied {
-        kind: AreaKind::Mirror,
-        left: (&[], &[1]),
-        right: (&[2], &[]),
-        before: &[Write(0, 0x50, true)],
-        area: &[Read(0, Some(0x50)), Read(0, None)],
-        copy: &[Read(0, Some(0x50)), Discard(0), Read(0, None)],
-        failures: 1,
-    },
-];
-
-fn failing(alloc: Global, (reads, writes): Calls) -> Result<Failing, AllocError> {
-    Ok(Failing {
-        reads: places(alloc, reads)?,
-        writes: places(alloc, writes)?,
-    })
-}
-
-fn area_of(alloc: Global, case: &Copied) -> Result<AreaPager, HostMemory> {
-    let left = failing(alloc, case.left)?;
-    let right = failing(alloc, case.right)?;
-    AreaPager::new(alloc, case.kind, 2, left, right)
-}
-
-// A copy of a pager. If the host refuses memory, the pager is unchanged, and is copied again.
-fn copy_of<X: ClonePager>(pager: &X) -> Result<X, HostMemory> {
-    match pager.try_clone() {
-        Ok(copy) => Ok(copy),
-        Err(_) => pager.try_clone(),
-    }
-}
-
-fn change_independently<X: ClonePager>(
-    rt: &impl Abort,
-    pager: &mut X,
-    case: &Copied,
-) -> Result<(), HostMemory> {
-    accessed(rt, pager, case.before, 0);
-    let copy = copy_of(pager)?;
-    accessed(rt, pager, case.area, case.failures);
-    accessed_once(rt, copy, case.copy, case.failures);
-    Ok(())
-}
-
-#[test]
-fn an_area_of_each_kind_and_its_copy_are_independent(rt: HostRuntime) -> Result<(), Fail> {
-    for case in COPIES {
-        let mut area = area_of(rt.alloc(), case)?;
-        change_independently(&rt, &mut area, case)?;
+        assert!(rt;
+            (counter.asks().2, counter.last_discarded()) == discards,
+            "{name}"
+        );
     }
     Ok(())
 }
