@@ -1,26 +1,17 @@
 -- Pages that leave a swap area, and the area that is turned off.
-use Rattle.shm_fault.proofs.Names.{with_owner, total, ◌≡◌, ◌≢◌, ℕ, zero, suc, ◌<◌, ◌≤◌, ◌+◌, true, cond, List, [], ◌∷◌, length, get_or, set, sum_by, Option, Some, None, is_some, refl, sym, ap, ◌∙◌, inl, inr, arith, length-set, get_or-set_same, get_or-set_other, cases_eq, get_or_past, SameSlots, SideCalls, with_calls_at, some_spent, length-map, sum_by-set, sum_by-cons, PageRef, Slot, pages_in_store, used_count, SwapView, no_area, area_at, with_area, off, HasSlot, IsArea, IsSwap, IsFirstFree, OneArea, AfterWriteFault, owner_of, page_in, size_of, sizes, swap_slots, slots_in, used_in, used_slots, with_slot_owner, with_slot_page, without_slot, GoesOn, IsSteady, had_cause, Frame, no_frame, frame_at, PageRec, rec_by, HasPage, with_rec, StoreView, held, IsTied, Tied, IsStoreSound, Goes, Still, IsUncounted, SameOwned, IsRelocated, IsCleared, common_steps, nat_tests}
-use Rattle.shm_fault.proofs.Pages.{rec-with, other, other_ne, has-frame, has-slot}
-use Rattle.shm_fault.proofs.Slots.{OnlySlot, OnlySlot-trans, OnlySlot-owner, OnlySlot-page, OnlySlot-given, page-written, owner-written, owner-set, owner-given, cases_slot, set-cases}
-use Rattle.shm_fault.proofs.Ties.{SlotsApart, Touches, IsOwn-some, segs-same, segs-with, frames-same, frames-set, tied_touched, bytes_touched}
+use Rattle.shm_fault.proofs.Names.{total, ◌≡◌, ◌≢◌, ℕ, zero, suc, ◌<◌, ◌≤◌, ◌+◌, true, cond, List, [], ◌∷◌, length, get_or, set, sum_by, Option, Some, None, is_some, refl, sym, ap, ◌∙◌, inl, inr, arith, length-set, get_or-set_same, get_or-set_other, cases_eq, get_or_past, length-map, sum_by-set, sum_by-cons, PageRef, Slot, pages_in_store, SwapView, no_area, area_at, with_area, off, HasSlot, IsSwap, owner_of, page_in, size_of, sizes, swap_slots, slots_in, used_in, used_slots, without_slot, GoesOn, IsSteady, Frame, no_frame, frame_at, PageRec, rec_by, HasPage, with_rec, StoreView, held, IsTied, Tied, IsStoreSound, Goes, Still, IsUncounted, SameOwned, IsRelocated, IsCleared, common_steps, nat_tests, Clears, Relocates, PagerFault, Ok, Err, places, after_moves, OnlySlot-given, owner-given, cases_slot, size-at, pages-same}
+use Rattle.shm_slots.specs.Owners.{used_count}
+use Rattle.shm_fault.proofs.Pages.{rec-with, other, other_ne, has-frame, has-slot, by-still, still-with}
+use Rattle.shm_fault.proofs.Slots.{set-cases}
+use Rattle.shm_fault.proofs.Sound.{SlotsApart, Touches, IsOwn-some, segs-same, segs-with, frames-same, frames-set, tied_touched, bytes_touched, IsSound-from, Goes-refl, Goes-trans, Keeps, every, keeps-every, keeps-one}
 use Rattle.shm_fault.proofs.Bytes.{bytes_at, held-same}
 use Rattle.shm_fault.proofs.Tally.{used-slots}
 use Rattle.shm_fault.proofs.Whole.{pages_in_store-is}
-use Rattle.shm_fault.proofs.Failures.{size-at, pages-same, spent-cause, cause-before, cause-more}
-use Rattle.shm_fault.proofs.Sound.{IsSound-from, Goes-trans, GoesOn-refl, GoesOn-trans}
-use Rattle.shm_fault.proofs.Placed.{owners-kept}
-use Rattle.shm_fault.specs.Moving.{Relocates}
-use Rattle.shm_fault.specs.Placing.{slot_owners}
-use Rattle.shm_pager.specs.declared.pager.PagerFault.{PagerFault}
-use Rattle.std.specs.Prelude.{Result}
-use Rattle.std.proofs.lemmas.Result.{IfErr-weaker, IfOk-weaker}
-use Rattle.shm_fault.proofs.Failures.{total-read, spent-read}
 use Rattle.shm_fault.proofs.Counting.{uncounted-trans}
-use Rattle.shm_fault.proofs.Changes.{Keeps, every, keeps-every, keeps-one}
+use Rattle.shm_fault.proofs.Placed.{found-free}
 use Rattle.shm_fault.proofs.Drops.{GivenSlots, given-slots}
 use Rattle.shm_fault.specs.Store.{frame_of}
-use Rattle.shm_fault.specs.Placing.{places, after_move, after_moves}
-use Rattle.shm_fault.proofs.Moves.{moves-none, moves-then}
+use Rattle.shm_fault.proofs.Places.{moves-none, moves-then, move-none, move-is, moved-back, moved-away, places-swap, stops-at-move}
 
 pub here-lt : (s : SwapView) (area : ℕ) → (area_at s area).here ≡ true → area < length s.areas
 here-lt s area here = grind (arith, get_or_past s.areas area no_area, here)
@@ -34,50 +25,6 @@ count-one (o ∷ os) (suc i) r e = grind (arith, count-one os i r e, sum_by-cons
 pub has-room : (s : StoreView) → IsStoreSound s → (k : Slot) (r : PageRef) → owner_of s.swap k.area k.slot ≡ Some r → pages_in_store (held s) + length (area_at s.swap k.area).pages ≤ swap_slots s.swap
     → used_slots s.swap + length (area_at s.swap k.area).pages < swap_slots s.swap + used_in (area_at s.swap k.area)
 has-room s sound k r own room = grind (arith, nat_tests, common_steps, pages_in_store-is, sound.few_used, used-slots, sound.apart, sound.tied, count-one, s.swap, k.area, k.slot)
-
--- a page was written to another slot, and its old one given back
-pub relocated : (page : PageRef) (from to : Slot) (s : SwapView) (bytes last : List ℕ) (calls : List SideCalls) → IsSwap s → IsSwap (with_slot_page (with_slot_owner s to (Some page)) to bytes calls) → HasSlot s from.area from.slot → IsFirstFree s (Some from.area) to
-    → page_in s from.area from.slot ≡ bytes → IsRelocated page from to s (without_slot (with_slot_page (with_slot_owner s to (Some page)) to bytes calls) from last)
-relocated page from to s bytes last calls swap sound has first is =
-    let t : SwapView = with_slot_owner s to (Some page) in
-    let u : SwapView = with_slot_page t to bytes calls in
-    let v : SwapView = without_slot u from last in
-    let taken : OnlySlot to s t = OnlySlot-owner to s (Some page) in
-    let written : OnlySlot to t u = OnlySlot-page to t bytes calls in
-    let given : OnlySlot from u v = OnlySlot-given from u last in
-    let both : OnlySlot to s u = OnlySlot-trans to s t u taken written in
-    let there : HasSlot t to.area to.slot = taken.has to first.there in
-    let at : HasSlot u from.area from.slot = both.has from has in
-    let ne : to ≢ from = λ e. first.outside (ap (λ (x : Slot). Some x.area) (sym e)) in
-    record {
-      first = first;
-      has = λ k h. given.has k (both.has k h);
-      owner = given.owners to ne ∙ owner-written to t bytes calls there ∙ owner-set to s (Some page) first.there.0 (omega (arith, first.there.1, (swap.each to.area).owned));
-      bytes = given.pages to ne ∙ page-written to t bytes calls there ∙ sym is;
-      gone = owner-given from u last at.0 (omega (arith, at.1, (sound.each from.area).owned));
-      owners = λ k f n. given.owners k f ∙ both.owners k n;
-      pages = λ k f n. given.pages k f ∙ both.pages k n;
-    }
-
--- the write failed, and the new slot was given back
-pub relocated-not : (page : PageRef) (from to : Slot) (s u : SwapView) (last : List ℕ) → ((i : ℕ) → IsArea (area_at s i)) → ((i : ℕ) → IsArea (area_at u i)) → IsFirstFree s (Some from.area) to
-    → OneArea to.area (with_slot_owner s to (Some page)) u → AfterWriteFault to.slot (area_at (with_slot_owner s to (Some page)) to.area) (area_at u to.area) → SameOwned s (without_slot u to last)
-relocated-not page from to s u last before after first one fault = grind (arith, nat_tests, common_steps, to.area, to.slot, first.there, owner-given, after, cases_slot, first.free)
-
--- a cause in the middle of steps that count no failure
-pub cause-within : (s t u v : SwapView) → IsSwap s → IsSteady s t → GoesOn t u → IsSteady u v → had_cause t u ≡ true → had_cause s v ≡ true
-cause-within s t u v swap a g b e = cause-more s u v b.goes_on (cause-before s t u (spent-cause s t swap a.goes_on) a.goes_on g e)
-
-pub cleared-relocated : (page : PageRef) (from to : Slot) (s t : SwapView) → IsRelocated page from to s t → IsCleared from s t
-cleared-relocated page from to s t is = record {
-  free = is.gone;
-  rest = λ slot e.
-      let j : Slot = record { area = from.area; slot = slot } in
-      elim (cases_slot j from) [
-        | inl q ↦ let same : slot ≡ from.slot = ap (λ (x : Slot). x.slot) q in rw same is.gone
-        | inr n ↦ is.owners j n (λ q. is.first.outside (ap (λ (x : Slot). Some x.area) q)) ∙ e
-      ];
-}
 
 -- a resident page gives its slot back
 module _ (s : StoreView) (sound : IsStoreSound s) (r : PageRef) (f : ℕ) (k : Slot) (u : SwapView) (place : rec_by s.segs r ≡ record { frame = Some f; slot = Some k }) (given : u ≡ without_slot s.swap k (page_in u k.area k.slot)) where
@@ -100,14 +47,7 @@ module _ (s : StoreView) (sound : IsStoreSound s) (r : PageRef) (f : ℕ) (k : S
         slots = sl.apart;
       } in
       let same : bytes_at t r ≡ bytes_at s r = rw (at, at_frame) (ap (λ (y : Frame). y.bytes) set_at) in
-      let tie : IsTied t r = record {
-        frame_owned = λ g e. let q : g ≡ f = cc (rw at at e) in (rw (q, length-set s.frames f x) own.0, rw (q, set_at) own.1);
-        owner_resident = λ g e. grind (arith, nat_tests, common_steps, set-cases, s.frames, x, at_frame, tie-s.owner_resident);
-        slot_owned = λ j e. cc (rw at at e);
-        owner_stored = λ j e. absurd (sl.none j e);
-        clean = λ g e d. let q : g ≡ f = cc (rw at at e) in cc (rw (q, set_at) at d);
-        whole = rw same tie-s.whole;
-      } in
+      let tie : IsTied t r = grind (arith, nat_tests, common_steps, s.frames, x, set-cases, set_at, own, at, at_frame, tie-s.owner_resident, sl.none, same, tie-s.whole) in
       keeps-one s t sound r has to is steady.same_sizes (rw (length-set s.frames f x) sound.hand) steady.goes_on tie same
 
 -- a page that is not resident gets another slot
@@ -151,11 +91,98 @@ module _ (s : StoreView) (sound : IsStoreSound s) (r : PageRef) (from to : Slot)
       } in
       keeps-one s t sound r has (record { segs = segs-with s.segs r p; frames = frames-same s.frames sound.tied.free; slots = slots }) sw sized sound.hand goes_on tie same
 
+-- the slot is free, and no other slot of its area is owned that was not
+cleared-only : (k : Slot) (s t : SwapView) → owner_of t k.area k.slot ≡ None → ((slot : ℕ) → record { area = k.area; slot = slot } ≢ k → owner_of s k.area slot ≡ None → owner_of t k.area slot ≡ None) → IsCleared k s t
+cleared-only k s t free others = record {
+  free = free;
+  rest = λ slot e. elim (cases_slot (record { area = k.area; slot = slot }) k) [
+    | inl q ↦ let same : slot ≡ k.slot = ap (λ (x : Slot). x.slot) q in rw same free
+    | inr n ↦ others slot n e
+  ];
+}
+
 -- no page moves, and no owned slot changes
 pub keeps-owned : (s : StoreView) → IsStoreSound s → (u : SwapView) → SameOwned s.swap u → IsSwap u → sizes u ≡ sizes s.swap → GoesOn s.swap u → Keeps s (record s { swap = u })
 keeps-owned s sound u owned is same goes_on =
     let slots : SlotsApart every s.swap u = record { has = λ k q e o. owned.has k; kept = λ k q e o. (owned.owners k ∙ o, owned.pages k q o); owners = λ k q e o. sym (owned.owners k) ∙ o } in
     keeps-every s (record s { swap = u }) sound (record { segs = segs-same s.segs; frames = frames-same s.frames sound.tied.free; slots = slots }) is same sound.hand goes_on
+
+-- A SLOT IS MADE FREE
+
+pub clears-none : {A E : Type 0} (s : StoreView) → IsStoreSound s → (k : Slot) (a : A) → owner_of s.swap k.area k.slot ≡ None → Clears {A = A} {E = E} k s s (Ok a)
+unfolding frame_of
+clears-none s sound k a none = record {
+  goes = Goes-refl s sound;
+  still = λ seg page. refl;
+  cleared = record { free = none; rest = λ slot e. e };
+  rest = record { ins = refl; outs = refl };
+  placed = move-none s k none;
+  stopped = tt;
+  failures = refl;
+  sound = sound;
+}
+
+module _ (s : StoreView) (sound : IsStoreSound s) (k : Slot) (r : PageRef) (own : owner_of s.swap k.area k.slot ≡ Some r) where
+  pub owner-has : HasPage s.segs r
+  owner-has = sound.tied.slot_owners k r own
+
+  place-of : (o : Option ℕ) → (rec_by s.segs r).frame ≡ o → rec_by s.segs r ≡ record { frame = o; slot = Some k }
+  place-of o at =
+      let slot = (sound.tied.pages r owner-has).owner_stored k own in
+      let is : record { frame = (rec_by s.segs r).frame; slot = (rec_by s.segs r).slot } ≡ record { frame = o; slot = Some k } = rw (at, slot) refl in
+      is
+
+  still-cleared : (o : Option ℕ) (slot : Option Slot) (t : StoreView) → (rec_by s.segs r).frame ≡ o → t.segs ≡ with_rec s.segs r (record { frame = o; slot = slot }) → Still s t
+  still-cleared o slot t at segs = by-still s t (λ q. rw segs (still-with s.segs r (record { frame = o; slot = slot }) owner-has (sym at) q))
+
+  -- its page is in a frame, and gives the slot back
+  pub clears-back : {A E : Type 0} (a : A) (f : ℕ) (u : SwapView) → (rec_by s.segs r).frame ≡ Some f → HasSlot s.swap k.area k.slot → u ≡ without_slot s.swap k (page_in u k.area k.slot) → IsSwap u → IsSteady s.swap u
+      → Clears {A = A} {E = E} k s (record s { segs = with_rec s.segs r (record { frame = Some f; slot = None }); frames = set s.frames f (record (frame_at s.frames f) { dirty = true }); swap = u }) (Ok a)
+  clears-back a f u at has given is steady =
+      let keeps = keeps-back s sound r f k u (place-of (Some f) at) given is steady in
+      let last = page_in u k.area k.slot in
+      record {
+        goes = keeps.goes;
+        still = still-cleared (Some f) None _ at refl;
+        cleared = rw given (cleared-only k s.swap (without_slot s.swap k last) (owner-given k s.swap last has.0 (omega (arith, has.1, (sound.swap.each k.area).owned))) (λ slot n e. (OnlySlot-given k s.swap last).owners (record { area = k.area; slot = slot }) n ∙ e));
+        rest = record { ins = refl; outs = refl };
+        placed = move-is s _ k r (Some f) own at (moved-back s r f k u last given);
+        stopped = tt;
+        failures = steady.failures;
+        sound = keeps.sound;
+      }
+
+  -- or it is not, and moves to another area
+  pub clears-carried : {A E : Type 0} (a : A) (to : Slot) (u : SwapView) → (rec_by s.segs r).frame ≡ None → Relocates r k s.swap u (Ok to)
+      → Clears {A = A} {E = E} k s (record s { segs = with_rec s.segs r (record { frame = None; slot = Some to }); swap = u }) (Ok a)
+  clears-carried a to u away moved =
+      let keeps = keeps-carried s sound r k to u (place-of None away) moved.ok moved.sound moved.same_sizes moved.goes_on in
+      record {
+        goes = keeps.goes;
+        still = still-cleared None (Some to) _ away refl;
+        cleared = cleared-only k s.swap u moved.ok.gone (λ slot n e. moved.ok.owners (record { area = k.area; slot = slot }) n (λ q. moved.ok.first.outside (ap (λ (x : Slot). Some x.area) q)) ∙ e);
+        rest = record { ins = refl; outs = refl };
+        placed = move-is s _ k r None own away (moved-away s r k to u (found-free s.swap (Some k.area) to sound.swap.each moved.ok.first) moved.owners);
+        stopped = tt;
+        failures = moved.failures;
+        sound = keeps.sound;
+      }
+
+  -- or a pager failed for that
+  pub clears-not : {A E : Type 0} (u : SwapView) (e : PagerFault) (x : E) → (rec_by s.segs r).frame ≡ None → Relocates r k s.swap u (Err e) → Clears {A = A} k s (record s { swap = u }) (Err x)
+  unfolding frame_of
+  clears-not u e x away moved =
+      let keeps = keeps-owned s sound u moved.err moved.sound moved.same_sizes moved.goes_on in
+      record {
+        goes = keeps.goes;
+        still = λ seg page. refl;
+        cleared = tt;
+        rest = record { ins = refl; outs = refl };
+        placed = tt;
+        stopped = stops-at-move s _ k r own away (places-swap s u moved.same);
+        failures = moved.failures;
+        sound = keeps.sound;
+      }
 
 -- an area without owned slots is turned off
 module _ (s : StoreView) (sound : IsStoreSound s) (area : ℕ) (here : (area_at s.swap area).here ≡ true) (free : (j : ℕ) → owner_of s.swap area j ≡ None) where
@@ -195,12 +222,6 @@ module _ (s : StoreView) (sound : IsStoreSound s) (area : ℕ) (here : (area_at 
       (omega (arith, sum, size, after, all, room))
       sound.locked
 
--- a slot that was taken is there
-pub has-taken : (s : SwapView) (k : Slot) (owner : Option PageRef) → HasSlot s k.area k.slot → HasSlot (with_slot_owner s k owner) k.area k.slot
-has-taken s k owner has =
-    let area = with_owner (area_at s k.area) k.slot owner in
-    (rw (length-set s.areas k.area area) has.0, rw (get_or-set_same s.areas k.area area no_area has.0) has.1)
-
 -- the first slots of an area are free, and all else is as it was
 pub record IsCleaned (area n : ℕ) (s t : StoreView) : Type 0 where
   pub sound : IsStoreSound t
@@ -215,7 +236,7 @@ pub cleaned-none : (area : ℕ) (s : StoreView) → IsStoreSound s → IsCleaned
 unfolding frame_of
 cleaned-none area s sound = record {
   sound = sound;
-  goes = record { bytes = refl; shape = refl; size = refl; goes_on = GoesOn-refl s.swap; same_sizes = refl; spent = λ e. spent-cause s.swap s.swap sound.swap (GoesOn-refl s.swap) e };
+  goes = Goes-refl s sound;
   still = λ seg page. refl;
   rest = record { ins = refl; outs = refl };
   failures = refl;
@@ -223,16 +244,15 @@ cleaned-none area s sound = record {
   placed = moves-none area (places s);
 }
 
-pub cleaned-more : (area n : ℕ) (s t u : StoreView) → IsCleaned area n s t → IsStoreSound u → Goes t u → Still t u → IsUncounted t u → total u.swap ≡ total t.swap → IsCleared (record { area = area; slot = n }) t.swap u.swap
-    → places u ≡ after_move (record { area = area; slot = n }) (places t) → IsCleaned area (n + 1) s u
-cleaned-more area n s t u d sound goes still rest failures cleared placed = record {
-  sound = sound;
-  goes = Goes-trans s t u d.goes goes;
-  still = λ seg page. still seg page ∙ d.still seg page;
-  rest = uncounted-trans s t u d.rest rest;
-  failures = failures ∙ d.failures;
-  free = λ slot lt. grind (arith, nat_tests, common_steps, cleared.free, cleared.rest, d.free);
-  placed = moves-then area n (places s) (places t) (places u) d.placed placed;
+pub cleaned-more : {A E : Type 0} (area n : ℕ) (s t u : StoreView) (a : A) → IsCleaned area n s t → Clears {A = A} {E = E} (record { area = area; slot = n }) t u (Ok a) → IsCleaned area (n + 1) s u
+cleaned-more area n s t u a d clears = record {
+  sound = clears.sound;
+  goes = Goes-trans s t u d.goes clears.goes;
+  still = λ seg page. clears.still seg page ∙ d.still seg page;
+  rest = uncounted-trans s t u d.rest clears.rest;
+  failures = clears.failures ∙ d.failures;
+  free = λ slot lt. grind (arith, nat_tests, common_steps, clears.cleared.free, clears.cleared.rest, d.free);
+  placed = moves-then area n (places s) (places t) (places u) d.placed clears.placed;
 }
 
 module _ (area n : ℕ) (s t : StoreView) (d : IsCleaned area n s t) (here : (area_at s.swap area).here ≡ true) where
@@ -255,66 +275,3 @@ module _ (area n : ℕ) (s t : StoreView) (d : IsCleaned area n s t) (here : (ar
     cleaned-off u gone is sized room =
         let sized₁ : sizes (with_area t.swap area (off (area_at t.swap area))) ≡ set (sizes t.swap) area None = rw gone at sized in
         rw gone (sound-off t d.sound area cleaned-here.0 cleaned-free (rw gone at is) sized₁ (cleaned-room room), held-off t d.sound area cleaned-here.0 cleaned-free ∙ d.goes.bytes)
-
--- what is so after a read of a slot was so before it
-module _ (s u : SwapView) (kept : SameSlots s u) where
-  owner-same : (area slot : ℕ) → owner_of u area slot ≡ owner_of s area slot
-  owner-same area slot = ap (λ (owners : List (Option PageRef)). get_or owners slot None) (kept.owners area)
-
-  page-same : (area slot : ℕ) → page_in u area slot ≡ page_in s area slot
-  page-same area slot = ap (λ (pages : List (List ℕ)). get_or pages slot []) (kept.pages area)
-
-  pub has-same : (k : Slot) → HasSlot s k.area k.slot → HasSlot u k.area k.slot
-  has-same k has = rw (kept.areas, kept.pages k.area) has
-
-  first-same : (left_out : Option ℕ) (k : Slot) → IsFirstFree u left_out k → IsFirstFree s left_out k
-  first-same left_out k first = record {
-    there = rw (← kept.areas, ← kept.pages k.area) first.there;
-    outside = first.outside;
-    free = sym (owner-same k.area k.slot) ∙ first.free;
-    lowest = λ area lt n slot there. rw (← owner-same area slot) (first.lowest area lt n slot (rw (kept.owners area) there));
-    least = λ slot lt. rw (← owner-same k.area slot) (first.least slot lt);
-  }
-
-  pub relocated-same : (page : PageRef) (from to : Slot) (t : SwapView) → IsRelocated page from to u t → IsRelocated page from to s t
-  relocated-same page from to t is = record {
-    first = first-same (Some from.area) to is.first;
-    has = λ k has. is.has k (has-same k has);
-    owner = is.owner;
-    bytes = is.bytes ∙ page-same from.area from.slot;
-    gone = is.gone;
-    owners = λ k f n. is.owners k f n ∙ owner-same k.area k.slot;
-    pages = λ k f n. is.pages k f n ∙ page-same k.area k.slot;
-  }
-
-  pub owned-same : (t : SwapView) → SameOwned u t → SameOwned s t
-  owned-same t is = record {
-    has = λ k has. is.has k (has-same k has);
-    owners = λ k. is.owners k ∙ owner-same k.area k.slot;
-    pages = λ k q own. is.pages k q (owner-same k.area k.slot ∙ own) ∙ page-same k.area k.slot;
-  }
-
--- the slots that are owned, after a call that changed nothing but the calls
-pub used-read : (s : SwapView) (area : ℕ) (calls : List SideCalls) → area < length s.areas → used_slots (with_calls_at s area calls) ≡ used_slots s
-used-read s area calls lt = grind (arith, nat_tests, common_steps, sum_by-set, s.areas, area)
-
--- a page that was read, and then moved
-pub relocates-read : (page : PageRef) (from : Slot) (s u t : SwapView) (calls : List SideCalls) (r : Result Slot PagerFault)
-    → from.area < length s.areas → u ≡ with_calls_at s from.area calls → SameSlots s u → GoesOn s u → sizes u ≡ sizes s → Relocates page from u t r → Relocates page from s t r
-relocates-read page from s u t calls r lt is kept goes same moved =
-    let owners : slot_owners u ≡ slot_owners s = owners-kept s u kept in
-    let count : total u ≡ total s = rw is (total-read s from.area calls lt) in
-    let spent : some_spent u ≡ some_spent s = rw is (spent-read s from.area calls) in
-    record {
-      ok = IfOk-weaker r _ _ (λ to o. relocated-same s u kept page from to t o) moved.ok;
-      found = rw (← owners) moved.found;
-      owners = rw (← owners) moved.owners;
-      err = IfErr-weaker r _ _ (λ _ o. owned-same s u kept t o) moved.err;
-      same = rw (← owners) moved.same;
-      cause = rw (← count, ← spent) moved.cause;
-      none = rw (← count) moved.none;
-      failed = rw (← count) moved.failed;
-      goes_on = GoesOn-trans s u t goes moved.goes_on;
-      same_sizes = moved.same_sizes ∙ same;
-      sound = moved.sound;
-    }

@@ -1,5 +1,6 @@
 -- What steps count, one after another.
-use Rattle.shm_fault.proofs.Names.{bool_byte, ◌≡◌, ℕ, zero, suc, ◌+◌, Bool, true, false, refl, ◌∙◌, arith, Touched, StoreView, next_count, raised, one_if, IsUncounted, CountsOn, common_steps, nat_tests}
+use Rattle.shm_fault.proofs.Names.{◌≡◌, ℕ, zero, suc, ◌+◌, Bool, true, false, refl, ◌∙◌, arith, Touched, StoreView, next_count, raised, one_if, IsUncounted, CountsOn, common_steps, nat_tests, ◌⊎◌, Result, Ok, Err, OnOk, OnErr, inl, inr}
+use mir.Val.{bool_byte}
 
 pub raised-trans : (n a b : ℕ) → raised (raised n a) b ≡ raised n (a + b)
 raised-trans n zero b = let e : 0 + b ≡ b = omega arith in rw e refl
@@ -19,3 +20,8 @@ counts-still u s t ins outs = record { ins = λ n e. ins ∙ e; outs = λ n e. o
 
 pub uncounted-trans : (s t u : StoreView) → IsUncounted s t → IsUncounted t u → IsUncounted s u
 uncounted-trans s t u a b = record { ins = b.ins ∙ a.ins; outs = b.outs ∙ a.outs }
+
+-- what either result has
+pub either_way : {A E : Type 0} (r : Result A E) (P Q : Type 0) → OnOk r P → OnErr r Q → P ⊎ Q
+either_way (Ok a) P Q p q = inl p
+either_way (Err x) P Q p q = inr q

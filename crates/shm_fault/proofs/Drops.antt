@@ -1,17 +1,15 @@
 -- A page that leaves its frame and its slot for good.
-use Rattle.shm_fault.proofs.Names.{◌≡◌, ◌≢◌, ℕ, zero, suc, ◌<◌, ◌≤◌, ◌+◌, true, List, [], ◌∷◌, length, set, map, sum_by, Option, Some, None, refl, sym, ap, ◌∙◌, inl, inr, arith, get_or-set_same, not, eqb, cases_eq, cases_lt, eq-eqb, ne_eqb, length-replicate, set-get_or, PageRef, Slot, without, SwapView, owner_of, page_in, without_slot, IsSwap, IsSteady, Frame, frame_at, PageRec, SegRec, AreApart, but, no_page, find_seg, rec_by, count_by_id, HasPage, NowhereUpTo, with_rec, page_count, locked_pages, StoreView, held_by, disowned, IsTied, IsStoreSound, outline, outlines, emptied, Given, IsBlank, Dropped, IsUncounted, sum_by-filter_both, nat_tests, common_steps}
+use Rattle.shm_fault.proofs.Names.{◌≡◌, ◌≢◌, ℕ, zero, suc, ◌<◌, ◌≤◌, ◌+◌, List, [], ◌∷◌, length, set, map, sum_by, Option, Some, None, refl, sym, ap, ◌∙◌, inl, inr, arith, get_or-set_same, not, eqb, cases_eq, cases_lt, eq-eqb, ne_eqb, length-replicate, set-get_or, PageRef, Slot, without, SwapView, owner_of, page_in, without_slot, IsSwap, IsSteady, Frame, frame_at, PageRec, SegRec, AreApart, but, no_page, find_seg, rec_by, count_by_id, HasPage, NowhereUpTo, with_rec, page_count, locked_pages, StoreView, held_by, disowned, IsTied, IsStoreSound, outline, outlines, emptied, Given, Dropped, nat_tests, common_steps, Drops, Forgets, Frees, places, OnlySlot, OnlySlot-given, owner-given}
+use Rattle.std.proofs.lemmas.List.Filters.{sum_by-filter_both}
 use Rattle.shm_base.specs.Page.{zero_page}
-use Rattle.shm_fault.specs.Store.{held}
+use Rattle.shm_fault.specs.Store.{held, frame_of}
 use Rattle.shm_fault.proofs.Entries.{apart-filter, edit-none, find-but, find-out}
 use Rattle.shm_fault.proofs.Counting.{uncounted-trans}
-use Rattle.shm_fault.proofs.Sound.{IsSound-from, GoesOn-refl, GoesOn-trans}
+use Rattle.shm_fault.proofs.Sound.{IsSound-from, GoesOn-refl, GoesOn-trans, FramesApart, SlotsApart, Touches, segs-with, frames-set, frames-same, slots-only, bytes_touched, tied-segs, sound-one}
 use Rattle.shm_fault.proofs.Pages.{outlines-with, rec-with, rec-with_other, rec-past, count-same, apart-same, other, other-true, ref_parts}
-use Rattle.shm_fault.proofs.Slots.{OnlySlot, OnlySlot-given, owner-given, set-cases}
-use Rattle.shm_fault.proofs.Ties.{FramesApart, SlotsApart, Touches, segs-with, frames-set, frames-same, slots-only, bytes_touched, tied-segs}
+use Rattle.shm_fault.proofs.Slots.{set-cases}
 use Rattle.shm_fault.proofs.Bytes.{joined, held_one, held_of, bytes_at, held-is, joined-ext}
-use Rattle.shm_fault.proofs.Changes.{sound-one}
-use Rattle.shm_fault.specs.Placing.{places, after_forget}
-use Rattle.shm_fault.proofs.Forgets.{forget-nowhere, forgets-none, forgets-then}
+use Rattle.shm_fault.proofs.Places.{forget-is, forget-nowhere, forgets-none, forgets-then, segment-gone}
 
 -- a page that is where it is said to be
 pub with-is : (gs : List SegRec) (r : PageRef) (p : PageRec) → AreApart gs → rec_by gs r ≡ p → with_rec gs r p ≡ gs
@@ -51,13 +49,6 @@ given-slots s sound r has u (Some j) e given =
     grind (arith, slots-only)
 
 -- a page is nowhere from now on
-pub record Forgets (r : PageRef) (s t : StoreView) : Type 0 where
-  pub sound : IsStoreSound t
-  pub bytes : without (held t) r.seg ≡ without (held s) r.seg
-  pub frames : (f : ℕ) → disowned r.seg (frame_at t.frames f).owner ≡ disowned r.seg (frame_at s.frames f).owner
-  pub slots : (k : Slot) → disowned r.seg (owner_of t.swap k.area k.slot) ≡ disowned r.seg (owner_of s.swap k.area k.slot)
-  pub size : length t.frames ≡ length s.frames
-
 module _ (s : StoreView) (sound : IsStoreSound s) (r : PageRef) (has : HasPage s.segs r) (u : SwapView) (given : Given s.swap (rec_by s.segs r).slot u) where
   abbrev forgotten : StoreView
   forgotten = record s { segs = with_rec s.segs r no_page; frames = emptied s.frames (rec_by s.segs r).frame; swap = u }
@@ -86,12 +77,7 @@ module _ (s : StoreView) (sound : IsStoreSound s) (r : PageRef) (has : HasPage s
       ∙ sym (ap (λ hs. without hs r.seg) (held-is s sound.apart))
     where
       others : (q : PageRef) → q.seg ≢ r.seg → bytes_at forgotten q ≡ bytes_at s q
-      others q n =
-          let off : other r q ≡ true = other-true r q (λ same. n (ap (λ (x : PageRef). x.seg) same)) in
-          elim (cases_lt q.page (count_by_id s.segs q.seg)) [
-            | inl there ↦ bytes_touched (other r) s forgotten to-forgotten q off (sound.tied.pages q there)
-            | inr past ↦ rw (rec-with_other s.segs r q no_page off, rec-past s.segs q past) refl
-          ]
+      others q n = grind (arith, nat_tests, common_steps, cases_lt q.page (count_by_id s.segs q.seg), bytes_touched (other r) s forgotten to-forgotten q, other-true r q, sound.tied.pages q, rec-with_other s.segs r q no_page, rec-past s.segs q)
 
       without-ext : (b c : PageRef → List ℕ) (gs : List SegRec) (id : ℕ) → ((q : PageRef) → q.seg ≢ id → b q ≡ c q) → without (held_of b (outlines gs)) id ≡ without (held_of c (outlines gs)) id
       without-ext b c [] id same = refl
@@ -103,51 +89,80 @@ module _ (s : StoreView) (sound : IsStoreSound s) (r : PageRef) (has : HasPage s
             rw (ne_eqb g.id id n) (let h : held_one b (outline g) ≡ held_one c (outline g) = ap (λ bs. record { id = g.id; locked = g.locked; bytes = bs }) here in cc)
       ]
 
-  pub forgets : IsSwap u → IsSteady s.swap u → Forgets r s (record s { segs = with_rec s.segs r no_page; frames = emptied s.frames (rec_by s.segs r).frame; swap = u })
-  forgets is steady = record { sound = sound-forgotten is steady; bytes = held-forgotten; frames = fr.kept; slots = sl.kept; size = fr.apart.size }
+  pub forgets : IsSwap u → IsSteady s.swap u → IsStoreSound forgotten × Forgets r s forgotten
+  forgets is steady = (
+    sound-forgotten is steady,
+    record {
+      frees = record {
+        shape = outlines-with s.segs r no_page;
+        bytes = held-forgotten;
+        frames = fr.kept;
+        slots = sl.kept;
+        size = fr.apart.size;
+        steady = steady;
+        rest = record { ins = refl; outs = refl };
+      };
+      segs = refl;
+      placed = forget-is s r u given;
+      nowhere = λ none. grind (arith, common_steps, with-same);
+    },
+  )
 
-IsSteady-trans : (s t u : SwapView) → IsSteady s t → IsSteady t u → IsSteady s u
-IsSteady-trans s t u a b = record { goes_on = GoesOn-trans s t u a.goes_on b.goes_on; failures = b.failures ∙ a.failures; same_sizes = b.same_sizes ∙ a.same_sizes }
-
-pub dropped-none : (seg : ℕ) (s : StoreView) → Dropped seg 0 s s
-dropped-none seg s = record {
+frees-refl : (seg : ℕ) (s : StoreView) → Frees seg s s
+frees-refl seg s = record {
   shape = refl;
   bytes = refl;
   frames = λ f. refl;
   slots = λ k. refl;
   size = refl;
   steady = record { goes_on = GoesOn-refl s.swap; failures = refl; same_sizes = refl };
+  rest = record { ins = refl; outs = refl };
+}
+
+frees-trans : (seg : ℕ) (s t u : StoreView) → Frees seg s t → Frees seg t u → Frees seg s u
+frees-trans seg s t u a b = record {
+  shape = b.shape ∙ a.shape;
+  bytes = b.bytes ∙ a.bytes;
+  frames = λ f. b.frames f ∙ a.frames f;
+  slots = λ k. b.slots k ∙ a.slots k;
+  size = b.size ∙ a.size;
+  steady = record {
+    goes_on = GoesOn-trans s.swap t.swap u.swap a.steady.goes_on b.steady.goes_on;
+    failures = b.steady.failures ∙ a.steady.failures;
+    same_sizes = b.steady.same_sizes ∙ a.steady.same_sizes;
+  };
+  rest = uncounted-trans s t u a.rest b.rest;
+}
+
+-- a page that was nowhere
+pub forgets-nowhere : (s : StoreView) (r : PageRef) → AreApart s.segs → rec_by s.segs r ≡ no_page → Forgets r s s
+forgets-nowhere s r apart at =
+    let same = with-is s.segs r no_page apart at in
+    record { frees = frees-refl r.seg s; segs = sym same; placed = forget-nowhere s r same at; nowhere = λ none. refl }
+
+pub dropped-none : (seg : ℕ) (s : StoreView) → Dropped seg 0 s s
+dropped-none seg s = record {
+  frees = frees-refl seg s;
   still = λ q ne. refl;
   done = λ page lt. absurd (omega (arith, lt));
-  rest = record { ins = refl; outs = refl };
   nothing = λ blank. refl;
   placed = forgets-none seg (places s);
 }
 
 -- one page more
-pub dropped-more : (seg n : ℕ) (s t u : StoreView) → Dropped seg n s t → HasPage t.segs (record { seg = seg; page = n }) → u.segs ≡ with_rec t.segs (record { seg = seg; page = n }) no_page
-    → without (held u) seg ≡ without (held t) seg → ((f : ℕ) → disowned seg (frame_at u.frames f).owner ≡ disowned seg (frame_at t.frames f).owner)
-    → ((k : Slot) → disowned seg (owner_of u.swap k.area k.slot) ≡ disowned seg (owner_of t.swap k.area k.slot)) → length u.frames ≡ length t.frames → IsSteady t.swap u.swap
-    → IsUncounted t u → (rec_by t.segs (record { seg = seg; page = n }) ≡ no_page → u ≡ t)
-    → places u ≡ after_forget (record { seg = seg; page = n }) (places t) → Dropped seg (n + 1) s u
-dropped-more seg n s t u d has segs bytes frames slots size steady rest same placed =
+pub dropped-more : (seg n : ℕ) (s t u : StoreView) → Dropped seg n s t → HasPage t.segs (record { seg = seg; page = n }) → Forgets (record { seg = seg; page = n }) t u → Dropped seg (n + 1) s u
+dropped-more seg n s t u d has f =
     let r : PageRef = record { seg = seg; page = n } in
-    let at : (q : PageRef) → rec_by u.segs q ≡ rec_by (with_rec t.segs r no_page) q = λ q. ap (λ (gs : List SegRec). rec_by gs q) segs in
+    let at : (q : PageRef) → rec_by u.segs q ≡ rec_by (with_rec t.segs r no_page) q = λ q. ap (λ (gs : List SegRec). rec_by gs q) f.segs in
     record {
-      shape = ap outlines segs ∙ outlines-with t.segs r no_page ∙ d.shape;
-      bytes = bytes ∙ d.bytes;
-      frames = λ f. frames f ∙ d.frames f;
-      slots = λ k. slots k ∙ d.slots k;
-      size = size ∙ d.size;
-      steady = IsSteady-trans s.swap t.swap u.swap d.steady steady;
+      frees = frees-trans seg s t u d.frees f.frees;
       still = λ q ne. at q ∙ rec-with_other t.segs r q no_page (other-true r q (λ same. ne (ap (λ (x : PageRef). x.seg) same))) ∙ d.still q ne;
       done = λ page lt. elim (cases_eq page n) [
         | inl e ↦ rw e (at r ∙ rec-with t.segs r no_page has)
         | inr ne ↦ at (record { seg = seg; page = page }) ∙ rec-with_other t.segs r (record { seg = seg; page = page }) no_page (other-true r (record { seg = seg; page = page }) (λ same. ne (ap (λ (x : PageRef). x.page) same))) ∙ d.done page (omega arith)
       ];
-      rest = uncounted-trans s t u d.rest rest;
-      nothing = λ blank. let is : t ≡ s = d.nothing blank in same (rw is (blank n)) ∙ is;
-      placed = forgets-then seg n (places s) (places t) (places u) d.placed placed;
+      nothing = λ blank. let is : t ≡ s = d.nothing blank in f.nowhere (rw is (blank n)) ∙ is;
+      placed = forgets-then seg n (places s) (places t) (places u) d.placed f.placed;
     }
 
 -- pages that are nowhere are so as they are
@@ -157,21 +172,10 @@ dropped-rest seg n (suc k) s t apart none few d =
     let r : PageRef = record { seg = seg; page = n + k } in
     let at : rec_by t.segs r ≡ no_page = none (n + k) (omega arith) (omega arith) in
     let before = dropped-rest seg n k s t apart (λ page le lt. none page le (omega (arith, lt))) (omega (arith, few)) d in
-    let same = with-is t.segs r no_page apart at in
-    let steady : IsSteady t.swap t.swap = record { goes_on = GoesOn-refl t.swap; failures = refl; same_sizes = refl } in
-    let rest : IsUncounted t t = record { ins = refl; outs = refl } in
     let e : n + suc k ≡ n + k + 1 = omega arith in
-    rw e (dropped-more seg (n + k) s t t before (omega (arith, few)) (sym same) refl (λ f. refl) (λ j. refl) refl steady rest (λ none. refl) (forget-nowhere t r same at))
+    rw e (dropped-more seg (n + k) s t t before (omega (arith, few)) (forgets-nowhere t r apart at))
 
 -- a segment all of whose pages are nowhere is taken out
-pub record IsDropped (seg : ℕ) (s t : StoreView) : Type 0 where
-  pub sound : IsStoreSound t
-  pub bytes : held t ≡ without (held s) seg
-  pub frames : (f : ℕ) → (frame_at t.frames f).owner ≡ disowned seg (frame_at s.frames f).owner
-  pub slots : (k : Slot) → owner_of t.swap k.area k.slot ≡ disowned seg (owner_of s.swap k.area k.slot)
-  pub still : (q : PageRef) → q.seg ≢ seg → rec_by t.segs q ≡ rec_by s.segs q
-  pub blank : IsBlank seg s → t ≡ record s { segs = but seg s.segs }
-
 sum-but : (h : SegRec → ℕ) (gs : List SegRec) (id : ℕ) → sum_by h (but id gs) ≤ sum_by h gs
 sum-but h gs id = omega (arith, sum_by-filter_both (λ (g : SegRec). not (eqb g.id id)) (λ (g : SegRec). not (not (eqb g.id id))) (λ g. refl) h gs)
 
@@ -226,15 +230,25 @@ module _ (t : StoreView) (sound : IsStoreSound t) (id : ℕ) (gone : (page : ℕ
       (let sum = sum-but page_count t.segs id in omega (arith, sum, sound.capacity))
       (let sum = sum-but locked_pages t.segs id in omega (arith, sum, sound.locked))
 
-pub drops : (seg n : ℕ) (s t : StoreView) → IsStoreSound t → Dropped seg n s t → count_by_id s.segs seg ≤ n → IsDropped seg s (record t { segs = but seg t.segs })
+pub drops : (seg n : ℕ) (s t : StoreView) → IsStoreSound t → Dropped seg n s t → n ≡ count_by_id s.segs seg → Drops seg s (record t { segs = but seg t.segs })
+unfolding frame_of
 drops seg n s t sound d all =
-    let same = count-same s.segs t.segs seg d.shape in
+    let same = count-same s.segs t.segs seg d.frees.shape in
     let gone : (page : ℕ) → page < count_by_id t.segs seg → rec_by t.segs (record { seg = seg; page = page }) ≡ no_page = λ page lt. d.done page (omega (arith, lt, same, all)) in
     record {
-      sound = sound-but t sound seg gone;
-      bytes = held-but t seg ∙ d.bytes;
-      frames = λ f. disowned-other t sound seg gone (frame_at t.frames f).owner (frame-other t sound seg gone f) ∙ d.frames f;
-      slots = λ k. disowned-other t sound seg gone (owner_of t.swap k.area k.slot) (slot-other t sound seg gone k) ∙ d.slots k;
-      still = λ q ne. rec-but t sound seg gone q ne ∙ d.still q ne;
+      held = held-but t seg ∙ d.frees.bytes;
+      frames = λ f. disowned-other t sound seg gone (frame_at t.frames f).owner (frame-other t sound seg gone f) ∙ d.frees.frames f;
+      slots = λ area slot.
+          let k : Slot = record { area = area; slot = slot } in
+          disowned-other t sound seg gone (owner_of t.swap area slot) (slot-other t sound seg gone k) ∙ d.frees.slots k;
+      still = λ other page ne.
+          let q : PageRef = record { seg = other; page = page } in
+          ap (λ (p : PageRec). p.frame) (rec-but t sound seg gone q ne ∙ d.still q ne);
+      counts = (d.frees.steady.failures, d.frees.steady.goes_on);
+      sizes = d.frees.steady.same_sizes;
+      count = d.frees.size;
+      rest = record { ins = d.frees.rest.ins; outs = d.frees.rest.outs };
+      places = rw (← all) (segment-gone seg n s t d.placed);
       blank = λ blank. ap (λ (v : StoreView). record v { segs = but seg v.segs }) (d.nothing blank);
+      sound = sound-but t sound seg gone;
     }

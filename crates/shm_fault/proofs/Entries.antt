@@ -1,13 +1,6 @@
 -- The stored segments, by index: looked up, added, taken out, changed.
-use Rattle.shm_fault.proofs.Names.{◌≡◌, ◌≢◌, ◌<◌, ◌≤◌, ◌+◌, ◌-◌, ◌%◌, ◌++◌, ℕ, zero, suc, length, get_or, set, not, cond, eqb, List, [], ◌∷◌, map, filter, replicate, Option, Some, None, refl, sym, ap, ◌∙◌, inl, inr, arith, cases_Bool, cases_eq, cases_lt, set_past, eq-eqb, ne_eqb, get_or-set_same, get_or-set_other, get_or_past, PageRef, HasPage, SegRec, find_seg, AreApart, but, nat_tests, common_steps}
-use Rattle.std.proofs.lemmas.Bool.{lt-ltb, le-ltb}
-use Rattle.std.proofs.lemmas.List.{get_or_default}
-use Rattle.shm_base.specs.Stored.{padded}
-use Rattle.shm_base.specs.declared.bounds.TheConstants.{INDEXES}
-use Rattle.shm_base.proofs.Stored.{get_or-padded}
-use Rattle.shm_fault.specs.Entries.{present, AreIndexed}
-use Rattle.shm_fault.specs.Ordered.{inserted}
-use Rattle.shm_fault.specs.Segs.{seg_id, IsIndexFree}
+use Rattle.shm_fault.proofs.Names.{◌≡◌, ◌≢◌, ◌<◌, ◌≤◌, ◌+◌, ◌-◌, ◌%◌, ◌++◌, ℕ, zero, suc, length, get_or, set, not, cond, eqb, List, [], ◌∷◌, map, filter, replicate, Option, Some, None, refl, sym, ap, ◌∙◌, inl, inr, arith, cases_Bool, cases_eq, eq-eqb, get_or_past, PageRef, HasPage, SegRec, find_seg, AreApart, but, nat_tests, common_steps, lt-ltb, le-ltb, get_or_default, padded, INDEXES, get_or-padded, present, AreIndexed, inserted, seg_id, IsIndexFree}
+use Rattle.shm_fault.proofs.Slots.{set-cases}
 use Rattle.shm_fault.proofs.Pages.{find-map, find-id}
 
 -- AN EDIT OF THE SEGMENT WITH AN IDENTIFIER
@@ -62,47 +55,30 @@ rest first o os are k g at = are (suc k) g at ∙ omega arith
 below : (first : ℕ) (os : List (Option SegRec)) → AreIndexed first os → (id : ℕ) → id % INDEXES < first → find_seg (present os) id ≡ None
 below first [] are id lt = refl
 below first (None ∷ os) are id lt = below (suc first) os (rest first None os are) id (omega (arith, lt))
-below first (Some g ∷ os) are id lt =
-    let own : g.id % INDEXES ≡ first + 0 = are 0 g refl in
-    let ne : g.id ≢ id = λ e. let same : g.id % INDEXES ≡ id % INDEXES = ap (λ n. n % INDEXES) e in absurd (omega (arith, own, same, lt)) in
-    rw (ne_eqb g.id id ne) (below (suc first) os (rest first (Some g) os are) id (omega (arith, lt)))
+below first (Some g ∷ os) are id lt = grind (arith, nat_tests, common_steps, are 0 g refl, below (suc first) os (rest first (Some g) os are) id)
 
 -- a segment is found at its index
 pub find-at : (first : ℕ) (os : List (Option SegRec)) → AreIndexed first os → (id k : ℕ) → id % INDEXES ≡ first + k → find_seg (present os) id ≡ found_in (get_or os k None) id
 find-at first [] are id k e = refl
 find-at first (None ∷ os) are id zero e = below (suc first) os (rest first None os are) id (omega (arith, e))
-find-at first (Some g ∷ os) are id zero e =
-    let none : find_seg (present os) id ≡ None = below (suc first) os (rest first (Some g) os are) id (omega (arith, e)) in
-    rw none refl
+find-at first (Some g ∷ os) are id zero e = rw (below (suc first) os (rest first (Some g) os are) id (omega (arith, e))) refl
 find-at first (None ∷ os) are id (suc k) e = find-at (suc first) os (rest first None os are) id k (omega (arith, e))
-find-at first (Some g ∷ os) are id (suc k) e =
-    let own : g.id % INDEXES ≡ first + 0 = are 0 g refl in
-    let ne : g.id ≢ id = λ s. let same : g.id % INDEXES ≡ id % INDEXES = ap (λ n. n % INDEXES) s in absurd (omega (arith, own, same, e)) in
-    rw (ne_eqb g.id id ne) (find-at (suc first) os (rest first (Some g) os are) id k (omega (arith, e)))
+find-at first (Some g ∷ os) are id (suc k) e = grind (arith, nat_tests, common_steps, are 0 g refl, find-at (suc first) os (rest first (Some g) os are) id k)
 
 pub find-is : (os : List (Option SegRec)) → AreIndexed 0 os → (id : ℕ) → find_seg (present os) id ≡ found_in (get_or os (id % INDEXES) None) id
 find-is os are id = find-at 0 os are id (id % INDEXES) (omega arith)
 
 -- the entry of a segment that there is
 pub entry-there : (os : List (Option SegRec)) → AreIndexed 0 os → (id : ℕ) → find_seg (present os) id ≢ None → (o : Option SegRec) → get_or os (id % INDEXES) None ≡ o → find_seg (present os) id ≡ o
-entry-there os are id there None at = absurd (there (find-is os are id ∙ rw at refl))
-entry-there os are id there (Some g) at = elim (cases_eq g.id id) [
-  | inl e ↦ find-is os are id ∙ rw (at, eq-eqb g.id id e) refl
-  | inr ne ↦ absurd (there (find-is os are id ∙ rw (at, ne_eqb g.id id ne) refl))
-]
+entry-there os are id there o at = grind (arith, nat_tests, common_steps, find-is os are id)
 
 -- ENTRIES CHANGED
 
 -- an entry gets a segment of its index, or none
 pub indexed-set : (first : ℕ) (os : List (Option SegRec)) → AreIndexed first os → (k : ℕ) (o : Option SegRec) → ((g : SegRec) → o ≡ Some g → g.id % INDEXES ≡ first + k) → AreIndexed first (set os k o)
-indexed-set first os are k o own j g at = elim (cases_lt k (length os)) [
-  | inl lt ↦ elim (cases_eq j k) [
-    | inl e ↦
-        let here : get_or (set os k o) j None ≡ o = rw e (get_or-set_same os k o None lt) in
-        own g (sym here ∙ at) ∙ ap (λ n. first + n) (sym e)
-    | inr ne ↦ are j g (sym (get_or-set_other os k j o None ne) ∙ at)
-  ]
-  | inr past ↦ are j g (rw (set_past os k o past) at at)
+indexed-set first os are k o own j g at = elim (set-cases os k o None j) [
+  | inl here ↦ own g (sym here.1 ∙ at) ∙ ap (λ n. first + n) (sym here.0)
+  | inr kept ↦ are j g (sym kept ∙ at)
 ]
 
 -- indexes without a segment are added at the end
@@ -155,34 +131,20 @@ present-out first (o ∷ os) are zero g at =
     let none : find_seg (present os) g.id ≡ None = below (suc first) os (rest first o os are) g.id (omega (arith, is)) in
     rw (at, eq-eqb g.id g.id refl) (sym (filter-none (present os) g.id none))
 present-out first (None ∷ os) are (suc k) g at = present-out (suc first) os (rest first None os are) k g at
-present-out first (Some h ∷ os) are (suc k) g at =
-    let is : h.id % INDEXES ≡ first + 0 = are 0 h refl in
-    let own : g.id % INDEXES ≡ first + suc k = are (suc k) g at in
-    let ne : h.id ≢ g.id = λ s. let same : h.id % INDEXES ≡ g.id % INDEXES = ap (λ n. n % INDEXES) s in absurd (omega (arith, is, own, same)) in
-    rw (ne_eqb h.id g.id ne) (ap (λ gs. h ∷ gs) (present-out (suc first) os (rest first (Some h) os are) k g at))
+present-out first (Some h ∷ os) are (suc k) g at = grind (arith, nat_tests, common_steps, are 0 h refl, are (suc k) g at, present-out (suc first) os (rest first (Some h) os are) k g at)
 
 -- or changed
 pub present-edit : (f : SegRec → SegRec) (first : ℕ) (os : List (Option SegRec)) → AreIndexed first os → (k : ℕ) (g : SegRec) → get_or os k None ≡ Some g → present (set os k (Some (f g))) ≡ map (edit_at g.id f) (present os)
 present-edit f first [] are k g at = cc
-present-edit f first (o ∷ os) are zero g at =
-    let is : g.id % INDEXES ≡ first + 0 = are 0 g at in
-    let none : find_seg (present os) g.id ≡ None = below (suc first) os (rest first o os are) g.id (omega (arith, is)) in
-    rw (at, eq-eqb g.id g.id refl) (ap (λ gs. f g ∷ gs) (sym (edit-none f (present os) g.id none)))
+present-edit f first (o ∷ os) are zero g at = grind (arith, nat_tests, common_steps, are 0 g at, below (suc first) os (rest first o os are) g.id, edit-none)
 present-edit f first (None ∷ os) are (suc k) g at = present-edit f (suc first) os (rest first None os are) k g at
-present-edit f first (Some h ∷ os) are (suc k) g at =
-    let is : h.id % INDEXES ≡ first + 0 = are 0 h refl in
-    let own : g.id % INDEXES ≡ first + suc k = are (suc k) g at in
-    let ne : h.id ≢ g.id = λ s. let same : h.id % INDEXES ≡ g.id % INDEXES = ap (λ n. n % INDEXES) s in absurd (omega (arith, is, own, same)) in
-    rw (ne_eqb h.id g.id ne) (ap (λ gs. h ∷ gs) (present-edit f (suc first) os (rest first (Some h) os are) k g at))
+present-edit f first (Some h ∷ os) are (suc k) g at = grind (arith, nat_tests, common_steps, are 0 h refl, are (suc k) g at, present-edit f (suc first) os (rest first (Some h) os are) k g at)
 
 -- THE ENTRY OF A SEGMENT THAT THERE IS, AS CODE READS IT
 
 module _ (os : List (Option SegRec)) (are : AreIndexed 0 os) (id k : ℕ) (index : k ≡ id % INDEXES) (there : find_seg (present os) id ≢ None) where
   pub index-there : k < length os
-  index-there = elim (cases_lt k (length os)) [
-    | inl lt ↦ lt
-    | inr past ↦ let none : get_or os (id % INDEXES) None ≡ None = rw index at (get_or_past os k None past) in absurd (there (find-is os are id ∙ ap (λ o. found_in o id) none))
-  ]
+  index-there = grind (arith, nat_tests, common_steps, find-is os are id, get_or_past)
 
   pub out-there : present (set os k None) ≡ but id (present os)
   out-there = by (get_or os k None) refl

@@ -1,10 +1,8 @@
 -- A flush, frame after frame.
-use Rattle.shm_fault.proofs.Names.{◌≡◌, ◌≢◌, ℕ, zero, suc, ◌<◌, ◌≤◌, ◌+◌, Bool, true, false, not, cond, List, [], ◌∷◌, ◌++◌, length, set, take, filter, Some, refl, sym, ap, ◌∙◌, arith, append-nil, length-append, get_or-set_same, get_or-set_other, count_by, Contains, All, range_with_len, length-take, take_all, take-append-le, filter-append, Contains-push, Contains-append_left, All-head, All-tail, All-push, All-weaker, sum_by-cons, sum_by_push, PageRef, total, some_spent, Frame, no_frame, frame_at, locked_by, StoreView, IsStoreSound, Goes, Still, raised, one_if, may_flush, dirty_after, IsFlushed, nat_tests, common_steps}
+use Rattle.shm_fault.proofs.Names.{◌≡◌, ◌≢◌, ℕ, zero, suc, ◌<◌, ◌≤◌, ◌+◌, Bool, true, false, not, cond, List, [], ◌∷◌, ◌++◌, length, set, take, filter, Some, refl, sym, ap, ◌∙◌, arith, append-nil, length-append, get_or-set_same, get_or-set_other, count_by, Contains, All, range_with_len, length-take, take_all, take-append-le, filter-append, Contains-push, Contains-append_left, All-head, All-tail, All-push, All-weaker, sum_by-cons, sum_by_push, PageRef, total, some_spent, Frame, no_frame, frame_at, locked_by, StoreView, IsStoreSound, Goes, Still, raised, may_flush, dirty_after, IsFlushed, nat_tests, common_steps, places, after_page_out, after_flush, unspent-before}
 use Rattle.shm_fault.proofs.Sound.{Goes-trans}
-use Rattle.shm_fault.proofs.Failures.{unspent-before}
-use Rattle.shm_fault.proofs.Bringing.{holds_locked-held}
-use Rattle.shm_fault.specs.Placing.{places, after_page_out, after_flush}
-use Rattle.shm_fault.proofs.Moves.{flush-none, flush-push, flush-same}
+use Rattle.shm_fault.proofs.Visits.{holds_locked-held}
+use Rattle.shm_fault.proofs.Places.{flush-none, flush-push, flush-same}
 
 -- those of the frames below i that may be flushed
 abbrev pub due : StoreView → ℕ → List ℕ
@@ -32,10 +30,7 @@ below-more i xs all = All-weaker (λ x. x < i) (λ x. x < i + 1) (λ x l. omega 
 
 count-below : (p q : ℕ → Bool) (i : ℕ) (xs : List ℕ) → All (λ x. x < i) xs → ((x : ℕ) → x < i → p x ≡ q x) → count_by p xs ≡ count_by q xs
 count-below p q i [] all same = refl
-count-below p q i (x ∷ xs) all same =
-    let rest = count-below p q i xs (All-tail (λ y. y < i) x xs all) same in
-    let here = ap one_if (same x (All-head (λ y. y < i) x xs all)) in
-    omega (arith, here, rest, sum_by-cons (λ y. cond (p y) 1 0) x xs, sum_by-cons (λ y. cond (q y) 1 0) x xs)
+count-below p q i (x ∷ xs) all same = grind (arith, nat_tests, common_steps, count-below p q i xs (All-tail (λ y. y < i) x xs all) same, All-head (λ y. y < i) x xs all, sum_by-cons)
 
 take-more : (n : ℕ) (xs : List ℕ) (x : ℕ) → length (take n xs) < n → take n (xs ++ x ∷ []) ≡ take n xs ++ x ∷ []
 take-more n xs x lt = grind (arith, common_steps, take_all, length-take n xs)

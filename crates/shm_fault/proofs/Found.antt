@@ -1,7 +1,5 @@
 -- What is found under an identifier after each change.
-use Rattle.std.proofs.Common.{◌≡◌, ◌≢◌, ℕ, Bool, [], ◌∷◌, List, None, refl, arith}
-use Rattle.std.proofs.lemmas.Grind.{common_steps}
-use Rattle.shm_fault.specs.Held.{Held, find_held, bytes_of, without, with_lock}
+use Rattle.shm_fault.proofs.Names.{◌≡◌, ◌≢◌, ℕ, Bool, [], ◌∷◌, List, None, refl, arith, common_steps, Held, find_held, bytes_of, without, with_lock}
 
 -- DROPPED
 

@@ -1,12 +1,5 @@
 -- All identifiers are different, after any addition, drop or change.
-use Rattle.std.proofs.Common.{◌≡◌, ◌≢◌, ℕ, zero, suc, ◌<◌, Bool, true, false, List, [], ◌∷◌, length, get_or, set, drop, map, Some, option_map, refl, ◌∙◌, inl, inr, ne_eqb, arith}
-use Rattle.std.proofs.lemmas.Grind.{common_steps}
-use Rattle.std.proofs.lemmas.Bool.Decides.{eqb_tells}
-use Rattle.std.proofs.lemmas.List.{drop_more}
-use Rattle.std.proofs.lemmas.Option.{slice_get_read}
-use Rattle.std.specs.Prelude.{slice_get}
-use Rattle.shm_fault.specs.Held.{Held, find_held, is_held, without, lock_changed, with_lock}
-use Rattle.shm_fault.specs.Apart.{AreHeldApart}
+use Rattle.shm_fault.proofs.Names.{◌≡◌, ◌≢◌, ℕ, zero, suc, ◌<◌, Bool, true, false, List, [], ◌∷◌, length, get_or, set, drop, map, Some, option_map, refl, ◌∙◌, inl, inr, ne_eqb, arith, common_steps, eqb_tells, drop_more, slice_get_read, slice_get, Held, find_held, is_held, without, lock_changed, with_lock, AreHeldApart}
 
 pub true_false : true ≡ false → ⊥
 true_false e = cc

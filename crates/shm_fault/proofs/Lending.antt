@@ -1,13 +1,9 @@
 -- A page on loan stays in its frame, unless a visit is made that was barred.
-use Rattle.shm_fault.proofs.Names.{◌≡◌, ◌∷◌, [], ℕ, Bool, true, false, true≢false, not, List, Option, Some, None, is_some, refl, sym, ◌∙◌, PageRef, Slot, Frame, no_frame, frame_at, rec_by, Transfers}
-use Rattle.std.proofs.Common.{◌≢◌, ◌⊎◌, inl, inr}
-use Rattle.std.specs.Prelude.{position, unwrap_or, set, if◌then◌else◌}
+use Rattle.shm_fault.proofs.Names.{ap, arith, nat_tests, common_steps, ◌≡◌, ℕ, Bool, true, false, true≢false, not, List, Option, Some, None, is_some, refl, sym, ◌∙◌, PageRef, Frame, no_frame, frame_at, rec_by, Transfers, inl, inr, position, unwrap_or, set, if◌then◌else◌, candidates, passed_by, unlocked, is_free, Places, StopsAt, slotted, victim_in, visited_in}
+use Rattle.shm_clock.proofs.Bits.{unset_all-at}
 use Rattle.std.proofs.lemmas.List.Quantifiers.{position-Some}
-use Rattle.shm_clock.specs.Clock.{candidates, passed_by, unset, unset_all}
-use Rattle.shm_fault.specs.Goes.{unlocked}
-use Rattle.shm_frames.specs.Frame.{is_free}
 use Rattle.shm_fault.specs.Loans.{LoansStay, frame_or_leaver, is_barred, leaver_in, lent_at}
-use Rattle.shm_fault.specs.Placing.{Places, StopsAt, after_clean, after_eviction, after_page_out, after_room, after_turn, after_visit, frame_for, free_slot, keeps_or_takes, referenced, settled, slotted, slotted_for, takes, vacated, vacated_for, victim_in, visited_in}
+use Rattle.shm_fault.specs.Placing.{after_clean, after_eviction, after_page_out, after_room, after_turn, after_visit, frame_for, referenced, settled, vacated}
 use Rattle.shm_fault.proofs.Slots.{set-cases}
 
 -- the same owner, and on loan or not as before
@@ -22,9 +18,6 @@ SameLoans before after = (f : ℕ) → SameLoan (frame_at before f) (frame_at af
 same-loan : (x : Frame) → SameLoan x x
 same-loan x = record { owner = refl; lent = refl }
 
-loans-refl : (frames : List Frame) → SameLoans frames frames
-loans-refl frames f = same-loan (frame_at frames f)
-
 loans-trans : (xs ys zs : List Frame) → SameLoans xs ys → SameLoans ys zs → SameLoans xs zs
 loans-trans xs ys zs a b f = record { owner = (b f).owner ∙ (a f).owner; lent = (b f).lent ∙ (a f).lent }
 
@@ -36,42 +29,24 @@ loans-set frames f x same g = elim (set-cases frames f x no_frame g) [
 
 -- THE STEPS THAT KEEP ALL LOANS
 
-loans-unset : (list : List ℕ) (frames : List Frame) → SameLoans frames (unset_all frames list)
-loans-unset [] frames = loans-refl frames
-loans-unset (i ∷ list) frames =
-    loans-trans frames (unset frames i) (unset_all (unset frames i) list)
-    (loans-set frames i (record (frame_at frames i) { referenced = false }) (record { owner = refl; lent = refl }))
-    (loans-unset list (unset frames i))
-
 loans-turn : (pinned : Option ℕ) (s : Places) → SameLoans s.frames (after_turn pinned s).frames
 unfolding after_turn
-loans-turn pinned s = loans-unset (passed_by s.frames (candidates (unlocked s.segs) pinned s.frames s.hand)) s.frames
+loans-turn pinned s f =
+    let same = unset_all-at s.frames (passed_by s.frames (candidates (unlocked s.segs) pinned s.frames s.hand)) f in
+    record { owner = ap (λ (x : Frame). x.owner) same; lent = ap (λ (x : Frame). x.lent) same }
 
-frames-takes : (r : PageRef) (slot : Option Slot) (s : Places) → (takes r slot s).frames ≡ s.frames
-frames-takes r None s = refl
-frames-takes r (Some k) s = refl
-
-frames-kept : (r : PageRef) (slot : Option Slot) (s : Places) → (keeps_or_takes r slot s).frames ≡ s.frames
-frames-kept r (Some k) s = refl
-frames-kept r None s = frames-takes r (free_slot None s.slots) s
-
-frames-slotted : (owner : Option PageRef) (s : Places) → (slotted_for owner s).frames ≡ s.frames
-frames-slotted None s = refl
-frames-slotted (Some r) s = frames-kept r (rec_by s.segs r).slot s
+frames-slotted : (f : ℕ) (s : Places) → (slotted f s).frames ≡ s.frames
+frames-slotted f s = grind (arith, common_steps)
 
 loans-page-out : (f : ℕ) (ok : Bool) (s : Places) → SameLoans s.frames (after_page_out f ok s).frames
 unfolding after_page_out
 loans-page-out f ok s =
-    let same : (slotted f s).frames ≡ s.frames = frames-slotted (frame_at s.frames f).owner s in
+    let same : (slotted f s).frames ≡ s.frames = frames-slotted f s in
     rw same (loans-set s.frames f (record (frame_at s.frames f) { dirty = not ok }) (record { owner = refl; lent = refl }))
 
 loans-clean : (f : ℕ) (s : Places) → SameLoans s.frames (after_clean f s).frames
 unfolding after_clean
-loans-clean f s = by (frame_at s.frames f).dirty
-  where
-    by : (b : Bool) → SameLoans s.frames (if b then after_page_out f true s else s).frames
-    by true = loans-page-out f true s
-    by false = loans-refl s.frames
+loans-clean f s g = grind (arith, common_steps, loans-page-out f true s g, same-loan)
 
 -- STEPS THAT EMPTY OR FILL A FRAME
 
@@ -86,19 +61,12 @@ stay-trans s t u a b f r owned lent = let here = a f r owned lent in b f r here.
 
 -- a frame that has no page on loan may become anything
 stay-set : (s t : Places) (f : ℕ) (x : Frame) → t.frames ≡ set s.frames f x → ((r : PageRef) → (frame_at s.frames f).owner ≡ Some r → (frame_at s.frames f).lent ≡ false) → LoansStay s t
-stay-set s t f x is home g r owned lent = elim (set-cases s.frames f x no_frame g) [
-  | inl here ↦ absurd (true≢false (sym lent ∙ rw here.0 (home r (rw (← here.0) owned))))
-  | inr kept ↦ rw (is, kept) (owned, lent)
-]
+stay-set s t f x is home g r owned lent = grind (arith, nat_tests, common_steps, set-cases, home)
 
 -- a page leaves a frame that is not on loan
 stay-vacated : (f : ℕ) (s : Places) → (frame_at s.frames f).lent ≡ false → LoansStay s (vacated f s)
 unfolding vacated
-stay-vacated f s home = by (frame_at s.frames f).owner
-  where
-    by : (o : Option PageRef) → LoansStay s (vacated_for f o s)
-    by None = stay-refl s
-    by (Some r) = stay-set s (vacated_for f (Some r) s) f no_frame refl (λ q owned. home)
+stay-vacated f s home g r owned lent = grind (arith, nat_tests, common_steps, set-cases, home)
 
 stay-settled : (r : PageRef) (f : ℕ) (s : Places) → ((q : PageRef) → (frame_at s.frames f).owner ≡ Some q → (frame_at s.frames f).lent ≡ false) → LoansStay s (settled r f s)
 unfolding settled
@@ -107,14 +75,7 @@ stay-settled r f s home = stay-set s (settled r f s) f (record no_frame { owner 
 -- the frame is not on loan after its page left it
 home-vacated : (f : ℕ) (s : Places) → (frame_at s.frames f).lent ≡ false → (frame_at (vacated f s).frames f).lent ≡ false
 unfolding vacated
-home-vacated f s home = by (frame_at s.frames f).owner
-  where
-    by : (o : Option PageRef) → (frame_at (vacated_for f o s).frames f).lent ≡ false
-    by None = home
-    by (Some r) = elim (set-cases s.frames f no_frame no_frame f) [
-      | inl here ↦ rw here.1 refl
-      | inr kept ↦ rw kept home
-    ]
+home-vacated f s home = grind (arith, nat_tests, common_steps, set-cases)
 
 -- the frame that the clock chose, as the eviction finds it
 abbrev chosen : Option ℕ → Places → Places

@@ -1,15 +1,29 @@
--- One more swap area: the slots that were there stay, and no page owns a new one.
-use Rattle.shm_fault.proofs.Names.{◌≡◌, ℕ, zero, suc, ◌<◌, ◌≤◌, ◌+◌, List, [], ◌∷◌, length, get_or, sum_by, Option, Some, None, refl, sym, ◌∙◌, arith, sum_by-cons, PageRef, Slot, SwapView, no_area, HasSlot, IsSwap, size_of, slots_in, StoreView, held, Tied, IsStoreSound}
-use Rattle.std.proofs.Common.{map, replicate, ◌++◌, length-append}
-use Rattle.std.proofs.lemmas.List.{get_or_past, get_or-replicate, length-replicate}
-use Rattle.std.specs.Prelude.{Result, Ok, Err, OnErr, OnOk}
-use Rattle.shm_pager.specs.Pages.{PagerView}
-use Rattle.std.proofs.lemmas.Option.{none-some}
-use Rattle.shm_slots.specs.View.{AreaView, fresh, with_new}
-use Rattle.shm_fault.proofs.Ties.{SlotsApart, Touches, segs-same, frames-same, tied_touched, bytes_touched}
+-- Changes of the swap alone: of what areas will count, and one more area.
+use Rattle.shm_fault.proofs.Names.{◌≡◌, refl, ap, arith, SwapView, IsSwap, SameSlots, sizes, swap_slots, StoreView, held, Tied, IsStoreSound, ℕ, zero, suc, ◌<◌, ◌≤◌, List, [], ◌∷◌, length, get_or, sum_by, Option, Some, None, sym, ◌∙◌, sum_by-cons, PageRef, Slot, no_area, HasSlot, size_of, slots_in, map, replicate, ◌++◌, length-append, get_or_past, get_or-replicate, length-replicate, Result, Ok, Err, OnErr, OnOk, PagerView, none-some, AreaView, fresh, with_new}
+use Rattle.shm_fault.proofs.Sound.{Touches, segs-same, frames-same, tied_touched, bytes_touched, IsSound-from, every, slots-kept, SlotsApart}
 use Rattle.shm_fault.proofs.Bytes.{held-same}
-use Rattle.shm_fault.proofs.Sound.{IsSound-from}
-use Rattle.shm_fault.proofs.Changes.{every}
+use Rattle.shm_base.specs.Segments.{slots}
+
+module _ (s : StoreView) (sound : IsStoreSound s) (u : SwapView) (same : SameSlots s.swap u) (is : IsSwap u) (size : sizes u ≡ sizes s.swap) where
+  abbrev after : StoreView
+  after = record s { swap = u }
+
+  to-after : Touches every s after
+  to-after = record { segs = segs-same s.segs; frames = frames-same s.frames sound.tied.free; slots = slots-kept s.swap u same }
+
+  tied-after : Tied after
+  tied-after = tied_touched every s after to-after sound.tied (λ q n h. cc) (λ f q n e. cc) (λ k q n e. cc)
+
+  pub held-failing : held after ≡ held s
+  held-failing = held-same s after sound.apart sound.apart refl (λ r has. bytes_touched every s after to-after r refl (sound.tied.pages r has))
+
+  pub sound-failing : IsStoreSound after
+  sound-failing =
+      let room = sound.capacity in
+      let same_room : swap_slots u ≡ swap_slots s.swap = ap slots size in
+      IsSound-from after tied-after sound.apart sound.frames is sound.hand (omega (arith, room, same_room)) sound.locked
+
+-- ONE MORE SWAP AREA: THE SLOTS THAT WERE THERE STAY, AND NO PAGE OWNS A NEW ONE
 
 front : (xs : List AreaView) (a : AreaView) (i : ℕ) → i < length xs → get_or (xs ++ a ∷ []) i no_area ≡ get_or xs i no_area
 front [] a i lt = absurd (omega (arith, lt))
@@ -47,8 +61,8 @@ module _ (s : StoreView) (sound : IsStoreSound s) (a : AreaView) (free : (slot :
       let size = length-append s.swap.areas (a ∷ []) in
       (omega (arith, lt, size), rw (front s.swap.areas a k.area there.0) there.1)
 
-  slots : SlotsApart every s.swap more.swap
-  slots = record {
+  slots-apart : SlotsApart every s.swap more.swap
+  slots-apart = record {
     has = λ k q e o there. has k there;
     kept = λ k q e o.
         (same-owners s.swap.areas a k.area k.slot free ∙ o, rw (front s.swap.areas a k.area (owned-there s.swap.areas k.area k.slot q o)) refl);
@@ -56,7 +70,7 @@ module _ (s : StoreView) (sound : IsStoreSound s) (a : AreaView) (free : (slot :
   }
 
   to-more : Touches every s more
-  to-more = record { segs = segs-same s.segs; frames = frames-same s.frames sound.tied.free; slots = slots }
+  to-more = record { segs = segs-same s.segs; frames = frames-same s.frames sound.tied.free; slots = slots-apart }
 
   tied-more : Tied more
   tied-more = tied_touched every s more to-more sound.tied (λ q n h. cc) (λ f q n e. cc) (λ k q n e. cc)

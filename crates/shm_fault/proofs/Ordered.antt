@@ -1,12 +1,5 @@
 -- A segment that is inserted among others in order of their indexes.
-use Rattle.shm_fault.proofs.Names.{◌≡◌, ◌≢◌, ℕ, ◌<◌, ◌≤◌, ◌+◌, ◌*◌, ◌/◌, ◌%◌, false, List, [], ◌∷◌, map, replicate, sum_by, Some, None, refl, sym, ap, ◌∙◌, inl, inr, arith, sum_by-cons, nat_tests, common_steps, cases_lt, cases_eq, eq-eqb, ne_eqb, SegRec, AreApart, find_seg, but, Held, find_held, is_held, with_zeros, FitsPage, is_some}
-use Rattle.std.proofs.lemmas.Bool.{lt-ltb, le-ltb}
-use Rattle.std.proofs.lemmas.List.{length-replicate}
-use Rattle.shm_base.specs.declared.paging.Span.{Span}
-use Rattle.shm_base.specs.declared.bounds.TheConstants.{INDEXES}
-use Rattle.shm_fault.specs.Ordered.{inserted}
-use Rattle.shm_fault.specs.Segs.{seg_id}
-use Rattle.shm_fault.specs.Apart.{AreHeldApart}
+use Rattle.shm_fault.proofs.Names.{◌≡◌, ◌≢◌, ℕ, ◌<◌, ◌≤◌, ◌+◌, ◌*◌, ◌/◌, false, List, [], ◌∷◌, map, replicate, sum_by, Some, None, refl, sym, arith, sum_by-cons, nat_tests, common_steps, cases_eq, eq-eqb, ne_eqb, SegRec, AreApart, find_seg, but, Held, find_held, is_held, with_zeros, FitsPage, length-replicate, Span, inserted, seg_id, AreHeldApart}
 
 -- a function that keeps identifiers
 pub map-inserted : {T U : Type 0} (f : T → U) (id : T → ℕ) (id₂ : U → ℕ) → ((x : T) → id₂ (f x) ≡ id x) → (x : T) (xs : List T) → map f (inserted id x xs) ≡ inserted id₂ (f x) (map f xs)
@@ -16,11 +9,7 @@ map-inserted f id id₂ keeps x (y ∷ ys) = rw (keeps x, keeps y) (grind (arith
 -- sums ask for no order
 pub sum-inserted : {T : Type 0} (h : T → ℕ) (id : T → ℕ) (x : T) (xs : List T) → sum_by h (inserted id x xs) ≡ h x + sum_by h xs
 sum-inserted h id x [] = sum_by-cons h x []
-sum-inserted h id x (y ∷ ys) =
-    elim (cases_lt (id x % INDEXES) (id y % INDEXES)) [
-      | inl l ↦ rw (lt-ltb (id x % INDEXES) (id y % INDEXES) l) (sum_by-cons h x (y ∷ ys))
-      | inr l ↦ rw (le-ltb (id x % INDEXES) (id y % INDEXES) l) (omega (arith, sum-inserted h id x ys, sum_by-cons h y (inserted id x ys), sum_by-cons h y ys))
-    ]
+sum-inserted h id x (y ∷ ys) = grind (arith, nat_tests, common_steps, sum-inserted h id x ys, sum_by-cons)
 
 -- what is found afterwards
 pub find-seg_same : (gs : List SegRec) (h : SegRec) → find_seg gs h.id ≡ None → find_seg (inserted seg_id h gs) h.id ≡ Some h
@@ -33,18 +22,7 @@ find-seg_other (g ∷ gs) h k ne = grind (arith, nat_tests, find-seg_other gs h 
 
 pub apart-seg : (gs : List SegRec) (h : SegRec) → AreApart gs → find_seg gs h.id ≡ None → AreApart (inserted seg_id h gs)
 apart-seg [] h apart new = (refl, tt)
-apart-seg (g ∷ gs) h apart new =
-    elim (cases_eq g.id h.id) [
-      | inl e ↦ absurd (let no : Some g ≡ None = rw (eq-eqb g.id h.id e) at new in cc)
-      | inr ne ↦
-          let none : find_seg gs h.id ≡ None = rw (ne_eqb g.id h.id ne) at new in
-          let rest = apart-seg gs h apart.1 none in
-          let off : h.id ≢ g.id = λ e. ne (sym e) in
-          elim (cases_lt (h.id % INDEXES) (g.id % INDEXES)) [
-            | inl l ↦ rw (lt-ltb (h.id % INDEXES) (g.id % INDEXES) l) (new, apart)
-            | inr l ↦ rw (le-ltb (h.id % INDEXES) (g.id % INDEXES) l) (find-seg_other gs h g.id off ∙ apart.0, rest)
-          ]
-    ]
+apart-seg (g ∷ gs) h apart new = grind (arith, nat_tests, common_steps, cases_eq g.id h.id, apart-seg gs h, find-seg_other gs h)
 
 -- taken out again
 pub but-inserted : (gs : List SegRec) (h : SegRec) → find_seg gs h.id ≡ None → but h.id (inserted seg_id h gs) ≡ gs
@@ -71,14 +49,4 @@ fits-zeros hs p pages new whole some page = grind (arith, common_steps, find-zer
 
 pub apart-zeros : (hs : List Held) (id pages : ℕ) → is_held hs id ≡ false → AreHeldApart hs → AreHeldApart (with_zeros hs id pages)
 apart-zeros [] id pages new apart = (refl, tt)
-apart-zeros (g ∷ gs) id pages new apart =
-    elim (cases_eq g.id id) [
-      | inl e ↦ absurd (let no = rw (eq-eqb g.id id e) at new in cc)
-      | inr ne ↦
-          let none : is_held gs id ≡ false = rw (ne_eqb g.id id ne) at new in
-          let rest = apart-zeros gs id pages none apart.1 in
-          elim (cases_lt (id % INDEXES) (g.id % INDEXES)) [
-            | inl l ↦ rw (lt-ltb (id % INDEXES) (g.id % INDEXES) l) (new, apart)
-            | inr l ↦ rw (le-ltb (id % INDEXES) (g.id % INDEXES) l) (ap is_some (find-zeros_other gs id pages g.id ne) ∙ apart.0, rest)
-          ]
-    ]
+apart-zeros (g ∷ gs) id pages new apart = grind (arith, nat_tests, common_steps, cases_eq g.id id, apart-zeros gs id pages, find-zeros_other gs id pages)

@@ -1,12 +1,5 @@
 -- Bytes pasted into a segment, and what stays of the others.
-use Rattle.std.proofs.Common.{◌≡◌, ◌≢◌, ℕ, ◌+◌, ◌<◌, ◌≤◌, true, List, [], ◌∷◌, length, get_or, set, take, drop, map, refl, inl, inr, arith, ne_eqb}
-use Rattle.std.proofs.lemmas.Bool.Decides.{eqb_tells}
-use Rattle.std.proofs.lemmas.Grind.{common_steps}
-use Rattle.std.proofs.lemmas.List.Elements.{All-head, All-tail, All-get_or}
-use Rattle.std.specs.Prelude.{All, slice_get}
-use Rattle.shm_base.specs.declared.paging.Span.{Span}
-use Rattle.shm_fault.specs.Held.{Held, find_held, bytes_of, is_held, paste, pasted, written, FitsPage}
-use Rattle.shm_fault.specs.Apart.{AreHeldApart}
+use Rattle.shm_fault.proofs.Names.{◌≡◌, ◌≢◌, ℕ, ◌+◌, ◌<◌, ◌≤◌, true, List, [], ◌∷◌, length, get_or, set, take, drop, map, refl, inl, inr, arith, ne_eqb, eqb_tells, common_steps, All-head, All-tail, All-get_or, All, slice_get, Span, Held, find_held, bytes_of, is_held, paste, pasted, written, FitsPage, AreHeldApart}
 use Rattle.shm_fault.proofs.Kept.{KeepsId, held-map, apart-map, set-map}
 
 pub length-paste : (xs : List ℕ) (at : ℕ) (bs : List ℕ) → at + length bs ≤ length xs → length (paste xs at bs) ≡ length xs

@@ -1,20 +1,8 @@
 -- The places of a store, through each change of its frames, its pages and its slots.
-use Rattle.shm_fault.proofs.Names.{◌≡◌, ◌≢◌, ℕ, zero, suc, ◌<◌, ◌+◌, Bool, true, false, not, ◌&&◌, cond, List, [], ◌∷◌, map, set, get_or, length, Option, Some, None, is_none, is_some, refl, sym, ap, ◌∙◌, inl, inr, arith, cases_Bool, eq-eqb, ne_eqb, false≢true, PageRef, Slot, AreaView, SideCalls, SwapView, SameSlots, OneArea, AfterWriteFault, area_at, no_area, with_slot_owner, with_slot_page, without_slot, IsFirstFree, IsArea, Frame, no_frame, frame_at, may_go, owner_passes, is_pinned, StoreView}
+use Rattle.shm_fault.proofs.Names.{length-owners, owners-at, ◌≡◌, ◌≢◌, ℕ, zero, suc, ◌<◌, ◌+◌, Bool, true, false, not, ◌&&◌, cond, List, [], ◌∷◌, map, set, get_or, length, Option, Some, None, is_none, is_some, refl, sym, ap, ◌∙◌, inl, inr, arith, cases_Bool, eq-eqb, ne_eqb, false≢true, PageRef, Slot, SwapView, area_at, IsFirstFree, IsArea, Frame, no_frame, frame_at, may_go, owner_passes, is_pinned, map-set, length-map, unwrap_or, slice_index, find, take_while, position, position_or_len, is_free, position_is, position-none, candidates, victim_of, passed_by, unset, unset_all, is_clear, is_referenced, bare, is_left_out, free_from, slot_owners}
 use Rattle.std.proofs.Math.Path.{fun_ext}
 use Rattle.std.proofs.Math.ListN.{get_or-map as at-map}
-use Rattle.std.proofs.Math.Seq.{map-set_same}
-use Rattle.std.proofs.lemmas.List.{map-set, ext_get_or, length-map}
-use Rattle.std.specs.Prelude.{unwrap_or, slice_index, find, take_while, position}
-use Rattle.std.specs.List.{position_or_len}
-use Rattle.shm_frames.specs.Frame.{is_free}
-use Rattle.shm_frames.proofs.First.{position_is, position-none}
-use Rattle.shm_clock.specs.Clock.{candidates, victim_of, passed_by, unset, unset_all, is_clear, is_referenced}
-use Rattle.shm_fault.specs.Placing.{Places, bare, area_owners, slot_owners, places, is_left_out, free_from, free_slot, own_slot}
-
--- a store's places are these
-pub places-are : (t : StoreView) (p : Places) → t.segs ≡ p.segs → map bare t.frames ≡ p.frames → t.hand ≡ p.hand → slot_owners t.swap ≡ p.slots → places t ≡ p
-unfolding places
-places-are t p segs frames hand slots = rw (segs, frames, hand, slots) refl
+use Rattle.shm_fault.specs.Placing.{free_slot}
 
 -- a frame without its bytes
 pub bare-at : (frames : List Frame) (f : ℕ) → frame_at (map bare frames) f ≡ bare (frame_at frames f)
@@ -55,42 +43,6 @@ free-bare (x ∷ xs) = ap (λ n. cond (not (is_free x)) (1 + n) 0) (free-bare xs
 
 pub position-bare : (frames : List Frame) → position is_free (map bare frames) ≡ position is_free frames
 position-bare frames = rw (free-bare frames, length-map frames bare) refl
-
--- the owners of slots
-pub owners-at : (swap : SwapView) (area : ℕ) → get_or (slot_owners swap) area [] ≡ (area_at swap area).owners
-unfolding slot_owners
-owners-at swap area = at-map area_owners swap.areas area no_area
-
-pub length-owners : (swap : SwapView) → length (slot_owners swap) ≡ length swap.areas
-unfolding slot_owners
-length-owners swap = length-map swap.areas area_owners
-
-pub owners-set : (swap : SwapView) (k : Slot) (owner : Option PageRef) → slot_owners (with_slot_owner swap k owner) ≡ own_slot (slot_owners swap) k owner
-unfolding slot_owners
-owners-set swap k owner =
-    let a : AreaView = record (area_at swap k.area) { owners = set (area_at swap k.area).owners k.slot owner } in
-    rw (owners-at swap k.area) (map-set area_owners swap.areas k.area a)
-
-pub owners-page : (swap : SwapView) (k : Slot) (page : List ℕ) (calls : List SideCalls) → slot_owners (with_slot_page swap k page calls) ≡ slot_owners swap
-unfolding slot_owners
-owners-page swap k page calls = map-set_same area_owners swap.areas k.area _ no_area refl
-
-pub owners-without : (swap : SwapView) (k : Slot) (page : List ℕ) → slot_owners (without_slot swap k page) ≡ own_slot (slot_owners swap) k None
-unfolding slot_owners
-owners-without swap k page = rw (owners-at swap k.area) (map-set area_owners swap.areas k.area _)
-
-pub owners-fault : (swap u : SwapView) (k : Slot) → OneArea k.area swap u → AfterWriteFault k.slot (area_at swap k.area) (area_at u k.area) → slot_owners u ≡ slot_owners swap
-unfolding slot_owners
-owners-fault swap u k one fault =
-    let same : (area_at u k.area).owners ≡ (area_at swap k.area).owners = ap (λ (a : AreaView). a.owners) fault.0 in
-    let areas : u.areas ≡ set swap.areas k.area (area_at u k.area) = ap (λ (v : SwapView). v.areas) one in
-    ap (map area_owners) areas ∙ map-set_same area_owners swap.areas k.area (area_at u k.area) no_area same
-
-pub owners-kept : (swap u : SwapView) → SameSlots swap u → slot_owners u ≡ slot_owners swap
-unfolding slot_owners
-owners-kept swap u kept =
-    ext_get_or [] (map area_owners u.areas) (map area_owners swap.areas) (length-map u.areas area_owners ∙ kept.areas ∙ sym (length-map swap.areas area_owners))
-    (λ i lt. owners-at u i ∙ kept.owners i ∙ sym (owners-at swap i))
 
 -- the least free slot of the lowest-numbered area that has one is the slot of which that is true
 some-not : (o : Option PageRef) → is_some o ≡ true → is_none o ≡ false

@@ -1,12 +1,9 @@
--- What each step of paging makes of the places.
-use Rattle.shm_fault.proofs.Names.{next, arith, ◌≡◌, ◌+◌, ℕ, Bool, true, false, List, [], ◌∷◌, map, set, length, Option, Some, None, is_some, refl, sym, ap, ◌∙◌, inl, inr, PageRef, Slot, Span, with_slot_owner, Frame, no_frame, frame_at, rec_by, with_rec, StoreView, unlocked, ref_of, frame_by, Touched, IsUntouched, Transfers, counted, no_transfers, one_if}
-use Rattle.std.proofs.lemmas.List.{length-map}
+-- What each step of paging, of a flush, of the loss of an area and of a drop makes of the places.
+use Rattle.shm_fault.proofs.Names.{area_owners, next, arith, ◌≡◌, ◌+◌, ℕ, Bool, true, false, List, [], ◌∷◌, map, set, length, Option, Some, None, is_some, refl, sym, ap, ◌∙◌, inl, inr, PageRef, Slot, Span, with_slot_owner, Frame, no_frame, frame_at, rec_by, with_rec, StoreView, unlocked, ref_of, frame_by, Touched, IsUntouched, Transfers, counted, no_transfers, one_if, suc, ◌<◌, not, ◌++◌, get_or, All, All-head, All-tail, SwapView, area_at, without_slot, owner_of, off, with_area, no_page, but, Given, emptied, page_in, length-map, map-set, position, is_free, candidates, victim_of, passed_by, unset_all, Places, bare, free_slot, slotted, with_bit, after_page_out, victim_in, StopsAtWrite, StopsAt, own_slot, owner_in, moves_page, StopsAtMove, StopsMoving, frame_freed, slot_freed, owners-set, owners-at, owners-without}
 use Rattle.std.proofs.Math.Seq.{map-set_same}
-use Rattle.std.specs.Prelude.{position}
-use Rattle.shm_frames.specs.Frame.{is_free}
-use Rattle.shm_clock.specs.Clock.{candidates, victim_of, passed_by, unset_all}
-use Rattle.shm_fault.specs.Placing.{Places, bare, slot_owners, places, free_slot, slotted, with_bit, after_page_out, victim_in, after_turn, vacated, after_clean, after_eviction, after_room, frame_for, settled, referenced, after_visit, after_access, with_dirty, room_counted, visit_counted, access_counted, StopsAtWrite, StopsAt, Stops}
-use Rattle.shm_fault.proofs.Placed.{bare-at, bare-set, candidates-bare, victim-bare, passed-bare, unset-bare, position-bare, owners-set}
+use Rattle.shm_slots.specs.Moving.{slot_owners}
+use Rattle.shm_fault.specs.Placing.{places, after_turn, vacated, after_clean, after_eviction, after_room, frame_for, settled, referenced, after_visit, after_access, with_dirty, room_counted, visit_counted, access_counted, Stops, after_flush, after_move, after_moves, without_area, after_forget, after_forgets, without_segment}
+use Rattle.shm_fault.proofs.Placed.{bare-at, bare-set, candidates-bare, victim-bare, passed-bare, unset-bare, position-bare}
 
 -- a page that has a slot keeps it
 pub slotted-own : (s : StoreView) (f : ℕ) (r : PageRef) (k : Slot) → (frame_at s.frames f).owner ≡ Some r → (rec_by s.segs r).slot ≡ Some k → places s ≡ slotted f (places s)
@@ -205,7 +202,7 @@ pub counted-none : (s : StoreView) (u : Touched) → IsUntouched u → counted u
 unfolding access_counted
 counted-none s u none = untouched-counted u none
 
--- frames become dirty, one after another
+-- frames become dirty
 pub dirty-none : (s : StoreView) → places s ≡ with_dirty [] (places s)
 unfolding with_dirty
 dirty-none s = refl
@@ -214,10 +211,115 @@ pub dirty-one : (p : Span) (s t : StoreView) (f : ℕ) → frame_by s (ref_of p)
 unfolding with_dirty
 dirty-one p s t f at is = let known : (rec_by (places s).segs (ref_of p)).frame ≡ Some f = rw (place-by s (ref_of p)) at in rw known is
 
-pub dirty-two : (p q : Span) (s t z : StoreView) (f g : ℕ) → frame_by s (ref_of p) ≡ Some f → places t ≡ with_bit f true (places s) → frame_by t (ref_of q) ≡ Some g → places z ≡ with_bit g true (places t) → places z ≡ with_dirty (p ∷ q ∷ []) (places s)
-unfolding with_dirty
-dirty-two p q s t z f g at is at₂ is₂ =
-    let known : (rec_by (places s).segs (ref_of p)).frame ≡ Some f = rw (place-by s (ref_of p)) at in
-    let known₂ : (rec_by (places s).segs (ref_of q)).frame ≡ Some g = ap (λ (x : Places). (rec_by x.segs (ref_of q)).frame) (sym is) ∙ rw (place-by t (ref_of q)) at₂ in
-    let out : places z ≡ with_bit g true (with_bit f true (places s)) = is₂ ∙ ap (with_bit g true) is in
-    rw (known, known₂) out
+-- WHAT A FLUSH AND THE LOSS OF AN AREA MAKE OF THE PLACES
+
+-- frames are written one after another
+pub flush-none : (failed : ℕ → Bool) (s : Places) → after_flush failed [] s ≡ s
+unfolding after_flush
+flush-none failed s = refl
+
+pub flush-push : (failed : ℕ → Bool) (fs : List ℕ) (f : ℕ) (s : Places) → after_flush failed (fs ++ f ∷ []) s ≡ after_page_out f (not (failed f)) (after_flush failed fs s)
+unfolding after_flush
+flush-push failed [] f s = refl
+flush-push failed (g ∷ fs) f s = flush-push failed fs f (after_page_out g (not (failed g)) s)
+
+pub flush-same : (p q : ℕ → Bool) (i : ℕ) (fs : List ℕ) → All (λ x. x < i) fs → ((x : ℕ) → x < i → p x ≡ q x) → (s : Places) → after_flush p fs s ≡ after_flush q fs s
+unfolding after_flush
+flush-same p q i [] all same s = refl
+flush-same p q i (f ∷ fs) all same s = rw (same f (All-head (λ x. x < i) f fs all)) (flush-same p q i fs (All-tail (λ x. x < i) f fs all) same (after_page_out f (not (q f)) s))
+
+-- a resident page gives its slot back
+pub moved-back : (s : StoreView) (r : PageRef) (f : ℕ) (k : Slot) (u : SwapView) (page : List ℕ) → u ≡ without_slot s.swap k page
+    → places (record s { segs = with_rec s.segs r (record { frame = Some f; slot = None }); frames = set s.frames f (record (frame_at s.frames f) { dirty = true }); swap = u }) ≡ moves_page k r (Some f) None (places s)
+unfolding places
+moved-back s r f k u page given = rw (given, bare-at s.frames f) (rw (bare-set s.frames f (record (frame_at s.frames f) { dirty = true }), owners-without s.swap k page) refl)
+
+-- no slot's owner changed
+pub places-swap : (s : StoreView) (u : SwapView) → slot_owners u ≡ slot_owners s.swap → places (record s { swap = u }) ≡ places s
+unfolding places
+places-swap s u same = rw same refl
+
+-- any other page has another slot
+pub moved-away : (s : StoreView) (r : PageRef) (k to : Slot) (u : SwapView) → free_slot (Some k.area) (slot_owners s.swap) ≡ Some to → slot_owners u ≡ own_slot (own_slot (slot_owners s.swap) to (Some r)) k None
+    → places (record s { segs = with_rec s.segs r (record { frame = None; slot = Some to }); swap = u }) ≡ moves_page k r None (free_slot (Some k.area) (slot_owners s.swap)) (places s)
+unfolding places
+moved-away s r k to u found owners = rw (found, owners) refl
+
+-- the same, by the slot
+pub move-none : (s : StoreView) (k : Slot) → owner_of s.swap k.area k.slot ≡ None → places s ≡ after_move k (places s)
+unfolding places after_move
+move-none s k none = rw (owners-at s.swap k.area, none) refl
+
+pub move-is : (s : StoreView) (q : Places) (k : Slot) (r : PageRef) (frame : Option ℕ) → owner_of s.swap k.area k.slot ≡ Some r → (rec_by s.segs r).frame ≡ frame
+    → q ≡ moves_page k r frame (free_slot (Some k.area) (slot_owners s.swap)) (places s) → q ≡ after_move k (places s)
+unfolding places after_move
+move-is s q k r frame owner at_frame is = rw (owners-at s.swap k.area, owner, at_frame) is
+
+owner-place : (s : StoreView) (k : Slot) (r : PageRef) → owner_of s.swap k.area k.slot ≡ Some r → owner_in (places s).slots k ≡ Some r
+unfolding places
+owner-place s k r e = rw (owners-at s.swap k.area) e
+
+length-place : (s : StoreView) (area n : ℕ) → n < length (area_at s.swap area).owners → n < length (get_or (places s).slots area [])
+unfolding places
+length-place s area n e = rw (owners-at s.swap area) e
+
+pub stops-at-move : (s t : StoreView) (k : Slot) (r : PageRef) → owner_of s.swap k.area k.slot ≡ Some r → (rec_by s.segs r).frame ≡ None → places t ≡ places s → StopsAtMove k (places s) (places t)
+stops-at-move s t k r owner away same = record { page = r; owner = owner-place s k r owner; away = rw (place-by s r) away; places = same }
+
+-- slot after slot
+pub moves-none : (area : ℕ) (s : Places) → s ≡ after_moves area 0 s
+unfolding after_moves
+moves-none area s = refl
+
+pub moves-then : (area n : ℕ) (s t u : Places) → t ≡ after_moves area n s → u ≡ after_move (record { area = area; slot = n }) t → u ≡ after_moves area (n + 1) s
+unfolding after_moves
+moves-then area n s t u first then = let e : n + 1 ≡ suc n = omega arith in rw (e, ← first) then
+
+pub stops-moving : (area n : ℕ) (s t u : StoreView) → n < length (area_at s.swap area).owners → places t ≡ after_moves area n (places s) → StopsAtMove (record { area = area; slot = n }) (places t) (places u) → StopsMoving area (places s) (places u)
+stops-moving area n s t u there first stopped = record { slot = n; there = length-place s area n there; stopped = rw first at stopped }
+
+-- the area is turned off
+area-off : (t u : StoreView) (area : ℕ) → u ≡ record t { swap = with_area t.swap area (off (area_at t.swap area)) } → places u ≡ without_area area (places t)
+unfolding places without_area slot_owners
+area-off t u area gone = rw gone (rw (map-set area_owners t.swap.areas area (off (area_at t.swap area))) refl)
+
+pub area-gone : (s t u : StoreView) (area n : ℕ) → u ≡ record t { swap = with_area t.swap area (off (area_at t.swap area)) } → places t ≡ after_moves area n (places s) → places u ≡ without_area area (after_moves area n (places s))
+area-gone s t u area n gone is = rw (← is) (area-off t u area gone)
+
+-- PLACES AFTER A SEGMENT IS DROPPED
+
+-- the frame and the slot that a page had
+bare-emptied : (frames : List Frame) (o : Option ℕ) → map bare (emptied frames o) ≡ frame_freed o (map bare frames)
+bare-emptied frames None = refl
+bare-emptied frames (Some f) = bare-set frames f (record no_frame { bytes = (frame_at frames f).bytes })
+
+owners-given : (s u : SwapView) (o : Option Slot) → Given s o u → slot_owners u ≡ slot_freed o (slot_owners s)
+owners-given s u None given = ap slot_owners given
+owners-given s u (Some k) given = ap slot_owners given ∙ owners-without s k (page_in u k.area k.slot)
+
+-- a page is nowhere
+pub forget-is : (s : StoreView) (r : PageRef) (u : SwapView) → Given s.swap (rec_by s.segs r).slot u
+    → places (record s { segs = with_rec s.segs r no_page; frames = emptied s.frames (rec_by s.segs r).frame; swap = u }) ≡ after_forget r (places s)
+unfolding places after_forget
+forget-is s r u given = rw (bare-emptied s.frames (rec_by s.segs r).frame, owners-given s.swap u (rec_by s.segs r).slot given) refl
+
+pub forget-nowhere : (s : StoreView) (r : PageRef) → with_rec s.segs r no_page ≡ s.segs → rec_by s.segs r ≡ no_page → places s ≡ after_forget r (places s)
+unfolding places after_forget
+forget-nowhere s r same is = rw (same, is) refl
+
+-- page after page
+pub forgets-none : (seg : ℕ) (s : Places) → s ≡ after_forgets seg 0 s
+unfolding after_forgets
+forgets-none seg s = refl
+
+pub forgets-then : (seg n : ℕ) (s t u : Places) → t ≡ after_forgets seg n s → u ≡ after_forget (record { seg = seg; page = n }) t → u ≡ after_forgets seg (n + 1) s
+unfolding after_forgets
+forgets-then seg n s t u first then = let e : n + 1 ≡ suc n = omega arith in rw (e, ← first) then
+
+-- the segment is removed
+segment-off : (t : StoreView) (seg : ℕ) → places (record t { segs = but seg t.segs }) ≡ without_segment seg (places t)
+unfolding places without_segment
+segment-off t seg = refl
+
+pub segment-gone : (seg n : ℕ) (s t : StoreView) → places t ≡ after_forgets seg n (places s) → places (record t { segs = but seg t.segs }) ≡ without_segment seg (after_forgets seg n (places s))
+segment-gone seg n s t is = rw (← is) (segment-off t seg)

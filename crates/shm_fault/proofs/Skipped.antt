@@ -1,7 +1,6 @@
 -- The blocks that the hand steps over, once frames, page tables or locks have changed.
-use Rattle.shm_fault.proofs.Names.{◌≡◌, ◌≢◌, ◌⊎◌, ℕ, ◌/◌, ◌<◌, Bool, true, false, not, List, length, set, Option, Some, None, refl, sym, ap, ◌∙◌, inl, inr, arith, length-set, get_or-set_other, get_or-set_same, cases_eq, cases_lt, true≢false, PageRef, Frame, no_frame, frame_at, PageRec, SegRec, but, find_seg, locked_by, new_seg, with_seg, count_by_id, HasPage, with_rec, StoreView, IsStoreSound, unlocked, owner_passes, emptied, set_past, get_or_past}
-use Rattle.shm_frames.specs.Skips.{is_skipped}
-use Rattle.shm_clock.specs.Skips.{AreSkipped}
+use Rattle.shm_fault.proofs.Names.{arith, nat_tests, common_steps, ◌≡◌, ◌⊎◌, ℕ, ◌/◌, ◌<◌, Bool, false, not, List, set, Option, Some, None, refl, ap, ◌∙◌, inl, inr, length-set, cases_eq, PageRef, Frame, no_frame, frame_at, PageRec, SegRec, but, find_seg, locked_by, new_seg, with_seg, count_by_id, HasPage, with_rec, StoreView, IsStoreSound, unlocked, owner_passes, emptied, AreSkipped}
+use Rattle.shm_fault.proofs.Slots.{set-cases}
 use Rattle.shm_fault.proofs.Pages.{locked-same, outlines-with}
 use Rattle.shm_fault.proofs.Entries.{find-but, find-out}
 use Rattle.shm_fault.proofs.Ordered.{find-seg_same, find-seg_other}
@@ -25,37 +24,14 @@ skipped-with gs r p frames skips s = skipped-locks gs (with_rec gs r p) frames s
 module _ (passes : PageRef → Bool) (frames : List Frame) (skips : List Bool) (s : AreSkipped passes frames skips) where
   -- a frame changes that keeps its owner or has none then
   pub skipped-set : (f : ℕ) (x : Frame) → (x.owner ≡ (frame_at frames f).owner) ⊎ (x.owner ≡ None) → AreSkipped passes (set frames f x) skips
-  skipped-set f x owner = record {
-    room = rw (length-set frames f x) s.room;
-    stay = λ i skip. elim (cases_eq i f) [
-      | inl e ↦ elim (cases_lt f (length frames)) [
-        | inl lt ↦
-            let at : (frame_at (set frames f x) i).owner ≡ x.owner = rw e (ap (λ (y : Frame). y.owner) (get_or-set_same frames f x no_frame lt)) in
-            rw at (elim owner [ inl same ↦ rw (same, ← e) (s.stay i skip) | inr none ↦ rw none refl ])
-        | inr past ↦ rw (set_past frames f x past) (s.stay i skip)
-      ]
-      | inr ne ↦ rw (get_or-set_other frames f i x no_frame ne) (s.stay i skip)
-    ];
-  }
+  skipped-set f x owner = record { room = rw (length-set frames f x) s.room; stay = λ i skip. grind (arith, nat_tests, common_steps, set-cases, s.stay) }
 
   -- a frame gets an owner, and its block is forgotten
   pub skipped-given : (f : ℕ) (x : Frame) → AreSkipped passes (set frames f x) (set skips (f / 64) false)
   skipped-given f x = record {
     room = rw (length-set frames f x, length-set skips (f / 64) false) s.room;
-    stay = λ i skip. elim (cases_eq (i / 64) (f / 64)) [
-      | inl e ↦ absurd (true≢false (sym skip ∙ cleared i e))
-      | inr ne ↦
-          let off : i ≢ f = λ same. ne (ap (λ k. k / 64) same) in
-          let was : is_skipped skips i ≡ true = sym (get_or-set_other skips (f / 64) (i / 64) false false ne) ∙ skip in
-          rw (get_or-set_other frames f i x no_frame off) (s.stay i was)
-    ];
+    stay = λ i skip. grind (arith, nat_tests, common_steps, set-cases, s.stay);
   }
-    where
-      cleared : (i : ℕ) → i / 64 ≡ f / 64 → is_skipped (set skips (f / 64) false) i ≡ false
-      cleared i e = rw e (elim (cases_lt (f / 64) (length skips)) [
-        | inl lt ↦ get_or-set_same skips (f / 64) false false lt
-        | inr past ↦ rw (set_past skips (f / 64) false past) (get_or_past skips (f / 64) false past)
-      ])
 
   -- the frame of a page becomes free, if it has one
   pub skipped-emptied : (frame : Option ℕ) → AreSkipped passes (emptied frames frame) skips

@@ -1,7 +1,5 @@
 -- Spans of pages, in the bytes of segments and in frames.
-use Rattle.shm_fault.proofs.Names.{◌≡◌, ◌≢◌, ℕ, suc, ◌<◌, ◌≤◌, ◌+◌, ◌-◌, ◌*◌, ◌/◌, ◌%◌, List, [], ◌∷◌, map, length, get_or, take, drop, sum_by, Some, None, is_some, refl, sym, ap, ◌∙◌, inl, inr, arith, option_map, cases_eq, eq-eqb, ne_eqb, sum_by-cons, PageRef, Span, find_held, bytes_of, is_held, FitsPage, span_bytes, paste, pasted, AreaView, IsArea, slots_in, size_of, no_area, frame_at, SegRec, find_seg, AreApart, count_by_id, HasPage, page_count, StoreView, held, ref_of, IsStoreSound, outline, outlines, frame_by, nat_tests, common_steps}
-use Rattle.shm_base.specs.declared.bounds.TheConstants.{MOST_SLOTS}
-use Rattle.shm_slots.specs.View.{most_swap_slots}
+use Rattle.shm_fault.proofs.Names.{◌≡◌, ◌≢◌, ℕ, suc, ◌<◌, ◌≤◌, ◌+◌, ◌-◌, ◌*◌, ◌/◌, ◌%◌, List, [], ◌∷◌, map, length, get_or, take, drop, sum_by, Some, None, is_some, refl, sym, ap, ◌∙◌, inl, inr, arith, option_map, cases_eq, eq-eqb, ne_eqb, sum_by-cons, PageRef, Span, find_held, bytes_of, is_held, FitsPage, span_bytes, paste, pasted, AreaView, IsArea, slots_in, size_of, no_area, frame_at, SegRec, find_seg, AreApart, count_by_id, HasPage, page_count, StoreView, held, ref_of, IsStoreSound, outline, outlines, frame_by, nat_tests, common_steps, MOST_SLOTS, most_swap_slots}
 use Rattle.shm_fault.proofs.Pages.{find-id, has-tail}
 use Rattle.shm_fault.proofs.Bytes.{joined, held_one, held_of, bytes_at, held-is, joined-read, joined-paste, joined-ext, length-joined}
 
@@ -38,10 +36,6 @@ module _ (s : StoreView) (sound : IsStoreSound s) where
       let bytes : bytes_at s (ref_of p) ≡ (frame_at s.frames f).bytes = rw at refl in
       rw (bytes-in p.seg) (rw split at read ∙ ap (λ l. take p.len (drop (p.at % 4096) l)) bytes)
 
--- a span that fits a page still does where segments have the same pages
-pub fits-same : (s t : StoreView) → IsStoreSound s → IsStoreSound t → t.segs ≡ s.segs → (p : Span) → FitsPage (held s) p → FitsPage (held t) p
-fits-same s t before after segs p fit = grind (arith, nat_tests, common_steps, p.seg, held-in, is_some, length-in, fit.0, fit.1, fit.2.0, fit.2.1)
-
 -- one span written
 pasted-list : (b c : PageRef → List ℕ) (gs : List SegRec) (r : PageRef) (off : ℕ) (new : List ℕ) → AreApart gs → ((q : PageRef) → HasPage gs q → length (b q) ≡ 4096) → HasPage gs r → off + length new ≤ 4096
     → c r ≡ paste (b r) off new → ((q : PageRef) → q ≢ r → c q ≡ b q) → held_of c (outlines gs) ≡ map (pasted r.seg (4096 * r.page + off) new) (held_of b (outlines gs))
@@ -63,13 +57,7 @@ pasted-list b c (g ∷ gs) r off new apart whole has fits here others = elim (ca
   where
     far : (hs : List SegRec) (id : ℕ) → ((q : PageRef) → q.seg ≢ id → c q ≡ b q) → find_seg hs id ≡ None → held_of c (outlines hs) ≡ map (pasted id (4096 * r.page + off) new) (held_of b (outlines hs))
     far [] id same none = refl
-    far (h ∷ hs) id same none = elim (cases_eq h.id id) [
-      | inl e ↦ absurd (let f : find_seg (h ∷ hs) id ≡ Some h = rw (eq-eqb h.id id e) refl in cc)
-      | inr n ↦
-          let head : joined c h.id 0 (length h.pages) ≡ joined b h.id 0 (length h.pages) = joined-ext c b h.id 0 (length h.pages) (λ j l. same (record { seg = h.id; page = 0 + j }) n) in
-          let rest = far hs id same (rw (ne_eqb h.id id n) at none) in
-          rw (ne_eqb h.id id n) (let k : held_one c (outline h) ≡ held_one b (outline h) = ap (λ bs. record { id = h.id; locked = h.locked; bytes = bs }) head in cc)
-    ]
+    far (h ∷ hs) id same none = grind (arith, nat_tests, common_steps, joined-ext c b h.id 0 (length h.pages), far hs id same)
 
 -- one page got other bytes, those of a span
 pub held-pasted : (s t : StoreView) → IsStoreSound s → AreApart t.segs → outlines t.segs ≡ outlines s.segs → (r : PageRef) (off : ℕ) (new : List ℕ) → HasPage s.segs r → off + length new ≤ 4096

@@ -1,6 +1,5 @@
 -- Resident, dirty and used pages, by frames and by slots.
-use Rattle.shm_fault.proofs.Names.{◌≡◌, ℕ, suc, ◌<◌, ◌≤◌, ◌+◌, ◌-◌, Bool, true, false, not, cond, eqb, leb, List, [], ◌∷◌, map, length, get_or, sum_by, Option, Some, None, is_some, refl, sym, ap, ◌∙◌, inl, inr, arith, count_by, cases_Bool, cases_lt, eq-eqb, le-leb, lt-leb, get_or_past, length-map, sum_by-cons, PageRef, Slot, AreaView, no_area, used_in, used_slots, Frame, frame_at, is_dirty, resident_of, dirty_of, SegRec, rec_by, AreApart, HasPage, locked_by, page_count, locked_pages, StoreView, has_frame, has_slot, is_dirty_page, dirty_in, resident, dirty, used, Tied, one_if, nat_tests, common_steps}
-use Rattle.std.proofs.lemmas.List.{get_or-map}
+use Rattle.shm_fault.proofs.Names.{◌≡◌, ℕ, suc, ◌<◌, ◌≤◌, ◌+◌, ◌-◌, Bool, true, false, not, cond, eqb, leb, List, [], ◌∷◌, map, length, get_or, sum_by, Option, Some, None, is_some, refl, sym, ap, ◌∙◌, inl, inr, arith, count_by, cases_lt, eq-eqb, le-leb, lt-leb, get_or_past, length-map, sum_by-cons, PageRef, Slot, AreaView, no_area, used_in, used_slots, Frame, frame_at, is_dirty, resident_of, dirty_of, SegRec, rec_by, AreApart, HasPage, locked_by, page_count, locked_pages, StoreView, has_frame, has_slot, is_dirty_page, dirty_in, resident, dirty, used, Tied, one_if, nat_tests, common_steps, get_or-map}
 use Rattle.shm_fault.proofs.Counts.{weigh, weigh-ext, weigh-sum, weigh-zero, weigh-le, weigh-ge, weigh-test, weigh-all, weigh-locked, at_least, counted_by_page}
 
 abbrev none_if : Bool → ℕ
@@ -56,8 +55,7 @@ module _ (s : StoreView) (apart : AreApart s.segs) (tied : Tied s) (test : PageR
       ∙ weigh-ext (λ r p. at_least 0 (number_of test s.frames r p.frame)) (λ r p. cond (page_passes test s.frames r p.frame) 1 0) s.segs apart (λ r has. same r (rec_by s.segs r).frame)
     where
       same : (r : PageRef) (o : Option ℕ) → at_least 0 (number_of test s.frames r o) ≡ cond (page_passes test s.frames r o) 1 0
-      same r None = refl
-      same r (Some f) = elim (cases_Bool (test r (frame_at s.frames f))) [ inl t ↦ rw (t, le-leb 0 f (omega arith)) refl | inr n ↦ rw n refl ]
+      same r o = grind (arith, nat_tests, common_steps)
 
       read : (i : ℕ) → get_or (map (owner_if test) s.frames) i None ≡ owner_if test (frame_at s.frames i)
       read i = grind (arith, nat_tests, common_steps, s.frames, get_or-map, owner_if, get_or_past, length-map)

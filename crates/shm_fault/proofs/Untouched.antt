@@ -1,6 +1,5 @@
--- Pages that are nowhere.
-use Rattle.shm_fault.proofs.Names.{◌≡◌, ℕ, zero, suc, ◌-◌, ◌+◌, ◌<◌, ◌≤◌, ◌&&◌, Bool, true, eqb, Option, None, Some, refl, Slot, List, length, take, cond, ap, arith, count_by, PageRec, no_page, rec_at, is_swapped}
-use Rattle.std.proofs.lemmas.List.Sums.{sum_by_more}
+-- Pages that are nowhere, and the pages of all tables that are only in a slot.
+use Rattle.shm_fault.proofs.Names.{◌≡◌, ℕ, zero, suc, ◌-◌, ◌+◌, ◌<◌, ◌≤◌, ◌&&◌, Bool, true, eqb, None, Slot, List, length, take, cond, ap, arith, count_by, PageRec, no_page, rec_at, is_swapped, sum_by_more, nat_tests, common_steps, [], ◌∷◌, Option, Some, get_or, sum_by, sum_by-cons, count_by-le-length, refl, SegRec, page_count, present, swapped_pages}
 use Rattle.std.specs.Option.{option_eq}
 
 -- 1 for a page that is in a slot and in no frame
@@ -31,9 +30,40 @@ module _ (ps : List PageRec) where
 
 -- a record that was compared with that of a page that is nowhere
 pub nowhere : (same : Slot → Slot → Bool) (p : PageRec) → (option_eq eqb p.frame None && option_eq same p.slot None) ≡ true → p ≡ no_page
-nowhere same p e = by p.frame p.slot e
-  where
-    by : (f : Option ℕ) (k : Option Slot) → (option_eq eqb f None && option_eq same k None) ≡ true → record { frame = f; slot = k } ≡ no_page
-    by None None e = refl
-    by None (Some k) e = cc
-    by (Some f) k e = cc
+nowhere same p e = grind (arith, nat_tests, common_steps)
+
+-- COPIES OF PAGE TABLES, AND THE PAGES OF ALL TABLES THAT ARE ONLY IN A SLOT
+
+-- of one entry
+abbrev pub swapped_of : Option SegRec → ℕ
+swapped_of None = 0
+swapped_of (Some g) = swapped_pages g
+
+abbrev pages_of : Option SegRec → ℕ
+pages_of None = 0
+pages_of (Some g) = page_count g
+
+pub swapped-present : (os : List (Option SegRec)) → sum_by swapped_of os ≡ sum_by swapped_pages (present os)
+swapped-present [] = refl
+swapped-present (None ∷ os) = omega (arith, swapped-present os, sum_by-cons swapped_of None os)
+swapped-present (Some g ∷ os) = omega (arith, swapped-present os, sum_by-cons swapped_of (Some g) os, sum_by-cons swapped_pages g (present os))
+
+pages-present : (os : List (Option SegRec)) → sum_by pages_of os ≡ sum_by page_count (present os)
+pages-present [] = refl
+pages-present (None ∷ os) = omega (arith, pages-present os, sum_by-cons pages_of None os)
+pages-present (Some g ∷ os) = omega (arith, pages-present os, sum_by-cons pages_of (Some g) os, sum_by-cons page_count g (present os))
+
+few : (o : Option SegRec) → swapped_of o ≤ pages_of o
+few None = omega arith
+few (Some g) = count_by-le-length is_swapped g.pages
+
+-- the entries up to one, and that one, have no more swapped pages than there are pages
+within : (os : List (Option SegRec)) (i : ℕ) (g : SegRec) → get_or os i None ≡ Some g → (sum_by swapped_of (take i os) + swapped_pages g ≤ sum_by pages_of os) × (page_count g ≤ sum_by pages_of os)
+within [] i g at = cc
+within (o ∷ os) zero g at = let less = count_by-le-length is_swapped g.pages in rw at (omega (arith, less, sum_by-cons pages_of (Some g) os), omega (arith, sum_by-cons pages_of (Some g) os))
+within (o ∷ os) (suc i) g at =
+    let more = within os i g at in
+    (omega (arith, more.0, few o, sum_by-cons pages_of o os, sum_by-cons swapped_of o (take i os)), omega (arith, more.1, sum_by-cons pages_of o os))
+
+pub swapped-le : (os : List (Option SegRec)) (i : ℕ) (g : SegRec) → get_or os i None ≡ Some g → (sum_by swapped_of (take i os) + swapped_pages g ≤ sum_by page_count (present os)) × (page_count g ≤ sum_by page_count (present os))
+swapped-le os i g at = let w = within os i g at in let e = pages-present os in (omega (arith, w.0, e), omega (arith, w.1, e))

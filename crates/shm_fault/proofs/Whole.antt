@@ -1,18 +1,13 @@
 -- Stores as they are made, and whole segments that are added, locked or unlocked.
-use Rattle.shm_fault.proofs.Names.{◌≡◌, ◌≢◌, ℕ, zero, suc, ◌≤◌, ◌+◌, ◌*◌, Bool, true, false, cond, eqb, List, [], ◌∷◌, ◌++◌, map, length, replicate, sum_by, Option, Some, None, is_some, refl, sym, ap, ◌∙◌, inl, inr, arith, flat_map, cases_Bool, cases_eq, cases_lt, eq-eqb, ne_eqb, length-replicate, get_or-replicate, get_or_past, replicate-append-replicate, sum_by-cons, PageRef, Slot, is_held, held_pages, pages_in_store, pages_if_locked, locked_pages_in_store, with_zeros, with_lock, SwapView, IsSwap, swap_slots, owner_of, Frame, IsFrameBlank, SegRec, no_page, rec_at, find_seg, AreApart, rec_by, count_by_id, HasPage, with_seg_lock, new_seg, with_seg, page_count, locked_pages, StoreView, page_bytes, held_by, fresh_store, IsStoreSound, outline, outlines, nat_tests, common_steps}
-use Rattle.shm_base.specs.declared.bounds.TheConstants.{MOST_FRAMES}
+use Rattle.shm_fault.proofs.Names.{◌≡◌, ◌≢◌, ℕ, zero, suc, ◌≤◌, ◌+◌, ◌*◌, Bool, true, false, cond, eqb, List, [], ◌∷◌, ◌++◌, map, length, replicate, sum_by, Option, Some, None, is_some, refl, sym, ap, ◌∙◌, inl, inr, arith, flat_map, cases_Bool, cases_eq, cases_lt, length-replicate, get_or-replicate, get_or_past, replicate-append-replicate, sum_by-cons, PageRef, Slot, is_held, held_pages, pages_in_store, pages_if_locked, locked_pages_in_store, with_zeros, with_lock, SwapView, IsSwap, swap_slots, owner_of, Frame, IsFrameBlank, SegRec, no_page, rec_at, find_seg, AreApart, rec_by, count_by_id, HasPage, with_seg_lock, new_seg, with_seg, page_count, locked_pages, StoreView, page_bytes, held_by, fresh_store, IsStoreSound, outline, outlines, nat_tests, common_steps, MOST_FRAMES, held_id, seg_id, inserted}
 use Rattle.shm_base.specs.Page.{zero_page}
 use Rattle.shm_fault.specs.Store.{held}
-use Rattle.shm_fault.specs.Held.{held_id}
-use Rattle.shm_fault.specs.Segs.{seg_id}
-use Rattle.shm_fault.specs.Ordered.{inserted}
 use Rattle.shm_fault.proofs.Entries.{apart-edit}
 use Rattle.shm_fault.proofs.Ordered.{apart-seg, find-seg_same, find-seg_other, map-inserted, sum-inserted}
 use Rattle.shm_fault.proofs.Pages.{rec-past, has-head, has-tail, find-map}
-use Rattle.shm_fault.proofs.Ties.{tied-segs}
+use Rattle.shm_fault.proofs.Sound.{tied-segs, IsSound-from}
 use Rattle.shm_fault.proofs.Bytes.{held_one, held_of, bytes_at, held-is, length-joined}
 use Rattle.shm_fault.proofs.Spans.{held-in}
-use Rattle.shm_fault.proofs.Sound.{IsSound-from}
 
 pub sound-fresh : (frames : List Frame) (swap : SwapView) → (2 ≤ length frames) × (length frames ≤ MOST_FRAMES) → ((f : ℕ) → IsFrameBlank frames f) → IsSwap swap → ((k : Slot) → owner_of swap k.area k.slot ≡ None) → IsStoreSound (fresh_store frames swap)
 sound-fresh frames swap size blank is free = grind (arith, nat_tests, common_steps)
@@ -61,10 +56,7 @@ module _ (s : StoreView) (sound : IsStoreSound s) where
     find-or (Some g) k = Some g
 
     find-added : (k : ℕ) → find_seg added k ≡ find-or (find_seg s.segs k) k
-    find-added k = elim (cases_eq id k) [
-      | inl e ↦ let none : find_seg s.segs k ≡ None = rw e at new in rw (none, ← e, eq-eqb id id refl) (find-seg_same s.segs (new_seg id n) new)
-      | inr ne ↦ find-seg_other s.segs (new_seg id n) k ne ∙ grind (arith, ne_eqb id k ne)
-    ]
+    find-added k = grind (arith, nat_tests, common_steps, cases_eq id k, find-seg_same s.segs (new_seg id n) new, find-seg_other s.segs (new_seg id n) k)
 
     blank-at : (k : ℕ) → rec_at (replicate n no_page) k ≡ no_page
     blank-at k = grind (arith, get_or-replicate n k no_page no_page, get_or_past (replicate n no_page) k no_page, length-replicate n no_page)

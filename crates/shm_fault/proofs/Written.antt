@@ -1,12 +1,7 @@
 -- Spans read and written one after another.
-use Rattle.std.proofs.Common.{◌≡◌, ℕ, ◌+◌, ◌<◌, ◌≤◌, List, ◌++◌, length, get_or, take, drop, map, None, arith, append_assoc}
-use Rattle.std.proofs.lemmas.Grind.{common_steps}
-use Rattle.std.proofs.lemmas.List.{drop_more}
+use Rattle.shm_fault.proofs.Names.{◌≡◌, ℕ, ◌+◌, ◌<◌, ◌≤◌, List, ◌++◌, length, get_or, take, drop, map, None, arith, append_assoc, common_steps, drop_more, All, Span, Held, read_from, span_bytes, pasted, written, FitsPage}
 use Rattle.std.proofs.lemmas.Slice.{take-put_mid}
-use Rattle.std.specs.Prelude.{All}
 use borrow.Rule.Slice.PartMut.{put_mid}
-use Rattle.shm_base.specs.declared.paging.Span.{Span}
-use Rattle.shm_fault.specs.Held.{Held, read_from, span_bytes, pasted, written, FitsPage}
 use Rattle.shm_fault.proofs.Pasted.{fits-pasted}
 
 abbrev pub no_span : Span

@@ -1,5 +1,5 @@
 -- What an access requires, and what it changes other than the bytes that it reads or writes.
-use Rattle.std.specs.Prelude.{ℕ, ◌≡◌, ◌≤◌, ◌+◌, ◌&&◌, Bool, true, false, List, [], ◌∷◌, Option, Some, Result, Ok, Err, length, is_ok, OnOk, IsSome, All, ⊤}
+use Rattle.std.specs.Prelude.{ℕ, ◌≡◌, ◌≤◌, ◌+◌, ◌&&◌, Bool, true, false, List, [], ◌∷◌, Option, Some, Result, Ok, Err, length, is_ok, IfOk, OnOk, OnErr, IsSome, All, ⊤}
 use Rattle.shm_base.specs.declared.paging.PageRef.{PageRef}
 use Rattle.shm_base.specs.declared.paging.Span.{Span}
 use Rattle.shm_slots.specs.View.{sizes}
@@ -10,9 +10,9 @@ use Rattle.shm_fault.specs.declared.touched.PagerFailed.{PagerFailed}
 use Rattle.shm_fault.specs.Segs.{rec_by}
 use Rattle.shm_fault.specs.Store.{StoreView, frame_of, page_of, ref_of, is_swapped, IsResident, IsReferenced}
 use Rattle.shm_fault.specs.Steps.{MovesLead, LockedPagesStay}
-use Rattle.shm_fault.specs.Goes.{Goes, KeepsLocked, Visits, MovesOn, CountsFailure, frame_by, referenced_at}
+use Rattle.shm_fault.specs.Goes.{Goes, IsSeenIn, KeepsLocked, Visits, MovesOn, CountsFailure, frame_by, referenced_at}
 use Rattle.shm_fault.specs.Counting.{counted, raised, one_if, CountsOn}
-use Rattle.shm_fault.specs.Placing.{access_counted, places, visit_counted}
+use Rattle.shm_fault.specs.Placing.{access_counted, after_access, after_visit, places, visit_counted, Stops, StopsAt}
 use Rattle.shm_fault.specs.Sound.{IsStoreSound}
 
 -- each span names the frame of its page
@@ -29,17 +29,20 @@ IsUntouched u = (u.moved.items ≡ []) × (u.ins ≡ 0) × (u.outs ≡ 0)
 
 -- the result of a visit to a page; if the page was resident, its frame was known
 pub record Visited
-    (r : PageRef) (pinned known : Option ℕ) (s t : StoreView) (u v : Touched) (ok : Bool) : Type 0 where
+    {E : Type 0} (r : PageRef) (pinned known : Option ℕ) (s t : StoreView) (u v : Touched)
+    (result : Result ℕ E) : Type 0 where
+  pub here : IfOk result (IsSeenIn t r)
   pub visits : Visits r pinned s t
   pub moves : MovesOn u.moved.items v.moved.items s t
   pub few : length v.moved.items ≤ length u.moved.items + 2
-  pub ins : v.ins ≡ u.ins + one_if (ok && is_swapped (rec_by s.segs r))
+  pub ins : v.ins ≡ u.ins + one_if (is_ok result && is_swapped (rec_by s.segs r))
   pub outs : v.outs ≤ u.outs + 1
-  pub transfers : ok ≡ true → counted v ≡ visit_counted r pinned (places s) (counted u)
+  pub transfers : OnOk result (counted v ≡ visit_counted r pinned (places s) (counted u))
   pub counts : CountsOn u v s t
-  pub quiet : IsSome known → (ok ≡ true) × (v ≡ u) × (t.segs ≡ s.segs) × (t.swap ≡ s.swap)
-  pub cause : ok ≡ false → had_cause s.swap t.swap ≡ true
-  pub failures : CountsFailure ok s t
+  pub quiet : IsSome known → (is_ok result ≡ true) × (v ≡ u) × (t.segs ≡ s.segs) × (t.swap ≡ s.swap)
+  pub placed : OnOk result (places t ≡ after_visit r pinned (places s))
+  pub stopped : OnErr result (StopsAt r pinned (places s) (places t) (counted u) (counted v))
+  pub failures : CountsFailure (is_ok result) s t
 
 -- the page of a span is in this frame, whose referenced bit is set
 pub record IsIn (t : StoreView) (p : Span) (f : ℕ) : Type 0 where
@@ -65,10 +68,14 @@ pub record Paged (ps : List Span) (s t : StoreView) (u : Touched) (ok : Bool) : 
   pub failures : CountsFailure ok s t
 
 -- the pages of spans were brought in, or one of them was not
-pub record Brings (ps : List Span) (s t : StoreView) (u : Touched) (ok : Bool) : Type 0 where
+pub record Brings
+    {E : Type 0} (ps : List Span) (s t : StoreView) (u : Touched) (result : Result InFrames E) : Type 0 where
+  pub here : IfOk result (AreIn t ps)
   pub goes : Goes s t
   pub kept : KeepsLocked s t
-  pub paged : Paged ps s t u ok
+  pub paged : Paged ps s t u (is_ok result)
+  pub placed : OnOk result (places t ≡ after_access ps (places s))
+  pub stopped : OnErr result (Stops ps (places s) (places t) (counted u))
 
 -- the counts and moves of an access, also of one that failed
 abbrev pub touched_of : Result Touched PagerFailed → Touched

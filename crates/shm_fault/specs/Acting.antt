@@ -11,7 +11,7 @@ use Rattle.shm_fault.specs.Access.{Accessed, touched_of}
 use Rattle.shm_fault.specs.Counting.{counted}
 use Rattle.shm_fault.specs.Goes.{referenced_at}
 use Rattle.shm_fault.specs.Held.{Held, read_from, written}
-use Rattle.shm_fault.specs.Placing.{Places, places, with_dirty, after_access, Stops, NoneDirtied, AreDirtied}
+use Rattle.shm_fault.specs.Placing.{Places, places, with_dirty, after_access, Stops}
 use Rattle.shm_fault.specs.Sound.{IsStoreSound}
 use Rattle.shm_fault.specs.Store.{StoreView, held}
 
@@ -52,11 +52,6 @@ abbrev pub put_in : List Held → List Span → Option (List ℕ) → List Held
 put_in hs ps None = hs
 put_in hs ps (Some bytes) = written hs ps bytes
 
--- the frames of the spans are dirty if bytes were put; otherwise no frame became dirty
-abbrev pub DirtiedIf : Bool → List Span → StoreView → StoreView → Type 0
-DirtiedIf true ps s t = AreDirtied ps s t
-DirtiedIf false ps s t = NoneDirtied s.frames t.frames
-
 -- where each page is afterwards, and which bits are set
 abbrev pub left_by : Bool → List Span → Places → Places
 left_by puts ps s = if puts then with_dirty ps s else s
@@ -72,7 +67,6 @@ HasOld hs ps before after = after ≡ place_after (bytes_in ps) (read_from hs ps
 pub record PutAt (bytes : List ℕ) (ps : List Span) (s t : StoreView) : Type 0 where
   pub written : held t ≡ written (held s) ps bytes
   pub bits : (f : ℕ) → referenced_at t f ≡ referenced_at s f
-  pub dirtied : AreDirtied ps s t
   pub placed : places t ≡ with_dirty ps (places s)
   pub rest : t ≡ record s { frames = t.frames }
   pub count : length t.frames ≡ length s.frames
@@ -92,7 +86,5 @@ pub record Acts
   pub written : OnOk result (held t ≡ put_in (held s) ps put)
   pub same : OnErr result (held t ≡ held s)
   pub access : Accessed ps s t answer
-  pub dirtied : OnOk result (DirtiedIf (is_some put) ps s t)
-  pub clean : OnErr result (NoneDirtied s.frames t.frames)
   pub stopped : OnErr result (Stops ps (places s) (places t) (counted (touched_of answer)))
   pub places : OnOk result (places t ≡ left_by (is_some put) ps (after_access ps (places s)))

@@ -50,17 +50,21 @@ abbrev pub LeavesSlots : ℕ → SwapView → SwapView → Type 0
 LeavesSlots seg before after =
     (area slot : ℕ) → owner_of after area slot ≡ disowned seg (owner_of before area slot)
 
--- the first pages of a segment have neither frame nor slot, and nothing else changed
-pub record Dropped (seg n : ℕ) (s t : StoreView) : Type 0 where
+-- pages of a segment may have lost their frames and slots; nothing of any other segment changed
+pub record Frees (seg : ℕ) (s t : StoreView) : Type 0 where
   pub shape : outlines t.segs ≡ outlines s.segs
   pub bytes : without (held t) seg ≡ without (held s) seg
   pub frames : SameInFrames seg s.frames t.frames
   pub slots : SameInSlots seg s.swap t.swap
   pub size : length t.frames ≡ length s.frames
   pub steady : IsSteady s.swap t.swap
+  pub rest : IsUncounted s t
+
+-- the first pages of a segment have neither frame nor slot
+pub record Dropped (seg n : ℕ) (s t : StoreView) : Type 0 where
+  pub frees : Frees seg s t
   pub still : (q : PageRef) → (q.seg ≡ seg → ⊥) → rec_by t.segs q ≡ rec_by s.segs q
   pub done : (page : ℕ) → page < n → rec_by t.segs (record { seg = seg; page = page }) ≡ no_page
-  pub rest : IsUncounted s t
   pub nothing : IsBlank seg s → t ≡ s
   pub placed : places t ≡ after_forgets seg n (places s)
 
@@ -71,13 +75,8 @@ DropsOn seg first last s t =
 
 -- one page has neither frame nor slot any more
 pub record Forgets (page : PageRef) (s t : StoreView) : Type 0 where
+  pub frees : Frees page.seg s t
   pub segs : t.segs ≡ with_rec s.segs page no_page
-  pub held : without (held t) page.seg ≡ without (held s) page.seg
-  pub frames : SameInFrames page.seg s.frames t.frames
-  pub slots : SameInSlots page.seg s.swap t.swap
-  pub size : length t.frames ≡ length s.frames
-  pub steady : IsSteady s.swap t.swap
-  pub rest : IsUncounted s t
   pub placed : places t ≡ after_forget page (places s)
   pub nowhere : rec_by s.segs page ≡ no_page → t ≡ s
 

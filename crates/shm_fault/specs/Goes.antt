@@ -1,9 +1,9 @@
 -- What each step of an access, of a flush and of a swapoff keeps.
-use Rattle.std.specs.Prelude.{ℕ, ◌≡◌, ◌≢◌, ◌+◌, Bool, true, false, not, if◌then◌else◌, Option, Some, None, length, List, map, is_some}
+use Rattle.std.specs.Prelude.{ℕ, ◌≡◌, ◌≢◌, Bool, true, not, if◌then◌else◌, Option, Some, None, length, List, map, is_some}
 use Rattle.shm_base.specs.declared.paging.PageRef.{PageRef}
 use Rattle.shm_base.specs.declared.paging.Slot.{Slot}
 use Rattle.shm_slots.specs.View.{sizes}
-use Rattle.shm_slots.specs.Cause.{GoesOn, some_spent, had_cause, total}
+use Rattle.shm_slots.specs.Cause.{Counts, GoesOn, some_spent, had_cause}
 use Rattle.shm_frames.specs.Frame.{Frame, frame_at}
 use Rattle.shm_fault.specs.declared.touched.PageMove.{PageMove}
 use Rattle.shm_fault.specs.Steps.{MovesLead}
@@ -96,5 +96,4 @@ OnlyWrites s t = t ≡ record s { segs = t.segs; frames = t.frames; swap = t.swa
 
 -- failures: a step that succeeds counts none, and one that fails counts one, unless an area has counted its last
 abbrev pub CountsFailure : Bool → StoreView → StoreView → Type 0
-CountsFailure true s t = total t.swap ≡ total s.swap
-CountsFailure false s t = some_spent t.swap ≡ false → total t.swap ≡ total s.swap + 1
+CountsFailure ok s t = Counts ok s.swap t.swap

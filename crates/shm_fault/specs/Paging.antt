@@ -2,8 +2,8 @@
 use Rattle.std.specs.Prelude.{ℕ, ◌≡◌, ◌<◌, ◌≤◌, ◌+◌, List, set, ◌&&◌, Bool, true, false, not, Option, Some, None, Result, MatchResult, IfOk, OnOk, OnErr, is_ok, is_some, length}
 use Rattle.shm_base.specs.declared.paging.PageRef.{PageRef}
 use Rattle.shm_base.specs.declared.paging.Slot.{Slot}
-use Rattle.shm_slots.specs.View.{SwapView, SameSlots, IsFirstFree, IsSwap, area_at, sizes, with_calls_at}
-use Rattle.shm_slots.specs.Cause.{had_cause, GoesOn, some_spent, total}
+use Rattle.shm_slots.specs.View.{SwapView, SameSlots, IsSwap, area_at, sizes, with_calls_at}
+use Rattle.shm_slots.specs.Cause.{Counts, GoesOn, total}
 use Rattle.shm_clock.specs.Clock.{may_go}
 use Rattle.shm_frames.specs.Frame.{Frame, frame_at, no_frame}
 use Rattle.shm_fault.specs.declared.paging.Evicted.{Evicted}
@@ -29,8 +29,7 @@ pub record FillsFrom
   pub swap : OnOk result (IsRead from old new)
   pub kept : SameSlots old new
   pub slot : OnErr result (is_some from ≡ true)
-  pub cause : OnErr result (had_cause old new ≡ true)
-  pub failed : IsSwap old → OnErr result (some_spent new ≡ false → total new ≡ total old + 1)
+  pub failures : Counts (is_ok result) old new
   pub goes_on : GoesOn old new
   pub sizes : sizes new ≡ sizes old
   pub sound : IsSwap old → IsSwap new
@@ -69,14 +68,11 @@ pub record Loads
   pub placed : places t ≡ places s
   pub slot : OnErr result (is_some from ≡ true)
   pub visits : (page : PageRef) (pinned : Option ℕ) → Visits page pinned s t
-  pub cause : OnErr result (had_cause s.swap t.swap ≡ true)
   pub failures : CountsFailure (is_ok result) s t
 
 -- The slot of the page in a dirty frame. If it had none, it got the lowest free slot of the first area that has one.
 pub record FindsSlot (frame : ℕ) (s t : StoreView) (slot : Slot) : Type 0 where
   pub is : IsSlotOf (frame_at s.frames frame).owner t.segs slot
-  pub free : (page : PageRef) → (frame_at s.frames frame).owner ≡ Some page
-      → (rec_by s.segs page).slot ≡ None → IsFirstFree s.swap None slot
   pub rest : t ≡ record s { segs = t.segs; swap = t.swap }
   pub still : Still s t
   pub away : StaysAway s t
@@ -91,7 +87,6 @@ pub record WritesBack {A E : Type 0} (frame : ℕ) (s t : StoreView) (result : R
   pub rest : t ≡ record s { frames = t.frames; swap = t.swap; outs = t.outs }
   pub outs : t.outs ≡ raised s.outs (one_if (is_ok result))
   pub goes : Goes s t
-  pub cause : OnErr result (had_cause s.swap t.swap ≡ true)
   pub failures : CountsFailure (is_ok result) s t
   pub placed : places t ≡ with_bit frame (not (is_ok result)) (places s)
   pub sound : IsStoreSound t
@@ -104,7 +99,6 @@ pub record PagesOut {A E : Type 0} (frame : ℕ) (s t : StoreView) (result : Res
   pub still : Still s t
   pub away : StaysAway s t
   pub goes : Goes s t
-  pub cause : OnErr result (had_cause s.swap t.swap ≡ true)
   pub failures : CountsFailure (is_ok result) s t
   pub placed : places t ≡ after_page_out frame (is_ok result) (places s)
   pub sound : IsStoreSound t
@@ -122,7 +116,6 @@ pub record Cleans {E : Type 0} (frame : ℕ) (s t : StoreView) (result : Result 
   pub still : Still s t
   pub away : StaysAway s t
   pub goes : Goes s t
-  pub cause : OnErr result (had_cause s.swap t.swap ≡ true)
   pub failures : CountsFailure (is_ok result) s t
 
 -- the victim's page left its frame, or its write failed
@@ -139,7 +132,6 @@ pub record Evicts
   pub written :
       IfOk result (λ e. e.written ≡ (frame_at (places s).frames (victim_in pinned (places s))).dirty)
   pub stopped : OnErr result (StopsAtWrite pinned (places s) (places t))
-  pub cause : OnErr result (had_cause s.swap t.swap ≡ true)
   pub failures : CountsFailure (is_ok result) s t
 
 -- a frame is free now, or the write of the victim's page failed
@@ -157,7 +149,6 @@ pub record MakesRoom
   pub transfers : OnOk result (counted v ≡ room_counted pinned (places s) (counted u))
   pub uncounted : OnErr result (counted v ≡ counted u)
   pub stopped : OnErr result (StopsAtWrite pinned (places s) (places t))
-  pub cause : OnErr result (had_cause s.swap t.swap ≡ true)
   pub failures : CountsFailure (is_ok result) s t
 
 -- a page came into a free frame, or its read failed
@@ -175,5 +166,4 @@ pub record ComesIn
   pub placed : OnOk result (places t ≡ settled page frame (places s))
   pub stopped : OnErr result (places t ≡ places s)
   pub slot : OnErr result (is_some (rec_by s.segs page).slot ≡ true)
-  pub cause : OnErr result (had_cause s.swap t.swap ≡ true)
   pub failures : CountsFailure (is_ok result) s t

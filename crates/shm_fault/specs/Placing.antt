@@ -1,16 +1,14 @@
 -- Where pages are and which bits are set, without the bytes, and how each step of paging changes that.
-use Rattle.std.specs.Prelude.{ℕ, zero, suc, ◌≡◌, ◌≢◌, ⊤, ◌<◌, ◌+◌, ◌⊎◌, Bool, true, false, not, ◌||◌, if◌then◌else◌, List, [], ◌∷◌, map, set, get_or, length, sum_by, Option, Some, None, is_some, is_none, nat_eq, unwrap_or, position}
+use Rattle.std.specs.Prelude.{ℕ, zero, suc, ◌≡◌, ◌<◌, ◌+◌, ◌⊎◌, Bool, true, false, not, ◌||◌, if◌then◌else◌, List, [], ◌∷◌, map, set, get_or, length, Option, Some, None, is_some, is_none, nat_eq, unwrap_or, position}
 use Rattle.shm_base.specs.declared.paging.PageRef.{PageRef}
 use Rattle.shm_base.specs.declared.paging.Slot.{Slot}
 use Rattle.shm_base.specs.declared.paging.Span.{Span}
-use Rattle.shm_slots.specs.Owners.{used_count}
-use Rattle.shm_slots.specs.View.{AreaView, SwapView}
-use Rattle.shm_frames.specs.Frame.{Frame, no_frame, frame_at, is_free, resident_of, dirty_of}
+pub use Rattle.shm_slots.specs.Moving.{slot_owners, own_slot}
+use Rattle.shm_frames.specs.Frame.{Frame, no_frame, frame_at, is_free}
 use Rattle.shm_clock.specs.Clock.{candidates, victim_of, passed_by, unset_all, next}
-use Rattle.shm_fault.specs.declared.touched.PageTally.{PageTally}
 use Rattle.shm_fault.specs.Segs.{SegRec, no_page, rec_by, with_rec, but}
-use Rattle.shm_fault.specs.Store.{StoreView, ref_of, dirty_in}
-use Rattle.shm_fault.specs.Goes.{unlocked, frame_by}
+use Rattle.shm_fault.specs.Store.{StoreView, ref_of}
+use Rattle.shm_fault.specs.Goes.{unlocked}
 use Rattle.shm_fault.specs.Counting.{Transfers, no_transfers, one_if}
 
 -- each page's frame and slot, each frame's page and bits, the clock's hand, and each slot's page by area
@@ -23,13 +21,6 @@ pub record Places : Type 0 where
 -- a frame without its bytes
 abbrev pub bare : Frame → Frame
 bare x = record x { bytes = [] }
-
-abbrev pub area_owners : AreaView → List (Option PageRef)
-area_owners a = a.owners
-
--- each slot's page, by area
-unfoldable pub slot_owners : SwapView → List (List (Option PageRef))
-slot_owners swap = map area_owners swap.areas
 
 -- the places of a store
 unfoldable pub places : StoreView → Places
@@ -50,12 +41,9 @@ free_from area left_out (owners ∷ rest) =
 unfoldable pub free_slot : Option ℕ → List (List (Option PageRef)) → Option Slot
 free_slot left_out slots = free_from 0 left_out slots
 
--- the owner of one slot, and the slots with this owner for one of them
+-- the owner of one slot
 abbrev pub owner_in : List (List (Option PageRef)) → Slot → Option PageRef
 owner_in slots k = get_or (get_or slots k.area []) k.slot None
-
-abbrev pub own_slot : List (List (Option PageRef)) → Slot → Option PageRef → List (List (Option PageRef))
-own_slot slots k owner = set slots k.area (set (get_or slots k.area []) k.slot owner)
 
 -- the page gets this slot, if it is given one
 abbrev pub takes : PageRef → Option Slot → Places → Places
@@ -282,29 +270,3 @@ after_forgets seg (suc n) s = after_forget (record { seg = seg; page = n }) (aft
 -- the segment is gone
 unfoldable pub without_segment : ℕ → Places → Places
 without_segment seg s = record s { segs = but seg s.segs }
-
--- the counts are right: frames that have a page, dirty frames, and slots that have a page
-pub record IsTallyOf (s : Places) (tally : PageTally) : Type 0 where
-  pub resident : tally.resident ≡ resident_of s.frames
-  pub dirty : tally.dirty ≡ dirty_of s.frames
-  pub used : tally.used ≡ sum_by used_count s.slots
-
--- no frame became dirty
-abbrev pub NoneDirtied : List Frame → List Frame → Type 0
-NoneDirtied before after = (f : ℕ) → (frame_at after f).dirty ≡ true → (frame_at before f).dirty ≡ true
-
--- the frames of the pages of spans are dirty
-abbrev pub AreDirty : StoreView → List Span → Type 0
-AreDirty t [] = ⊤
-AreDirty t (p ∷ ps) = (dirty_in t.frames (frame_by t (ref_of p)) ≡ true) × AreDirty t ps
-
--- a frame has none of these pages
-abbrev pub HasNone : StoreView → List Span → ℕ → Type 0
-HasNone t [] f = ⊤
-HasNone t (p ∷ ps) f = (frame_by t (ref_of p) ≢ Some f) × HasNone t ps f
-
--- the frames of these pages became dirty, and no other
-pub record AreDirtied (ps : List Span) (s t : StoreView) : Type 0 where
-  pub dirty : AreDirty t ps
-  pub others : (f : ℕ) → HasNone t ps f → (frame_at t.frames f).dirty ≡ true
-      → (frame_at s.frames f).dirty ≡ true

@@ -130,11 +130,7 @@ impl<P: Pager> PageStore<P> {
         requires fit { FitsPage (held self.old) first.now }
         requires frame { NamesFrame self.old first.now }
         requires none { IsUntouched touched.old }
-        ensures here { IfOk result (AreIn self.new (first.now ∷ [])) }
-        ensures brings { Brings (first.now ∷ []) self.old self.new touched.new (is_ok result) }
-        ensures placed { OnOk result (places self.new ≡ after_access (first.now ∷ []) (places self.old)) }
-        ensures stopped { let count = counted touched.new in
-            OnErr result (Stops (first.now ∷ []) (places self.old) (places self.new) count) }
+        ensures { Brings (first.now ∷ []) self.old self.new touched.new result }
     {
         let page = self.page_at(first);
         let frame = self.visit(page, first.frame, None, touched)?;
@@ -156,13 +152,7 @@ impl<P: Pager> PageStore<P> {
         requires fit { FitsPage (held self.old) first × FitsPage (held self.old) second }
         requires frames { NamesFrame self.old first × NamesFrame self.old second }
         requires none { IsUntouched touched.old }
-        ensures here { IfOk result (AreIn self.new (first ∷ second ∷ [])) }
-        ensures brings { let spans = first ∷ second ∷ [] in
-            Brings spans self.old self.new touched.new (is_ok result) }
-        ensures placed { let spans = first ∷ second ∷ [] in
-            OnOk result (places self.new ≡ after_access spans (places self.old)) }
-        ensures stopped { let spans = first ∷ second ∷ [] in
-            OnErr result (Stops spans (places self.old) (places self.new) (counted touched.new)) }
+        ensures { Brings (first ∷ second ∷ []) self.old self.new touched.new result }
     {
         let page = self.page_at(&first);
         let near = self.visit(page, first.frame, None, touched)?;
@@ -186,11 +176,7 @@ impl<P: Pager> PageStore<P> {
         requires fit { All (FitsPage (held self.old)) spans.now }
         requires frames { NameFrames self.old spans.now }
         requires none { IsUntouched touched.old }
-        ensures here { IfOk result (AreIn self.new spans.now) }
-        ensures brings { Brings spans.now self.old self.new touched.new (is_ok result) }
-        ensures placed { OnOk result (places self.new ≡ after_access spans.now (places self.old)) }
-        ensures stopped { let count = counted touched.new in
-            OnErr result (Stops spans.now (places self.old) (places self.new) count) }
+        ensures brings { Brings spans.now self.old self.new touched.new result }
         ensures sound { IsStoreSound self.new }
     {
         let brought = match spans {
@@ -222,13 +208,7 @@ impl<P: Pager> PageStore<P> {
         requires fit { FitsPage (held self.old) span.now }
         requires here { frame_by self.old (ref_of span.now) ≡ Some frame }
         requires size { span.now.len ≡ length bytes.now }
-        ensures written { held self.new ≡ map (pasted span.now.seg span.now.at bytes.now) (held self.old) }
-        ensures fits { (p : SpanValue) → FitsPage (held self.old) p → FitsPage (held self.new) p }
-        ensures bits { (f : ℕ) → referenced_at self.new f ≡ referenced_at self.old f }
-        ensures placed { places self.new ≡ with_bit frame true (places self.old) }
-        ensures rest { self.new ≡ record self.old { frames = self.new.frames } }
-        ensures count { length self.new.frames ≡ length self.old.frames }
-        ensures sound { IsStoreSound self.new }
+        ensures { PutAt bytes.now (span.now ∷ []) self.old self.new }
     {
         // The bit first: then the look at it and the write share one test of the frame's number.
         make_dirty(&mut self.frames, frame);

@@ -115,19 +115,6 @@ impl<P: Pager> PageStore<P> {
         Some(self.frame_info(frame_after(self.hand, place, count)))
     }
 
-    // Marks the frame of a resident page as lent, or as not lent any more.
-    fn mark_lent(&mut self, page: PageRef, frame: FrameNo, lent: bool)
-        requires here { frame_by self.old page ≡ Some frame }
-        ensures held { held self.new ≡ held self.old }
-        ensures bits { (f : ℕ) → referenced_at self.new f ≡ referenced_at self.old f }
-        ensures placed { places self.new ≡ with_loan frame lent (places self.old) }
-        ensures rest { self.new ≡ record self.old { frames = self.new.frames } }
-        ensures count { length self.new.frames ≡ length self.old.frames }
-        ensures sound { IsStoreSound self.new }
-    {
-        self.frames.set_lent(frame, lent);
-    }
-
     /// Notes that a resident page is on loan, or that it is not any more.
     pub fn set_lent(&mut self, page: PageRef, lent: bool)
         requires here { IsSome (frame_by self.old page) }
@@ -136,7 +123,7 @@ impl<P: Pager> PageStore<P> {
         let Some(frame) = self.segs.page(page).frame else {
             unreachable!();
         };
-        self.mark_lent(page, frame, lent);
+        self.frames.set_lent(frame, lent);
     }
 
     /// Replaces bytes of a resident page. Its frame is dirty then, and no referenced bit changes.

@@ -264,11 +264,7 @@ impl<P: Pager> PageStore<P> {
         requires away { frame_by self.old page ≡ None }
         requires room { length touched.old.moved.items ≤ 2 }
         requires small { (touched.old.ins < 2 ^ 32) × (touched.old.outs < 2 ^ 32) }
-        ensures here { IfOk result (IsSeenIn self.new page) }
-        ensures visited { Visited page pinned None self.old self.new touched.old touched.new (is_ok result) }
-        ensures placed { OnOk result (places self.new ≡ after_visit page pinned (places self.old)) }
-        ensures stopped { let c = counted touched.new in
-            OnErr result (StopsAt page pinned (places self.old) (places self.new) (counted touched.old) c) }
+        ensures { Visited page pinned None self.old self.new touched.old touched.new result }
     {
         let frame = self.take_frame(pinned, touched)?;
         self.come_in(frame, page, touched)?;
@@ -301,11 +297,7 @@ impl<P: Pager> PageStore<P> {
         requires known { known ≡ frame_by self.old page }
         requires room { length touched.old.moved.items ≤ 2 }
         requires small { (touched.old.ins < 2 ^ 32) × (touched.old.outs < 2 ^ 32) }
-        ensures here { IfOk result (IsSeenIn self.new page) }
-        ensures visited { Visited page pinned known self.old self.new touched.old touched.new (is_ok result) }
-        ensures placed { OnOk result (places self.new ≡ after_visit page pinned (places self.old)) }
-        ensures stopped { let c = counted touched.new in
-            OnErr result (StopsAt page pinned (places self.old) (places self.new) (counted touched.old) c) }
+        ensures { Visited page pinned known self.old self.new touched.old touched.new result }
     {
         match known {
             Some(frame) => {

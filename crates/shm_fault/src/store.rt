@@ -8,7 +8,6 @@ ghost use Rattle.shm_fault.specs.Segs.{count_by_id, find_seg, is_placed, rec_by,
 ghost use Rattle.shm_fault.specs.Store.{fresh_store, held, frame_of, Still, resident, swapped, dirty, used};
 ghost use Rattle.shm_base.specs.declared.bounds.TheConstants.{MOST_FRAMES};
 ghost use Rattle.shm_fault.specs.Sound.{IsStoreSound};
-ghost use Rattle.shm_fault.specs.Placing.{places, IsTallyOf};
 
 use crate::page_tables::PageTables;
 use crate::touched::PageTally;
@@ -72,16 +71,6 @@ impl<P: Pager> Model for PageStore<P> {
       ins = s.ins;
       outs = s.outs;
     }) × AreSkipped (unlocked s.segs) s.frames s.skips };
-}
-
-// Locks or unlocks a segment. It also removes all marks of skipped blocks, because unlocked pages may go.
-fn set_lock(segs: &mut PageTables, skips: &mut Skips, seg: u32, locked: bool)
-    requires { find_seg segs.old seg ≢ None }
-    ensures segs { segs.new ≡ map (with_seg_lock seg locked) segs.old }
-    ensures skips { skips.new ≡ replicate (length skips.old) false }
-{
-    segs.set_locked(seg, locked);
-    skips.forget_all();
 }
 
 impl<P: Pager> PageStore<P> {
@@ -156,7 +145,9 @@ impl<P: Pager> PageStore<P> {
         ensures still { Still self.old self.new }
         ensures sound { IsStoreSound self.new }
     {
-        set_lock(&mut self.segs, &mut self.skips, seg, locked);
+        self.segs.set_locked(seg, locked);
+        // Unlocked pages may go, so no block is skipped now.
+        self.skips.forget_all();
     }
 
     /// How many pages are in a slot and in no frame. Walks all pages.
@@ -172,7 +163,6 @@ impl<P: Pager> PageStore<P> {
         ensures dirty { result.dirty ≡ dirty self.now }
         ensures slots { result.slots ≡ swap_slots self.now.swap }
         ensures used { result.used ≡ used self.now }
-        ensures places { IsTallyOf (places self.now) result }
         ensures ins { result.ins ≡ self.now.ins }
         ensures outs { result.outs ≡ self.now.outs }
         ensures failures { result.failures ≡ min (total self.now.swap) (2 ^ 64 - 1) }

@@ -1,12 +1,15 @@
 -- Failures that are reported are failures that were counted.
-use Rattle.std.proofs.Common.{◌≡◌, ℕ, suc, ◌<◌, ◌≤◌, true, false, List, [], ◌∷◌, All, length, get_or, refl, sym, ◌∙◌, arith, sum_by}
-use Rattle.std.specs.List.{list_all, list_any}
+use Rattle.std.proofs.Common.{Bool, None, ◌⊎◌, ◌≡◌, ℕ, suc, ◌<◌, ◌≤◌, true, false, List, [], ◌∷◌, All, length, get_or, refl, sym, ◌∙◌, arith, sum_by}
+use Rattle.std.proofs.Math.ListN.{get_or-map}
+use Rattle.std.proofs.lemmas.Bool.{false≢true}
+use Rattle.std.proofs.lemmas.Bool.Decides.{nat_tests}
+use Rattle.std.proofs.lemmas.Grind.{common_steps}
 use Rattle.std.proofs.lemmas.List.Elements.{All-head, All-tail}
 use Rattle.std.proofs.lemmas.List.Sums.{sum_by-cons}
-use Rattle.std.proofs.lemmas.Grind.{common_steps}
-use Rattle.std.proofs.lemmas.Bool.Decides.{nat_tests}
-use Rattle.shm_slots.specs.View.{AreaView, SwapView, no_area, rise, most_rise, is_spent, is_spent_here, is_finite, are_finite, IsSwap, IsCounted, AreCountsOf}
-use Rattle.shm_slots.specs.Cause.{some_spent, total, most_total, had_cause, GoesOn}
+use Rattle.std.specs.List.{list_all, list_any}
+use Rattle.shm_pager.specs.Pages.{last_count}
+use Rattle.shm_slots.specs.Cause.{Counts, some_spent, total, most_total, had_cause, GoesOn}
+use Rattle.shm_slots.specs.View.{area_at, size_of, sizes, AreaView, SwapView, no_area, rise, most_rise, is_spent, is_spent_here, is_finite, are_finite, IsSwap, IsCounted, AreCountsOf}
 
 pub GoesOn-refl : (s : SwapView) → GoesOn s s
 GoesOn-refl s = record { areas = refl; starts = λ a. refl; counts = λ a. omega arith; mosts = λ a. omega arith; here = λ a e. e; flag = λ e. e }
@@ -91,3 +94,62 @@ unfolding total
 unfailing failed s swap counted none =
     let zero = counts-zero failed s.areas counted none in
     (grind (arith, common_steps, swap.unspent, zero.0), zero.1)
+
+-- sizes and what follows from them
+pub size-at : (s : SwapView) (area : ℕ) → get_or (sizes s) area None ≡ size_of (area_at s area)
+size-at s area = get_or-map size_of s.areas area no_area
+
+pub pages-same : (s t : SwapView) (area : ℕ) → sizes t ≡ sizes s → (area_at s area).here ≡ true → ((area_at t area).here ≡ true) × (length (area_at t area).pages ≡ length (area_at s area).pages)
+pages-same s t area same here = grind (arith, nat_tests, size-at s area, size-at t area, same, here)
+
+-- a step that counted no failure, and another one
+pub failures-after : (ok : Bool) (s t u : SwapView) → total t ≡ total s → Counts ok t u → Counts ok s u
+failures-after true s t u none more = more ∙ none
+failures-after false s t u none more = λ unspent. rw (← none) (more unspent)
+
+-- counts that never fell, area by area
+record Rose (xs ys : List AreaView) : Type 0 where
+  same : length ys ≡ length xs
+  starts : (i : ℕ) → (get_or ys i no_area).start ≡ (get_or xs i no_area).start
+  counts : (i : ℕ) → (get_or xs i no_area).failed ≤ (get_or ys i no_area).failed
+  here : (i : ℕ) → (get_or ys i no_area).here ≡ true → (get_or xs i no_area).here ≡ true
+
+rose-tail : (x y : AreaView) (xs ys : List AreaView) → Rose (x ∷ xs) (y ∷ ys) → Rose xs ys
+rose-tail x y xs ys r = record { same = omega (arith, r.same); starts = λ i. r.starts (suc i); counts = λ i. r.counts (suc i); here = λ i. r.here (suc i) }
+
+sum-rose : (xs ys : List AreaView) → Rose xs ys → sum_by rise xs ≤ sum_by rise ys
+sum-rose xs ys r = rises-le xs ys r.same r.starts r.counts
+
+spent-rose : (xs ys : List AreaView) → Rose xs ys → ((i : ℕ) → (get_or xs i no_area).start ≤ (get_or xs i no_area).failed) → list_any is_spent_here ys ≡ true
+    → (sum_by rise xs < sum_by rise ys) ⊎ (list_any is_spent_here xs ≡ true)
+spent-rose xs [] r begun e = absurd (false≢true e)
+spent-rose [] (y ∷ ys) r begun e = absurd (omega (arith, r.same))
+spent-rose (x ∷ xs) (y ∷ ys) r begun e =
+    let tail = rose-tail x y xs ys r in
+    let rest = spent-rose xs ys tail (λ i. begun (suc i)) in
+    grind (arith, nat_tests, e, sum-rose xs ys tail, r.starts 0, r.counts 0, r.here 0, begun 0, rest, sum_by-cons rise x xs, sum_by-cons rise y ys)
+
+spent-stays : (xs ys : List AreaView) → Rose xs ys → ((i : ℕ) → (get_or ys i no_area).failed ≤ last_count) → ((i : ℕ) → (get_or xs i no_area).here ≡ true → (get_or ys i no_area).here ≡ true) → list_any is_spent_here xs ≡ true → list_any is_spent_here ys ≡ true
+spent-stays [] ys r few stay e = absurd (false≢true e)
+spent-stays (x ∷ xs) [] r few stay e = absurd (omega (arith, r.same))
+spent-stays (x ∷ xs) (y ∷ ys) r few stay e =
+    grind (arith, nat_tests, e, r.counts 0, few 0, stay 0, spent-stays xs ys (rose-tail x y xs ys r) (λ i. few (suc i)) (λ i. stay (suc i)))
+
+rose : (s t : SwapView) → GoesOn s t → Rose s.areas t.areas
+rose s t g = record { same = g.areas; starts = g.starts; counts = g.counts; here = g.here }
+
+-- what was spent by then had a cause before
+pub spent-cause : (s t : SwapView) → IsSwap s → GoesOn s t → some_spent t ≡ true → had_cause s t ≡ true
+unfolding total some_spent
+spent-cause s t swap g e = grind (arith, nat_tests, spent-rose s.areas t.areas (rose s t g) (λ i. (swap.each i).begun) e)
+
+pub cause-more : (s t u : SwapView) → GoesOn t u → had_cause s t ≡ true → had_cause s u ≡ true
+cause-more s t u g e = grind (arith, nat_tests, total-le t u g, e)
+
+pub cause-before : (s t u : SwapView) → (some_spent t ≡ true → had_cause s t ≡ true) → GoesOn s t → GoesOn t u → had_cause t u ≡ true → had_cause s u ≡ true
+cause-before s t u spent g h e = grind (arith, nat_tests, total-le s t g, spent, cause-more s t u h, e)
+
+-- a spent area stays spent, if none is turned off
+pub unspent-before : (s t : SwapView) → IsSwap t → GoesOn s t → sizes t ≡ sizes s → some_spent t ≡ false → some_spent s ≡ false
+unfolding some_spent
+unspent-before s t swap g same e = grind (arith, nat_tests, common_steps, spent-stays, s.areas, t.areas, rose, swap.each, pages-same)

@@ -1,6 +1,6 @@
 -- A swap with one area changed.
 use Rattle.std.proofs.Common.{◌≡◌, ℕ, zero, suc, ◌<◌, ◌≤◌, Bool, true, false, not, ◌&&◌, ◌||◌, List, [], ◌∷◌, ◌++◌, Option, None, length, get_or, set, map, sum_by, refl, sym, ap, ◌∙◌, inl, inr, arith, get_or-set_same, length-append}
-use Rattle.std.specs.Prelude.{Result, IfErr, OnErr}
+use Rattle.std.specs.Prelude.{Result, Ok, Err, is_ok, IfOk, IfErr, OnErr}
 use Rattle.std.specs.List.{list_any}
 use Rattle.std.proofs.lemmas.Result.{IfErr-weaker}
 use Rattle.std.proofs.lemmas.List.{set_past, get_or_default, get_or_read, map-set}
@@ -9,7 +9,7 @@ use Rattle.shm_base.specs.declared.paging.PageRef.{PageRef}
 use Rattle.shm_pager.specs.Pages.{SideCalls}
 use Rattle.shm_base.specs.declared.bounds.TheConstants.{MOST_AREAS}
 use Rattle.shm_slots.specs.View.{AreaView, SwapView, area_at, no_area, is_spent, size_of, sizes, with_area, with_calls, with_calls_at, with_new, with_page, with_owner, off, HasSlot, CountedFault, IsArea, IsSwap, SameSlots}
-use Rattle.shm_slots.specs.Cause.{some_spent, total, had_cause, GoesOn, IsSteady}
+use Rattle.shm_slots.specs.Cause.{some_spent, total, had_cause, Counts, GoesOn, IsSteady}
 
 -- the areas with one of them changed
 abbrev pub changed : SwapView → ℕ → AreaView → Bool → SwapView
@@ -92,6 +92,7 @@ pub record Asked {A E : Type 0} (r : Result A E) (s : SwapView) (i : ℕ) (was a
   pub goes_on : GoesOn s (asked_of s i a)
   pub same_sizes : sizes (asked_of s i a) ≡ sizes s
   pub cause : OnErr r (had_cause s (asked_of s i a) ≡ true)
+  pub failures : Counts (is_ok r) s (asked_of s i a)
 
 -- a swap after a successful call: only the calls of the area changed, or a page was written too
 pub asked-calls : {A E : Type 0} {r : Result A E} {s : SwapView} {i : ℕ} {was a : AreaView} → Asked r s i was a → a ≡ with_calls was a.calls → asked_of s i a ≡ with_calls_at s i (area_at (asked_of s i a) i).calls
@@ -156,8 +157,14 @@ module _ (s : SwapView) (i : ℕ) (was a : AreaView) (found : was ≡ get_or s.a
     had_cause-asked flag slot there swap (inl counted) = grind (arith, common_steps, sum_by, swap.each)
     had_cause-asked flag slot there swap (inr spent) = grind (arith, common_steps, at_i, swap.each)
 
-    pub asked : {A E : Type 0} (r : Result A E) (slot : ℕ) → HasSlot s i slot → IsSwap s → was.failed ≤ a.failed → a.most ≤ was.most → IsArea a → IfErr r (λ _. CountedFault was a) → Asked r s i was a
-    asked r slot there swap counts mosts area fault =
+    -- and it is counted
+    counts-asked : {A E : Type 0} (r : Result A E) (flag : Bool) (slot : ℕ) → HasSlot s i slot → IsSwap s → IfOk r (λ _. a.failed ≡ was.failed) → IfErr r (λ _. CountedFault was a) → Counts (is_ok r) s (changed s i a flag)
+    unfolding total some_spent
+    counts-asked (Ok x) flag slot there swap kept fault = total-kept (ap (λ (b : AreaView). b.start) is) kept flag
+    counts-asked (Err x) flag slot there swap kept fault = λ unspent. grind (arith, common_steps, sum_by, at_i, swap.each)
+
+    pub asked : {A E : Type 0} (r : Result A E) (slot : ℕ) → HasSlot s i slot → IsSwap s → was.failed ≤ a.failed → a.most ≤ was.most → IsArea a → IfOk r (λ _. a.failed ≡ was.failed) → IfErr r (λ _. CountedFault was a) → Asked r s i was a
+    asked r slot there swap counts mosts area kept fault =
         record {
           before = sym (at_i there.0);
           after = get_or-set_same s.areas i a no_area there.0;
@@ -166,6 +173,7 @@ module _ (s : SwapView) (i : ℕ) (was a : AreaView) (found : was ≡ get_or s.a
           goes_on = GoesOn-asked counts mosts;
           same_sizes = sizes-asked swap area;
           cause = IfErr-weaker r _ _ (λ _ f. had_cause-asked _ slot there swap f) fault;
+          failures = counts-asked r _ slot there swap kept fault;
         }
 
   -- only the count, the bound on it and the calls changed

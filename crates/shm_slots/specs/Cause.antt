@@ -1,5 +1,5 @@
 -- Failures: their sum, which never falls, and the possible causes of a refusal.
-use Rattle.std.specs.Prelude.{ℕ, ◌≡◌, ◌≤◌, Bool, true, ◌||◌, nat_lt, length, sum_by}
+use Rattle.std.specs.Prelude.{ℕ, ◌≡◌, ◌≤◌, ◌+◌, Bool, true, false, ◌||◌, nat_lt, length, sum_by}
 use Rattle.std.specs.List.{list_any}
 use Rattle.shm_slots.specs.View.{SwapView, area_at, rise, most_rise, is_spent_here, sizes}
 
@@ -18,6 +18,11 @@ most_total s = sum_by most_rise s.areas
 -- a refusal has a cause: a count rose in the call, or the count of an active area was at its last value before
 abbrev pub had_cause : SwapView → SwapView → Bool
 had_cause before after = nat_lt (total before) (total after) || some_spent before
+
+-- a step that succeeds counts no failure, and one that fails counts one, unless an area has counted its last
+abbrev pub Counts : Bool → SwapView → SwapView → Type 0
+Counts true before after = total after ≡ total before
+Counts false before after = some_spent after ≡ false → total after ≡ total before + 1
 
 -- counts never fall, the bounds on them never rise, an area that is gone stays gone, and a spent area is never forgotten
 pub record GoesOn (before after : SwapView) : Type 0 where

@@ -1,6 +1,6 @@
 //! All swap areas. A slot has one owner or none. Areas and slots have numbers, which do not change when
 //! another area is dropped.
-ghost use Rattle.std.specs.Prelude.{◌≡◌, ◌+◌, ◌<◌, ◌≤◌, ◌&&◌, [], length, set, map, min, true, false, not, Some, None, All, IfOk, IfErr, OnErr, OnOk, IfNone, EachIndex};
+ghost use Rattle.std.specs.Prelude.{◌≡◌, ◌+◌, ◌<◌, ◌≤◌, ◌&&◌, [], length, set, map, min, true, false, not, Some, None, All, is_ok, IfOk, IfErr, OnErr, OnOk, IfNone, EachIndex};
 ghost use Rattle.shm_pager.specs.Pages.{pager_seen, last_count};
 ghost use Rattle.shm_slots.specs.View.{is_spent};
 
@@ -48,7 +48,7 @@ fn unspent_after<P: Pager>(failed: bool, never_spent: bool, area: &Area<P>) -> b
 
 impl<P: Pager> Swap<P> {
     ghost use Rattle.shm_slots.specs.View.{SwapView, new_swap, with_new, fresh, area_at, with_area, off, HasSlot, owner_of, page_in, with_calls_at, with_slot_page, without_slot, FoundFree, Takes, OneArea, SameSlots, AfterReadFault, AfterWriteFault, size_of, sizes, swap_slots, used_in, used_slots, IsAreaSize, IsSwap, AreCountsOf};
-    ghost use Rattle.shm_slots.specs.Cause.{total, had_cause, GoesOn, IsSteady};
+    ghost use Rattle.shm_slots.specs.Cause.{total, had_cause, Counts, GoesOn, IsSteady};
     ghost use Rattle.shm_base.specs.declared.bounds.TheConstants.{MOST_AREAS};
     ghost use Rattle.shm_base.specs.Stored.{padded};
 
@@ -229,6 +229,7 @@ impl<P: Pager> Swap<P> {
         ensures err { IfErr result (λ _.
             AfterWriteFault slot.slot (area_at self.old slot.area) (area_at self.new slot.area)) }
         ensures cause { OnErr result (had_cause self.old self.new ≡ true) }
+        ensures failures { Counts (is_ok result) self.old self.new }
         ensures others { OneArea slot.area self.old self.new }
         ensures goes_on { GoesOn self.old self.new }
         ensures sizes { sizes self.new ≡ sizes self.old }
@@ -250,6 +251,7 @@ impl<P: Pager> Swap<P> {
         ensures err { IfErr result (λ _.
             AfterReadFault (area_at self.old slot.area) (area_at self.new slot.area)) }
         ensures cause { OnErr result (had_cause self.old self.new ≡ true) }
+        ensures failures { Counts (is_ok result) self.old self.new }
         ensures kept { SameSlots self.old self.new }
         ensures others { OneArea slot.area self.old self.new }
         ensures goes_on { GoesOn self.old self.new }

@@ -1,4 +1,4 @@
-use Rattle.shm_fault.specs.Goes.{unlocked}
+use Rattle.shm_fault.proofs.Names.{unlocked}
 use Rattle.shm_fault.proofs.loans.foresee.Given as goal
 
 abbrev pub ghost-next_victim : goal.ghost-next_victim

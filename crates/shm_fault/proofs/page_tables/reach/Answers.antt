@@ -1,6 +1,4 @@
-use Rattle.shm_fault.proofs.Names.{◌∙◌, ◌++◌, ◌∷◌, [], None, ap, arith, length}
-use Rattle.std.proofs.lemmas.List.{length_push}
-use Rattle.shm_base.proofs.Stored.{more-padded}
+use Rattle.shm_fault.proofs.Names.{◌∙◌, ◌++◌, ◌∷◌, [], None, ap, arith, length, length_push, more-padded}
 use Rattle.shm_fault.proofs.page_tables.reach.Goals as goal
 
 pub loop-tables-preserved : goal.loop-tables-preserved

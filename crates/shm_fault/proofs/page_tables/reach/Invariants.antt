@@ -1,5 +1,4 @@
-use Rattle.shm_fault.proofs.Names.{◌≡◌, ◌≤◌, ◌-◌, ◌+◌, None, length}
-use Rattle.shm_base.specs.Stored.{padded}
+use Rattle.shm_fault.proofs.Names.{◌≡◌, ◌≤◌, ◌-◌, ◌+◌, None, length, padded}
 use Rattle.shm_fault.proofs.page_tables.reach.Given as goal
 
 abbrev pub invariant-loop-tables : goal.invariant-loop-tables

@@ -1,4 +1,4 @@
-use Rattle.shm_fault.specs.Goes.{unlocked}
+use Rattle.shm_fault.proofs.Names.{unlocked}
 use Rattle.shm_fault.proofs.paging.choose.Given as goal
 
 abbrev pub ghost-victim : goal.ghost-victim

@@ -1,5 +1,4 @@
 use Rattle.shm_fault.proofs.Names.{arith, common_steps}
-use Rattle.shm_fault.proofs.Failures.{OnErr-if, total-unread}
 use Rattle.shm_fault.proofs.paging.fill_from.Goals as goal
 
 pub returns-in-Some : goal.returns-in-Some
@@ -11,8 +10,7 @@ returns-in-Some g c =
       swap = rw c.in-Some.is read.ok;
       kept = read.kept;
       slot = grind (arith, common_steps);
-      cause = read.cause;
-      failed = λ swap. OnErr-if c.read_slot.result _ _ read.err (λ fault unspent. total-unread c.args.swap.now c.read_slot.new.self c.in-Some.slot swap (rw c.in-Some.is at c.requires.slot) read.others fault unspent);
+      failures = read.failures;
       goes_on = read.goes_on;
       sizes = read.sizes;
       sound = λ swap. read.sound;

@@ -1,7 +1,7 @@
 use Rattle.shm_fault.proofs.Names.{◌≡◌, ◌<◌, ◌+◌, arith, common_steps, length, rec_at, sym}
 use Rattle.shm_fault.proofs.Untouched.{one_if_swapped, swapped-more, swapped-over}
-use Rattle.shm_fault.proofs.page_table.PageTable.swapped.Goals as goal
 use Rattle.shm_fault.proofs.page_table.PageTable.swapped.Goals.{then-is_swapped, else-is_swapped}
+use Rattle.shm_fault.proofs.page_table.PageTable.swapped.Goals as goal
 
 pub loop-page-init : goal.loop-page-init
 loop-page-init c =

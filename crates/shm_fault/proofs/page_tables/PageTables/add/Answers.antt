@@ -1,8 +1,4 @@
-use Rattle.std.proofs.lemmas.Result.{MatchResult-from_err}
-use Rattle.shm_fault.proofs.Names.{◌≡◌, ◌∙◌, ◌<◌, None, ap, length, SegRec}
-use Rattle.shm_base.specs.Stored.{padded}
-use Rattle.shm_fault.specs.Segs.{IsIndexFree}
-use Rattle.shm_fault.specs.Entries.{present}
+use Rattle.shm_fault.proofs.Names.{MatchResult-from_err, ◌≡◌, ◌∙◌, ◌<◌, None, ap, length, SegRec, padded, IsIndexFree, present}
 use Rattle.shm_fault.proofs.Entries.{indexed-added, present-added, present-padded}
 use Rattle.shm_fault.proofs.page_tables.PageTables.add.Goals as goal
 

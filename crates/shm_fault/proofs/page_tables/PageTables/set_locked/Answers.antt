@@ -1,5 +1,4 @@
-use Rattle.shm_fault.proofs.Names.{◌∙◌, ◌≢◌, None, SegRec, find_seg, arith}
-use Rattle.shm_fault.specs.Entries.{present}
+use Rattle.shm_fault.proofs.Names.{◌∙◌, ◌≢◌, None, SegRec, find_seg, arith, present}
 use Rattle.shm_fault.proofs.Entries.{index-there, seg-read, edit-read}
 use Rattle.shm_fault.proofs.page_tables.PageTables.set_locked.Goals as goal
 

@@ -1,8 +1,7 @@
-use Rattle.shm_fault.proofs.Names.{arith, ◌≡◌, ◌∙◌, ◌≢◌, None, Some, SegRec, HasPage, find_seg, set}
-use Rattle.shm_fault.specs.Entries.{present}
+use Rattle.shm_fault.proofs.Names.{arith, ◌≡◌, ◌∙◌, ◌≢◌, None, Some, SegRec, HasPage, find_seg, set, present}
 use Rattle.shm_fault.proofs.Entries.{index-there, seg-read, edit-read, page-there}
-use Rattle.shm_fault.proofs.page_tables.PageTables.set_page.Goals as goal
 use Rattle.shm_fault.proofs.page_tables.PageTables.set_page.Goals.{After-place_of, In-Some}
+use Rattle.shm_fault.proofs.page_tables.PageTables.set_page.Goals as goal
 
 there : (c : After-place_of) → find_seg (present c.self.inside.tables.items) c.args.page.seg ≢ None
 there c = page-there _ c.args.page (rw (← c.self.view_is) at c.requires)

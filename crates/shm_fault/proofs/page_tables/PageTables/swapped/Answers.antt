@@ -1,5 +1,5 @@
 use Rattle.shm_fault.proofs.Names.{take_all, arith, common_steps}
-use Rattle.shm_fault.proofs.Copies.{swapped-le, swapped-present}
+use Rattle.shm_fault.proofs.Untouched.{swapped-le, swapped-present}
 use Rattle.shm_fault.proofs.page_tables.PageTables.swapped.Goals as goal
 
 pub overflow_add-count : goal.overflow_add-count

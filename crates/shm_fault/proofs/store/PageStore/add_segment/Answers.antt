@@ -1,22 +1,19 @@
-use Rattle.shm_fault.proofs.Names.{◌≡◌, ◌≤◌, ◌+◌, None, sum_by, arith, pages_in_store, swap_slots, find_seg, page_count, held, IsStoreSound, common_steps, nat_tests, ℕ, inl, inr, refl, locked_by}
+use Rattle.shm_fault.proofs.Names.{IfOk-weaker, with_seg, ◌≡◌, ◌≤◌, ◌+◌, None, sum_by, arith, pages_in_store, swap_slots, find_seg, page_count, held, IsStoreSound, common_steps, nat_tests, ℕ, inl, inr, refl, locked_by, IsIndexFree, seen}
 use Rattle.shm_fault.specs.Store.{frame_of}
-use Rattle.shm_fault.specs.Segs.{IsIndexFree}
-use Rattle.shm_fault.proofs.Seen.{seen}
 use Rattle.shm_fault.proofs.Skipped.{locked-added, skipped-locks}
-use Rattle.shm_fault.proofs.Failures.{OnOk-map, either_way}
+use Rattle.shm_fault.proofs.Counting.{either_way}
 use Rattle.shm_fault.proofs.Whole.{not-held, pages_in_store-is, sound-added, held-added, rec-added}
-use Rattle.shm_fault.proofs.store.PageStore.add_segment.Given as given
-use Rattle.shm_fault.proofs.store.PageStore.add_segment.Goals as goal
 use Rattle.shm_fault.proofs.store.PageStore.add_segment.Goals.{After-self, After-add}
+use Rattle.shm_fault.proofs.store.PageStore.add_segment.Goals as goal
 
 -- no segment has its index
-free : (g : given.Over) (c : After-self g) → IsIndexFree c.self.inside.segs c.args.seg
+free : (g : _) (c : After-self g) → IsIndexFree c.self.inside.segs c.args.seg
 free g c = λ other same. not-held (seen c.self.inside) c.self.invariant.0 other (rw (← c.self.view_is) at (c.requires.new other same))
 
-new : (g : given.Over) (c : After-self g) → find_seg c.self.inside.segs c.args.seg ≡ None
+new : (g : _) (c : After-self g) → find_seg c.self.inside.segs c.args.seg ≡ None
 new g c = free g c c.args.seg refl
 
-sound : (g : given.Over) (c : After-add g) → find_seg c.self.inside.segs c.args.seg ≡ None → IsStoreSound (record (seen c.self.inside) { segs = c.add.new.self })
+sound : (g : _) (c : After-add g) → find_seg c.self.inside.segs c.args.seg ≡ None → IsStoreSound (record (seen c.self.inside) { segs = c.add.new.self })
 sound g c none =
     let s = seen c.self.inside in
     let room₀ : pages_in_store (held s) + c.args.pages ≤ swap_slots s.swap = rw (← c.self.view_is) at c.requires.room in
@@ -40,7 +37,7 @@ returns-clause-sound g c = sound g c (new g (goal.at.returns-clause-sound g c).A
 pub returns-clause-held : goal.returns-clause-held
 returns-clause-held g c =
     let none = new g (goal.at.returns-clause-held g c).After-self in
-    OnOk-map c.add.result _ _ c.add.ensures.ok (λ ok. rw (ok, ← c.self.view_is) (held-added (seen c.self.inside) c.self.invariant.0 c.args.seg c.args.pages none))
+    IfOk-weaker c.add.result (λ _. c.add.new.self ≡ with_seg c.self.inside.segs c.args.seg c.args.pages) _ (λ _ ok. rw (ok, ← c.self.view_is) (held-added (seen c.self.inside) c.self.invariant.0 c.args.seg c.args.pages none)) c.add.ensures.ok
 
 pub returns-clause-still : goal.returns-clause-still
 unfolding frame_of

@@ -1,9 +1,8 @@
-use Rattle.shm_fault.proofs.Names.{arith}
+use Rattle.shm_fault.proofs.Names.{PagerFault, arith}
 use Rattle.shm_fault.specs.Store.{frame_of}
-use Rattle.shm_fault.proofs.Bringing.{brings-none, none-of, one-of, two-of}
-use Rattle.shm_fault.proofs.Places.{access-none}
-use Rattle.shm_fault.proofs.store.PageStore.bring_spans.Goals as goal
+use Rattle.shm_fault.proofs.Visits.{brings-none, none-of, one-of, two-of}
 use Rattle.shm_fault.proofs.store.PageStore.bring_spans.Goals.{in-empty, in-len1, in-len2-up}
+use Rattle.shm_fault.proofs.store.PageStore.bring_spans.Goals as goal
 
 pub bring_two-brought-requires-clause-frames : goal.bring_two-brought-requires-clause-frames
 unfolding frame_of
@@ -16,23 +15,7 @@ bring_one-brought-requires-clause-frame g c = c.requires.frames 0 _ (omega arith
 pub returns-clause-brings : goal.returns-clause-brings
 returns-clause-brings g c =
     elim c.if-spans-lt1.branch [
-      | in-empty w ↦ rw (w.self-is, w.touched-is, w.brought-is) (rw (none-of c.args.spans.now (omega arith)) at (brings-none c.args.self.now c.args.touched.now c.requires.none))
-      | in-len1 w ↦ rw (w.self-is, w.touched-is, w.brought-is) (rw (one-of c.args.spans.now (omega arith)) at w.bring_one-brought.ensures.brings)
-      | in-len2-up w ↦ rw (w.self-is, w.touched-is, w.brought-is) (rw (two-of c.args.spans.now (omega (arith, c.requires.few))) at w.bring_two-brought.ensures.brings)
-    ]
-
-pub returns-clause-placed : goal.returns-clause-placed
-returns-clause-placed g c =
-    elim c.if-spans-lt1.branch [
-      | in-empty w ↦ rw (w.self-is, w.brought-is) (rw (none-of c.args.spans.now (omega arith)) at (access-none c.args.self.now))
-      | in-len1 w ↦ rw (w.self-is, w.brought-is) (rw (one-of c.args.spans.now (omega arith)) at w.bring_one-brought.ensures.placed)
-      | in-len2-up w ↦ rw (w.self-is, w.brought-is) (rw (two-of c.args.spans.now (omega (arith, c.requires.few))) at w.bring_two-brought.ensures.placed)
-    ]
-
-pub returns-clause-stopped : goal.returns-clause-stopped
-returns-clause-stopped g c =
-    elim c.if-spans-lt1.branch [
-      | in-empty w ↦ rw w.brought-is tt
-      | in-len1 w ↦ rw (w.self-is, w.touched-is, w.brought-is) (rw (one-of c.args.spans.now (omega arith)) at w.bring_one-brought.ensures.stopped)
-      | in-len2-up w ↦ rw (w.self-is, w.touched-is, w.brought-is) (rw (two-of c.args.spans.now (omega (arith, c.requires.few))) at w.bring_two-brought.ensures.stopped)
+      | in-empty w ↦ rw (w.self-is, w.touched-is, w.brought-is) (rw (none-of c.args.spans.now (omega arith)) at (brings-none {E = PagerFault} c.args.self.now c.args.touched.now (record { first = 0; second = 0 }) c.requires.none))
+      | in-len1 w ↦ rw (w.self-is, w.touched-is, w.brought-is) (rw (one-of c.args.spans.now (omega arith)) at w.bring_one-brought.ensures)
+      | in-len2-up w ↦ rw (w.self-is, w.touched-is, w.brought-is) (rw (two-of c.args.spans.now (omega (arith, c.requires.few))) at w.bring_two-brought.ensures)
     ]

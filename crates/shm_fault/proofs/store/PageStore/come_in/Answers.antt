@@ -1,6 +1,4 @@
-use Rattle.std.proofs.lemmas.Result.{err_from_is_err_and, MatchResult-from_err}
-use Rattle.shm_fault.proofs.Names.{total, ◌≡◌, ◌∙◌, ◌+◌, arith, common_steps, nat_tests, is_some, [], ◌∷◌, ◌++◌, Option, Some, None, refl, ap, MatchOption, PageRef, Slot, HasSlot, Came, rec_by, StoreView, one_if}
-use Rattle.shm_fault.proofs.Seen.{seen}
+use Rattle.shm_fault.proofs.Names.{err_from_is_err_and, MatchResult-from_err, total, ◌≡◌, ◌∙◌, ◌+◌, arith, common_steps, nat_tests, is_some, [], ◌∷◌, ◌++◌, Option, Some, None, refl, ap, MatchOption, PageRef, Slot, HasSlot, Came, rec_by, StoreView, one_if, seen}
 use Rattle.shm_fault.proofs.Slots.{bytes-kept}
 use Rattle.shm_fault.proofs.Sound.{slot-own}
 use Rattle.shm_fault.proofs.Pages.{by-still}
@@ -55,7 +53,6 @@ returns g c =
       placed = rw (← loaded.placed) settled.placed;
       stopped = tt;
       slot = tt;
-      cause = tt;
       failures = ap (λ (v : StoreView). total v.swap) settled.rest ∙ c.in_ok-load.ensures.failures;
     }
 
@@ -79,6 +76,5 @@ returns-in_err-load g c =
       placed = grind (arith, common_steps);
       stopped = MatchResult-from_err _ _ _ from λ _. loaded.placed;
       slot = grind (arith, common_steps);
-      cause = MatchResult-from_err _ _ _ from λ _. c.in_err-load.ensures.cause;
       failures = rw (err_from_is_err_and c.from_residual.result c.from_residual.ensures.1).1 c.in_err-load.ensures.failures;
     }

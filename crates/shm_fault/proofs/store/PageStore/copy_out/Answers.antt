@@ -1,5 +1,4 @@
-use Rattle.shm_fault.proofs.Names.{◌≡◌, ◌+◌, ◌-◌, ◌%◌, length, refl, arith, ref_of}
-use Rattle.shm_fault.proofs.Seen.{seen}
+use Rattle.shm_fault.proofs.Names.{◌≡◌, ◌+◌, ◌-◌, ◌%◌, length, refl, arith, ref_of, seen}
 use Rattle.shm_fault.proofs.Sound.{frame-own}
 use Rattle.shm_fault.proofs.Spans.{span-read}
 use Rattle.shm_fault.proofs.store.PageStore.copy_out.Goals as goal

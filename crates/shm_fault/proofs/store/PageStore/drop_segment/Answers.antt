@@ -1,39 +1,35 @@
-use Rattle.shm_fault.proofs.Names.{◌≡◌, ◌≢◌, ℕ, ap, arith, PageRec, PageRef, StoreView, count_by_id, rec_by, Dropped, IsStoreSound, but}
-use Rattle.shm_fault.specs.Store.{frame_of}
-use Rattle.shm_fault.proofs.Seen.{seen}
+use Rattle.shm_fault.proofs.Names.{◌≡◌, refl, arith, count_by_id, Dropped, IsStoreSound, but, seen, Drops}
 use Rattle.shm_fault.proofs.Skipped.{skipped-but}
 use Rattle.shm_fault.proofs.Pages.{count-same, found-still}
 use Rattle.shm_fault.proofs.Whole.{held-there}
-use Rattle.shm_fault.proofs.Drops.{dropped-none, IsDropped, drops}
-use Rattle.shm_fault.proofs.Forgets.{segment-gone}
-use Rattle.shm_fault.proofs.store.PageStore.drop_segment.Given as given
-use Rattle.shm_fault.proofs.store.PageStore.drop_segment.Goals as goal
+use Rattle.shm_fault.proofs.Drops.{dropped-none, drops}
 use Rattle.shm_fault.proofs.store.PageStore.drop_segment.Goals.{After-remove}
+use Rattle.shm_fault.proofs.store.PageStore.drop_segment.Goals as goal
 
 -- all pages are nowhere
-whole : (g : given.Over) (c : After-remove g) → Dropped c.args.seg (count_by_id c.args.self.now.segs c.args.seg) c.args.self.now (seen c.self-2.inside)
+whole : (g : _) (c : After-remove g) → Dropped c.args.seg (count_by_id c.args.self.now.segs c.args.seg) c.args.self.now (seen c.self-2.inside)
 whole g c =
     let last : c.loop-page.page ≡ c.count-count.result = omega (arith, c.loop-page-test.false, c.loop-page.invariant.1) in
     let is : c.count-count.result ≡ count_by_id c.args.self.now.segs c.args.seg = rw (← c.self.view_is) c.count-count.ensures in
     rw (← c.self-2.view_is, last, is) at c.loop-page.invariant.0
 
-done : (g : given.Over) (c : After-remove g) → IsDropped c.args.seg c.args.self.now (record (seen c.self-2.inside) { segs = c.remove.new.self })
+done : (g : _) (c : After-remove g) → Drops c.args.seg c.args.self.now (record (seen c.self-2.inside) { segs = c.remove.new.self })
 done g c =
     let s = c.args.self.now in
-    rw c.remove.ensures (drops c.args.seg (count_by_id s.segs c.args.seg) s (seen c.self-2.inside) c.self-2.invariant.0 (whole g c) (omega arith))
+    rw c.remove.ensures (drops c.args.seg (count_by_id s.segs c.args.seg) s (seen c.self-2.inside) c.self-2.invariant.0 (whole g c) refl)
 
 pub remove-requires : goal.remove-requires
 remove-requires g c =
     let s = c.args.self.now in
     let there = held-there s (rw c.self.view_is at c.self.invariant.0) c.args.seg c.requires.there in
     let d : Dropped c.args.seg c.loop-page.page s (seen c.self-2.inside) = rw (← c.self-2.view_is) at c.loop-page.invariant.0 in
-    found-still s.segs c.self-2.inside.segs c.args.seg d.shape there
+    found-still s.segs c.self-2.inside.segs c.args.seg d.frees.shape there
 
 pub forget_next-page-requires-clause-there : goal.forget_next-page-requires-clause-there
 forget_next-page-requires-clause-there g c =
     let s = c.args.self.now in
     let is : c.count-count.result ≡ count_by_id s.segs c.args.seg = rw (← c.self.view_is) c.count-count.ensures in
-    let same = count-same s.segs c.loop-page.self.segs c.args.seg c.loop-page.invariant.0.shape in
+    let same = count-same s.segs c.loop-page.self.segs c.args.seg c.loop-page.invariant.0.frees.shape in
     omega (arith, is, same)
 
 pub loop-page-preserved : goal.loop-page-preserved
@@ -50,27 +46,5 @@ invariant_of-self g c =
 pub loop-page-init : goal.loop-page-init
 loop-page-init g c = rw (← c.self.view_is) (dropped-none c.args.seg (seen c.self.inside), omega arith)
 
-still : (seg : ℕ) (s t : StoreView) → ((q : PageRef) → q.seg ≢ seg → rec_by t.segs q ≡ rec_by s.segs q) → (other page : ℕ) → other ≢ seg → frame_of t other page ≡ frame_of s other page
-unfolding frame_of
-still seg s t same other page ne = ap (λ (p : PageRec). p.frame) (same (record { seg = other; page = page }) ne)
-
 pub returns : goal.returns
-returns g c =
-    let s = c.args.self.now in
-    let t = seen c.self-2.inside in
-    let o = (goal.at.returns g c).After-remove in
-    let is = done g o in
-    let d = whole g o in
-    record {
-      held = is.bytes;
-      frames = is.frames;
-      slots = λ area slot. is.slots (record { area = area; slot = slot });
-      still = still c.args.seg s (record t { segs = c.remove.new.self }) is.still;
-      counts = (d.steady.failures, d.steady.goes_on);
-      sizes = d.steady.same_sizes;
-      count = d.size;
-      rest = record { ins = d.rest.ins; outs = d.rest.outs };
-      places = rw c.remove.ensures (segment-gone c.args.seg (count_by_id s.segs c.args.seg) s t d.placed);
-      blank = is.blank;
-      sound = is.sound;
-    }
+returns g c = done g (goal.at.returns g c).After-remove

@@ -1,11 +1,6 @@
-use Rattle.std.proofs.lemmas.Result.{err_from_is_err_and, MatchResult-from_err}
-use Rattle.shm_fault.proofs.Names.{total, arith, common_steps, ◌≡◌, Some, false, length-set, rec_by, List, ap, sym, ◌∙◌, get_or-set_same, Frame, no_frame, frame_at, StoreView}
-use Rattle.shm_frames.specs.Frame.{is_free}
-use Rattle.shm_frames.proofs.First.{position-none}
+use Rattle.shm_fault.proofs.Names.{err_from_is_err_and, MatchResult-from_err, total, arith, common_steps, ◌≡◌, Some, false, length-set, rec_by, List, ap, sym, ◌∙◌, get_or-set_same, Frame, no_frame, frame_at, StoreView, is_free, position-none, failures-after}
 use Rattle.shm_fault.proofs.Pages.{by-still, still-by}
-use Rattle.shm_fault.proofs.Sound.{cause-after}
 use Rattle.shm_fault.proofs.Visits.{evicted-gone, evicted-visits}
-use Rattle.shm_fault.proofs.Failures.{failures-after}
 use Rattle.shm_fault.proofs.Places.{eviction-is, stops-write, victim-dirty}
 use Rattle.shm_fault.proofs.store.PageStore.evict.Goals as goal
 
@@ -38,7 +33,6 @@ returns g c =
       chosen = turned.chosen;
       written = c.in_ok-written.ensures.written ∙ (turned.alike f).dirty ∙ victim-dirty s c.args.pinned f turned.chosen;
       stopped = tt;
-      cause = tt;
       failures = ap (λ (v : StoreView). total v.swap) left.rest ∙ c.in_ok-written.ensures.failures ∙ ap (λ (v : StoreView). total v.swap) turned.rest;
     }
 
@@ -64,7 +58,6 @@ returns-in_err-written g c =
       stopped = MatchResult-from_err _ _ _ from λ _.
           stops-write s t₁ t₂ c.args.pinned c.turn-frame.result turned.chosen turned.placed c.in_err-written.ensures.stopped
           (position-none is_free s.frames no_frame c.requires.full) (sym (turned.alike c.turn-frame.result).dirty ∙ c.in_err-written.ensures.dirty);
-      cause = MatchResult-from_err _ _ _ from λ _. cause-after s t₁ t₂ turned.goes cleaned.goes c.in_err-written.ensures.cause;
       failures = rw (err_from_is_err_and c.from_residual.result c.from_residual.ensures.1).1
-          (failures-after false s t₁ t₂ (ap (λ (v : StoreView). total v.swap) turned.rest) c.in_err-written.ensures.failures);
+          (failures-after false s.swap t₁.swap t₂.swap (ap (λ (v : StoreView). total v.swap) turned.rest) c.in_err-written.ensures.failures);
     }

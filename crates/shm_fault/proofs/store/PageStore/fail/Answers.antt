@@ -1,4 +1,4 @@
-use Rattle.shm_fault.proofs.Later.{held-failing, sound-failing}
+use Rattle.shm_fault.proofs.More.{held-failing, sound-failing}
 use Rattle.shm_fault.proofs.store.PageStore.fail.Goals as goal
 
 pub invariant_of-self : goal.invariant_of-self

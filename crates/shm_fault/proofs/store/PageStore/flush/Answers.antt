@@ -1,12 +1,10 @@
-use Rattle.shm_fault.proofs.Names.{◌≡◌, ◌<◌, ◌≤◌, ◌+◌, ◌-◌, ℕ, true, false, length, sym, ◌∙◌, refl, arith, frame_at, may_flush}
+use Rattle.shm_fault.proofs.Names.{◌≡◌, ◌<◌, ◌≤◌, ◌+◌, ◌-◌, ℕ, true, false, length, sym, ◌∙◌, refl, arith, frame_at, may_flush, seen}
 use Rattle.shm_fault.proofs.Flushes.{Flushed, flushed-none, flushed-not, flushed-more, flushed-past, flushed-full, flushed-all}
-use Rattle.shm_fault.proofs.Seen.{seen}
-use Rattle.shm_fault.proofs.store.PageStore.flush.Given as given
-use Rattle.shm_fault.proofs.store.PageStore.flush.Goals as goal
 use Rattle.shm_fault.proofs.store.PageStore.flush.Goals.{After-next_dirty, then-is_flushable, else-is_flushable}
+use Rattle.shm_fault.proofs.store.PageStore.flush.Goals as goal
 
 -- what was flushed, up to a frame below which none of those that follow is dirty
-past : (g : given.Over) (c : After-next_dirty g) (last : ℕ) → c.loop-from.from ≤ last → ((i : ℕ) → c.loop-from.from ≤ i → i < last → (frame_at c.self-in-loop-from.inside.frames i).dirty ≡ false)
+past : (g : _) (c : After-next_dirty g) (last : ℕ) → c.loop-from.from ≤ last → ((i : ℕ) → c.loop-from.from ≤ i → i < last → (frame_at c.self-in-loop-from.inside.frames i).dirty ≡ false)
     → Flushed c.args.n c.args.self.now last c.loop-from.self c.loop-from.report.written c.loop-from.report.failed
 past g c last le clean =
     let s = c.args.self.now in

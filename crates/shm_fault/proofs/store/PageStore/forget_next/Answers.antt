@@ -1,13 +1,10 @@
-use Rattle.shm_fault.proofs.Names.{◌≡◌, ◌+◌, ◌-◌, ◌≤◌, arith, count_by_id, HasPage, NowhereUpTo}
-use Rattle.shm_fault.specs.Dropping.{DropsOn}
-use Rattle.shm_fault.proofs.Seen.{seen}
+use Rattle.shm_fault.proofs.Names.{◌≡◌, ◌+◌, ◌-◌, ◌≤◌, arith, count_by_id, HasPage, NowhereUpTo, DropsOn, seen}
 use Rattle.shm_fault.proofs.Drops.{dropped-more, dropped-rest}
-use Rattle.shm_fault.proofs.store.PageStore.forget_next.Given as given
-use Rattle.shm_fault.proofs.store.PageStore.forget_next.Goals as goal
 use Rattle.shm_fault.proofs.store.PageStore.forget_next.Goals.{After-next_placed-page}
+use Rattle.shm_fault.proofs.store.PageStore.forget_next.Goals as goal
 
 -- the pages that are passed are nowhere
-passed : (g : given.Over) (c : After-next_placed-page g) → DropsOn c.args.first.seg c.args.first.page c.next_placed-page.result c.args.self.now c.args.self.now
+passed : (g : _) (c : After-next_placed-page g) → DropsOn c.args.first.seg c.args.first.page c.next_placed-page.result c.args.self.now c.args.self.now
 passed g c = rw (← c.self.view_is) λ b d.
     let s = seen c.self.inside in
     let first = c.args.first.page in
@@ -31,5 +28,4 @@ returns-clause-drops g c = λ b d.
     let page = c.next_placed-page.result in
     let is = passed g (goal.at.returns-clause-drops g c).After-next_placed-page b d in
     let there : HasPage s.segs (record { seg = seg; page = page }) = omega (arith, c.requires.there, c.next_placed-page.ensures.within, c.if-page-last.false) in
-    let e = c.forget.ensures in
-    dropped-more seg page b s t is there e.segs e.held e.frames e.slots e.size e.steady e.rest e.nowhere e.placed
+    dropped-more seg page b s t is there c.forget.ensures

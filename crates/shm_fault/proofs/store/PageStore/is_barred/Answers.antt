@@ -1,6 +1,5 @@
-use Rattle.shm_fault.proofs.Names.{◌∙◌, sym}
-use Rattle.shm_fault.proofs.Seen.{seen}
-use Rattle.shm_fault.proofs.Leaving.{barred-some, barred-none}
+use Rattle.shm_fault.proofs.Names.{◌∙◌, sym, seen}
+use Rattle.shm_fault.proofs.Clock.{barred-some, barred-none}
 use Rattle.shm_fault.proofs.store.PageStore.is_barred.Goals as goal
 
 pub returns-in-Some : goal.returns-in-Some

@@ -1,5 +1,4 @@
-use Rattle.shm_fault.proofs.Names.{◌≡◌, true, not, Some, sym, ap, ◌∙◌, frame_at}
-use Rattle.shm_fault.proofs.Seen.{seen}
+use Rattle.shm_fault.proofs.Names.{◌≡◌, true, not, Some, sym, ap, ◌∙◌, frame_at, seen}
 use Rattle.shm_fault.proofs.Flushes.{flushable}
 use Rattle.shm_fault.proofs.store.PageStore.is_flushable.Goals as goal
 

@@ -1,12 +1,9 @@
-use Rattle.shm_fault.proofs.Names.{◌≡◌, length, ◌∙◌, ap, Some, arith, two_eligible, OwnedBelow, resident_of, unlocked}
-use Rattle.shm_fault.proofs.Seen.{seen}
-use Rattle.shm_fault.proofs.Clock.{two_unlocked}
-use Rattle.shm_fault.proofs.Leaving.{full-owned, leaver-none, leaver-some}
-use Rattle.shm_fault.proofs.store.PageStore.leaver.Given as given
-use Rattle.shm_fault.proofs.store.PageStore.leaver.Goals as goal
+use Rattle.shm_fault.proofs.Names.{◌≡◌, length, ◌∙◌, ap, Some, arith, two_eligible, OwnedBelow, resident_of, unlocked, seen}
+use Rattle.shm_fault.proofs.Clock.{two_unlocked, full-owned, leaver-none, leaver-some}
 use Rattle.shm_fault.proofs.store.PageStore.leaver.Goals.{Else-resident-from}
+use Rattle.shm_fault.proofs.store.PageStore.leaver.Goals as goal
 
-all : (g : given.Over) (c : Else-resident-from g) → resident_of c.self.inside.frames ≡ length c.self.inside.frames
+all : (g : _) (c : Else-resident-from g) → resident_of c.self.inside.frames ≡ length c.self.inside.frames
 all g c = omega (arith, c.resident.ensures.count, c.resident.ensures.few, c.count.ensures.size, c.from.ensures, c.if-resident-from.false)
 
 pub foresee-requires-clause-one : goal.foresee-requires-clause-one

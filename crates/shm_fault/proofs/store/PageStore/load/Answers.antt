@@ -1,17 +1,11 @@
-use Rattle.std.proofs.lemmas.Result.{err_from_is_err_and, MatchResult-from_err}
-use Rattle.shm_fault.proofs.Names.{ℕ, refl, arith, common_steps, nat_tests, frame_at, inl, unlocked}
-use Rattle.shm_fault.proofs.Seen.{seen}
+use Rattle.shm_fault.proofs.Names.{err_from_is_err_and, MatchResult-from_err, ℕ, refl, arith, common_steps, nat_tests, frame_at, inl, unlocked, seen, AreSkipped, owners-kept}
 use Rattle.shm_fault.proofs.Skipped.{skipped-set}
 use Rattle.shm_fault.proofs.Visits.{IsStep, step-load}
-use Rattle.shm_fault.proofs.Failures.{total-filled}
-use Rattle.shm_fault.proofs.Placed.{owners-kept}
 use Rattle.shm_fault.proofs.Places.{same-places}
-use Rattle.shm_clock.specs.Skips.{AreSkipped}
-use Rattle.shm_fault.proofs.store.PageStore.load.Given as given
-use Rattle.shm_fault.proofs.store.PageStore.load.Goals as goal
 use Rattle.shm_fault.proofs.store.PageStore.load.Goals.{After-fill_from}
+use Rattle.shm_fault.proofs.store.PageStore.load.Goals as goal
 
-step : (g : given.Over) (c : After-fill_from g) (ins : ℕ)
+step : (g : _) (c : After-fill_from g) (ins : ℕ)
     → IsStep (seen c.self.inside) (record (seen c.self.inside) { frames = c.fill_from.new.frames; swap = c.fill_from.new.swap; ins = ins })
 step g c ins =
     let e = c.fill_from.ensures in
@@ -19,7 +13,7 @@ step g c ins =
     rw e.frames
     (step-load (seen c.self.inside) c.self.invariant.0 c.args.frame bytes (rw (← c.self.view_is) at c.requires.free) c.fill_from.new.swap ins e.kept (e.sound c.self.invariant.0.swap) e.sizes e.goes_on)
 
-skipped : (g : given.Over) (c : After-fill_from g) → AreSkipped (unlocked c.self.inside.segs) c.fill_from.new.frames c.self.inside.skips
+skipped : (g : _) (c : After-fill_from g) → AreSkipped (unlocked c.self.inside.segs) c.fill_from.new.frames c.self.inside.skips
 skipped g c =
     let i = c.self.inside in
     rw c.fill_from.ensures.frames (skipped-set (unlocked i.segs) i.frames i.skips c.self.invariant.1 c.args.frame (record (frame_at i.frames c.args.frame) { bytes = (frame_at c.fill_from.new.frames c.args.frame).bytes }) (inl refl))
@@ -51,8 +45,7 @@ returns g c =
       placed = same-places s t c.args.frame (frame_at c.fill_from.new.frames c.args.frame).bytes refl refl (owners-kept s.swap c.fill_from.new.swap c.fill_from.ensures.kept) c.fill_from.ensures.frames;
       slot = tt;
       visits = k.visits;
-      cause = tt;
-      failures = total-filled _ s.swap _ (rw (← c.self.view_is) at c.requires.slot) e.swap;
+      failures = e.failures;
     })
 
 pub returns-in_err-fill_from : goal.returns-in_err-fill_from
@@ -73,6 +66,5 @@ returns-in_err-fill_from g c =
       placed = same-places s t c.args.frame (frame_at c.fill_from.new.frames c.args.frame).bytes refl refl (owners-kept s.swap c.fill_from.new.swap c.fill_from.ensures.kept) c.fill_from.ensures.frames;
       slot = MatchResult-from_err _ _ _ from λ _. e.slot;
       visits = k.visits;
-      cause = MatchResult-from_err _ _ _ from λ _. e.cause;
-      failures = rw (err_from_is_err_and c.from_residual.result c.from_residual.ensures.1).1 (λ unspent. e.failed c.self.invariant.0.swap unspent);
+      failures = rw (err_from_is_err_and c.from_residual.result c.from_residual.ensures.1).1 e.failures;
     })

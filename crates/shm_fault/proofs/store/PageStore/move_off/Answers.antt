@@ -1,26 +1,22 @@
-use Rattle.shm_fault.proofs.Names.{◌≡◌, false, refl, List, Option, None, ℕ, set, ap, length, ◌∙◌, arith, area_at, held, IsStoreSound, Still, StoreView, SwapView, common_steps, nat_tests}
+use Rattle.shm_fault.proofs.Names.{◌≡◌, false, refl, List, Option, None, ℕ, set, ap, length, ◌∙◌, arith, area_at, held, CountsFailure, IsStoreSound, Still, StoreView, SwapView, common_steps, nat_tests, seen, failures-after}
 use Rattle.shm_fault.proofs.Counting.{uncounted-trans}
 use Rattle.shm_fault.specs.Store.{frame_of}
-use Rattle.shm_fault.proofs.Seen.{seen}
-use Rattle.shm_fault.proofs.Sound.{GoesOn-trans, cause-after}
-use Rattle.shm_fault.proofs.Bringing.{kept-locked}
-use Rattle.shm_fault.proofs.Failures.{failures-after}
-use Rattle.shm_fault.proofs.Areas.{IsCleaned, cleaned-more, cleaned-there, cleaned-room, cleaned-free, cleaned-off}
-use Rattle.shm_fault.proofs.Moves.{area-gone, stops-moving}
-use Rattle.shm_fault.proofs.Areas.{cleaned-none}
-use Rattle.shm_fault.proofs.store.PageStore.move_off.Given as given
-use Rattle.shm_fault.proofs.store.PageStore.move_off.Goals as goal
+use Rattle.shm_fault.proofs.Sound.{Goes-trans, GoesOn-trans, cause-of}
+use Rattle.shm_fault.proofs.Visits.{kept-locked}
+use Rattle.shm_fault.proofs.Areas.{IsCleaned, cleaned-more, cleaned-there, cleaned-room, cleaned-free, cleaned-off, cleaned-none}
+use Rattle.shm_fault.proofs.Places.{area-gone, stops-moving}
 use Rattle.shm_fault.proofs.store.PageStore.move_off.Goals.{After-unwrap_or-count, After-self-2, In_default, After-turn_off}
+use Rattle.shm_fault.proofs.store.PageStore.move_off.Goals as goal
 
 -- all slots of the area are visited
-count : (g : given.Over) (c : After-unwrap_or-count g) → c.unwrap_or-count.result ≡ length (area_at c.args.self.now.swap c.args.area).pages
+count : (g : _) (c : After-unwrap_or-count g) → c.unwrap_or-count.result ≡ length (area_at c.args.self.now.swap c.args.area).pages
 count g c = grind (arith, nat_tests, common_steps, c.args.self.now.swap, c.size.result, c.args.area, c.self.view_is, c.size.ensures, c.requires.there, c.unwrap_or-count.ensures)
 
 -- what the loop leaves, of the store as it is opened again
-cleaned : (g : given.Over) (c : After-self-2 g) → IsCleaned c.args.area c.loop-slot.slot c.args.self.now (seen c.self-2.inside)
+cleaned : (g : _) (c : After-self-2 g) → IsCleaned c.args.area c.loop-slot.slot c.args.self.now (seen c.self-2.inside)
 cleaned g c = rw (← c.self-2.view_is) at c.loop-slot.invariant
 
-done : (g : given.Over) (c : After-turn_off g)
+done : (g : _) (c : After-turn_off g)
     → IsStoreSound (record (seen c.self-2.inside) { swap = c.turn_off.new.self }) × (held (record (seen c.self-2.inside) { swap = c.turn_off.new.self }) ≡ held c.args.self.now)
 done g c =
     let o = goal.at.invariant_of-self g c in
@@ -34,7 +30,7 @@ unfolding frame_of
 still-off s t u still seg page = still seg page
 
 -- a write that failed moved no page's frame
-still-err : (g : given.Over) (c : In_default g) → Still c.args.self.now c.clear_slot.new.self
+still-err : (g : _) (c : In_default g) → Still c.args.self.now c.clear_slot.new.self
 still-err g c seg page = c.clear_slot.ensures.still seg page ∙ c.loop-slot.invariant.still seg page
 
 pub clear_slot-requires-clause-there : goal.clear_slot-requires-clause-there
@@ -48,8 +44,7 @@ clear_slot-requires-clause-room g c =
 
 pub loop-slot-preserved : goal.loop-slot-preserved
 loop-slot-preserved g c =
-    let e = c.clear_slot.ensures in
-    cleaned-more c.args.area c.loop-slot.slot c.args.self.now c.loop-slot.self c.clear_slot.new.self c.loop-slot.invariant e.sound e.goes e.still e.rest c.in-Ok.ensures.failures c.in-Ok.ensures.cleared c.in-Ok.ensures.placed
+    cleaned-more c.args.area c.loop-slot.slot c.args.self.now c.loop-slot.self c.clear_slot.new.self _ c.loop-slot.invariant c.in-Ok.ensures
 
 pub turn_off-requires-clause-free : goal.turn_off-requires-clause-free
 turn_off-requires-clause-free g c =
@@ -73,20 +68,22 @@ returns-in_default g c =
     let all = count g o.After-unwrap_or-count in
     let owned : length (area_at s.swap c.args.area).owners ≡ length (area_at s.swap c.args.area).pages = rw (← c.self.view_is) (c.self.invariant.0.swap.each c.args.area).owned in
     let still = still-err g o.In_default in
+    let goes = Goes-trans s c.loop-slot.self t before.goes e.goes in
+    let failures : CountsFailure false s t = failures-after false s.swap c.loop-slot.self.swap t.swap before.failures c.in_default.ensures.failures in
     record {
-      held = e.goes.bytes ∙ before.goes.bytes;
+      held = goes.bytes;
       gone = tt;
-      kept_sizes = e.goes.same_sizes ∙ before.goes.same_sizes;
-      count = e.goes.size ∙ before.goes.size;
-      cause = cause-after s c.loop-slot.self t before.goes e.goes c.in_default.ensures.cause;
-      failures = failures-after false s c.loop-slot.self t before.failures c.in_default.ensures.failures;
+      kept_sizes = goes.same_sizes;
+      count = goes.size;
+      cause = cause-of false s t goes failures refl;
+      failures = failures;
       moved = c.none.ensures.0;
       rest = uncounted-trans s c.loop-slot.self t before.rest e.rest;
       moves = tt;
       stopped = stops-moving c.args.area c.loop-slot.slot s c.loop-slot.self t (omega (arith, all, owned, c.loop-slot-test.true)) before.placed c.in_default.ensures.stopped;
       still = still;
       kept = grind (arith, nat_tests, common_steps, still, kept-locked, s, t);
-      counts = GoesOn-trans _ _ _ before.goes.goes_on e.goes.goes_on;
+      counts = goes.goes_on;
       sound = e.sound;
     }
 

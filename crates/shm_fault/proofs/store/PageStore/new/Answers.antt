@@ -1,11 +1,9 @@
-use Rattle.shm_fault.proofs.Names.{◌<◌, ◌+◌, ◌/◌, [], length, arith, IsStoreSound, fresh_store, unlocked}
-use Rattle.shm_clock.proofs.Skipping.{skipped-none}
+use Rattle.shm_fault.proofs.Names.{◌<◌, ◌+◌, ◌/◌, [], length, arith, IsStoreSound, fresh_store, unlocked, skipped-none}
 use Rattle.shm_fault.proofs.Whole.{sound-fresh}
-use Rattle.shm_fault.proofs.store.PageStore.new.Given as given
-use Rattle.shm_fault.proofs.store.PageStore.new.Goals as goal
 use Rattle.shm_fault.proofs.store.PageStore.new.Goals.{In_ok-frames}
+use Rattle.shm_fault.proofs.store.PageStore.new.Goals as goal
 
-sound : (g : given.Over) (c : In_ok-frames g) → IsStoreSound (fresh_store c.in_ok-frames.frames c.args.swap)
+sound : (g : _) (c : In_ok-frames g) → IsStoreSound (fresh_store c.in_ok-frames.frames c.args.swap)
 sound g c =
     sound-fresh c.in_ok-frames.frames c.args.swap (rw c.in_ok-frames.ensures.size c.requires.frames) c.in_ok-frames.ensures.free
     (rw c.swap.view_is at c.swap.invariant) (λ k. c.requires.free k.area k.slot)

@@ -1,11 +1,9 @@
-use Rattle.shm_fault.proofs.Names.{arith, HasPage, ref_of}
-use Rattle.shm_fault.proofs.Seen.{seen}
+use Rattle.shm_fault.proofs.Names.{arith, HasPage, ref_of, seen}
 use Rattle.shm_fault.proofs.Spans.{fits-has, few_pages}
-use Rattle.shm_fault.proofs.store.PageStore.page_at.Given as given
-use Rattle.shm_fault.proofs.store.PageStore.page_at.Goals as goal
 use Rattle.shm_fault.proofs.store.PageStore.page_at.Goals.{After-self}
+use Rattle.shm_fault.proofs.store.PageStore.page_at.Goals as goal
 
-has : (g : given.Over) (c : After-self g) → HasPage c.self.inside.segs (ref_of c.args.span.now)
+has : (g : _) (c : After-self g) → HasPage c.self.inside.segs (ref_of c.args.span.now)
 has g c = fits-has (seen c.self.inside) c.self.invariant.0 c.args.span.now (rw (← c.self.view_is) at c.requires)
 
 pub overflow_cast-result : goal.overflow_cast-result

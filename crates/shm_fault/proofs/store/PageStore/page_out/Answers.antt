@@ -1,7 +1,6 @@
-use Rattle.shm_fault.proofs.Names.{is_ok, arith, common_steps, ap, ◌∙◌, PageRef, StoreView, rec_by}
+use Rattle.shm_fault.proofs.Names.{is_ok, arith, common_steps, ap, ◌∙◌, PageRef, StoreView, rec_by, failures-after}
 use Rattle.shm_fault.specs.Placing.{after_page_out}
-use Rattle.shm_fault.proofs.Failures.{OnErr-map, failures-after}
-use Rattle.shm_fault.proofs.Sound.{Goes-trans, cause-after}
+use Rattle.shm_fault.proofs.Sound.{Goes-trans}
 use Rattle.shm_fault.proofs.Pages.{by-still, still-by}
 use Rattle.shm_fault.proofs.store.PageStore.page_out.Goals as goal
 
@@ -18,8 +17,7 @@ returns g c =
       still = by-still _ _ λ (r : PageRef). ap (λ (v : StoreView). (rec_by v.segs r).frame) wrote.rest ∙ still-by _ _ slotted.still r;
       away = grind (arith, common_steps);
       goes = Goes-trans s c.slot_for-slot.new.self c.write_back.new.self slotted.goes wrote.goes;
-      cause = OnErr-map c.write_back.result _ _ wrote.cause (cause-after s c.slot_for-slot.new.self c.write_back.new.self slotted.goes wrote.goes);
-      failures = failures-after (is_ok c.write_back.result) s c.slot_for-slot.new.self c.write_back.new.self slotted.failures wrote.failures;
+      failures = failures-after (is_ok c.write_back.result) s.swap c.slot_for-slot.new.self.swap c.write_back.new.self.swap slotted.failures wrote.failures;
       placed = rw (← slotted.placed) wrote.placed;
       sound = wrote.sound;
     }

@@ -1,14 +1,12 @@
-use Rattle.shm_fault.proofs.Names.{true, ap, refl, Some, Frame, frame_at, unlocked}
-use Rattle.shm_fault.proofs.Seen.{seen}
+use Rattle.shm_fault.proofs.Names.{true, ap, refl, Some, Frame, frame_at, unlocked, seen}
 use Rattle.shm_fault.proofs.Skipped.{skipped-given, skipped-with}
-use Rattle.shm_fault.proofs.Changes.{set-twice}
+use Rattle.shm_fault.proofs.Sound.{set-twice}
 use Rattle.shm_fault.proofs.Visits.{Settles, settles}
 use Rattle.shm_fault.proofs.Places.{settled-is}
-use Rattle.shm_fault.proofs.store.PageStore.settle.Given as given
-use Rattle.shm_fault.proofs.store.PageStore.settle.Goals as goal
 use Rattle.shm_fault.proofs.store.PageStore.settle.Goals.{After-set_frame}
+use Rattle.shm_fault.proofs.store.PageStore.settle.Goals as goal
 
-done : (g : given.Over) (c : After-set_frame g)
+done : (g : _) (c : After-set_frame g)
     → Settles c.args.page c.args.frame (seen c.self.inside) (record (seen c.self.inside) { segs = c.set_frame.new.self; frames = c.set_referenced.new.self })
 done g c =
     let i = c.self.inside in

@@ -1,15 +1,13 @@
-use Rattle.shm_fault.proofs.Names.{◌≡◌, Some, None, sym, ap, ◌∙◌, refl, arith, common_steps, used_slots, swap_slots, with_slot_owner, frame_at, PageRec, rec_by}
+use Rattle.shm_fault.proofs.Names.{nat_tests, common_steps, ◌≡◌, Some, None, sym, ap, ◌∙◌, refl, arith, used_slots, swap_slots, with_slot_owner, frame_at, PageRec, rec_by, seen}
 use Rattle.shm_fault.specs.Store.{frame_of}
-use Rattle.shm_fault.proofs.Seen.{seen}
 use Rattle.shm_fault.proofs.Skipped.{skipped-with}
 use Rattle.shm_fault.proofs.Tally.{used-slots, some_slotless}
 use Rattle.shm_fault.proofs.Pages.{by-still}
-use Rattle.shm_fault.proofs.Changes.{Takes, takes}
+use Rattle.shm_fault.proofs.Sound.{Takes, takes}
 use Rattle.shm_fault.proofs.Placed.{found-free}
 use Rattle.shm_fault.proofs.Places.{slotted-own, slotted-took}
-use Rattle.shm_fault.proofs.store.PageStore.slot_for.Given as given
-use Rattle.shm_fault.proofs.store.PageStore.slot_for.Goals as goal
 use Rattle.shm_fault.proofs.store.PageStore.slot_for.Goals.{After-set_page}
+use Rattle.shm_fault.proofs.store.PageStore.slot_for.Goals as goal
 
 pub unreachable-requires : goal.unreachable-requires
 unreachable-requires g c =
@@ -23,7 +21,7 @@ unreachable-requires g c =
     let same = used-slots (seen i) sound.apart sound.tied in
     omega (arith, full, few, same, sound.capacity)
 
-done : (g : given.Over) (c : After-set_page g)
+done : (g : _) (c : After-set_page g)
     → Takes c.args.frame c.in-Some-take_slot.slot (seen c.self.inside) (record (seen c.self.inside) { segs = c.set_page.new.self; swap = c.take_slot.new.self })
 done g c =
     let i = c.self.inside in
@@ -54,7 +52,6 @@ returns g c =
     let taken : c.take_slot.new.self ≡ with_slot_owner s.swap slot (Some page) = c.in-Some-take_slot.ensures.taken in
     rw (← c.self.view_is) (record {
       is = d.slot;
-      free = λ page owner none. c.in-Some-take_slot.ensures.found;
       rest = refl;
       still = by-still _ _ d.still;
       away = d.away;
@@ -70,14 +67,5 @@ unfolding frame_of
 returns-in-Some g c =
     let s = seen c.self.inside in
     let has : (rec_by s.segs c.resident_page-page.result).slot ≡ Some c.in-Some.slot = ap (λ (p : PageRec). p.slot) (sym c.page-place.ensures) ∙ c.in-Some.is in
-    rw (← c.self.view_is) (record {
-      is = λ page owner. cc (owner, has, c.resident_page-page.ensures);
-      free = λ page owner none. cc (owner, none, has, c.resident_page-page.ensures);
-      rest = refl;
-      still = λ seg page. refl;
-      away = λ q e. refl;
-      goes = grind (arith, common_steps);
-      failures = refl;
-      placed = slotted-own s c.args.frame c.resident_page-page.result c.in-Some.slot c.resident_page-page.ensures has;
-      sound = c.self.invariant.0;
-    })
+    let placed = slotted-own s c.args.frame c.resident_page-page.result c.in-Some.slot c.resident_page-page.ensures has in
+    rw (← c.self.view_is) (grind (arith, nat_tests, common_steps, has, placed, c.resident_page-page.ensures))

@@ -1,27 +1,22 @@
-use Rattle.shm_fault.proofs.Names.{◌≡◌, ◌<◌, ◌%◌, length, Some, true, refl, sym, ◌∙◌, length-set, paste, Frame, frame_at, ref_of, inl, unlocked}
-use Rattle.shm_fault.proofs.Seen.{seen}
+use Rattle.shm_fault.proofs.Names.{◌≡◌, ◌<◌, ◌%◌, ◌∷◌, [], length, Some, true, refl, length-set, paste, Frame, frame_at, ref_of, inl, unlocked, seen, PutAt}
 use Rattle.shm_fault.proofs.Skipped.{skipped-set}
-use Rattle.shm_fault.proofs.Sound.{frame-own}
-use Rattle.shm_fault.proofs.Changes.{set-twice}
-use Rattle.shm_fault.proofs.Puts.{Puts, puts}
-use Rattle.shm_fault.proofs.Placed.{bare-set}
-use Rattle.shm_fault.proofs.Places.{bit-set}
-use Rattle.shm_fault.proofs.store.PageStore.store.Given as given
-use Rattle.shm_fault.proofs.store.PageStore.store.Goals as goal
+use Rattle.shm_fault.proofs.Sound.{frame-own, set-twice}
+use Rattle.shm_fault.proofs.Puts.{puts}
 use Rattle.shm_fault.proofs.store.PageStore.store.Goals.{After-self, After-paste_into}
+use Rattle.shm_fault.proofs.store.PageStore.store.Goals as goal
 
-own : (g : given.Over) (c : After-self g) → (c.args.frame < length c.self.inside.frames) × ((frame_at c.self.inside.frames c.args.frame).owner ≡ Some (ref_of c.args.span.now))
+own : (g : _) (c : After-self g) → (c.args.frame < length c.self.inside.frames) × ((frame_at c.self.inside.frames c.args.frame).owner ≡ Some (ref_of c.args.span.now))
 own g c = frame-own (seen c.self.inside) c.self.invariant.0 (ref_of c.args.span.now) c.args.frame (rw (← c.self.view_is) at c.requires.here)
 
 -- the frame as it was called dirty, before the bytes were put into it
-abbrev dirtied : (g : given.Over) → After-self g → Frame
+abbrev dirtied : (g : _) → After-self g → Frame
 dirtied g c = record (frame_at c.self.inside.frames c.args.frame) { dirty = true }
 
-abbrev pasted : (g : given.Over) → After-self g → Frame → Frame
+abbrev pasted : (g : _) → After-self g → Frame → Frame
 pasted g c y = record y { bytes = paste y.bytes (c.args.span.now.at % 4096) c.args.bytes.now }
 
-done : (g : given.Over) (c : After-paste_into g)
-    → Puts c.args.span.now c.args.bytes.now (seen c.self.inside) (record (seen c.self.inside) { frames = c.paste_into.new.frames })
+done : (g : _) (c : After-paste_into g)
+    → PutAt c.args.bytes.now (c.args.span.now ∷ []) (seen c.self.inside) (record (seen c.self.inside) { frames = c.paste_into.new.frames })
 done g c =
     let o = (goal.at.invariant_of-self g c).After-self in
     let s = seen c.self.inside in
@@ -46,20 +41,5 @@ invariant_of-self g c =
           (skipped-set (unlocked i.segs) i.frames i.skips c.self.invariant.1 c.args.frame (pasted g o (dirtied g o)) (inl refl)),
     )
 
-pub returns-clause-sound : goal.returns-clause-sound
-returns-clause-sound g c = (done g c).sound
-
-pub returns-clause-written : goal.returns-clause-written
-returns-clause-written g c = rw (← c.self.view_is) (done g c).bytes
-
-pub returns-clause-fits : goal.returns-clause-fits
-returns-clause-fits g c = rw (← c.self.view_is) (done g c).fits
-
-pub returns-clause-placed : goal.returns-clause-placed
-returns-clause-placed g c =
-    let o = (goal.at.returns-clause-placed g c).After-self in
-    let s = seen c.self.inside in
-    let frames = set-twice s.frames c.args.frame (dirtied g o) (pasted g o) (own g o).0 c.make_dirty.ensures c.paste_into.ensures in
-    rw (← c.self.view_is)
-    (bit-set s (record s { frames = c.paste_into.new.frames }) c.args.frame true refl refl refl
-    (rw frames (bare-set s.frames c.args.frame (pasted g o (dirtied g o)) ∙ sym (bare-set s.frames c.args.frame (record (frame_at s.frames c.args.frame) { dirty = true })))))
+pub returns : goal.returns
+returns g c = rw (← c.self.view_is) (done g c)

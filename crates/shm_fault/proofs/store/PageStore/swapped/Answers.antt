@@ -1,5 +1,4 @@
-use Rattle.std.proofs.Common.{arith}
-use Rattle.shm_fault.proofs.Seen.{seen}
+use Rattle.shm_fault.proofs.Names.{arith, seen}
 use Rattle.shm_fault.proofs.Spans.{few_in_all}
 use Rattle.shm_fault.proofs.store.PageStore.swapped.Goals as goal
 

@@ -1,7 +1,5 @@
-use Rattle.std.proofs.lemmas.Result.{err_from_is_err_and, MatchResult-from_err}
-use Rattle.shm_fault.proofs.Names.{counted, Gone, refl, sym, ap, ◌+◌, ◌∙◌, arith, common_steps, one_if}
+use Rattle.shm_fault.proofs.Names.{err_from_is_err_and, MatchResult-from_err, counted, Gone, refl, sym, ap, ◌+◌, ◌∙◌, arith, common_steps, one_if, seen, nat_tests}
 use Rattle.shm_fault.specs.Store.{frame_of}
-use Rattle.shm_fault.proofs.Seen.{seen}
 use Rattle.shm_fault.proofs.Visits.{moves-more, moves-still}
 use Rattle.shm_fault.proofs.Counting.{byte-one, counts-still, counts-more}
 use Rattle.shm_fault.proofs.Places.{evicted-counted, free-counted, room-free, room-made}
@@ -14,22 +12,8 @@ pub returns-in-Some : goal.returns-in-Some
 returns-in-Some g c =
     let s = seen c.self.inside in
     let room = room-free s c.args.pinned c.in-Some.frame (sym c.in-Some.ensures.value) in
-    record {
-      free = grind (arith, common_steps);
-      visits = grind (arith, common_steps);
-      moves = λ b m. rw (c.free_frame.ensures.same, c.self.view_is) m;
-      few = omega arith;
-      ins = refl;
-      outs = omega arith;
-      counts = rw (c.free_frame.ensures.same, c.self.view_is) (counts-still c.args.touched.now _ _ refl refl);
-      placed = rw (c.free_frame.ensures.same, ← c.self.view_is) room.0;
-      chosen = rw (← c.self.view_is) room.1;
-      transfers = rw (← c.self.view_is) (free-counted s c.args.pinned c.in-Some.frame (counted c.args.touched.now) (sym c.in-Some.ensures.value));
-      uncounted = tt;
-      stopped = tt;
-      cause = tt;
-      failures = rw (← c.self.view_is) refl;
-    }
+    let transfers = free-counted s c.args.pinned c.in-Some.frame (counted c.args.touched.now) (sym c.in-Some.ensures.value) in
+    rw (c.free_frame.ensures.same, ← c.self.view_is) (grind (arith, nat_tests, common_steps, room, transfers, counts-still))
 
 pub returns : goal.returns
 returns g c =
@@ -52,7 +36,6 @@ returns g c =
           (evicted-counted s c.args.pinned gone.written (counted u) (u.outs + c.from.result) (sym c.in_default.ensures.value) (rw c.free_frame.ensures.same at c.in_ok-evicted.ensures.written) (ap (λ n. u.outs + n) (c.from.ensures ∙ byte-one _)));
       uncounted = tt;
       stopped = tt;
-      cause = tt;
       failures = rw (← c.self.view_is) c.in_ok-evicted.ensures.failures;
     }
 
@@ -76,6 +59,5 @@ returns-in_err-evicted g c =
       transfers = grind (arith, common_steps);
       uncounted = MatchResult-from_err _ _ _ from λ _. refl;
       stopped = MatchResult-from_err _ _ _ from λ _. rw (← c.self.view_is) (rw c.free_frame.ensures.same at c.in_err-evicted.ensures.stopped);
-      cause = MatchResult-from_err _ _ _ from λ _. rw (← c.self.view_is) c.in_err-evicted.ensures.cause;
       failures = rw ((err_from_is_err_and c.from_residual.result c.from_residual.ensures.1).1, ← c.self.view_is) c.in_err-evicted.ensures.failures;
     }

@@ -1,7 +1,5 @@
-use Rattle.std.proofs.Common.{sym, ◌∙◌}
-use Rattle.shm_fault.proofs.Seen.{seen}
+use Rattle.shm_fault.proofs.Names.{sym, ◌∙◌, seen}
 use Rattle.shm_fault.proofs.Tally.{resident-frames, dirty-frames, used-slots}
-use Rattle.shm_fault.proofs.Forgets.{tally-of}
 use Rattle.shm_fault.proofs.store.PageStore.tally.Goals as goal
 
 pub returns-clause-resident : goal.returns-clause-resident
@@ -15,6 +13,3 @@ returns-clause-used g c = rw (← c.self.view_is) (c.used.ensures ∙ sym (used-
 
 pub returns-clause-counted : goal.returns-clause-counted
 returns-clause-counted g c = rw (← c.self.view_is) c.failures.ensures.counted
-
-pub returns-clause-places : goal.returns-clause-places
-returns-clause-places g c = rw (← c.self.view_is) (tally-of (seen c.self.inside) _ c.resident.ensures.count c.dirty.ensures.count c.used.ensures)

@@ -1,17 +1,15 @@
-use Rattle.shm_fault.proofs.Names.{true, ◌≡◌, ◌<◌, length, refl, Some, get_or-set_same, arith, frame_at, common_steps, nat_tests, inl, unlocked}
-use Rattle.shm_fault.proofs.Seen.{seen}
+use Rattle.shm_fault.proofs.Names.{true, ◌≡◌, ◌<◌, length, refl, Some, get_or-set_same, arith, frame_at, common_steps, nat_tests, inl, unlocked, seen}
 use Rattle.shm_fault.proofs.Skipped.{skipped-set}
 use Rattle.shm_fault.proofs.Sound.{frame-own}
 use Rattle.shm_fault.proofs.Visits.{IsStep, step-touch}
 use Rattle.shm_fault.proofs.Places.{referenced-set}
-use Rattle.shm_fault.proofs.store.PageStore.touch.Given as given
-use Rattle.shm_fault.proofs.store.PageStore.touch.Goals as goal
 use Rattle.shm_fault.proofs.store.PageStore.touch.Goals.{After-self, After-set_referenced}
+use Rattle.shm_fault.proofs.store.PageStore.touch.Goals as goal
 
-own : (g : given.Over) (c : After-self g) → (c.args.frame < length c.self.inside.frames) × ((frame_at c.self.inside.frames c.args.frame).owner ≡ Some c.args.page)
+own : (g : _) (c : After-self g) → (c.args.frame < length c.self.inside.frames) × ((frame_at c.self.inside.frames c.args.frame).owner ≡ Some c.args.page)
 own g c = frame-own (seen c.self.inside) c.self.invariant.0 c.args.page c.args.frame (rw (← c.self.view_is) at c.requires.here)
 
-step : (g : given.Over) (c : After-set_referenced g) → IsStep (seen c.self.inside) (record (seen c.self.inside) { frames = c.set_referenced.new.self })
+step : (g : _) (c : After-set_referenced g) → IsStep (seen c.self.inside) (record (seen c.self.inside) { frames = c.set_referenced.new.self })
 step g c =
     let there = (own g (goal.at.invariant_of-self g c).After-self).0 in
     rw c.set_referenced.ensures (step-touch (seen c.self.inside) c.self.invariant.0 c.args.frame there)

@@ -1,13 +1,11 @@
-use Rattle.shm_fault.proofs.Names.{◌∙◌, refl, arith, common_steps, length, may_go, two_eligible, OwnedBelow, unlocked}
-use Rattle.shm_fault.proofs.Seen.{seen}
+use Rattle.shm_fault.proofs.Names.{◌∙◌, refl, arith, common_steps, length, may_go, two_eligible, OwnedBelow, unlocked, seen}
 use Rattle.shm_fault.proofs.Clock.{clock-alike, next-lt, two_unlocked}
-use Rattle.shm_fault.proofs.Changes.{Keeps, keeps-alike}
+use Rattle.shm_fault.proofs.Sound.{Keeps, keeps-alike}
 use Rattle.shm_fault.proofs.Places.{turn-is, victim-place}
-use Rattle.shm_fault.proofs.store.PageStore.turn.Given as given
-use Rattle.shm_fault.proofs.store.PageStore.turn.Goals as goal
 use Rattle.shm_fault.proofs.store.PageStore.turn.Goals.{After-choose}
+use Rattle.shm_fault.proofs.store.PageStore.turn.Goals as goal
 
-kept : (g : given.Over) (c : After-choose g) → Keeps (seen c.self.inside) (record (seen c.self.inside) { frames = c.choose.new.frames; hand = c.choose.new.hand })
+kept : (g : _) (c : After-choose g) → Keeps (seen c.self.inside) (record (seen c.self.inside) { frames = c.choose.new.frames; hand = c.choose.new.hand })
 kept g c =
     let i = c.self.inside in
     let clock = c.choose.ensures.clock in

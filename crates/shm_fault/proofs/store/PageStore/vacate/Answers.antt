@@ -1,20 +1,15 @@
-use Rattle.shm_fault.proofs.Names.{◌≡◌, refl, Some, arith, frame_at, common_steps, nat_tests, inr, unlocked, no_frame}
-use Rattle.shm_fault.proofs.Seen.{seen}
+use Rattle.shm_fault.proofs.Names.{refl, arith, frame_at, common_steps, nat_tests, inr, unlocked, no_frame, seen}
 use Rattle.shm_fault.proofs.Skipped.{skipped-set, skipped-with}
-use Rattle.shm_fault.proofs.Changes.{Keeps, keeps-vacate}
+use Rattle.shm_fault.proofs.Sound.{Keeps, keeps-vacate}
 use Rattle.shm_fault.proofs.Places.{vacated-is}
-use Rattle.shm_fault.proofs.store.PageStore.vacate.Given as given
-use Rattle.shm_fault.proofs.store.PageStore.vacate.Goals as goal
 use Rattle.shm_fault.proofs.store.PageStore.vacate.Goals.{After-set_frame}
+use Rattle.shm_fault.proofs.store.PageStore.vacate.Goals as goal
 
-owned : (g : given.Over) (c : After-set_frame g) → (frame_at c.self.inside.frames c.args.frame).owner ≡ Some c.resident_page-page.result
-owned g c = c.resident_page-page.ensures
-
-kept : (g : given.Over) (c : After-set_frame g) → Keeps (seen c.self.inside) (record (seen c.self.inside) { segs = c.set_frame.new.self; frames = c.empty.new.self })
+kept : (g : _) (c : After-set_frame g) → Keeps (seen c.self.inside) (record (seen c.self.inside) { segs = c.set_frame.new.self; frames = c.empty.new.self })
 kept g c =
     let bytes = (frame_at c.self.inside.frames c.args.frame).bytes in
     rw (c.set_frame.ensures, c.empty.ensures)
-    (keeps-vacate (seen c.self.inside) c.self.invariant.0 c.resident_page-page.result c.args.frame bytes (owned g c) (rw (← c.self.view_is) at c.requires.clean))
+    (keeps-vacate (seen c.self.inside) c.self.invariant.0 c.resident_page-page.result c.args.frame bytes c.resident_page-page.ensures (rw (← c.self.view_is) at c.requires.clean))
 
 pub invariant_of-self : goal.invariant_of-self
 invariant_of-self g c =
@@ -32,7 +27,7 @@ returns g c =
     rw (← c.self.view_is)
     (record {
       page = c.resident_page-page.ensures;
-      was = grind (arith, nat_tests, common_steps, c.self.invariant.0.tied, page, c.args.frame, owned);
+      was = grind (arith, nat_tests, common_steps, c.self.invariant.0.tied, page, c.args.frame, c.resident_page-page.ensures);
       frames = c.empty.ensures;
       segs = c.set_frame.ensures;
       rest = refl;

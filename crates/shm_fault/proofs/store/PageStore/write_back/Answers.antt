@@ -1,15 +1,9 @@
-use Rattle.std.proofs.lemmas.Result.{err_from_is_err_and}
-use Rattle.shm_fault.proofs.Names.{◌≡◌, ℕ, Some, true, false, set, refl, sym, arith, set-get_or, IsSome, List, SideCalls, PageRef, Slot, SwapView, IsSwap, HasSlot, sizes, area_at, with_slot_page, OneArea, AfterWriteFault, GoesOn, no_frame, frame_at, rec_by, StoreView, IsStoreSound, common_steps, nat_tests, inl, unlocked}
-use Rattle.shm_fault.proofs.Seen.{seen}
+use Rattle.shm_fault.proofs.Names.{err_from_is_err_and, ◌≡◌, ℕ, Some, true, false, set, refl, sym, arith, set-get_or, IsSome, List, SideCalls, PageRef, Slot, SwapView, IsSwap, HasSlot, sizes, area_at, with_slot_page, OneArea, AfterWriteFault, GoesOn, no_frame, frame_at, rec_by, StoreView, IsStoreSound, common_steps, nat_tests, inl, unlocked, seen, OnlySlot-page, OnlySlot-fault, owner-written, owner-fault, page-written, owners-page, owners-fault}
 use Rattle.shm_fault.proofs.Skipped.{skipped-set}
-use Rattle.shm_fault.proofs.Slots.{OnlySlot-page, OnlySlot-fault, owner-written, owner-fault, page-written}
-use Rattle.shm_fault.proofs.Failures.{total-written, total-fault}
-use Rattle.shm_fault.proofs.Changes.{Own, own, Keeps, keeps-write, dirty-same}
-use Rattle.shm_fault.proofs.Placed.{owners-page, owners-fault}
+use Rattle.shm_fault.proofs.Sound.{Own, own, Keeps, keeps-write, dirty-same}
 use Rattle.shm_fault.proofs.Places.{bit-set}
-use Rattle.shm_fault.proofs.store.PageStore.write_back.Given as given
-use Rattle.shm_fault.proofs.store.PageStore.write_back.Goals as goal
 use Rattle.shm_fault.proofs.store.PageStore.write_back.Goals.{After-self, After-saturating_add-self-inside, After-from_residual}
+use Rattle.shm_fault.proofs.store.PageStore.write_back.Goals as goal
 
 -- the swap with the frame's bytes in the slot
 abbrev written : StoreView → ℕ → Slot → List SideCalls → SwapView
@@ -41,10 +35,10 @@ module _ (s : StoreView) (sound : IsStoreSound s) (f : ℕ) (k : Slot) (some : I
       let z : set s.frames f (frame_at s.frames f) ≡ s.frames = set-get_or s.frames f no_frame in
       rw z at k0
 
-there : (g : given.Over) (c : After-self g) → HasSlot c.self.inside.swap c.args.slot.area c.args.slot.slot
+there : (g : _) (c : After-self g) → HasSlot c.self.inside.swap c.args.slot.area c.args.slot.slot
 there g c = has (seen c.self.inside) c.self.invariant.0 c.args.frame c.args.slot (rw (← c.self.view_is) at c.requires.owned) (rw (← c.self.view_is) at c.requires.slot)
 
-wrote : (g : given.Over) (c : After-saturating_add-self-inside g)
+wrote : (g : _) (c : After-saturating_add-self-inside g)
     → Keeps (seen c.self.inside) (record (seen c.self.inside) { frames = c.set_dirty.new.self; swap = c.write_slot.new.self; outs = c.saturating_add-self-inside.result })
 wrote g c =
     let s = seen c.self.inside in
@@ -54,7 +48,7 @@ wrote g c =
     (done s c.self.invariant.0 c.args.frame c.args.slot (rw (← c.self.view_is) at c.requires.owned) (rw (← c.self.view_is) at c.requires.slot)
     c.saturating_add-self-inside.result _ (rw u at e.sound) (rw u at e.sizes) (rw u at e.goes_on))
 
-unwritten : (g : given.Over) (c : After-from_residual g) → Keeps (seen c.self.inside) (record (seen c.self.inside) { swap = c.write_slot.new.self })
+unwritten : (g : _) (c : After-from_residual g) → Keeps (seen c.self.inside) (record (seen c.self.inside) { swap = c.write_slot.new.self })
 unwritten g c =
     let e = c.write_slot.ensures in
     failed (seen c.self.inside) c.self.invariant.0 c.args.frame c.args.slot (rw (← c.self.view_is) at c.requires.owned) (rw (← c.self.view_is) at c.requires.slot) c.write_slot.new.self
@@ -78,15 +72,13 @@ returns g c =
     let s = seen c.self.inside in
     let t = record s { frames = c.set_dirty.new.self; swap = c.write_slot.new.self; outs = c.saturating_add-self-inside.result } in
     let k = wrote g (goal.at.returns g c).After-saturating_add-self-inside in
-    let at = there g (goal.at.returns g c).After-self in
     rw (← c.self.view_is)
     (record {
       frames = c.set_dirty.ensures;
       rest = refl;
       outs = grind (arith, nat_tests, common_steps);
       goes = k.goes;
-      cause = tt;
-      failures = rw c.in_ok-write_slot.ensures.ok (total-written s.swap c.args.slot c.bytes.result.now _ at.0);
+      failures = c.in_ok-write_slot.ensures.failures;
       placed = bit-set s t c.args.frame false refl refl (rw c.in_ok-write_slot.ensures.ok (owners-page s.swap c.args.slot c.bytes.result.now _)) (rw c.set_dirty.ensures refl);
       sound = k.sound;
     })
@@ -96,7 +88,6 @@ returns-in_err-write_slot g c =
     let s = seen c.self.inside in
     let t = record s { swap = c.write_slot.new.self } in
     let k = unwritten g (goal.at.returns-in_err-write_slot g c).After-from_residual in
-    let at = there g (goal.at.returns-in_err-write_slot g c).After-self in
     let dirty : (frame_at s.frames c.args.frame).dirty ≡ true = rw (← c.self.view_is) at c.requires.dirty in
     let failed = (err_from_is_err_and c.from_residual.result c.from_residual.ensures.1).1 in
     rw (failed, ← c.self.view_is)
@@ -105,8 +96,7 @@ returns-in_err-write_slot g c =
       rest = refl;
       outs = refl;
       goes = k.goes;
-      cause = c.in_err-write_slot.ensures.cause;
-      failures = λ unspent. total-fault s.swap t.swap c.args.slot c.self.invariant.0.swap at c.write_slot.ensures.others c.in_err-write_slot.ensures.err unspent;
+      failures = c.in_err-write_slot.ensures.failures;
       placed = bit-set s t c.args.frame true refl refl (owners-fault s.swap t.swap c.args.slot c.write_slot.ensures.others c.in_err-write_slot.ensures.err)
           (rw (dirty-same s.frames c.args.frame true dirty) refl);
       sound = k.sound;

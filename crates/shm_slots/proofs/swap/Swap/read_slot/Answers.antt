@@ -1,6 +1,6 @@
-use Rattle.std.proofs.Common.{refl}
+use Rattle.std.proofs.Common.{ap, refl}
 use Rattle.std.proofs.lemmas.Result.{IfErr-weaker, IfOk-weaker}
-use Rattle.shm_slots.specs.View.{HasSlot}
+use Rattle.shm_slots.specs.View.{AreaView, HasSlot}
 use Rattle.shm_slots.proofs.Changes.{Asked, asked, asked-calls, SameSlots-asked}
 use Rattle.shm_slots.proofs.swap.Swap.read_slot.Given.{Over}
 use Rattle.shm_slots.proofs.swap.Swap.read_slot.Goals as goal
@@ -11,7 +11,7 @@ done : (g : Over) (c : After-unspent_after-self-inside g)
 done g c =
     let there : HasSlot (record { areas = c.self.inside.areas.items; never_spent = c.self.inside.never_spent }) c.args.slot.area c.args.slot.slot = rw (← c.self.view_is) at c.requires in
     let e = c.read-result.ensures in
-    asked _ _ _ _ c.index_mut-area.ensures.value _ _ _ _ e.rest c.read-result.result _ there c.self.invariant e.counts e.most e.sound (IfErr-weaker c.read-result.result _ _ (λ _ fault. fault.1) e.err)
+    asked _ _ _ _ c.index_mut-area.ensures.value _ _ _ _ e.rest c.read-result.result _ there c.self.invariant e.counts e.most e.sound (IfOk-weaker c.read-result.result _ _ (λ _ wrote. ap (λ (a : AreaView). a.failed) wrote) e.ok) (IfErr-weaker c.read-result.result _ _ (λ _ fault. fault.1) e.err)
 
 pub returns-clause-kept : goal.returns-clause-kept
 returns-clause-kept g c =
@@ -31,6 +31,9 @@ returns-clause-sizes g c = rw (← c.self.view_is) (done g (goal.at.returns-clau
 
 pub returns-clause-sound : goal.returns-clause-sound
 returns-clause-sound g c = invariant_of-self g c
+
+pub returns-clause-failures : goal.returns-clause-failures
+returns-clause-failures g c = rw (← c.self.view_is, c.unspent_after-self-inside.ensures) (done g (goal.at.returns-clause-failures g c).After-unspent_after-self-inside).failures
 
 pub returns-clause-ok : goal.returns-clause-ok
 returns-clause-ok g c =
